@@ -1,0 +1,4 @@
+pub mod PlainSteps
+pub mod OrderLemmas
+pub mod SearchLemmas
+pub mod ResumeLemmas

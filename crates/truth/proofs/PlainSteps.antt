@@ -1,0 +1,29 @@
+-- How many values are tried at most.
+use Rattle.std.proofs.Common.{◌≡◌, ℕ, suc, ◌+◌, ◌*◌, ◌^◌, ◌≤◌, Bool, true, false, cond, List, [], ◌∷◌, length, sym, ap, ◌∙◌, arith, add-one}
+use Rattle.std.proofs.lemmas.List.{length-map}
+use Rattle.std.proofs.Math.Nat.{mul-le-mul_right}
+use Rattle.std.proofs.lemmas.Grind.{pow_more}
+use Rattle.prefix.specs.Literal.{Literal}
+use Rattle.prefix.specs.Scopes.{Scope, all_variables}
+use Rattle.steps.specs.Counter.{step_limit}
+use Rattle.truth.specs.Matrix.{Values, no_values, with_value}
+use Rattle.truth.specs.Truth.{truth_from, plain_steps_from, settles, plain_steps}
+use Rattle.prefix.specs.Scopes.{BoundVariable, prefix_order}
+use Rattle.truth.proofs.OrderLemmas.{variables_of-prefix_order}
+
+pub tries_bound : (xs : List BoundVariable) (cs : List (List Literal)) (σ : Values) → plain_steps_from xs cs σ + 2 ≤ 2 ^ (length xs + 1)
+tries_bound [] cs σ = omega arith
+tries_bound (x ∷ xs) cs σ =
+    by_test (settles x.quantifier (truth_from xs cs (with_value x.variable false σ))) _ _ (tries_bound xs cs (with_value x.variable false σ)) (tries_bound xs cs (with_value x.variable true σ))
+  where
+    by_test : (s : Bool) (m n : ℕ) → m + 2 ≤ 2 ^ (length xs + 1) → n + 2 ≤ 2 ^ (length xs + 1) → cond s (1 + m) (1 + m + (1 + n)) + 2 ≤ 2 ^ (suc (length xs) + 1)
+    by_test true m n h k = rw (pow_more 2 (suc (length xs)), ← add-one (length xs)) (omega (arith, h, k))
+    by_test false m n h k = rw (pow_more 2 (suc (length xs)), ← add-one (length xs)) (omega (arith, h, k))
+
+pub formula_tries_bound : (ss : List Scope) (cs : List (List Literal)) → plain_steps ss cs ≤ step_limit (length (all_variables ss))
+formula_tries_bound ss cs =
+    let n = length (prefix_order ss) in
+    let same : n ≡ length (all_variables ss) = sym (length-map (prefix_order ss) (λ (x : BoundVariable). x.variable)) ∙ ap length (variables_of-prefix_order ss) in
+    let enough = tries_bound (prefix_order ss) cs no_values in
+    let four : 1 ≤ 4 * n + 4 = omega arith in
+    rw (← same) (omega (arith, enough, mul-le-mul_right (2 ^ (n + 1)) four))

@@ -1,0 +1,8 @@
+use Rattle.std.proofs.Common.{◌≡◌, ◌++◌, map, take}
+use Rattle.prefix.specs.Scopes.{bound_by}
+use Rattle.truth.specs.Order.{bounds_of}
+use Rattle.truth.proofs.order.push_scope.Given as goal
+
+-- the variables so far are put
+abbrev pub invariant-loop-var : goal.invariant-loop-var
+invariant-loop-var l = bounds_of l.order.items ≡ bounds_of l.initial.order.items ++ map (bound_by l.quant) (take l.var-index l.vars)
