@@ -1,0 +1,3 @@
+pub mod PlainText
+pub mod Run
+pub mod Scan

@@ -1,0 +1,39 @@
+//! `qbf`: decides quantified Boolean formulas.
+#![tactic(auto)]
+
+mod ending;
+mod input;
+mod plain;
+mod render;
+mod run;
+mod scan;
+#[cfg(test)]
+mod tests;
+
+use ending::{Ending, Refused};
+use ports::{HostDesk, HostSink};
+use std::process::ExitCode;
+use std::rt::Env;
+use std::{env, io};
+
+fn main(rt: HostRuntime) -> ExitCode {
+    let mut out = HostSink::new(rt.stdout());
+    let mut err = HostSink::new(rt.stderr());
+    let status = match words_of(&rt) {
+        Ok(words) => {
+            let mut desk = HostDesk::new(rt);
+            run::run(rt.alloc(), &words, &mut desk, &mut out, &mut err)
+        }
+        Err(e) if e.kind() == io::ErrorKind::OutOfMemory => {
+            run::report(&mut err, Ending::NotDecided(Refused::NoMemory))
+        }
+        // A word that isn't UTF-8 is none of the program's.
+        Err(_) => run::report(&mut err, Ending::Usage),
+    };
+    ExitCode::from(status)
+}
+
+// The words of the command line, the program's name first.
+fn words_of(rt: &(impl Env + AllocGlobal)) -> io::Result<Vec<String>> {
+    Ok(env::args(rt)?.collect(rt.alloc())?)
+}
