@@ -7,7 +7,8 @@ use Rattle.std.proofs.lemmas.Bool.{or_parts, or_from, cond-true, cond-false, lt-
 use Rattle.std.proofs.lemmas.Bool.Decides.{nat_tests}
 use Rattle.std.proofs.lemmas.List.{drop_more}
 use Rattle.prefix.specs.declared.quant.Quant.{Quant}
-use Rattle.prefix.specs.Scopes.{Scope, is_among, level_of, all_variables, IsAscending, AreDistinct, insert_ascending, with_variable_at, lifted}
+use Rattle.prefix.specs.Scopes.{Scope, is_among, level_of, all_variables, IsAscending, AreDistinct, insert_ascending, with_variable_at}
+use Rattle.prefix.specs.Insertion.{lifted}
 
 cond_is_true : {A : Type 0} (b : Bool) (x y : A) → b ≡ true → x ≡ cond b x y
 cond_is_true b x y h = sym (cond-true b x y h)

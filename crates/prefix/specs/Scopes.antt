@@ -1,10 +1,8 @@
 -- The prefix of a formula, as contracts see it: a list of scopes, the outermost first.
-use Rattle.std.specs.Prelude.{◌≡◌, ℕ, ◌+◌, ◌-◌, ◌<◌, ◌≤◌, Bool, false, ◌==◌, ◌||◌, if◌then◌else◌, List, [], ◌∷◌, length, map, Option, Some, None, insert, unwrap_or, nat_lt, nat_le, is_some, zero, suc, slice_get, ⊤}
+use Rattle.std.specs.Prelude.{◌≡◌, ℕ, ◌+◌, ◌-◌, ◌<◌, ◌≤◌, Bool, false, ◌==◌, ◌||◌, if◌then◌else◌, List, [], ◌∷◌, length, map, Option, Some, None, insert, unwrap_or, nat_lt, zero, suc, slice_get, ⊤}
 use Rattle.std.specs.Option.{option_map, option_and_then}
 use Rattle.std.specs.List.{flat_map, AllByRecursion}
 use Rattle.prefix.specs.declared.quant.Quant.{Quant}
-use Rattle.prefix.specs.declared.refusal.PrefixRefusal.{PrefixRefusal}
-use Rattle.prefix.specs.declared.refusal.PrefixRefusal.TheVariants.{VarTwice, VarRange, ScopeRange, ScopeLimit}
 
 -- a quantifier and its variables
 pub record Scope : Type 0 where
@@ -78,27 +76,6 @@ abbrev pub with_variable_at : List Scope → ℕ → ℕ → List Scope
 with_variable_at [] n v = []
 with_variable_at (s ∷ ss) zero v = record { quantifier = s.quantifier; variables = insert_ascending v s.variables } ∷ ss
 with_variable_at (s ∷ ss) (suc n) v = s ∷ with_variable_at ss n v
-
--- the first refusal of a scope
-abbrev pub scope_refusal : List Scope → Option ℕ → Option PrefixRefusal
-scope_refusal ss None = if length ss == 65536 then Some ScopeLimit else None
-scope_refusal ss (Some n) = if length ss == 65536 then Some ScopeLimit else if n == 0 || nat_lt (length ss + 1) n then Some ScopeRange else None
-
--- the first refusal of a variable v for scope number n
-abbrev pub variable_refusal : List Scope → ℕ → ℕ → Option PrefixRefusal
-variable_refusal ss v n =
-    if v == 0 || nat_lt 1048576 v then Some VarRange
-    else if is_some (level_of ss v) then Some VarTwice
-    else if n == 0 || nat_lt (length ss) n then Some ScopeRange
-    else None
-
--- the number of a scope once another is put in at number from
-abbrev pub lifted : ℕ → ℕ → ℕ
-lifted from n = if nat_le from n then n + 1 else n
-
--- the id of the scope of a variable
-abbrev pub home_of : List (Option ℕ) → ℕ → Option ℕ
-home_of homes v = unwrap_or (slice_get homes v) None
 
 -- no number comes twice
 abbrev pub AreDistinct : List ℕ → Type 0

@@ -1,7 +1,8 @@
 //! Plain texts: which texts are plain, and the formula of each.
-ghost use Rattle.std.specs.Prelude.{◌≡◌, ◌≢◌, ◌↔◌, is_some, ℕ, ◌+◌, ◌<◌, ◌≤◌, All, IsTrue, IfOk, IfSome, IfNone, length, map};
+ghost use Rattle.std.specs.Prelude.{◌≡◌, ◌≢◌, ◌↔◌, is_some, ℕ, ◌+◌, ◌<◌, ◌≤◌, All, IsTrue, IfOk, IfSome, IfNone, List, length, map};
 ghost use Rattle.std.specs.List.{list_all};
 ghost use Rattle.prefix.specs.Scopes.{level_of, quantifier_at, variables_at};
+ghost use Rattle.truth.specs.declared.formula.Formula.{Formula};
 ghost use Rattle.qbf_cli.specs.PlainText.{plain_text, ascends_above, is_plain_clause, IsPlainSet, IsPlainFormula, IsPlainText, IsNoPlainText};
 
 use super::render::text_of;
@@ -130,3 +131,8 @@ fn has_scopes(prefix: &Prefix, lits: &[Lit]) -> bool
 {
     lits.iter().all(|lit| prefix.level(lit.var()).is_some())
 }
+
+/// A law: a text is the plain text of one formula at most.
+pub fn plain_texts_are_unambiguous()
+    ensures { (bytes : List ℕ) (f g : Formula) → IsPlainText bytes f → IsPlainText bytes g → f ≡ g }
+{}

@@ -1,9 +1,9 @@
--- Assignments, and the truth of clauses under them.
+-- Assignments, and the truth of clauses, cubes and matrices under them, as QDIMACS 1.1 means its clauses.
 use Rattle.std.specs.Prelude.{ℕ, Bool, true, false, ◌==◌, if◌then◌else◌, List, Option, Some, None}
 use Rattle.std.specs.List.{list_any, list_all}
 use Rattle.prefix.specs.Literal.{Literal}
 
--- an assignment: the value of each variable that has one
+-- an assignment: a partial map from variables to truth values
 abbrev pub Values : Type 0
 Values = ℕ → Option Bool
 

@@ -1,4 +1,4 @@
--- The truth of a quantified formula, and how many values the plain recursion tries.
+-- The truth of a closed formula in prenex form, by recursion over its variables in prefix order, as the textbooks and QDIMACS 1.1 define it; and how many values this recursion tries.
 use Rattle.std.specs.Prelude.{ℕ, ◌+◌, Bool, true, false, not, ◌==◌, ◌||◌, ◌&&◌, if◌then◌else◌, List, [], ◌∷◌, Option, Some, None}
 use Rattle.prefix.specs.declared.quant.Quant.{Quant}
 use Rattle.prefix.specs.declared.quant.Quant.TheVariants.{Exists, Forall}
@@ -44,7 +44,7 @@ abbrev pub truth_under_from : List Literal → List BoundVariable → List (List
 truth_under_from asm [] cs σ = matrix_true σ cs
 truth_under_from asm (x ∷ xs) cs σ = joined_under (assumed_value asm x.variable) x.quantifier (λ b. truth_under_from asm xs cs (with_value x.variable b σ))
 
--- the truth of a formula, from its scopes and clauses
+-- the truth of a formula: of all its variables in prefix order, where none has a value yet
 abbrev pub truth : List Scope → List (List Literal) → Bool
 truth ss cs = truth_from (prefix_order ss) cs no_values
 

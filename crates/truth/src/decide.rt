@@ -10,7 +10,12 @@ use prefix::Quant;
 use std::alloc::Global;
 use steps::{Steps, Stop};
 
-/// Whether the formula is true, by trying values: false first, and true only where false didn't settle the variable.
+/// Whether a formula is true, by trying values of its variables in prefix order: false first, and true only where
+/// false didn't settle the variable. Each value that is tried is a step, and no other step is counted.
+///
+/// Spent comes exactly where fewer steps are left than the plain recursion takes (`plain_steps`), which is never where
+/// at least `step_limit` of the number of variables are left; then all of the budget is spent. NoMemory may come at any
+/// time, and the steps that were counted stay counted.
 pub fn decide_plain(alloc: Global, f: &Formula, steps: &mut Steps) -> Result<bool, Stop>
     ensures verdict { IfOk result (λ b. b ≡ truth f.now.prefix f.now.clauses) }
     ensures ok { OnOk result (steps.new ≡ after steps.old (plain_steps f.now.prefix f.now.clauses)) }

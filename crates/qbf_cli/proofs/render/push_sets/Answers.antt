@@ -10,4 +10,4 @@ loop-s-preserved c =
     let within : c.loop-s.s < length ss = omega arith in
     c.in_ok-push_set.ensures ∙ ap (λ bs. bs ++ set_line (record { quantifier = c.unwrap-quant.result; variables = c.vars_of.result.now })) c.loop-s.invariant
     ∙ ap (λ vs. (string_bytes c.args.text.now ++ flat_map set_line (take c.loop-s.s ss)) ++ set_line (record { quantifier = c.unwrap-quant.result; variables = vs })) c.vars_of.ensures
-    ∙ sym (flat_map_scope set_line ss c.loop-s.s c.unwrap-quant.result within (sym c.scope_quant.ensures ∙ c.unwrap-quant.ensures) (string_bytes c.args.text.now))
+    ∙ sym (flat_map_scope set_line ss c.loop-s.s c.unwrap-quant.result within (sym c.scope_quant.ensures.value ∙ c.unwrap-quant.ensures) (string_bytes c.args.text.now))

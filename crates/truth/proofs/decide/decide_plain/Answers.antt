@@ -6,7 +6,7 @@ use Rattle.steps.specs.declared.stop.Stop.TheVariants.{Spent}
 use Rattle.steps.specs.Counter.{Counter}
 use Rattle.truth.specs.Truth.{settles}
 use Rattle.truth.specs.Search.{Tried}
-use Rattle.truth.proofs.PlainSteps.{formula_tries_bound}
+use Rattle.truth.proofs.PlainSteps.{plain_steps_limit}
 use Rattle.truth.proofs.ResumeLemmas.{Outcome, Clauses, outcome, one_more, outcome_chosen, outcome_settled, outcome_again, has_place}
 use Rattle.truth.proofs.decide.decide_plain.Goals as goal
 use Rattle.truth.proofs.decide.decide_plain.Goals.{then-value-via-then-value, then-value-via-else-value+then-settles}
@@ -109,7 +109,7 @@ returns-in_err-try_value-2-clause-spent c = λ e.
     omega (arith, a.spent was, ap (λ (s : Counter). s.spent) (a.unchanged was), ap (λ (s : Counter). s.budget) (a.unchanged was), ap (λ (o : Outcome). o.ticks) same)
 
 pub returns-in_err-try_value-clause-never : goal.returns-in_err-try_value-clause-never
-returns-in_err-try_value-clause-never c = λ h e. absurd (omega (arith, h, returns-in_err-try_value-clause-spent c e, formula_tries_bound c.args.f.now.prefix c.args.f.now.clauses))
+returns-in_err-try_value-clause-never c = λ h e. absurd (omega (arith, h, returns-in_err-try_value-clause-spent c e, plain_steps_limit c.args.f.now.prefix c.args.f.now.clauses))
 
 pub returns-in_err-try_value-2-clause-never : goal.returns-in_err-try_value-2-clause-never
-returns-in_err-try_value-2-clause-never c = λ h e. absurd (omega (arith, h, returns-in_err-try_value-2-clause-spent c e, formula_tries_bound c.args.f.now.prefix c.args.f.now.clauses))
+returns-in_err-try_value-2-clause-never c = λ h e. absurd (omega (arith, h, returns-in_err-try_value-2-clause-spent c e, plain_steps_limit c.args.f.now.prefix c.args.f.now.clauses))
