@@ -10,7 +10,8 @@ use Rattle.std.proofs.lemmas.List.{append-nil, append_assoc, take_all, drop_all,
 use Rattle.prefix.specs.declared.quant.Quant.{Quant}
 use Rattle.prefix.specs.declared.quant.Quant.TheVariants.{Exists, Forall}
 use Rattle.prefix.specs.Literal.{Literal}
-use Rattle.prefix.specs.Scopes.{Scope, is_among, level_of, all_variables, insert_ascending, with_variable_at, with_scope, IsAscending, AreDistinct, variable_refusal, scope_refusal}
+use Rattle.prefix.specs.Scopes.{Scope, is_among, level_of, all_variables, insert_ascending, with_variable_at, with_scope, IsAscending, AreDistinct}
+use Rattle.prefix.specs.Refusals.{scope_refusal, variable_refusal}
 use Rattle.qbf_cli.specs.declared.scan.Line.TheVariants.{Unknown, Set}
 use Rattle.qbf_cli.specs.declared.scan.Scan.{Scan}
 use Rattle.qbf_cli.specs.Scan.{scanned, variable_put, unless_refused, set_begun}

@@ -4,7 +4,8 @@ use Rattle.prefix.specs.declared.quant.Quant.{Quant}
 use Rattle.prefix.specs.declared.quant.Quant.TheVariants.{Exists, Forall}
 use Rattle.prefix.specs.declared.refusal.PrefixRefusal.{PrefixRefusal}
 use Rattle.prefix.specs.Literal.{Literal}
-use Rattle.prefix.specs.Scopes.{Scope, with_scope, with_variable_at, scope_refusal, variable_refusal}
+use Rattle.prefix.specs.Scopes.{Scope, with_scope, with_variable_at}
+use Rattle.prefix.specs.Refusals.{scope_refusal, variable_refusal}
 use Rattle.qbf_cli.specs.declared.scan.Kind.{Kind}
 use Rattle.qbf_cli.specs.declared.scan.Kind.TheVariants.{Digit, Minus, Letter, Blank, LineEnd, Other}
 use Rattle.qbf_cli.specs.declared.scan.Line.{Line}

@@ -1,7 +1,8 @@
 //! What a text says, if it is plain: read byte by byte, with no test of its form.
 ghost use Rattle.std.specs.Prelude.{◌≡◌, ◌<◌, OnOk, IfOk, None, if◌then◌else◌};
 ghost use Rattle.qbf_cli.specs.Scan.{kind_of as byte_kind, digit_put, started, after_kind, number_ended, line_ended, set_begun, lettered, variable_put, literal_put, scanned, no_scan, no_word, unless_refused};
-ghost use Rattle.prefix.specs.Scopes.{with_scope, scope_refusal};
+ghost use Rattle.prefix.specs.Refusals.{scope_refusal};
+ghost use Rattle.prefix.specs.Scopes.{with_scope};
 
 use prefix::{Lit, LitList, Prefix, PrefixRefusal, Quant, Var};
 use std::alloc::{AllocError, Global};

@@ -1,0 +1,9 @@
+pub mod Derivations
+pub mod Limits
+pub mod Plays
+pub mod Rows
+pub mod Search
+pub mod Theorems
+pub mod Verdicts
+pub mod Weights
+pub mod Worked

@@ -1,0 +1,36 @@
+-- How many gates a proof costs at most, and how many a script's proofs do.
+use Rattle.std.specs.Prelude.{ℕ, ◌+◌, ◌*◌, ◌-◌, Bool, true, false, if◌then◌else◌, min, List, [], ◌∷◌, length}
+use Rattle.steps.specs.Counter.{step_limit}
+use Rattle.calculus.specs.Rows.{Row}
+use Rattle.calculus.specs.Derivations.{Reason, Inference}
+use Rattle.calculus.specs.Derivations.Reason.{Input, One, Two}
+
+-- what a step with one antecedent costs in gates at most: for each removed literal one more than the literals left
+abbrev pub gates_of : Row → Reason → ℕ
+gates_of row Input = 0
+gates_of row (One before) = (length before - length row) * (length row + 1)
+gates_of row (Two a b x) = 0
+
+-- the gate weight of a proof
+abbrev pub gate_weight : List Inference → ℕ
+gate_weight [] = 0
+gate_weight (s ∷ steps) = gates_of s.row s.reason + gate_weight steps
+
+-- whether a step has one antecedent
+abbrev pub is_removal : Reason → Bool
+is_removal Input = false
+is_removal (One before) = true
+is_removal (Two a b x) = false
+
+-- how many steps have one antecedent
+abbrev pub removals_of : List Inference → ℕ
+removals_of [] = 0
+removals_of (s ∷ steps) = (if is_removal s.reason then 1 else 0) + removals_of steps
+
+-- the removals that a script may have made: with this many clauses accepted, and this many solves of at most this budget over n variables
+abbrev pub removal_bound : ℕ → ℕ → ℕ → ℕ → ℕ
+removal_bound clauses solves budget n = clauses + solves * (min budget (step_limit n) + 1) + 1
+
+-- the weight bound: the gates that a circuit of such a script may have
+abbrev pub weight_bound : ℕ → ℕ → ℕ → ℕ → ℕ
+weight_bound clauses solves budget n = removal_bound clauses solves budget n * (n * (n + 1))

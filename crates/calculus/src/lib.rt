@@ -1,0 +1,52 @@
+//! The calculus: Q-resolution with its dual for cubes, under assumptions, as definitions and theorems.
+//!
+//! `specs/` has the definitions, by subject, and the statements of the theorems. Each theorem is the
+//! contract of a function without a body. They are about definitions, until code cites these words in
+//! its own contracts. `docs/CALCULUS.md` reads the definitions aloud.
+//!
+//! What the theorems hold the definitions to. Each of these changes was made to a copy, and makes the
+//! named theorem false or the named worked value another one:
+//!
+//! - Reduction ignores blocking: `proofs_decide` and `end_rows_decide` are false, as 1 2 and -1 -2 under
+//!   a 1, e 2, a true formula, are refuted by the steps of `worked_refutation`; `worked_rows` fails at
+//!   `blocked_universal_stays` and `blocked_existential_stays`.
+//! - The last falsified reduction is taken in place of the first: `plays_win` and `circuits_win` are
+//!   false; `worked_first` has a proof and values for which that rule makes the matrix true.
+//! - A variable that may be assumed is reduced, so that a row without pivot-type literals loses all:
+//!   `end_rows_decide` is false, as the clause 1 under a 1 reduces to the empty one, and is true with 1
+//!   assumed; `worked_rows` fails at `lone_universal_stays` and `lone_existential_stays`.
+//! - The depth of an absent variable is 0: `prefix_laws` is false at `positive`, and `worked_rows` fails
+//!   at `absent_is_last` and `absent_goes`.
+#![tactic(auto)]
+
+mod derivations;
+mod plays;
+mod rows;
+mod search;
+mod verdicts;
+mod weights;
+mod worked;
+
+pub use derivations::{
+    additions_are_legal, changes_are_legal, drops_are_legal, inputs_may_come_first, prefixes_grow,
+    sides_are_legal,
+};
+pub use plays::{
+    circuits_win, gates_are_bounded, gates_are_few, last_steps_decide, plays_exist,
+    plays_look_back, plays_win, winning_decides,
+};
+pub use rows::{prefix_laws, row_laws};
+pub use search::{
+    assumptions_end, blockers_resolve, blockers_were_propagated, decisions_make_unit,
+    lasts_resolve, no_pivots_end, propagation_refutes, reasons_are_unit, reasons_stay, trail_laws,
+    trails_are_short, unblocked_are_clean, value_laws,
+};
+pub use verdicts::{
+    end_rows_decide, end_rows_give_proofs, first_values_decide, no_assumptions, plain_is_bounded,
+    proofs_decide, relevant_ones_decide,
+};
+pub use weights::{limits_suffice, searches_end, steps_are_few, weight_laws};
+pub use worked::{
+    worked_assumptions, worked_first, worked_model, worked_refutation, worked_rows, worked_truths,
+    worked_weights,
+};

@@ -1,0 +1,22 @@
+//! Weights of trails and numbers of steps.
+ghost use Rattle.calculus.specs.Theorems.{LimitsSuffice, SearchesEnd, StepsAreFew, WeightLaws};
+
+/// An assignment raises the weight, and so does a cut at a decision with an assignment that is none in its place; the weight is bounded.
+pub fn weight_laws()
+    ensures { WeightLaws }
+{}
+
+/// A search over n variables makes fewer than 2 ^ (n + 1) - 1 assignments.
+pub fn searches_end()
+    ensures { SearchesEnd }
+{}
+
+/// With at most n resolutions to clean each reason, and 2 n for each lesson, the steps are few.
+pub fn steps_are_few()
+    ensures { StepsAreFew }
+{}
+
+/// So a search with few resolutions stays below the step limit.
+pub fn limits_suffice()
+    ensures { LimitsSuffice }
+{}
