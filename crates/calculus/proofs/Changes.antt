@@ -1,7 +1,8 @@
 -- A derivation stays legal under new clauses that its inputs fit, and under a prefix with more scopes and variables.
 use Rattle.std.proofs.Common.{◌≡◌, ℕ, suc, ◌+◌, ◌<◌, ◌≤◌, true, cond, List, [], ◌∷◌, length, Contains, sym, refl, ap, ap₂, ◌∙◌, arith, nat_lt, None, Option, is_some, unwrap_or, option_map, zero, ◌||◌, Some, false, nat_eq}
 use Rattle.std.proofs.lemmas.Bool.{cond-false, true≢false, ne_eqb, or_right}
-use Rattle.prefix.specs.Scopes.{Scope, all_variables, is_among, level_of, lifted, with_variable_at}
+use Rattle.prefix.specs.Scopes.{Scope, all_variables, is_among, level_of, with_variable_at}
+use Rattle.prefix.specs.Insertion.{lifted}
 use Rattle.prefix.specs.declared.quant.Quant.{Quant}
 use Rattle.calculus.specs.Derivations.{Extends, IsDerivation, IsInput, IsLegalStep, Step, Why}
 use Rattle.calculus.specs.Derivations.Why.{FinishedFrom, Given, ReducedFrom, ResolvedFrom}

@@ -6,7 +6,7 @@ use Rattle.prefix.specs.Literal.{Literal, negation}
 use Rattle.prefix.specs.Scopes.{Scope, level_of, quantifier_of, all_variables, variables_at, AreDistinct, IsAscending, place_of, with_scope, with_variable_at}
 use Rattle.prefix.specs.Sides.{bad_of}
 use Rattle.truth.specs.Matrix.{Values, matrix_true, literal_true, clause_true, cube_true}
-use Rattle.truth.specs.Truth.{truth, truth_under, plain_steps}
+use Rattle.truth.specs.Truth.{truth_under}
 use Rattle.calculus.specs.Rows.{Row, Assignment, depth_of, is_pivot, reduce, resolve, clashes, IsRow, variables_in, is_bad, is_bad_row, AreOverPrefix}
 use Rattle.calculus.specs.Derivations.{Inference, Step, IsInput, IsLegal, IsDerivation, IsCoreOf, Extends, rows_of, inferences_of, of_side, IsClosed, core_order, IsLegalStep}
 use Rattle.calculus.specs.Derivations.Why.{Given}
@@ -85,14 +85,6 @@ FirstValuesDecide = (pivot : Quant) (scopes : List Scope) (clauses : List Row) (
 -- An end row with its core, inputs first, and its finish where something goes, is a proof.
 abbrev pub EndRowsGiveProofs : Type 0
 EndRowsGiveProofs = (pivot : Quant) (scopes : List Scope) (clauses : List Row) (assumptions : List Literal) (steps : List Step) (end : Step) → IsDerivation scopes clauses steps → ((s : Step) → Contains steps s → s.side ≡ pivot) → Contains steps end → IsCoreOf end steps → IsEndRow pivot scopes assumptions end.row → IsProof pivot scopes clauses assumptions (core_order (inferences_of steps) ++ finish_steps assumptions end.row)
-
--- Truth under no assumptions is truth.
-abbrev pub NoAssumptions : Type 0
-NoAssumptions = (scopes : List Scope) (clauses : List Row) → truth_under [] scopes clauses ≡ truth scopes clauses
-
--- The plain recursion over n variables tries fewer than 2 ^ (n + 1) values.
-abbrev pub PlainIsBounded : Type 0
-PlainIsBounded = (scopes : List Scope) (clauses : List Row) → plain_steps scopes clauses + 2 ≤ 2 ^ (length (all_variables scopes) + 1)
 
 -- plays
 

@@ -42,8 +42,7 @@ pub use search::{
     trails_are_short, unblocked_are_clean, value_laws,
 };
 pub use verdicts::{
-    end_rows_decide, end_rows_give_proofs, first_values_decide, no_assumptions, plain_is_bounded,
-    proofs_decide, relevant_ones_decide,
+    end_rows_decide, end_rows_give_proofs, first_values_decide, proofs_decide, relevant_ones_decide,
 };
 pub use weights::{limits_suffice, searches_end, steps_are_few, weight_laws};
 pub use worked::{

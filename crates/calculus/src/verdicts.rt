@@ -1,5 +1,5 @@
 //! Verdicts.
-ghost use Rattle.calculus.specs.Theorems.{EndRowsDecide, EndRowsGiveProofs, FirstValuesDecide, NoAssumptions, PlainIsBounded, ProofsDecide, RelevantOnesDecide};
+ghost use Rattle.calculus.specs.Theorems.{EndRowsDecide, EndRowsGiveProofs, FirstValuesDecide, ProofsDecide, RelevantOnesDecide};
 
 /// An end row of a legal derivation decides the truth under the assumptions: an end clause makes the formula false, an end cube true.
 ///
@@ -26,14 +26,4 @@ pub fn first_values_decide()
 /// An end row with its core, inputs first, and its finish where something goes, is a proof.
 pub fn end_rows_give_proofs()
     ensures { EndRowsGiveProofs }
-{}
-
-/// Truth under no assumptions is truth.
-pub fn no_assumptions()
-    ensures { NoAssumptions }
-{}
-
-/// The plain recursion over n variables tries fewer than 2 ^ (n + 1) values.
-pub fn plain_is_bounded()
-    ensures { PlainIsBounded }
 {}

@@ -1,14 +1,13 @@
 -- What an insertion keeps.
-use Rattle.std.proofs.Common.{◌≡◌, ℕ, zero, suc, ◌+◌, ◌-◌, ◌<◌, ◌≤◌, Bool, true, false, cond, List, [], ◌∷◌, ◌++◌, length, Option, Some, None, refl, sym, ap, subst, ⊎_elim, ◌∙◌, arith}
+use Rattle.std.proofs.Common.{◌≡◌, ℕ, zero, suc, ◌+◌, ◌-◌, ◌<◌, ◌≤◌, Bool, true, false, cond, List, [], ◌∷◌, length, Option, Some, None, refl, sym, ap, ⊎_elim, ◌∙◌, arith}
 use Rattle.std.specs.Prelude.{◌==◌, ◌||◌, insert, IfSome, IsSome, is_some, slice_get}
 use Rattle.std.specs.Option.{option_map, option_and_then}
-use Rattle.std.specs.declared.cmp.Ordering.{Ordering}
 use Rattle.std.specs.Ordering.{nat_cmp}
-use Rattle.std.proofs.lemmas.Bool.{cond-true, cond-false, cases_lt, cases_eq, ne_eqb, eq-eqb, le-leb, lt-leb}
+use Rattle.std.proofs.lemmas.Bool.{cond-true, cond-false, cases_lt, ne_eqb, le-leb, lt-leb}
 use Rattle.std.proofs.lemmas.Bool.Decides.{nat_tests}
 use Rattle.prefix.specs.declared.quant.Quant.{Quant}
-use Rattle.prefix.specs.Scopes.{Scope, is_among, level_of, all_variables, quantifier_at, quantifier_of, with_variable_at}
-use Rattle.prefix.specs.Insertion.{lifted, levels_compared, KeepsOrder}
+use Rattle.prefix.specs.Scopes.{Scope, is_among, level_of, all_variables, quantifier_at, with_variable_at}
+use Rattle.prefix.specs.Insertion.{lifted, KeepsOrder}
 use Rattle.prefix.proofs.ScopeLemmas.{level-insert, level-with_variable_at, is_among-append}
 
 found_by : (b c : Bool) (o : Option ℕ) → is_some o ≡ c → is_some (cond b (Some 1) (option_map (λ n. n + 1) o)) ≡ (b || c)

@@ -1,17 +1,17 @@
 -- A plain text leads the reader to its formula.
-use Rattle.std.proofs.Common.{◌≡◌, ℕ, zero, suc, ◌+◌, ◌-◌, ◌^◌, ◌<◌, ◌≤◌, Bool, true, false, cond, Option, Some, None, List, [], ◌∷◌, ◌++◌, length, map, refl, sym, ap, subst, ◌∙◌, arith, length-append, add-one, codes}
-use Rattle.std.specs.Prelude.{All, IsTrue, nat_lt, ◌&&◌, ◌||◌, ◌==◌, is_some, slice_get, unwrap_or}
+use Rattle.std.proofs.Common.{◌≡◌, ℕ, zero, suc, ◌+◌, ◌-◌, ◌<◌, ◌≤◌, Bool, true, false, cond, Option, Some, None, List, [], ◌∷◌, ◌++◌, length, map, refl, sym, ap, subst, ◌∙◌, arith, length-append, codes}
+use Rattle.std.specs.Prelude.{nat_lt, ◌||◌, ◌==◌, is_some, slice_get, unwrap_or}
 use Rattle.std.specs.List.{flat_map, list_all, AllByRecursion}
 use Rattle.std.specs.Option.{option_map}
 use Rattle.std.specs.Fmt.{decimal, signed_decimal}
 use Rattle.std.proofs.lemmas.List.Elements.{recursion_from_All}
 use Rattle.std.proofs.lemmas.Bool.{and_parts, ltb-true, eqb-true}
 use Rattle.prefix.specs.Literal.{Literal, signed_number}
-use Rattle.prefix.specs.Scopes.{Scope, IsAscending, AreDistinct, all_variables, variables_at, level_of, is_among}
+use Rattle.prefix.specs.Scopes.{Scope, variables_at, level_of, is_among}
 use Rattle.truth.specs.declared.formula.Formula.{Formula}
 use Rattle.qbf_cli.specs.declared.scan.Scan.{Scan}
 use Rattle.qbf_cli.specs.Scan.{scanned, no_scan}
-use Rattle.qbf_cli.specs.PlainText.{closed_line, quantifier_word, set_line, clause_line, problem_line, plain_text, IsPlainSet, IsPlainFormula, IsPlainText, is_plain_clause, ascends_above}
+use Rattle.qbf_cli.specs.PlainText.{closed_line, quantifier_word, set_line, clause_line, problem_line, plain_text, IsPlainFormula, IsPlainText, is_plain_clause, ascends_above}
 use Rattle.qbf_cli.proofs.Words.{scanned-append, scanned-problem_line, scanned-clause_lines, ready, IsSmall}
 use Rattle.qbf_cli.proofs.Sets.{scanned-set_lines, all_fit}
 

@@ -1,5 +1,5 @@
 -- The exit status of each ending.
-use Rattle.std.proofs.Common.{◌≡◌, ℕ, true, false, [], ◌∷◌, Contains, refl, arith}
+use Rattle.std.proofs.Common.{◌≡◌, true, false, [], ◌∷◌, Contains, refl, arith}
 use Rattle.qbf_cli.specs.declared.ending.Refused.TheVariants.{NotPlain, ReadFault, NoMemory}
 use Rattle.qbf_cli.specs.declared.ending.Ending.{Ending}
 use Rattle.qbf_cli.specs.declared.ending.Ending.TheVariants.{Answered, NotDecided, WriteFault, Usage}

@@ -1,16 +1,15 @@
 -- What the reader makes of the words of a plain text.
-use Rattle.std.proofs.Common.{◌≡◌, ℕ, zero, suc, ◌+◌, ◌-◌, ◌*◌, ◌/◌, ◌%◌, ◌^◌, ◌<◌, ◌≤◌, Bool, true, false, not, cond, List, [], ◌∷◌, ◌++◌, length, map, refl, sym, ap, ◌∙◌, arith, codes, pos, negsuc}
-use Rattle.std.specs.Prelude.{nat_lt, nat_le, ◌==◌, ◌&&◌}
+use Rattle.std.proofs.Common.{◌≡◌, ℕ, suc, ◌+◌, ◌-◌, ◌*◌, ◌/◌, ◌%◌, ◌^◌, ◌<◌, ◌≤◌, Bool, true, false, not, cond, List, [], ◌∷◌, ◌++◌, map, refl, sym, ap, ◌∙◌, arith, codes, pos, negsuc}
+use Rattle.std.specs.Prelude.{nat_lt, nat_le, ◌&&◌}
 use Rattle.std.specs.List.{flat_map, AllByRecursion}
 use Rattle.std.proofs.lemmas.List.{append-nil, append_assoc}
 use Rattle.std.specs.Fmt.{decimal, signed_decimal}
 use Rattle.std.proofs.lemmas.Fmt.{decimal_by_steps}
-use Rattle.std.proofs.lemmas.Bool.{cond-true, cond-false}
+use Rattle.std.proofs.lemmas.Bool.{cond-true}
 use Rattle.std.proofs.lemmas.Bool.Decides.{nat_tests}
 use Rattle.prefix.specs.Literal.{Literal, signed_number}
 use Rattle.prefix.specs.Scopes.{Scope}
-use Rattle.qbf_cli.specs.declared.scan.Kind.{Kind}
-use Rattle.qbf_cli.specs.declared.scan.Kind.TheVariants.{Digit, Minus, Letter, Blank, LineEnd, Other}
+use Rattle.qbf_cli.specs.declared.scan.Kind.TheVariants.{Digit}
 use Rattle.qbf_cli.specs.declared.scan.Line.{Line}
 use Rattle.qbf_cli.specs.declared.scan.Line.TheVariants.{Problem, Unknown, Set, Clause}
 use Rattle.qbf_cli.specs.declared.scan.Word.{Word}

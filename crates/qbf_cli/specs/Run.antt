@@ -4,7 +4,6 @@ use Rattle.std.specs.Str.{bytes_eq}
 use Rattle.truth.specs.declared.formula.Formula.{Formula}
 use Rattle.truth.specs.Truth.{truth}
 use Rattle.qbf_cli.specs.PlainText.{IsPlainText}
-use Rattle.qbf_cli.specs.declared.ending.Refused.{Refused}
 use Rattle.qbf_cli.specs.declared.ending.Refused.TheVariants.{NotPlain, ReadFault, NoMemory}
 use Rattle.qbf_cli.specs.declared.ending.Ending.{Ending}
 use Rattle.qbf_cli.specs.declared.ending.Ending.TheVariants.{Answered, NotDecided, WriteFault, Usage}

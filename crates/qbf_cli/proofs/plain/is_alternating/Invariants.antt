@@ -1,4 +1,4 @@
-use Rattle.std.proofs.Common.{◌≡◌, ◌≢◌, ℕ, ◌+◌, ◌<◌, ◌≤◌}
+use Rattle.std.proofs.Common.{◌≢◌, ℕ, ◌+◌, ◌<◌, ◌≤◌}
 use Rattle.prefix.specs.Scopes.{quantifier_at}
 use Rattle.qbf_cli.proofs.plain.is_alternating.Given as goal
 

@@ -1,4 +1,4 @@
-use Rattle.std.proofs.Common.{◌≡◌, length, refl, sym, ◌∙◌}
+use Rattle.std.proofs.Common.{length, refl, sym, ◌∙◌}
 use Rattle.qbf_cli.specs.Scan.{scanned, no_scan}
 use Rattle.qbf_cli.proofs.PlainLemmas.{formula_of_plain}
 use Rattle.qbf_cli.proofs.plain.plain_texts_are_unambiguous.Goals as goal

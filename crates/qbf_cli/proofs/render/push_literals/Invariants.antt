@@ -1,4 +1,4 @@
-use Rattle.std.proofs.Common.{◌≡◌, ◌++◌, List, map, codes, string_bytes, take}
+use Rattle.std.proofs.Common.{◌≡◌, ◌++◌, map, codes, string_bytes, take}
 use Rattle.std.specs.List.{flat_map}
 use Rattle.std.specs.Fmt.{signed_decimal}
 use Rattle.prefix.specs.Literal.{signed_number}

@@ -1,4 +1,4 @@
-use Rattle.std.proofs.Common.{◌≡◌, ◌<◌, ◌++◌, length, take, ap, sym, ◌∙◌, arith, string_bytes}
+use Rattle.std.proofs.Common.{◌<◌, ◌++◌, length, take, ap, sym, ◌∙◌, arith, string_bytes}
 use Rattle.std.specs.List.{flat_map}
 use Rattle.qbf_cli.specs.PlainText.{set_line}
 use Rattle.qbf_cli.proofs.ScopeAt.{flat_map_scope}

@@ -1,4 +1,4 @@
-use Rattle.std.proofs.Common.{◌≡◌, ◌++◌, List, string_bytes, take}
+use Rattle.std.proofs.Common.{◌≡◌, ◌++◌, string_bytes, take}
 use Rattle.std.specs.List.{flat_map}
 use Rattle.qbf_cli.specs.PlainText.{set_line}
 use Rattle.qbf_cli.proofs.render.push_sets.Given as goal

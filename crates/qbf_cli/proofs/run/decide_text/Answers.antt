@@ -1,5 +1,4 @@
-use Rattle.std.proofs.Common.{◌≡◌, ◌-◌, ◌^◌, ◌≤◌, Err, length, ap, sym, subst, ◌∙◌, arith}
-use Rattle.std.specs.Prelude.{IfSome}
+use Rattle.std.proofs.Common.{◌≡◌, ◌-◌, ◌^◌, ◌≤◌, Err, length, ap, ◌∙◌, arith}
 use Rattle.prefix.specs.Scopes.{all_variables}
 use Rattle.steps.specs.Counter.{step_limit, left}
 use Rattle.qbf_cli.specs.PlainText.{IsPlainText}

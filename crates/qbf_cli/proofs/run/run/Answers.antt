@@ -1,4 +1,4 @@
-use Rattle.std.proofs.Common.{◌≡◌, true, false, [], ◌∷◌, Contains, sym, subst, ◌∙◌}
+use Rattle.std.proofs.Common.{true, false, [], ◌∷◌, Contains, sym, subst, ◌∙◌}
 use Rattle.qbf_cli.proofs.Statuses.{statuses, true_at_10, false_at_20}
 use Rattle.qbf_cli.proofs.run.run.Goals as goal
 

@@ -1,7 +1,5 @@
-use Rattle.std.proofs.Common.{◌≡◌, ℕ, ◌≤◌, ◌<◌, length, get_or, sym, ◌∙◌, ap, Some, None, arith}
-use Rattle.std.specs.Prelude.{slice_get, is_some}
-use Rattle.std.specs.Option.{option_and_then}
-use Rattle.prefix.specs.Scopes.{level_of}
+use Rattle.std.proofs.Common.{sym, ◌∙◌, ap, Some, None}
+use Rattle.std.specs.Prelude.{is_some}
 use Rattle.prefix.proofs.TableLemmas.{level_is, home_within, get_or_past, slice_get_in}
 use Rattle.prefix.proofs.InsertionLemmas.{level_found, level_within}
 use Rattle.prefix.proofs.prefix.Prefix.level.Goals as goal
