@@ -1,0 +1,17 @@
+use Rattle.std.proofs.Common.{◌≡◌, ℕ, List, ◌≤◌}
+use Rattle.lexer.specs.State.{upcoming, Stays}
+use Rattle.lexer.proofs.lexer.Lexer.next_word.Given as goal
+
+abbrev pub invariant-loop-b : goal.invariant-loop-b
+invariant-loop-b g l =
+    let left = g.D.Desk.left in
+    record {
+      items : Stays (upcoming l.fn.self (left l.fn.desk)) (upcoming l.self (left l.desk));
+      later : g.D.Desk.faults l.fn.desk ≤ g.D.Desk.faults l.desk;
+      content : (n : List ℕ) → g.D.Desk.content l.desk n ≡ g.D.Desk.content l.fn.desk n;
+      room : l.self.room ≤ l.fn.self.room;
+      failed : l.self.failed ≡ l.fn.self.failed;
+    }
+
+abbrev pub decreases-loop-b : goal.decreases-loop-b
+decreases-loop-b g l = l.self.room

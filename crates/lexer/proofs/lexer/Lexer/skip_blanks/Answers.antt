@@ -1,0 +1,36 @@
+use Rattle.std.proofs.Common.{◌≡◌, ◌-◌, Some, Option, List, slice_get, sym, ap, ◌∙◌, arith}
+use Rattle.lexer.specs.State.{State, upcoming}
+use Rattle.lexer.specs.Words.{Item, too_long}
+use Rattle.lexer.proofs.Known.{stays_on, begins_on, peeked, past_blank, blank_beyond}
+use Rattle.lexer.proofs.lexer.Lexer.skip_blanks.Goals as goal
+
+pub returns-then-room-eq0-clause-refusal : goal.returns-then-room-eq0-clause-refusal
+returns-then-room-eq0-clause-refusal g c =
+    let left = g.D.Desk.left in
+    let before : Option (List Item) = upcoming c.args.self.now (left c.args.desk.now) in
+    let turn : Option (List Item) = upcoming c.loop-b.self (left c.loop-b.desk) in
+    let after : Option (List Item) = upcoming c.peek.new.self (left c.peek.new.desk) in
+    let first : slice_get c.peek.new.self.ahead 0 ≡ Some c.in-Some.b = sym c.in_ok-b.ensures.next ∙ c.in-Some.is in
+    rw c.line.ensures (begins_on before after (too_long c.peek.new.self.line)
+    (stays_on before turn after c.loop-b.invariant.items (peeked c.loop-b.self c.peek.new.self _ _ c.peek.ensures.same c.peek.ensures.bytes))
+    (blank_beyond c.peek.new.self c.in-Some.b (left c.peek.new.desk) first (sym c.room.ensures ∙ c.if-room-eq0.true) (sym c.if-not-is_blank.ensures)))
+
+pub loop-b-preserved : goal.loop-b-preserved
+loop-b-preserved g c =
+    let left = g.D.Desk.left in
+    let before : Option (List Item) = upcoming c.args.self.now (left c.args.desk.now) in
+    let turn : Option (List Item) = upcoming c.loop-b.self (left c.loop-b.desk) in
+    let after : Option (List Item) = upcoming c.peek.new.self (left c.peek.new.desk) in
+    let first : slice_get c.peek.new.self.ahead 0 ≡ Some c.in-Some.b = sym c.in_ok-b.ensures.next ∙ c.in-Some.is in
+    let room : c.peek.new.self.room ≡ c.loop-b.self.room = ap (λ (s : State). s.room) c.peek.ensures.same in
+    let less : c.advance.new.self.room ≡ c.peek.new.self.room - 1 = ap (λ (s : State). s.room) c.advance.ensures in
+    record {
+      items = stays_on before after (upcoming c.advance.new.self (left c.peek.new.desk))
+          (stays_on before turn after c.loop-b.invariant.items (peeked c.loop-b.self c.peek.new.self _ _ c.peek.ensures.same c.peek.ensures.bytes))
+          (rw c.advance.ensures (past_blank c.peek.new.self c.in-Some.b (left c.peek.new.desk) first (omega arith) (sym c.if-not-is_blank.ensures)));
+      later = omega arith;
+      content = λ n. c.peek.ensures.content n ∙ c.loop-b.invariant.content n;
+      room = omega arith;
+      comments = ap (λ (s : State). s.comments) c.advance.ensures ∙ ap (λ (s : State). s.comments) c.peek.ensures.same ∙ c.loop-b.invariant.comments;
+      failed = ap (λ (s : State). s.failed) c.advance.ensures ∙ ap (λ (s : State). s.failed) c.peek.ensures.same ∙ c.loop-b.invariant.failed;
+    }

@@ -1,0 +1,22 @@
+use Rattle.std.proofs.Common.{◌≡◌, ℕ, List, ◌<◌, ◌≤◌}
+use Rattle.lexer.specs.State.{Stays}
+use Rattle.lexer.specs.Scan.{no_scan}
+use Rattle.lexer.specs.Machine.{upcoming_in_word}
+use Rattle.lexer.proofs.lexer.Lexer.word.Given as goal
+
+abbrev pub invariant-loop-b : goal.invariant-loop-b
+invariant-loop-b g l =
+    let left = g.D.Desk.left in
+    record {
+      items : Stays (upcoming_in_word l.fn.self no_scan (left l.fn.desk)) (upcoming_in_word l.self l.scan (left l.desk));
+      later : g.D.Desk.faults l.fn.desk ≤ g.D.Desk.faults l.desk;
+      content : (n : List ℕ) → g.D.Desk.content l.desk n ≡ g.D.Desk.content l.fn.desk n;
+      room : l.self.room < l.fn.self.room;
+      comments : l.self.comments ≡ l.fn.self.comments;
+      failed : l.self.failed ≡ l.fn.self.failed;
+      fresh : l.self.fresh ≡ l.fn.self.fresh;
+      line : l.self.line ≡ l.fn.self.line;
+    }
+
+abbrev pub decreases-loop-b : goal.decreases-loop-b
+decreases-loop-b g l = l.self.room

@@ -1,0 +1,49 @@
+-- What a lexer answers.
+use Rattle.std.specs.Prelude.{◌≡◌, ℕ, List, [], ◌∷◌, Option, Some, None, Result, Ok, Err}
+use Rattle.lexer.specs.declared.token.Token.{Token}
+use Rattle.lexer.specs.declared.token.LexRefusal.{LexRefusal}
+use Rattle.lexer.specs.declared.token.LexRefusal.TheVariants.{ReadFault, TooLong, BadByte, NumberRange}
+use Rattle.lexer.specs.Words.{Item, word, bad_byte, number_range, too_long, the_end}
+
+-- The item is the first of those to come, where these are known.
+abbrev pub Begins : Option (List Item) → Item → Type 0
+Begins None item = Unit {0}
+Begins (Some items) item = (rest : List Item) × (items ≡ item ∷ rest)
+
+-- The refusal is that of the first item; a fault of the desk says nothing of the items.
+abbrev pub Refuses : LexRefusal → Option (List Item) → Type 0
+Refuses (ReadFault line) items = Unit {0}
+Refuses (TooLong line) items = Begins items (too_long line)
+Refuses (BadByte line) items = Begins items (bad_byte line)
+Refuses (NumberRange line) items = Begins items (number_range line)
+
+-- The token is the first item, and the items to come after the call are those behind it.
+abbrev pub Gives : Token → Option (List Item) → Option (List Item) → Type 0
+Gives t None after = Unit {0}
+Gives t (Some items) after = (rest : List Item) × (items ≡ word t ∷ rest) × (after ≡ Some rest)
+
+-- Nothing is to come but the end, in this line, and it stays so.
+abbrev pub Ends : ℕ → Option (List Item) → Option (List Item) → Type 0
+Ends line None after = Unit {0}
+Ends line (Some items) after = (items ≡ the_end line ∷ []) × (after ≡ Some items)
+
+-- The answer is the first of the items that were to come before the call; the last argument is the line after it.
+abbrev pub Answers : Result (Option Token) LexRefusal → Option (List Item) → Option (List Item) → ℕ → Type 0
+Answers (Ok (Some t)) before after line = Gives t before after
+Answers (Ok None) before after line = Ends line before after
+Answers (Err e) before after line = Refuses e before
+
+-- The refusal is a fault of the desk.
+abbrev pub IsReadFault : LexRefusal → Type 0
+IsReadFault (ReadFault line) = Unit {0}
+IsReadFault (TooLong line) = ⊥
+IsReadFault (BadByte line) = ⊥
+IsReadFault (NumberRange line) = ⊥
+
+-- The token, or the refusal, is this item.
+abbrev pub IsScanned : Result Token LexRefusal → Item → Type 0
+IsScanned (Ok t) item = item ≡ word t
+IsScanned (Err (ReadFault line)) item = ⊥
+IsScanned (Err (TooLong line)) item = item ≡ too_long line
+IsScanned (Err (BadByte line)) item = item ≡ bad_byte line
+IsScanned (Err (NumberRange line)) item = item ≡ number_range line

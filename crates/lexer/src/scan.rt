@@ -1,0 +1,127 @@
+//! A word while its bytes come.
+ghost use Rattle.std.specs.Prelude.{◌≡◌};
+ghost use Rattle.lexer.specs.Scan.{shape_after, scan_after, no_scan, scanned};
+ghost use Rattle.lexer.specs.Answers.{IsScanned};
+
+use crate::text::ShortText;
+use crate::token::{LexRefusal, Token, Word};
+
+// 2^63 - 1, the greatest magnitude of a number.
+const MAX_MAGNITUDE: u64 = 9_223_372_036_854_775_807;
+
+/// What the bytes of a word so far may be.
+#[derive(Clone, Copy)]
+pub enum Shape {
+    /// No byte.
+    Empty,
+    /// A `-`.
+    Minus,
+    /// Digits, behind a `-` or not, and their value, which stops at 2^64 - 1.
+    Digits(bool, u64),
+    /// No number's beginning.
+    NoNumber,
+}
+
+impl Shape {
+    // The shape with one more byte.
+    pub fn after(self, b: u8) -> Shape
+        ensures { result ≡ shape_after self b }
+    {
+        let digit = b >= b'0' && b <= b'9';
+        match self {
+            Shape::Empty => {
+                if b == b'-' {
+                    Shape::Minus
+                } else if digit {
+                    Shape::Digits(false, u64::from(b - b'0'))
+                } else {
+                    Shape::NoNumber
+                }
+            }
+            Shape::Minus => {
+                if digit {
+                    Shape::Digits(true, u64::from(b - b'0'))
+                } else {
+                    Shape::NoNumber
+                }
+            }
+            Shape::Digits(negative, n) => {
+                if digit {
+                    Shape::Digits(
+                        negative,
+                        n.saturating_mul(10).saturating_add(u64::from(b - b'0')),
+                    )
+                } else {
+                    Shape::NoNumber
+                }
+            }
+            Shape::NoNumber => Shape::NoNumber,
+        }
+    }
+}
+
+/// What is kept of a word while its bytes come: its first 16, whether there are more, and whether one may
+/// not stand in a word.
+#[derive(Drop)]
+pub struct Scan {
+    pub text: ShortText,
+    pub is_long: bool,
+    pub is_bad: bool,
+    pub shape: Shape,
+}
+
+impl Scan {
+    // No byte.
+    pub fn new() -> Self
+        ensures { result ≡ no_scan }
+    {
+        Self {
+            text: ShortText::new(),
+            is_long: false,
+            is_bad: false,
+            shape: Shape::Empty,
+        }
+    }
+
+    // Takes the next byte of the word.
+    pub fn push(&mut self, b: u8)
+        ensures { self.new ≡ scan_after self.old b }
+    {
+        self.is_long = self.is_long || self.text.len() == 16;
+        self.is_bad = self.is_bad || b < 33 || b > 126;
+        self.shape = self.shape.after(b);
+        self.text.push(b);
+    }
+
+    // The token of the whole word, or why it is refused.
+    pub fn into_token(self, line: u32) -> Result<Token, LexRefusal>
+        ensures { IsScanned result (scanned line self) }
+    {
+        if self.is_bad {
+            return Err(LexRefusal::BadByte { line });
+        }
+        if let Shape::Digits(negative, n) = self.shape {
+            if !negative && n <= MAX_MAGNITUDE {
+                return Ok(Token {
+                    word: Word::Num(n as i64),
+                    line,
+                });
+            }
+            if n > MAX_MAGNITUDE {
+                return Err(LexRefusal::NumberRange { line });
+            }
+            if n > 0 {
+                return Ok(Token {
+                    word: Word::Num(-(n as i64)),
+                    line,
+                });
+            }
+        }
+        let word = if self.is_long {
+            Word::Other
+        } else {
+            Word::Text(self.text)
+        };
+        Ok(Token { word, line })
+    }
+}
