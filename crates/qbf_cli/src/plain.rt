@@ -49,6 +49,7 @@ fn is_plain(f: &Formula) -> bool
     requires { f.now.declared_clauses ≡ length f.now.clauses }
     ensures { IsTrue result ↔ IsPlainFormula f.now }
 {
+    // What the prefix tells here: its scopes ascend, and no variable stands in two.
     let _scopes = f.prefix.scopes();
     f.declared_vars <= 16
         && has_plain_sets(&f.prefix, f.declared_vars)
