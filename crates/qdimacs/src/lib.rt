@@ -1,0 +1,10 @@
+//! Reads quantified Boolean formulas as QDIMACS 1.1 writes them.
+//!
+//! `specs/Reads` says what each text is: a formula, or refused with a number and a line, or beyond a limit.
+#![tactic(auto)]
+
+mod laws;
+mod refusal;
+
+pub use laws::each_text_has_one_outcome;
+pub use refusal::{Quantity, ReadRefusal};
