@@ -24,10 +24,12 @@ row_at arena id = slice_index_or arena id None
 abbrev pub is_live : Arena → ℕ → Bool
 is_live arena id = is_some (row_at arena id)
 
+-- the literals of a row, none where there is no row
 abbrev pub literals_of : Option StoredRow → List Literal
 literals_of None = []
 literals_of (Some row) = row.literals
 
+-- the link fields of a row, none where there is no row
 abbrev pub links_of : Option StoredRow → List (Option ℕ)
 links_of None = []
 links_of (Some row) = row.links
