@@ -140,7 +140,7 @@ impl Rows {
         self.rows[id] = None;
     }
 
-    /// Moves what is live together. Every live id keeps its literals and its links, and no id is given back. This
+    /// Moves what is live together. Every live id keeps its literals and its links, and a freed id stays free. This
     /// takes no memory.
     pub fn compact(&mut self)
         ensures { self.new ≡ self.old }
