@@ -1,0 +1,2 @@
+mod Clashing
+mod Resolving

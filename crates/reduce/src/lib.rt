@@ -1,0 +1,16 @@
+//! Reduction, resolution and clash of rows of literals, once for clauses and cubes.
+#![tactic(auto)]
+
+mod reduction;
+mod resolution;
+
+use prefix::Lit;
+pub use reduction::reduce;
+pub use resolution::{clashes, resolve};
+use smallvec::SmallVec;
+
+/// The literals of a clause or of a cube, of which most have few.
+pub type Row = SmallVec<Lit, 16>;
+
+#[cfg(test)]
+mod tests;

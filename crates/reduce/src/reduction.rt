@@ -1,0 +1,111 @@
+//! Universal reduction of clauses and existential reduction of cubes.
+ghost use Rattle.std.specs.Prelude.{◌≡◌, [], ◌++◌, filter, OnOk, OnErr};
+ghost use Rattle.prefix.specs.Scopes.{IsAscending};
+ghost use Rattle.calculus.specs.Rows.{depth_of, is_pivot as is_pivot_type, reduce as reduction, variables_in};
+ghost use Rattle.reduce.specs.Deepest.{IsDeepest, is_before as before, stays_before};
+
+use super::Row;
+use prefix::{Lit, Prefix, Quant, Side, Var};
+use steps::NoMemory;
+
+/// Makes `out` the reduction of `lits`: each literal goes that is neither pivot-type nor of a smaller depth than some
+/// pivot-type literal. A row without pivot-type literals stays as it is. An ascending row stays ascending. After want
+/// of memory `out` is empty.
+pub fn reduce<S: Side>(prefix: &Prefix, lits: &[Lit], out: &mut Row) -> Result<(), NoMemory>
+    ensures ok { OnOk result (out.new.items ≡ reduction S.PIVOT prefix.now lits.now) }
+    ensures ascending { OnOk result (IsAscending (variables_in lits.now) → IsAscending (variables_in out.new.items)) }
+    ensures err { OnErr result (out.new.items ≡ []) }
+{
+    out.clear();
+    let done = push_reduction::<S>(prefix, lits, out);
+    if done.is_err() {
+        out.clear();
+    }
+    done
+}
+
+// Appends the reduction of a row.
+fn push_reduction<S: Side>(prefix: &Prefix, lits: &[Lit], out: &mut Row) -> Result<(), NoMemory>
+    ensures { OnOk result (out.new.items ≡ out.old.items ++ reduction S.PIVOT prefix.now lits.now) }
+{
+    let deepest = deepest_pivot::<S>(prefix, lits);
+    if deepest.is_some() {
+        push_staying::<S>(prefix, lits, deepest, out)
+    } else {
+        push_all(lits, out)
+    }
+}
+
+// The depth of a variable.
+fn depth(prefix: &Prefix, v: Var) -> usize
+    ensures { result ≡ depth_of prefix.now v }
+{
+    prefix.level(v).unwrap_or(prefix.scopes() + 1)
+}
+
+// Whether a literal is pivot-type.
+fn is_pivot<S: Side>(prefix: &Prefix, lit: Lit) -> bool
+    ensures { result ≡ is_pivot_type S.PIVOT prefix.now lit }
+{
+    match (prefix.quant(lit.var()), S::PIVOT) {
+        (Some(Quant::Exists), Quant::Exists) => true,
+        (Some(Quant::Forall), Quant::Forall) => true,
+        _ => false,
+    }
+}
+
+// Whether a depth is smaller than that one, if there is one.
+fn is_before(deepest: Option<usize>, depth: usize) -> bool
+    ensures { result ≡ before deepest depth }
+{
+    match deepest {
+        Some(deepest) => depth < deepest,
+        None => false,
+    }
+}
+
+// The greatest depth of a pivot-type literal.
+fn deepest_pivot<S: Side>(prefix: &Prefix, lits: &[Lit]) -> Option<usize>
+    ensures { IsDeepest S.PIVOT prefix.now lits.now result }
+{
+    let mut deepest = None;
+    for lit in lits {
+        let depth = depth(prefix, lit.var());
+        if is_pivot::<S>(prefix, *lit) && !is_before(deepest, depth) {
+            deepest = Some(depth);
+        }
+    }
+    deepest
+}
+
+// Whether a literal is pivot-type or of a smaller depth.
+fn stays<S: Side>(prefix: &Prefix, deepest: Option<usize>, lit: Lit) -> bool
+    ensures { result ≡ stays_before S.PIVOT prefix.now deepest lit }
+{
+    is_pivot::<S>(prefix, lit) || is_before(deepest, depth(prefix, lit.var()))
+}
+
+// Appends the literals that are pivot-type or of a smaller depth.
+fn push_staying<S: Side>(
+    prefix: &Prefix,
+    lits: &[Lit],
+    deepest: Option<usize>,
+    out: &mut Row,
+) -> Result<(), NoMemory>
+    ensures { OnOk result (out.new.items ≡ out.old.items ++ filter (stays_before S.PIVOT prefix.now deepest) lits.now) }
+{
+    for lit in lits {
+        if stays::<S>(prefix, deepest, *lit) {
+            out.push(*lit)?;
+        }
+    }
+    Ok(())
+}
+
+// Appends all literals.
+fn push_all(lits: &[Lit], out: &mut Row) -> Result<(), NoMemory>
+    ensures { OnOk result (out.new.items ≡ out.old.items ++ lits.now) }
+{
+    out.extend_from_slice(lits)?;
+    Ok(())
+}

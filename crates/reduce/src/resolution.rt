@@ -1,0 +1,98 @@
+//! Resolution and clash.
+ghost use Rattle.std.specs.Prelude.{◌≡◌, [], ◌++◌, OnOk, OnErr, IsFalse};
+ghost use Rattle.prefix.specs.Scopes.{IsAscending};
+ghost use Rattle.calculus.specs.Rows.{variables_in, without, clashes as clash, resolve as resolvent};
+
+use super::Row;
+use prefix::{Lit, Var};
+use steps::NoMemory;
+
+/// Whether a variable other than `pivot` stands with opposite signs in two ascending rows.
+pub fn clashes(a: &[Lit], b: &[Lit], pivot: Var) -> bool
+    requires a_ascends { IsAscending (variables_in a.now) }
+    requires b_ascends { IsAscending (variables_in b.now) }
+    ensures { result ≡ clash a.now b.now pivot }
+{
+    let mut i = 0;
+    let mut j = 0;
+    while i < a.len() && j < b.len() {
+        let l = a[i];
+        let m = b[j];
+        if l.var() < m.var() {
+            i += 1;
+            continue;
+        }
+        if m.var() < l.var() {
+            j += 1;
+            continue;
+        }
+        if l.var() != pivot && l.is_positive() != m.is_positive() {
+            return true;
+        }
+        i += 1;
+        j += 1;
+    }
+    false
+}
+
+/// Makes `out` the resolvent of two rows on `pivot`: all literals of both but those over it, each once. It ascends
+/// where both rows do and don't clash. After want of memory `out` is empty.
+pub fn resolve(a: &[Lit], b: &[Lit], pivot: Var, out: &mut Row) -> Result<(), NoMemory>
+    ensures ok { OnOk result (out.new.items ≡ resolvent a.now b.now pivot) }
+    ensures ascending { OnOk result (IsAscending (variables_in a.now) → IsAscending (variables_in b.now) → IsFalse (clash a.now b.now pivot) → IsAscending (variables_in out.new.items)) }
+    ensures err { OnErr result (out.new.items ≡ []) }
+{
+    out.clear();
+    let done = push_resolvent(a, b, pivot, out);
+    if done.is_err() {
+        out.clear();
+    }
+    done
+}
+
+// Appends the resolvent of two rows.
+fn push_resolvent(a: &[Lit], b: &[Lit], pivot: Var, out: &mut Row) -> Result<(), NoMemory>
+    ensures { OnOk result (out.new.items ≡ out.old.items ++ resolvent a.now b.now pivot) }
+{
+    let mut i = 0;
+    let mut j = 0;
+    while i < a.len() && j < b.len() {
+        let l = a[i];
+        let m = b[j];
+        if l.var() == pivot {
+            i += 1;
+            continue;
+        }
+        if m.var() == pivot {
+            j += 1;
+            continue;
+        }
+        if l.var() < m.var() {
+            out.push(l)?;
+            i += 1;
+            continue;
+        }
+        if l.var() == m.var() && l.is_positive() == m.is_positive() {
+            out.push(l)?;
+            i += 1;
+            j += 1;
+            continue;
+        }
+        out.push(m)?;
+        j += 1;
+    }
+    push_without(&a[i..], pivot, out)?;
+    push_without(&b[j..], pivot, out)
+}
+
+// Appends the literals over other variables.
+fn push_without(lits: &[Lit], pivot: Var, out: &mut Row) -> Result<(), NoMemory>
+    ensures { OnOk result (out.new.items ≡ out.old.items ++ without pivot lits.now) }
+{
+    for lit in lits {
+        if lit.var() != pivot {
+            out.push(*lit)?;
+        }
+    }
+    Ok(())
+}
