@@ -18,7 +18,7 @@ use Rattle.qdimacs.specs.Reads.{Spells, IsAllowed, AreAllowed, words_of, line_of
 use Rattle.qdimacs.specs.Run.{extended, natural_of, clause_after, set_after, set_begun}
 use Rattle.qdimacs.proofs.Lists.{on_more, fifth_more}
 use Rattle.qdimacs.proofs.Grown.{zero_is, nonempty, words_set_more, words_set_end, words_clause_more, words_clause_end, set_begins, set_grows, clause_begins, clause_grows}
-use Rattle.qdimacs.proofs.Tests.{text_is, natural_is, none_refuses, passes, none_of_both}
+use Rattle.qdimacs.proofs.WordTests.{text_is, natural_is, none_refuses, passes, none_of_both}
 
 -- as many words as tokens
 pub as_many : (front : Front) (read : List Token) → Spells front read → length read ≡ length (words_of front)

@@ -8,7 +8,7 @@ use Rattle.std.specs.Prelude.{nat_le, nat_lt, if◌then◌else◌}
 use Rattle.qdimacs.specs.Rules.{Outcome, parsed, refused, limit, header_limits, whole_rules, Header, max_scopes, Front, nothing, in_header, headed, between, in_set, in_clause, verdict, first_of}
 use Rattle.qdimacs.specs.declared.refusal.Quantity.TheVariants.{Scopes}
 use Rattle.qdimacs.specs.Formula.{QuantSet, scopes_of, formula_of}
-use Rattle.qdimacs.proofs.Tests.{none_of_both}
+use Rattle.qdimacs.proofs.WordTests.{none_of_both}
 use Rattle.qdimacs.specs.Reads.{Spells, IsAllowed, Decides, Reads}
 use Rattle.qdimacs.specs.Run.{after_item, decided, outcome_from, outcome_of, extended}
 use Rattle.qdimacs.proofs.Kept.{goes_on, Goes}

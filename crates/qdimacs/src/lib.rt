@@ -3,8 +3,16 @@
 //! `specs/Reads` says what each text is: a formula, or refused with a number and a line, or beyond a limit.
 #![tactic(auto)]
 
+mod clauses;
 mod laws;
+mod read;
+mod reader;
 mod refusal;
+mod sets;
 
 pub use laws::each_text_has_one_outcome;
+pub use read::read_formula;
 pub use refusal::{Quantity, ReadRefusal};
+
+#[cfg(test)]
+mod tests;

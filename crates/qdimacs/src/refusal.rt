@@ -2,7 +2,7 @@
 ghost use Rattle.std.specs.Prelude.{◌≡◌};
 ghost use Rattle.qdimacs.specs.declared.refusal.ReadRefusal.TheVariants.{NoMemory};
 
-use std::alloc::AllocError;
+use std::alloc::{AllocError, AllocFailed};
 use thiserror::Error;
 
 /// What there may be only so many of in a text.
@@ -44,6 +44,14 @@ impl From<AllocError> for ReadRefusal {
     ghost from_gives = { λ _ e. e ≡ NoMemory };
 
     fn from(_error: AllocError) -> Self {
+        Self::NoMemory
+    }
+}
+
+impl<T: Drop> From<AllocFailed<T>> for ReadRefusal {
+    ghost from_gives = { λ _ e. e ≡ NoMemory };
+
+    fn from(_error: AllocFailed<T>) -> Self {
         Self::NoMemory
     }
 }

@@ -1,0 +1,76 @@
+//! Reading a whole text.
+ghost use Rattle.std.specs.Prelude.{◌≡◌, ◌≤◌, List, ℕ, Some, [], OnOk, IfSome, IsErrOf, false, option_map};
+ghost use Rattle.lexer.specs.declared.token.Comments.TheVariants.{Dimacs};
+ghost use Rattle.lexer.specs.Words.{items};
+ghost use Rattle.lexer.specs.State.{upcoming};
+ghost use Rattle.ports.specs.Causes.{Rose};
+ghost use Rattle.qdimacs.specs.Rules.{nothing};
+ghost use Rattle.qdimacs.specs.Answers.{IsAnswer};
+ghost use Rattle.qdimacs.specs.Step.{refusal_for};
+ghost use Rattle.qdimacs.specs.Represents.{Represents};
+
+use crate::reader::Reader;
+use crate::refusal::{Quantity, ReadRefusal};
+use lexer::{Comments, LexRefusal, Lexer};
+use ports::Desk;
+use std::alloc::Global;
+use truth::Formula;
+
+// What the reader answers for a refusal of the lexer.
+fn refusal_of(e: LexRefusal) -> ReadRefusal
+    ensures { result ≡ refusal_for e }
+{
+    match e {
+        LexRefusal::ReadFault { .. } => ReadRefusal::ReadFault,
+        LexRefusal::TooLong { line } => ReadRefusal::Limit {
+            quantity: Quantity::Bytes,
+            line,
+        },
+        LexRefusal::BadByte { line } => ReadRefusal::Refused { number: 7, line },
+        LexRefusal::NumberRange { line } => ReadRefusal::Refused { number: 8, line },
+    }
+}
+
+// Reads the words of a text one by one.
+fn read_words<D: Desk>(
+    lexer: &mut Lexer,
+    reader: &mut Reader,
+    desk: &mut D,
+) -> Result<Formula, ReadRefusal>
+    requires start { upcoming lexer.old (D.left desk.old) ≡ option_map (items Dimacs) (D.left desk.old) }
+    requires front { Represents reader.old nothing }
+    requires failed { lexer.old.failed ≡ false }
+    ensures outcome { IfSome (D.left desk.old) (λ text. IsAnswer result text) }
+    ensures read { OnOk result (IfSome (D.left desk.old) (λ _. D.left desk.new ≡ Some [])) }
+    ensures fault { IsErrOf result ReadRefusal.ReadFault → Rose (D.faults desk.old) (D.faults desk.new) }
+    ensures later { D.faults desk.old ≤ D.faults desk.new }
+    ensures content { (n : List ℕ) → D.content desk.new n ≡ D.content desk.old n }
+{
+    loop {
+        match lexer.next(desk) {
+            Ok(Some(token)) => reader.take(token)?,
+            Ok(None) => return reader.close(lexer.line()),
+            Err(e) => return Err(refusal_of(e)),
+        }
+    }
+}
+
+/// Reads the formula of the text that is left of the desk, by QDIMACS 1.1.
+///
+/// The declared clauses are all there, and no more. Neighbouring sets of one quantifier are one scope, and empty sets
+/// none. A variable that occurs in a clause and in no set is existential and outermost. A repeated literal stands once,
+/// and a clause with a literal and its negation is left out. Else the answer is the first refusal of the text.
+pub fn read_formula<D: Desk>(alloc: Global, desk: &mut D) -> Result<Formula, ReadRefusal>
+    // The formula, or the first refusal, of the text, where the desk tells what it holds.
+    ensures outcome { IfSome (D.left desk.old) (λ text. IsAnswer result text) }
+    // A text that is a formula is read to its end.
+    ensures read { OnOk result (IfSome (D.left desk.old) (λ _. D.left desk.new ≡ Some [])) }
+    // It doesn't give up by itself.
+    ensures fault { IsErrOf result ReadRefusal.ReadFault → Rose (D.faults desk.old) (D.faults desk.new) }
+    ensures later { D.faults desk.old ≤ D.faults desk.new }
+    ensures content { (n : List ℕ) → D.content desk.new n ≡ D.content desk.old n }
+{
+    let mut lexer = Lexer::new(alloc, Comments::Dimacs)?;
+    let mut reader = Reader::new(alloc);
+    read_words(&mut lexer, &mut reader, desk)
+}

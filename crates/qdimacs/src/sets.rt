@@ -1,0 +1,175 @@
+//! The scopes while the sets come.
+ghost use Rattle.std.specs.Prelude.{◌≡◌, ◌<◌, ◌≤◌, ◌+◌, ◌^◌, [], ◌∷◌, ◌++◌, set, length, true, OnOk, IfOk, IsOkUnless};
+ghost use Rattle.qdimacs.specs.Kept.{sets_of, with_last, put_last, last_differs, variable_rules_kept, put_front, Checks, AreNew, AreScopes};
+ghost use Rattle.qdimacs.specs.Rules.{first_of};
+ghost use Rattle.qdimacs.specs.Formula.{in_order, same_quant};
+ghost use Rattle.std.specs.Prelude.{map};
+
+use crate::refusal::{Quantity, ReadRefusal};
+use prefix::{Prefix, PrefixRefusal, Quant};
+use std::alloc::{AllocError, Global};
+
+// A scope: its variables in the order of the text.
+#[derive(Drop)]
+pub(crate) struct Row {
+    pub(crate) quant: Quant,
+    pub(crate) vars: Vec<u32>,
+}
+
+// The scopes of the sets so far, neighbours merged and empty sets left out, and whether each declared number stands in
+// one.
+#[derive(Drop)]
+pub(crate) struct Sets {
+    pub(crate) rows: Vec<Row>,
+    pub(crate) marks: Vec<bool>,
+}
+
+impl Sets {
+    // No set yet, and no mark.
+    pub(crate) fn new(alloc: Global) -> Self
+        ensures rows { result.rows.items ≡ [] }
+        ensures marks { result.marks.items ≡ [] }
+    {
+        Self {
+            rows: Vec::new(alloc),
+            marks: Vec::new(alloc),
+        }
+    }
+
+    // Whether a variable of this quantifier begins a scope.
+    fn begins_scope(&self, quant: Quant) -> bool
+        ensures { result ≡ last_differs quant (sets_of self.now.rows.items) }
+    {
+        let n = self.rows.len();
+        n == 0 || !same(self.rows[n - 1].quant, quant)
+    }
+
+    // Whether the next number of a set, which isn't 0, is a variable that may stand there.
+    pub(crate) fn check(
+        &self,
+        vars: u64,
+        quant: Quant,
+        n: i64,
+        line: u32,
+    ) -> Result<(), ReadRefusal>
+        requires marked { length self.now.marks.items ≡ vars + 1 }
+        requires few { vars ≤ 1048576 }
+        ensures { Checks result (first_of (variable_rules_kept vars self.now.marks.items (sets_of self.now.rows.items) quant n line)) }
+    {
+        if n < 0 || n as u64 > vars {
+            return Err(ReadRefusal::Refused { number: 12, line });
+        }
+        if self.marks[n as usize] {
+            return Err(ReadRefusal::Refused { number: 13, line });
+        }
+        if self.begins_scope(quant) && self.rows.len() >= Prefix::MAX_SCOPES {
+            return Err(ReadRefusal::Limit {
+                quantity: Quantity::Scopes,
+                line,
+            });
+        }
+        Ok(())
+    }
+
+    // Puts a variable behind the last.
+    pub(crate) fn push(&mut self, quant: Quant, v: u32) -> Result<(), AllocError>
+        requires { v < length self.old.marks.items }
+        ensures rows { OnOk result (sets_of self.new.rows.items ≡ put_last quant v (sets_of self.old.rows.items)) }
+        ensures marks { OnOk result (self.new.marks.items ≡ set self.old.marks.items v true) }
+    {
+        if self.begins_scope(quant) {
+            begin_scope(&mut self.rows, quant, v)?;
+        } else {
+            join_last(&mut self.rows, v)?;
+        }
+        self.marks[v as usize] = true;
+        Ok(())
+    }
+
+    // Puts variables in front, under an outermost existential quantifier.
+    pub(crate) fn put_in_front(&mut self, free: Vec<u32>) -> Result<(), AllocError>
+        ensures { OnOk result (sets_of self.new.rows.items ≡ put_front free.items (sets_of self.old.rows.items)) }
+    {
+        if free.is_empty() {
+            return Ok(());
+        }
+        if !self.rows.is_empty() && same(self.rows[0].quant, Quant::Exists) {
+            let row = &mut self.rows[0];
+            row.vars.extend_from_slice(&free)?;
+            return Ok(());
+        }
+        let row = Row {
+            quant: Quant::Exists,
+            vars: free,
+        };
+        self.rows.insert(0, row)?;
+        Ok(())
+    }
+
+    // The prefix of the scopes. It sorts the variables of each.
+    pub(crate) fn prefix(&mut self) -> Result<Prefix, PrefixRefusal>
+        requires { AreScopes (sets_of self.old.rows.items) }
+        ensures scopes { IfOk result (λ p. p ≡ map in_order (sets_of self.old.rows.items)) }
+        ensures memory { IsOkUnless result PrefixRefusal.NoMemory }
+    {
+        let mut prefix = Prefix::new(*self.rows.allocator());
+        for i in 0..self.rows.len() {
+            let row = &mut self.rows[i];
+            row.vars.sort_unstable();
+            add_scope(&mut prefix, row.quant, &row.vars)?;
+        }
+        Ok(prefix)
+    }
+}
+
+// Puts in a row of one variable as the last.
+fn begin_scope(rows: &mut Vec<Row>, quant: Quant, v: u32) -> Result<(), AllocError>
+    ensures { OnOk result (sets_of rows.new.items ≡ sets_of rows.old.items ++ (quant, v ∷ []) ∷ []) }
+{
+    let mut vars = Vec::new(*rows.allocator());
+    vars.push(v)?;
+    rows.push(Row { quant, vars })?;
+    Ok(())
+}
+
+// Puts a variable into the last row.
+fn join_last(rows: &mut Vec<Row>, v: u32) -> Result<(), AllocError>
+    requires { 0 < length rows.old.items }
+    ensures { OnOk result (sets_of rows.new.items ≡ with_last v (sets_of rows.old.items)) }
+{
+    let last = rows.len() - 1;
+    let row = &mut rows[last];
+    row.vars.push(v)?;
+    Ok(())
+}
+
+// Puts in a scope as the last.
+fn add_scope(prefix: &mut Prefix, quant: Quant, vars: &[u32]) -> Result<(), PrefixRefusal>
+    requires room { length prefix.old < 65536 }
+    requires new { AreNew prefix.old vars.now }
+    ensures ok { OnOk result (prefix.new ≡ prefix.old ++ in_order (quant, vars.now) ∷ []) }
+    ensures memory { IsOkUnless result PrefixRefusal.NoMemory }
+{
+    prefix.add_scope(quant, None)?;
+    let number = prefix.scopes() as u64;
+    for v in vars {
+        prefix.add_var(*v as u64, number)?;
+    }
+    Ok(())
+}
+
+// Whether two quantifiers are the same.
+fn same(a: Quant, b: Quant) -> bool
+    ensures { result ≡ same_quant a b }
+{
+    match a {
+        Quant::Exists => match b {
+            Quant::Exists => true,
+            Quant::Forall => false,
+        },
+        Quant::Forall => match b {
+            Quant::Exists => false,
+            Quant::Forall => true,
+        },
+    }
+}

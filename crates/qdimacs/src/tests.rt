@@ -1,0 +1,129 @@
+//! Texts and what is read of them.
+ghost use Rattle.std.specs.Prelude.{◌<◌};
+
+use crate::{Quantity, ReadRefusal, read_formula};
+use ports::{Desk, Input, MemoryDesk};
+use prefix::{Prefix, Quant};
+use std::alloc::Global;
+use std::test::Fail;
+use truth::Formula;
+
+// A desk with this text.
+fn desk_with(alloc: Global, text: &str) -> Result<MemoryDesk, Fail> {
+    let mut inputs = Vec::new(alloc);
+    inputs.push(Input {
+        name: String::from_str(alloc, "-")?,
+        bytes: Vec::from_slice(alloc, text.as_bytes())?,
+    })?;
+    let mut desk = MemoryDesk::new(inputs, 7, Vec::new(alloc));
+    desk.choose("-")?;
+    Ok(desk)
+}
+
+// Writes the scopes, each with its variables.
+fn write_prefix(alloc: Global, prefix: &Prefix, to: &mut Vec<u8>) -> Result<(), Fail> {
+    for s in 0..prefix.scopes() {
+        if prefix.scope_quant(s + 1) == Some(Quant::Exists) {
+            to.push(b'e')?;
+        } else {
+            to.push(b'a')?;
+        }
+        for v in prefix.vars_of(s + 1) {
+            let number = v.number();
+            to.extend_from_slice(format!(in alloc; " {number}")?.as_bytes())?;
+        }
+        to.push(b'/')?;
+    }
+    Ok(())
+}
+
+// The scopes and the clauses of a formula, with its declared numbers.
+fn written(alloc: Global, f: &Formula) -> Result<Vec<u8>, Fail> {
+    let mut to = Vec::new(alloc);
+    to.extend_from_slice(format!(in alloc;
+        "{} {}/",
+        f.declared_vars, f.declared_clauses
+    )?.as_bytes())?;
+    write_prefix(alloc, &f.prefix, &mut to)?;
+    for clause in f.clauses.clauses() {
+        for lit in clause.lits() {
+            let number = lit.number();
+            to.extend_from_slice(format!(in alloc; "{number} ")?.as_bytes())?;
+        }
+        to.extend_from_slice(b"0/")?;
+    }
+    Ok(to)
+}
+
+#[test]
+fn texts_are_read_as_their_formulas(rt: HostRuntime) -> Result<(), Fail> {
+    let alloc = rt.alloc();
+    for (text, want) in [
+        ("p cnf 0 0\n", "0 0/"),
+        ("p cnf 0 1\n0\n", "0 1/0/"),
+        (
+            "p cnf 2 2\na 1 0\n1 2 0\n-1 -2 0\n",
+            "2 2/e 2/a 1/1 2 0/-1 -2 0/",
+        ),
+        (
+            "p cnf 2 2\na 1 0\ne 2 0\n1 -1 2 0\n2 2 0\n",
+            "2 2/a 1/e 2/2 0/",
+        ),
+        (
+            "p cnf 9 3\ne 3 0\na 0\ne 1 0\na 5 4 0\n2 -7 -3 2 0\n8 -8 0\n 0\n",
+            "9 3/e 1 2 3 7 8/a 4 5/2 -3 -7 0/0/",
+        ),
+        (
+            "c x\r\np cnf 1 1\r\ne 1 0\nc inside\n1\n0\r\n",
+            "1 1/e 1/1 0/",
+        ),
+        ("p cnf 1048576 0\n", "1048576 0/"),
+    ] {
+        let mut desk = desk_with(alloc, text)?;
+        let f = read_formula(alloc, &mut desk)?;
+        assert_eq!(rt; written(alloc, &f)?.as_slice(), want.as_bytes());
+    }
+    Ok(())
+}
+
+#[test]
+fn texts_are_refused_with_number_and_line(rt: HostRuntime) -> Result<(), Fail> {
+    let alloc = rt.alloc();
+    for (text, number, line) in [
+        ("", 10, 1),
+        ("\nq cnf 1 0\n", 10, 2),
+        ("p cnf 1\n", 11, 1),
+        ("p cnf 1 0 0\n", 11, 1),
+        ("p cnf 1 1\n2 0\n", 12, 2),
+        ("p cnf 1 0\ne 1 0\na 1 0\n", 13, 3),
+        ("p cnf 1 1\n1 0\ne 1 0\n", 14, 3),
+        ("p cnf 1 1\n1", 15, 2),
+        ("p cnf 1 2\n1 0\n", 16, 3),
+        ("p cnf 1 1\n1 0\n1 0\n", 17, 3),
+        ("p cnf 1 1\nx 0\n", 18, 2),
+        ("p cnf 1 1\n1 -0\n", 18, 2),
+        ("p cnf 1 1\n\u{e9} 0\n", 7, 2),
+        ("p cnf 1 1\n99999999999999999999 0\n", 8, 2),
+    ] {
+        let mut desk = desk_with(alloc, text)?;
+        let answer = read_formula(alloc, &mut desk).err();
+        assert_eq!(rt;
+            answer,
+            Some(ReadRefusal::Refused { number, line }),
+            "{text}"
+        );
+    }
+    for (text, quantity) in [
+        ("p cnf 1048577 0\n", Quantity::Variables),
+        ("p cnf 1 16777217\n1 0\n", Quantity::Clauses),
+    ] {
+        let mut desk = desk_with(alloc, text)?;
+        let answer = read_formula(alloc, &mut desk).err();
+        assert_eq!(rt;
+            answer,
+            Some(ReadRefusal::Limit { quantity, line: 1 }),
+            "{text}"
+        );
+    }
+    Ok(())
+}
