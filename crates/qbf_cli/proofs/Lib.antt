@@ -1,6 +1,2 @@
-pub mod ScopeAt
-pub mod Words
-pub mod Sets
-pub mod PlainLemmas
-pub mod Statuses
-pub mod FewVariables
+pub mod Writing
+pub mod Endings

@@ -1,3 +1,1 @@
-pub mod PlainText
 pub mod Run
-pub mod Scan

@@ -1,75 +1,87 @@
-//! How a run ends.
-ghost use Rattle.std.specs.Prelude.{◌≡◌};
-ghost use Rattle.qbf_cli.specs.Run.{status_of, line_of};
-ghost use Rattle.qbf_cli.specs.declared.ending.Refused.TheVariants.{ReadFault, NoMemory};
+//! How a run ends, and what it says on the error output.
+ghost use Rattle.std.specs.Prelude.{◌≡◌, List, ℕ, OnOk};
+ghost use Rattle.std.specs.Io.KnownBytes.{Appends};
+ghost use Rattle.ports.specs.Bytes.{AppendsFront};
+ghost use Rattle.ports.specs.Causes.{HasCause};
+ghost use Rattle.std.specs.Prelude.{◌++◌, codes};
+ghost use Rattle.std.specs.Fmt.{decimal};
+ghost use Rattle.qbf_cli.specs.Run.{status_of, line_of, quantity_name as name_of_quantity, placed_line};
 
-use ports::Failed;
-use std::alloc::AllocError;
-use thiserror::Error;
-
-/// Why a formula is not decided.
-#[derive(Clone, Copy, Debug, PartialEq, Eq, Error)]
-pub(crate) enum Refused {
-    #[error("not plain")]
-    NotPlain,
-    #[error("read fault")]
-    ReadFault,
-    #[error("no memory")]
-    NoMemory,
-}
-
-impl From<Failed> for Refused {
-    ghost from_gives = { λ _ e. e ≡ ReadFault };
-
-    fn from(_failed: Failed) -> Self {
-        Self::ReadFault
-    }
-}
-
-impl From<AllocError> for Refused {
-    ghost from_gives = { λ _ e. e ≡ NoMemory };
-
-    fn from(_error: AllocError) -> Self {
-        Self::NoMemory
-    }
-}
+use ports::{Failed, Sink, write_all};
+use qdimacs::Quantity;
+use session::Ending;
 
 /// How a run ends.
 #[derive(Clone, Copy, Debug, PartialEq, Eq)]
-pub(crate) enum Ending {
-    Answered(bool),
-    NotDecided(Refused),
-    WriteFault,
+pub(crate) enum RunEnding {
+    /// The work on the input ended so.
+    Worked(Ending),
+    /// The words are none of the program's commands.
     Usage,
 }
 
-impl Ending {
+impl RunEnding {
     /// The exit status.
-    pub(crate) fn status(self) -> u8
-        ensures { result ≡ status_of self }
+    pub(crate) fn status(&self) -> u8
+        ensures { result ≡ status_of self.now }
     {
         match self {
-            Self::Answered(true) => 10,
-            Self::Answered(false) => 20,
-            Self::NotDecided(Refused::NotPlain) => 2,
-            Self::NotDecided(Refused::ReadFault) => 3,
-            Self::WriteFault => 4,
-            Self::NotDecided(Refused::NoMemory) => 5,
+            Self::Worked(Ending::Done(status)) => *status,
+            Self::Worked(Ending::Refused { .. }) => 2,
+            Self::Worked(Ending::ReadFault) => 3,
+            Self::Worked(Ending::WriteFault) => 4,
+            Self::Worked(Ending::NoMemory) => 5,
+            Self::Worked(Ending::Limit { .. }) => 6,
             Self::Usage => 7,
         }
     }
 
-    /// The line on the error output.
-    pub(crate) fn line(self) -> &'static str
-        ensures { result.now ≡ line_of self }
+    /// Writes the line on the error output.
+    pub(crate) fn write_line<E: Sink>(&self, err: &mut E) -> Result<(), Failed>
+        ensures ok { OnOk result (Appends (E.written err.old) (E.written err.new) (line_of self.now)) }
+        ensures front { AppendsFront (E.written err.old) (E.written err.new) (line_of self.now) }
+        ensures cause { HasCause (E.faults err.old) (E.faults err.new) result }
     {
         match self {
-            Self::Answered(_) => "",
-            Self::NotDecided(Refused::NotPlain) => "qbf: not plain\n",
-            Self::NotDecided(Refused::ReadFault) => "qbf: read fault\n",
-            Self::WriteFault => "qbf: write fault\n",
-            Self::NotDecided(Refused::NoMemory) => "qbf: no memory\n",
-            Self::Usage => "qbf: usage: qbf solve\n",
+            Self::Worked(Ending::Done(_)) => write_all(err, b""),
+            Self::Worked(Ending::Refused { number, line }) => {
+                let mut buffer = itoa::Buffer::new();
+                write_placed(err, *line, ": refused ", buffer.format(*number))
+            }
+            Self::Worked(Ending::Limit { quantity, line }) => {
+                write_placed(err, *line, ": limit ", quantity_name(quantity))
+            }
+            Self::Worked(Ending::ReadFault) => write_all(err, b"qbf: read fault\n"),
+            Self::Worked(Ending::WriteFault) => write_all(err, b"qbf: write fault\n"),
+            Self::Worked(Ending::NoMemory) => write_all(err, b"qbf: no memory\n"),
+            Self::Usage => write_all(err, b"qbf: usage: qbf solve\n"),
         }
+    }
+}
+
+// Writes what is wrong on a line of the input.
+fn write_placed<E: Sink>(err: &mut E, line: u32, what: &str, which: &str) -> Result<(), Failed>
+    ensures ok { OnOk result (Appends (E.written err.old) (E.written err.new) (placed_line line what.now which.now)) }
+    ensures front { AppendsFront (E.written err.old) (E.written err.new) (placed_line line what.now which.now) }
+    ensures cause { HasCause (E.faults err.old) (E.faults err.new) result }
+{
+    let mut buffer = itoa::Buffer::new();
+    write_all(err, b"qbf: line ")?;
+    write_all(err, buffer.format(line).as_bytes())?;
+    write_all(err, what.as_bytes())?;
+    write_all(err, which.as_bytes())?;
+    write_all(err, b"\n")
+}
+
+// The name of what there may be only so many of.
+fn quantity_name(quantity: &Quantity) -> &'static str
+    ensures { result.now ≡ name_of_quantity quantity.now }
+{
+    match quantity {
+        Quantity::Variables => "variables",
+        Quantity::Scopes => "scopes",
+        Quantity::Clauses => "clauses",
+        Quantity::Literals => "literals",
+        Quantity::Bytes => "bytes",
     }
 }

@@ -2,16 +2,13 @@
 #![tactic(auto)]
 
 mod ending;
-mod input;
-mod plain;
-mod render;
 mod run;
-mod scan;
 #[cfg(test)]
 mod tests;
 
-use ending::{Ending, Refused};
+use ending::RunEnding;
 use ports::{HostDesk, HostSink};
+use session::Ending;
 use std::process::ExitCode;
 use std::rt::Env;
 use std::{env, io};
@@ -25,10 +22,10 @@ fn main(rt: HostRuntime) -> ExitCode {
             run::run(rt.alloc(), &words, &mut desk, &mut out, &mut err)
         }
         Err(e) if e.kind() == io::ErrorKind::OutOfMemory => {
-            run::report(&mut err, Ending::NotDecided(Refused::NoMemory))
+            run::report(&mut err, &RunEnding::Worked(Ending::NoMemory))
         }
         // A word that isn't UTF-8 is none of the program's.
-        Err(_) => run::report(&mut err, Ending::Usage),
+        Err(_) => run::report(&mut err, &RunEnding::Usage),
     };
     ExitCode::from(status)
 }

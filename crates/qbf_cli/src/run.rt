@@ -1,25 +1,24 @@
 //! The program as a function over a desk and two sinks.
-ghost use Rattle.std.specs.Prelude.{◌≡◌, ◌≢◌, ◌↔◌, ℕ, ◌≤◌, Bool, true, false, [], ◌∷◌, length, map, codes, Contains, IfOk, OnOk, IfSome, string_bytes};
-ghost use Rattle.std.specs.Io.KnownBytes.{Appends, Keeps, IsAtEnd};
+ghost use Rattle.std.specs.Prelude.{◌≡◌, ◌↔◌, ◌-◌, ◌^◌, ℕ, List, true, false, [], ◌∷◌, map, codes, Contains, IfSome, Some, string_bytes};
+ghost use Rattle.std.specs.Io.KnownBytes.{Appends, Keeps};
 ghost use Rattle.ports.specs.Bytes.{AppendsFront};
 ghost use Rattle.ports.specs.Causes.{Rose};
-ghost use Rattle.qbf_cli.specs.PlainText.{IsNoPlainText};
-ghost use Rattle.qbf_cli.specs.Run.{HasTruth, is_solve_command, answer_line, error_line, line_of, status_of};
+ghost use Rattle.session.specs.Solve.{Solves, answer_line, IsEnding, IfDone, HasWritten};
+ghost use Rattle.session.specs.declared.ending.Ending.{Ending as FileEnding};
+ghost use Rattle.qbf_cli.specs.Run.{HasTruth, IsBeyond, IsRefused, IsLimited, IsErrorLine, is_solve_command, line_of, status_of};
 
-use super::ending::{Ending, Refused};
-use super::input::read_input;
-use super::plain::read_plain;
-use ports::{Desk, Sink, write_all};
+use super::ending::RunEnding;
+use ports::{Desk, Sink};
+use session::{Ending, Job, run_file};
 use std::alloc::Global;
-use steps::{Steps, Stop};
-use truth::decide_plain;
 
-/// Decides the formula of the plain text on standard input, writes `SAT` or `UNSAT` to `out` and says on `err`
-/// why there is no answer. The words are the program's name and `solve`.
+/// Decides the formula on standard input, writes `SAT`, `UNSAT` or `UNKNOWN` to `out` and says on `err` why there is no
+/// answer. The words are the program's name and `solve`.
 ///
-/// Answers the exit status: 10 for a true formula and 20 for a false one; 2 where the input is no plain text;
-/// 3 for a read fault; 4 for a write fault of `out`; 5 for want of memory, which may come at any time; 7 for
-/// other words. The first of these events decides. A failing `err` changes none.
+/// Answers the exit status: 10 for a true formula, 20 for a false one, and 0 where more steps than 2^64 - 1 were needed;
+/// 2 where the input is malformed and 6 where it goes beyond a limit, each with its line; 3 for a read fault; 4 for a
+/// write fault of `out`; 5 for want of memory, which may come at any time; 7 for other words. The first of these events
+/// decides. A failing `err` changes none.
 pub fn run<D: Desk, O: Sink, E: Sink>(
     alloc: Global,
     words: &[String],
@@ -28,61 +27,65 @@ pub fn run<D: Desk, O: Sink, E: Sink>(
     err: &mut E,
 ) -> u8
     // each status with its cause
-    ensures statuses { Contains (10 ∷ 20 ∷ 2 ∷ 3 ∷ 4 ∷ 5 ∷ 7 ∷ []) result }
-    ensures sat { result ≡ 10 → IfSome (D.content desk.old (codes "-")) (λ bytes. HasTruth bytes true) }
-    ensures unsat { result ≡ 20 → IfSome (D.content desk.old (codes "-")) (λ bytes. HasTruth bytes false) }
-    ensures not_plain { result ≡ 2 → IfSome (D.content desk.old (codes "-")) IsNoPlainText }
+    ensures statuses { Contains (10 ∷ 20 ∷ 0 ∷ 2 ∷ 3 ∷ 4 ∷ 5 ∷ 6 ∷ 7 ∷ []) result }
+    ensures sat { result ≡ 10 → IfSome (D.content desk.old (codes "-")) (λ text. HasTruth text true) }
+    ensures unsat { result ≡ 20 → IfSome (D.content desk.old (codes "-")) (λ text. HasTruth text false) }
+    ensures unknown { result ≡ 0 → IfSome (D.content desk.old (codes "-")) (IsBeyond (2 ^ 64 - 1)) }
+    ensures solved { Contains (10 ∷ 20 ∷ 0 ∷ []) result → IfSome (D.content desk.old (codes "-")) (λ text. Solves (2 ^ 64 - 1) text result) }
+    ensures refused { result ≡ 2 → IfSome (D.content desk.old (codes "-")) IsRefused }
+    ensures limit { result ≡ 6 → IfSome (D.content desk.old (codes "-")) IsLimited }
     ensures read_fault { result ≡ 3 → Rose (D.faults desk.old) (D.faults desk.new) }
     ensures write_fault { result ≡ 4 → Rose (O.faults out.old) (O.faults out.new) }
     ensures usage { (result ≡ 7) ↔ (is_solve_command (map string_bytes words.now) ≡ false) }
 
     // an answer comes after the whole input was read
-    ensures whole_input { Contains (10 ∷ 20 ∷ []) result → IsAtEnd (D.left desk.new) }
+    ensures whole_input { Contains (10 ∷ 20 ∷ 0 ∷ []) result → IfSome (D.content desk.old (codes "-")) (λ _. D.left desk.new ≡ Some []) }
 
     // what stands on the output
-    ensures sat_line { result ≡ 10 → Appends (O.written out.old) (O.written out.new) (answer_line true) }
-    ensures unsat_line { result ≡ 20 → Appends (O.written out.old) (O.written out.new) (answer_line false) }
-    ensures front { result ≡ 4 → IfSome (D.content desk.old (codes "-")) (λ bytes. (value : Bool) × HasTruth bytes value × AppendsFront (O.written out.old) (O.written out.new) (answer_line value)) }
-    ensures nothing { Contains (2 ∷ 3 ∷ 5 ∷ 7 ∷ []) result → Keeps (O.written out.old) (O.written out.new) }
+    ensures line { Contains (10 ∷ 20 ∷ 0 ∷ []) result → Appends (O.written out.old) (O.written out.new) (answer_line result) }
+    ensures front { result ≡ 4 → (status : ℕ) × IfSome (D.content desk.old (codes "-")) (λ text. Solves (2 ^ 64 - 1) text status) × AppendsFront (O.written out.old) (O.written out.new) (answer_line status) }
+    ensures nothing { Contains (2 ∷ 3 ∷ 5 ∷ 6 ∷ 7 ∷ []) result → Keeps (O.written out.old) (O.written out.new) }
 
     // what stands on the error output, whole where it didn't fail
-    ensures error_front { AppendsFront (E.written err.old) (E.written err.new) (error_line result) }
-    ensures error_whole { (Rose (E.faults err.old) (E.faults err.new) → ⊥) → Appends (E.written err.old) (E.written err.new) (error_line result) }
+    ensures error { (line : List ℕ) × IsErrorLine (D.content desk.old (codes "-")) result line × AppendsFront (E.written err.old) (E.written err.new) line × ((Rose (E.faults err.old) (E.faults err.new) → ⊥) → Appends (E.written err.old) (E.written err.new) line) }
 {
     let ending = ending_of(alloc, words, desk, out);
-    report(err, ending)
+    report(err, &ending)
 }
 
 /// Writes the line of an ending to the error output, and answers its exit status.
-pub(crate) fn report<E: Sink>(err: &mut E, ending: Ending) -> u8
-    ensures status { result ≡ status_of ending }
-    ensures error_front { AppendsFront (E.written err.old) (E.written err.new) (line_of ending) }
-    ensures error_whole { (Rose (E.faults err.old) (E.faults err.new) → ⊥) → Appends (E.written err.old) (E.written err.new) (line_of ending) }
+pub(crate) fn report<E: Sink>(err: &mut E, ending: &RunEnding) -> u8
+    ensures status { result ≡ status_of ending.now }
+    ensures error_front { AppendsFront (E.written err.old) (E.written err.new) (line_of ending.now) }
+    ensures error_whole { (Rose (E.faults err.old) (E.faults err.new) → ⊥) → Appends (E.written err.old) (E.written err.new) (line_of ending.now) }
 {
-    let _ = write_all(err, ending.line().as_bytes());
+    let _ = ending.write_line(err);
     ending.status()
 }
 
 // Carries the command out.
-fn ending_of<D: Desk, O: Sink>(alloc: Global, words: &[String], desk: &mut D, out: &mut O) -> Ending
-    ensures usage { (result ≡ Ending.Usage) ↔ (is_solve_command (map string_bytes words.now) ≡ false) }
-    ensures answered { (value : Bool) → result ≡ Ending.Answered value → IfSome (D.content desk.old (codes "-")) (λ bytes. HasTruth bytes value) }
-    ensures whole_input { (value : Bool) → result ≡ Ending.Answered value → IsAtEnd (D.left desk.new) }
-    ensures line { (value : Bool) → result ≡ Ending.Answered value → Appends (O.written out.old) (O.written out.new) (answer_line value) }
-    ensures not_plain { result ≡ Ending.NotDecided Refused.NotPlain → IfSome (D.content desk.old (codes "-")) IsNoPlainText }
-    ensures read_fault { result ≡ Ending.NotDecided Refused.ReadFault → Rose (D.faults desk.old) (D.faults desk.new) }
-    ensures write_fault { result ≡ Ending.WriteFault → Rose (O.faults out.old) (O.faults out.new) }
-    ensures front { result ≡ Ending.WriteFault → IfSome (D.content desk.old (codes "-")) (λ bytes. (value : Bool) × HasTruth bytes value × AppendsFront (O.written out.old) (O.written out.new) (answer_line value)) }
-    ensures nothing { (why : Refused) → result ≡ Ending.NotDecided why → Keeps (O.written out.old) (O.written out.new) }
-    ensures unused { result ≡ Ending.Usage → Keeps (O.written out.old) (O.written out.new) }
+fn ending_of<D: Desk, O: Sink>(
+    alloc: Global,
+    words: &[String],
+    desk: &mut D,
+    out: &mut O,
+) -> RunEnding
+    ensures usage { (result ≡ RunEnding.Usage) ↔ (is_solve_command (map string_bytes words.now) ≡ false) }
+    ensures unused { result ≡ RunEnding.Usage → Keeps (O.written out.old) (O.written out.new) }
+    ensures ending { (e : FileEnding) → result ≡ RunEnding.Worked e → IfSome (D.content desk.old (codes "-")) (λ text. IsEnding (2 ^ 64 - 1) text e) }
+    ensures status { (s : ℕ) → result ≡ RunEnding.Worked (Ending.Done s) → Contains (10 ∷ 20 ∷ 0 ∷ []) s }
+    ensures read { (e : FileEnding) → result ≡ RunEnding.Worked e → IfDone e (IfSome (D.content desk.old (codes "-")) (λ _. D.left desk.new ≡ Some [])) }
+    ensures read_fault { result ≡ RunEnding.Worked Ending.ReadFault → Rose (D.faults desk.old) (D.faults desk.new) }
+    ensures write_fault { result ≡ RunEnding.Worked Ending.WriteFault → Rose (O.faults out.old) (O.faults out.new) }
+    ensures written { (e : FileEnding) → result ≡ RunEnding.Worked e → HasWritten (2 ^ 64 - 1) (D.content desk.old (codes "-")) (O.written out.old) (O.written out.new) e }
 {
     if !asks_to_solve(words) {
-        return Ending::Usage;
+        return RunEnding::Usage;
     }
-    match decide_input(alloc, desk) {
-        Ok(value) => write_answer(out, value),
-        Err(why) => Ending::NotDecided(why),
+    if desk.choose("-").is_err() {
+        return RunEnding::Worked(Ending::ReadFault);
     }
+    RunEnding::Worked(run_file(alloc, Job::Solve, u64::MAX, desk, out))
 }
 
 // Whether the words are the program's name and `solve`.
@@ -93,49 +96,4 @@ fn asks_to_solve(words: &[String]) -> bool
         [_, command] => command.as_str() == "solve",
         _ => false,
     }
-}
-
-// Decides the formula of the plain text on standard input.
-fn decide_input<D: Desk>(alloc: Global, desk: &mut D) -> Result<bool, Refused>
-    ensures answer { IfOk result (λ value. IfSome (D.content desk.old (codes "-")) (λ bytes. HasTruth bytes value)) }
-    ensures whole { OnOk result (IsAtEnd (D.left desk.new)) }
-    ensures not_plain { result ≡ Err Refused.NotPlain → IfSome (D.content desk.old (codes "-")) IsNoPlainText }
-    ensures read_fault { result ≡ Err Refused.ReadFault → Rose (D.faults desk.old) (D.faults desk.new) }
-{
-    desk.choose("-")?;
-    let text = read_input(alloc, desk)?;
-    decide_text(alloc, &text)
-}
-
-// Decides the formula of a plain text.
-fn decide_text(alloc: Global, text: &[u8]) -> Result<bool, Refused>
-    requires { length text.now ≤ 4096 }
-    ensures answer { IfOk result (HasTruth text.now) }
-    ensures not_plain { result ≡ Err Refused.NotPlain → IsNoPlainText text.now }
-    ensures no_fault { result ≢ Err Refused.ReadFault }
-{
-    let Some(f) = read_plain(alloc, text)? else {
-        return Err(Refused::NotPlain);
-    };
-    let mut steps = Steps::new(u64::MAX);
-    match decide_plain(alloc, &f, &mut steps) {
-        Ok(value) => Ok(value),
-        Err(Stop::NoMemory) => Err(Refused::NoMemory),
-        Err(Stop::Spent) => unreachable!(),
-    }
-}
-
-// Writes the line of an answer, and flushes.
-fn write_answer<O: Sink>(out: &mut O, value: bool) -> Ending
-    ensures answered { (v : Bool) → result ≡ Ending.Answered v → v ≡ value }
-    ensures line { (v : Bool) → result ≡ Ending.Answered v → Appends (O.written out.old) (O.written out.new) (answer_line v) }
-    ensures write_fault { result ≡ Ending.WriteFault → Rose (O.faults out.old) (O.faults out.new) }
-    ensures front { AppendsFront (O.written out.old) (O.written out.new) (answer_line value) }
-    ensures no_other { (result ≡ Ending.Usage → ⊥) × ((why : Refused) → result ≡ Ending.NotDecided why → ⊥) }
-{
-    let line = if value { "SAT\n" } else { "UNSAT\n" };
-    if write_all(out, line.as_bytes()).is_err() || out.flush().is_err() {
-        return Ending::WriteFault;
-    }
-    Ending::Answered(value)
 }

@@ -6,6 +6,9 @@ use ports::{Input, MemoryDesk, MemorySink};
 use std::alloc::Global;
 use std::test::Fail;
 
+// For each value of 1 there is one of 2 that differs from it.
+const DIFFERS: &str = "p cnf 2 2\na 1 0\ne 2 0\n1 2 0\n-1 -2 0\n";
+
 fn words(alloc: Global, texts: &[&str]) -> Result<Vec<String>, Fail> {
     let mut all = Vec::new(alloc);
     for text in texts {
@@ -14,13 +17,13 @@ fn words(alloc: Global, texts: &[&str]) -> Result<Vec<String>, Fail> {
     Ok(all)
 }
 
-fn desk(alloc: Global, text: &str, greatest: usize, failing: Vec<u64>) -> Result<MemoryDesk, Fail>
+fn desk(alloc: Global, text: &[u8], greatest: usize, failing: Vec<u64>) -> Result<MemoryDesk, Fail>
     requires { 0 < greatest }
 {
     let mut inputs = Vec::new(alloc);
     inputs.push(Input {
         name: String::from_str(alloc, "-")?,
-        bytes: Vec::from_slice(alloc, text.as_bytes())?,
+        bytes: Vec::from_slice(alloc, text)?,
     })?;
     Ok(MemoryDesk::new(inputs, greatest, failing))
 }
@@ -28,7 +31,7 @@ fn desk(alloc: Global, text: &str, greatest: usize, failing: Vec<u64>) -> Result
 // Whether `qbf solve` on a text ends so.
 fn ends(
     alloc: Global,
-    text: &str,
+    text: &[u8],
     status: u8,
     out_text: &str,
     err_text: &str,
@@ -47,96 +50,131 @@ fn ends(
 }
 
 #[test]
-fn plain_formulas_are_decided(rt: HostRuntime) -> Result<(), Fail> {
+fn formulas_are_decided(rt: HostRuntime) -> Result<(), Fail> {
     let alloc = rt.alloc();
-    // For each value of 1 there is one of 2 that differs from it, but not the other way round.
-    assert!(rt;
-        ends(
-            alloc,
-            "p cnf 2 2\na 1 0\ne 2 0\n1 2 0\n-1 -2 0\n",
-            10,
-            "SAT\n",
-            ""
-        )?
-    );
-    assert!(rt;
-        ends(
-            alloc,
-            "p cnf 2 2\ne 2 0\na 1 0\n1 2 0\n-1 -2 0\n",
-            20,
-            "UNSAT\n",
-            ""
-        )?
-    );
-    assert!(rt; ends(alloc, "p cnf 0 0\n", 10, "SAT\n", "")?);
-    assert!(rt; ends(alloc, "p cnf 0 1\n0\n", 20, "UNSAT\n", "")?);
-    assert!(rt;
-        ends(
-            alloc,
-            "p cnf 16 2\ne 15 16 0\n-16 0\n-15 16 0\n",
-            10,
-            "SAT\n",
-            ""
-        )?
-    );
-    Ok(())
-}
-
-#[test]
-fn other_texts_are_not_plain(rt: HostRuntime) -> Result<(), Fail> {
-    let alloc = rt.alloc();
-    let texts = [
-        "",
-        "p cnf 0 0",
-        "p cnf 0 0\n\n",
-        "p cnf 00 0\n",
-        "c x\np cnf 0 0\n",
-        "p cnf 17 0\n",
-        "p cnf 1 1\n0\n0\n",
-        "p cnf 1 2\n0\n",
-        "p cnf 2 2\na 1 0\n1 2 0\n-1 -2 0\n",
-        "p cnf 2 0\ne 2 1 0\n",
-        "p cnf 2 0\ne 1 0\ne 2 0\n",
-        "p cnf 2 0\ne 1 0\na 1 0\n",
-        "p cnf 1 0\ne 0\n",
-        "p cnf 2 1\ne 1 2 0\n2 1 0\n",
-        "p cnf 2 1\ne 1 2 0\n1 -1 0\n",
-        "p cnf 1 1\ne 1 0\n1  0\n",
-        "p cnf 1 1\r\ne 1 0\r\n1 0\r\n",
-    ];
-    for text in texts {
-        assert!(rt; ends(alloc, text, 2, "", "qbf: not plain\n")?, "{text:?}");
+    for (text, is_true) in [
+        (DIFFERS, true),
+        ("p cnf 2 2\ne 2 0\na 1 0\n1 2 0\n-1 -2 0\n", false),
+        // A variable of no set is existential and outermost.
+        ("p cnf 2 2\na 1 0\n1 2 0\n-1 -2 0\n", false),
+        ("p cnf 0 0\n", true),
+        ("p cnf 0 0", true),
+        ("p cnf 0 1\n0\n", false),
+        // A tautology, and a literal that is repeated.
+        ("p cnf 2 2\na 1 0\ne 2 0\n1 -1 2 0\n2 2 0\n", true),
+        // Comments, and carriage returns in front of the line ends.
+        ("c x\r\np cnf 1 1\r\ne 1 0\r\nc inside\r\n1\r\n0\r\n", true),
+        // A set over two lines, a set without variables, and neighbours with the same quantifier.
+        ("p cnf 3 2\na 1\n0 e 0 a 3 0\ne 2 0\n1 2 0\n-1 -2 0\n", true),
+        ("p cnf 1 1\ne 1 0\n1 0\n", true),
+        ("p cnf 16 2\ne 15 16 0\n-16 0\n-15 16 0\n", true),
+        ("p cnf 1048576 0\n", true),
+        ("p cnf 00002 1\n02 0 ", true),
+    ] {
+        let (status, line) = if is_true {
+            (10, "SAT\n")
+        } else {
+            (20, "UNSAT\n")
+        };
+        assert!(rt; ends(alloc, text.as_bytes(), status, line, "")?, "{text:?}");
     }
     Ok(())
 }
 
 #[test]
-fn a_longer_text_is_not_plain(rt: HostRuntime) -> Result<(), Fail> {
+fn malformed_texts_are_refused_with_line_and_number(rt: HostRuntime) -> Result<(), Fail> {
     let alloc = rt.alloc();
-    // 2041 empty clauses make 4096 bytes with the problem line, and one more makes two bytes more.
-    let mut text = String::from_str(alloc, "p cnf 10 2041\n")?;
-    for _ in 0..2041 {
-        text.push_str("0\n")?;
+    for (text, line, number) in [
+        ("", 1, 10),
+        ("cnf 1 0\n", 2, 10),
+        ("\nq cnf 1 0\n", 2, 10),
+        ("p cnf 1\n", 1, 11),
+        ("p dnf 1 0\n", 1, 11),
+        ("p cnf -1 0\n", 1, 11),
+        ("p cnf 1 0 0\n", 1, 11),
+        ("p\ncnf 1 0\n", 1, 11),
+        ("p cnf 1 1\n2 0\n", 2, 12),
+        ("p cnf 1 1\n-9223372036854775807 0\n", 2, 12),
+        ("p cnf 1 1\ne -1 0\n", 2, 12),
+        ("p cnf 1 1\ne 2 0\n", 2, 12),
+        ("p cnf 1 0\ne 1 0\na 1 0\n", 3, 13),
+        ("p cnf 2 1\ne 1\n1 0\n", 3, 13),
+        ("p cnf 1 1\n1 0\ne 1 0\n", 3, 14),
+        ("p cnf 1 1\n1", 2, 15),
+        ("p cnf 2 1\ne 1 a 2 0\n", 2, 15),
+        ("p cnf 1 1\n1 e 0\n", 2, 15),
+        ("p cnf 1 0\ne 1\n", 3, 15),
+        ("p cnf 1 2\n1 0\n", 3, 16),
+        ("p cnf 1 1\n1 0\n1 0\n", 3, 17),
+        ("p cnf 1 1\nx 0\n", 2, 18),
+        ("p cnf 1 1\n1 -0\n", 2, 18),
+        ("p cnf 1 1\n1 aVeryLongWordOfLetters 0\n", 2, 18),
+        ("p cnf 9223372036854775808 0\n", 1, 8),
+        ("p cnf 1 1\n99999999999999999999 0\n", 2, 8),
+        ("p cnf 1 1\n\u{e9} 0\n", 2, 7),
+        ("c a comment hides no line\np cnf 1 1\nc x\n2 0\n", 4, 12),
+    ] {
+        let want = format!(in alloc; "qbf: line {line}: refused {number}\n")?;
+        assert!(rt;
+            ends(alloc, text.as_bytes(), 2, "", want.as_str())?,
+            "{text:?}"
+        );
     }
-    assert_eq!(rt; text.len(), 4096);
-    assert!(rt; ends(alloc, text.as_str(), 20, "UNSAT\n", "")?);
-    text.push_str("0\n")?;
-    assert!(rt; ends(alloc, text.as_str(), 2, "", "qbf: not plain\n")?);
+    let packed = [31, 139, 8, 0];
+    assert!(rt; ends(alloc, &packed, 2, "", "qbf: line 1: refused 7\n")?);
     Ok(())
 }
 
-const DIFFERS: &str = "p cnf 2 2\na 1 0\ne 2 0\n1 2 0\n-1 -2 0\n";
+#[test]
+fn texts_beyond_a_limit_are_told_with_line_and_quantity(rt: HostRuntime) -> Result<(), Fail> {
+    let alloc = rt.alloc();
+    for (text, want) in [
+        ("p cnf 1048577 0\n", "qbf: line 1: limit variables\n"),
+        ("c\np cnf 1 16777217\n", "qbf: line 2: limit clauses\n"),
+    ] {
+        assert!(rt; ends(alloc, text.as_bytes(), 6, "", want)?, "{text:?}");
+    }
+    // The scope before the last 0 is the 65,536th, and the one behind it is too many.
+    let mut text = String::from_str(alloc, "p cnf 65537 0")?;
+    for v in 1..65_537 {
+        let quant = if v % 2 == 0 { 'a' } else { 'e' };
+        write!(text, "\n{quant} {v} 0")?;
+    }
+    let unfinished = &text.as_bytes()[..text.len() - 1];
+    assert!(rt; ends(alloc, unfinished, 2, "", "qbf: line 65537: refused 15\n")?);
+    text.push_str("\ne 65537 0\n")?;
+    assert!(rt;
+        ends(
+            alloc,
+            text.as_bytes(),
+            6,
+            "",
+            "qbf: line 65538: limit scopes\n"
+        )?
+    );
+    Ok(())
+}
 
 #[test]
 fn a_failing_output_ends_with_a_front_of_the_answer(rt: HostRuntime) -> Result<(), Fail> {
     let alloc = rt.alloc();
     let solve = words(alloc, &["qbf", "solve"])?;
-    let mut desk = desk(alloc, DIFFERS, 100, Vec::new(alloc))?;
-    let mut out = MemorySink::new(alloc, 64, 2, vec![in alloc; 2]?)?;
-    let mut err = MemorySink::new(alloc, 64, 64, Vec::new(alloc))?;
-    assert_eq!(rt; run(alloc, &solve, &mut desk, &mut out, &mut err), 4);
-    assert_eq!(rt; out.bytes(), b"SA".as_slice());
-    assert_eq!(rt; err.bytes(), b"qbf: write fault\n".as_slice());
+    // The four bytes of the answer, one by one, and the flush.
+    for failing in 1..6 {
+        let mut desk = desk(alloc, DIFFERS.as_bytes(), 100, Vec::new(alloc))?;
+        let mut out = MemorySink::new(alloc, 64, 1, vec![in alloc; failing]?)?;
+        let mut err = MemorySink::new(alloc, 64, 64, Vec::new(alloc))?;
+        assert_eq!(rt; run(alloc, &solve, &mut desk, &mut out, &mut err), 4);
+        let want: &[u8] = match failing {
+            1 => b"",
+            2 => b"S",
+            3 => b"SA",
+            4 => b"SAT",
+            _ => b"SAT\n",
+        };
+        assert_eq!(rt; out.bytes(), want);
+        assert_eq!(rt; err.bytes(), b"qbf: write fault\n".as_slice());
+    }
     Ok(())
 }
 
@@ -144,19 +182,38 @@ fn a_failing_output_ends_with_a_front_of_the_answer(rt: HostRuntime) -> Result<(
 fn a_failing_input_ends_with_nothing_written(rt: HostRuntime) -> Result<(), Fail> {
     let alloc = rt.alloc();
     let solve = words(alloc, &["qbf", "solve"])?;
-    let mut desk = desk(alloc, DIFFERS, 100, vec![in alloc; 2]?)?;
-    let mut out = MemorySink::new(alloc, 64, 64, Vec::new(alloc))?;
-    let mut err = MemorySink::new(alloc, 64, 64, Vec::new(alloc))?;
-    assert_eq!(rt; run(alloc, &solve, &mut desk, &mut out, &mut err), 3);
-    assert_eq!(rt; out.bytes(), b"".as_slice());
-    assert_eq!(rt; err.bytes(), b"qbf: read fault\n".as_slice());
+    // The choice, the 36 bytes one by one, and the end.
+    for failing in 1..39 {
+        let mut desk = desk(alloc, DIFFERS.as_bytes(), 1, vec![in alloc; failing]?)?;
+        let mut out = MemorySink::new(alloc, 64, 64, Vec::new(alloc))?;
+        let mut err = MemorySink::new(alloc, 64, 64, Vec::new(alloc))?;
+        assert_eq!(rt;
+            run(alloc, &solve, &mut desk, &mut out, &mut err),
+            3,
+            "{failing}"
+        );
+        assert_eq!(rt; out.bytes(), b"".as_slice());
+        assert_eq!(rt; err.bytes(), b"qbf: read fault\n".as_slice());
+    }
     Ok(())
 }
 
 #[test]
-fn other_words_are_usage_and_a_failing_error_output_changes_no_status(
-    rt: HostRuntime,
-) -> Result<(), Fail> {
+fn a_failing_error_output_changes_no_status(rt: HostRuntime) -> Result<(), Fail> {
+    let alloc = rt.alloc();
+    let solve = words(alloc, &["qbf", "solve"])?;
+    for failing in 1..30 {
+        let mut desk = desk(alloc, b"p cnf 1 2\n1 0\n", 100, Vec::new(alloc))?;
+        let mut out = MemorySink::new(alloc, 64, 64, Vec::new(alloc))?;
+        let mut err = MemorySink::new(alloc, 64, 1, vec![in alloc; failing]?)?;
+        assert_eq!(rt; run(alloc, &solve, &mut desk, &mut out, &mut err), 2);
+        assert!(rt; b"qbf: line 3: refused 16\n".starts_with(err.bytes()));
+    }
+    Ok(())
+}
+
+#[test]
+fn other_words_are_usage(rt: HostRuntime) -> Result<(), Fail> {
     let alloc = rt.alloc();
     for other in [
         ["qbf"].as_slice(),
@@ -164,15 +221,15 @@ fn other_words_are_usage_and_a_failing_error_output_changes_no_status(
         &["qbf", "solve", "solve"],
         &[],
     ] {
-        let mut desk = desk(alloc, DIFFERS, 100, Vec::new(alloc))?;
+        let mut desk = desk(alloc, DIFFERS.as_bytes(), 100, Vec::new(alloc))?;
         let mut out = MemorySink::new(alloc, 64, 64, Vec::new(alloc))?;
-        let mut err = MemorySink::new(alloc, 64, 64, vec![in alloc; 1]?)?;
+        let mut err = MemorySink::new(alloc, 64, 64, Vec::new(alloc))?;
         assert_eq!(rt;
             run(alloc, &words(alloc, other)?, &mut desk, &mut out, &mut err),
             7
         );
         assert_eq!(rt; out.bytes(), b"".as_slice());
-        assert_eq!(rt; err.bytes(), b"".as_slice());
+        assert_eq!(rt; err.bytes(), b"qbf: usage: qbf solve\n".as_slice());
     }
     Ok(())
 }
