@@ -57,7 +57,7 @@ declared sets = flat_map (λ set. set.1) sets
 abbrev pub free : List QuantSet → List (List ℤ) → List ℕ
 free sets clauses = filter (λ v. not (is_among v (declared sets))) (occurring clauses)
 
--- free variables are existential and outermost
+-- free variables are existential and outermost (QDIMACS 1.1, semantics of free variables)
 abbrev pub scopes_of : List QuantSet → List (List ℤ) → List QuantSet
 scopes_of sets clauses = merged ((Exists, free sets clauses) ∷ sets)
 

@@ -1,4 +1,4 @@
--- What a text is, by its grammar.
+-- What a text is, by its grammar (QDIMACS 1.1, input format).
 use Rattle.std.specs.Prelude.{◌≡◌, ◌≢◌, ◌⊎◌, ℕ, ◌<◌, ◌≤◌, ℤ, pos, nat_abs, List, [], ◌∷◌, ◌++◌, length, map, flat_map, take, drop, codes, Some}
 use Rattle.std.specs.List.{AllByRecursion}
 use Rattle.lexer.specs.declared.token.Word.{Word}

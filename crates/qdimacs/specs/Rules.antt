@@ -1,4 +1,5 @@
--- The rules of the text: what may follow what has been read, and what refuses each other word.
+-- The rules of the text: what may follow what has been read, and what refuses each other word. The grammar is that of
+-- QDIMACS 1.1, input format (preamble, prefix, matrix); the limits, the numbers of the refusals and their order are own.
 use Rattle.std.specs.Prelude.{ℕ, suc, zero, ◌^◌, ℤ, pos, negsuc, nat_abs, Bool, true, false, not, ◌&&◌, ◌==◌, nat_lt, nat_le, if◌then◌else◌, List, [], ◌∷◌, ◌++◌, length, codes, Option, Some, None}
 use Rattle.std.specs.Str.{bytes_eq}
 use Rattle.lexer.specs.declared.token.Word.{Word}
@@ -18,7 +19,7 @@ pub data Outcome : Type 0 where
   refused : ℕ → ℕ → Outcome
   limit : Quantity → ℕ → Outcome
 
--- the numbers of the header, and the line that it stands on
+-- the numbers of the header, and the line that it stands on (QDIMACS 1.1, input format: problem_line)
 pub record Header : Type 0 where
   pub vars : ℕ
   pub count : ℕ
@@ -87,7 +88,7 @@ header_limits h = (nat_lt max_vars h.vars, limit Variables h.line) ∷ (nat_lt m
 abbrev pub header_rules : Header → ℕ → List (Bool × Outcome)
 header_rules h line = (line == h.line, refused 11 h.line) ∷ header_limits h
 
--- a number in a set
+-- a number in a set (QDIMACS 1.1, input format: quant_set)
 abbrev pub variable_rules : Header → List QuantSet → Quant → List ℕ → ℤ → ℕ → List (Bool × Outcome)
 variable_rules h sets q vs n line =
     (not (is_natural (Num n) && nat_le (nat_abs n) h.vars), refused 12 line)
@@ -95,7 +96,7 @@ variable_rules h sets q vs n line =
     ∷ (nat_lt max_scopes (length (merged (sets ++ (q, vs ++ nat_abs n ∷ []) ∷ []))), limit Scopes line)
     ∷ []
 
--- a number in a clause
+-- a number in a clause (QDIMACS 1.1, input format: clause)
 abbrev pub literal_rules : Header → List (List ℤ) → List ℤ → ℤ → ℕ → List (Bool × Outcome)
 literal_rules h clauses ls n line =
     (nat_lt h.vars (nat_abs n), refused 12 line)
