@@ -134,15 +134,23 @@ fn texts_beyond_a_limit_are_told_with_line_and_quantity(rt: HostRuntime) -> Resu
     ] {
         assert!(rt; ends(alloc, text.as_bytes(), 6, "", want)?, "{text:?}");
     }
-    // The scope before the last 0 is the 65,536th, and the one behind it is too many.
+    // The 65,536th scope is read up to the end, and the next one is too many.
     let mut text = String::from_str(alloc, "p cnf 65537 0")?;
-    for v in 1..65_537 {
+    for v in 1..65_536 {
         let quant = if v % 2 == 0 { 'a' } else { 'e' };
         write!(text, "\n{quant} {v} 0")?;
     }
-    let unfinished = &text.as_bytes()[..text.len() - 1];
-    assert!(rt; ends(alloc, unfinished, 2, "", "qbf: line 65537: refused 15\n")?);
-    text.push_str("\ne 65537 0\n")?;
+    text.push_str("\na 65536")?;
+    assert!(rt;
+        ends(
+            alloc,
+            text.as_bytes(),
+            2,
+            "",
+            "qbf: line 65537: refused 15\n"
+        )?
+    );
+    text.push_str(" 0\ne 65537 0\n")?;
     assert!(rt;
         ends(
             alloc,
