@@ -1,7 +1,14 @@
 -- What a run of the program answers and writes.
-use Rattle.std.specs.Prelude.{◌≡◌, ◌≢◌, ℕ, ◌<◌, Bool, false, ◌==◌, if◌then◌else◌, List, [], ◌∷◌, ◌++◌, codes, Option, IfSome}
-use Rattle.std.specs.Str.{bytes_eq}
+use Rattle.std.specs.Prelude.{◌≡◌, ◌≢◌, ℕ, ◌<◌, Bool, ◌==◌, if◌then◌else◌, ◌⊎◌, List, [], ◌∷◌, ◌++◌, length, Contains, codes, Option, None, Some, IfSome, option_map, string_bytes}
 use Rattle.std.specs.Fmt.{decimal}
+use Rattle.command.specs.Forms.{Asks, AsksSolve, HasNoForm}
+use Rattle.command.specs.declared.command.Command.{Command}
+use Rattle.command.specs.declared.command.Command.TheVariants.{Solve}
+use Rattle.std.specs.Io.KnownBytes.{Keeps}
+use Rattle.session.specs.Solve.{IsEnding, IfDone, HasWritten}
+use Rattle.session.specs.declared.ending.Ending.{Ending}
+use Rattle.steps.specs.Counter.{step_limit}
+use Rattle.prefix.specs.Scopes.{all_variables}
 use Rattle.truth.specs.declared.formula.Formula.{Formula}
 use Rattle.truth.specs.Truth.{truth, plain_steps}
 use Rattle.qdimacs.specs.Rules.{parsed, refused, limit}
@@ -16,9 +23,10 @@ use Rattle.qbf_cli.specs.declared.ending.RunEnding.TheVariants.{Worked, Usage}
 abbrev pub HasTruth : List ℕ → Bool → Type 0
 HasTruth text value = (f : Formula) × Reads text (parsed f) × (truth f.prefix f.clauses ≡ value)
 
--- The text is a formula for which the plain recursion tries more values than the budget allows.
+-- The text is a formula for which the plain recursion tries more values than the budget allows. So the budget is below the
+-- step limit of its variables.
 abbrev pub IsBeyond : ℕ → List ℕ → Type 0
-IsBeyond budget text = (f : Formula) × Reads text (parsed f) × (budget < plain_steps f.prefix f.clauses)
+IsBeyond budget text = (f : Formula) × Reads text (parsed f) × (budget < plain_steps f.prefix f.clauses) × (budget < step_limit (length (all_variables f.prefix)))
 
 -- The text is malformed.
 abbrev pub IsRefused : List ℕ → Type 0
@@ -28,12 +36,18 @@ IsRefused text = (number at : ℕ) × Reads text (refused number at)
 abbrev pub IsLimited : List ℕ → Type 0
 IsLimited text = (quantity : Quantity) × (at : ℕ) × Reads text (limit quantity at)
 
--- the words are the program's name and `solve`
-abbrev pub is_solve_command : List (List ℕ) → Bool
-is_solve_command [] = false
-is_solve_command (program ∷ []) = false
-is_solve_command (program ∷ command ∷ []) = bytes_eq command (codes "solve")
-is_solve_command (program ∷ command ∷ other ∷ others) = false
+-- The name of the input: `-` is standard input.
+abbrev pub input_name : Option (List ℕ) → List ℕ
+input_name None = codes "-"
+input_name (Some name) = name
+
+-- The words ask to solve an input with a budget, and this is so of the budget and of the text that the input holds, where
+-- the desk tells.
+pub record Asked (words : List (List ℕ)) (content : List ℕ → Option (List ℕ)) (P : ℕ → List ℕ → Type 0) : Type 0 where
+  pub budget : ℕ
+  pub name : Option (List ℕ)
+  pub asks : AsksSolve words budget name
+  pub holds : IfSome (content (input_name name)) (P budget)
 
 -- the exit status of an ending
 abbrev pub status_of : RunEnding → ℕ
@@ -43,7 +57,7 @@ status_of (Worked ReadFault) = 3
 status_of (Worked WriteFault) = 4
 status_of (Worked NoMemory) = 5
 status_of (Worked (Limit quantity line)) = 6
-status_of Usage = 7
+status_of (Usage text) = 7
 
 -- the name of what there may be only so many of
 abbrev pub quantity_name : Quantity → List ℕ
@@ -71,7 +85,7 @@ line_of (Worked ReadFault) = codes "qbf: read fault\n"
 line_of (Worked WriteFault) = codes "qbf: write fault\n"
 line_of (Worked NoMemory) = codes "qbf: no memory\n"
 line_of (Worked (Limit quantity at)) = limit_line quantity at
-line_of Usage = codes "qbf: usage: qbf solve\n"
+line_of (Usage text) = string_bytes text
 
 -- the line on the error output where the status alone says it
 abbrev pub fixed_line : ℕ → List ℕ
@@ -79,11 +93,27 @@ fixed_line status =
     if status == 3 then codes "qbf: read fault\n"
     else if status == 4 then codes "qbf: write fault\n"
     else if status == 5 then codes "qbf: no memory\n"
-    else if status == 7 then codes "qbf: usage: qbf solve\n"
     else []
 
--- The line on the error output: where the text is malformed, or goes beyond a limit, with what the text says.
-pub record IsErrorLine (known : Option (List ℕ)) (status : ℕ) (line : List ℕ) : Type 0 where
-  pub refused : status ≡ 2 → (number at : ℕ) × (line ≡ refused_line number at) × IfSome known (λ text. Reads text (refused number at))
-  pub limit : status ≡ 6 → (quantity : Quantity) × (at : ℕ) × (line ≡ limit_line quantity at) × IfSome known (λ text. Reads text (limit quantity at))
-  pub other : status ≢ 2 → status ≢ 6 → line ≡ fixed_line status
+-- The line on the error output: with what the text says where it is malformed or goes beyond a limit, and any text where
+-- the words ask for no command.
+pub record IsErrorLine (words : List (List ℕ)) (content : List ℕ → Option (List ℕ)) (status : ℕ) (line : List ℕ) : Type 0 where
+  pub refused : status ≡ 2 → (number at : ℕ) × (line ≡ refused_line number at) × Asked words content (λ budget text. Reads text (refused number at))
+  pub limit : status ≡ 6 → (quantity : Quantity) × (at : ℕ) × (line ≡ limit_line quantity at) × Asked words content (λ budget text. Reads text (limit quantity at))
+  pub other : status ≢ 2 → status ≢ 6 → status ≢ 7 → line ≡ fixed_line status
+
+-- what is known of the work on an input that holds this text
+pub record IsSolved (budget : ℕ) (known left old new : Option (List ℕ)) (e : Ending) : Type 0 where
+  pub ending : IfSome known (λ text. IsEnding budget text e)
+  pub status : (s : ℕ) → e ≡ Done s → Contains (10 ∷ 20 ∷ 0 ∷ []) s
+  pub read : IfDone e (IfSome known (λ text. left ≡ Some []))
+  pub written : HasWritten budget known old new e
+
+-- what is known of the work on the input of a command
+abbrev pub IsSolvedBy : Command → (List ℕ → Option (List ℕ)) → Option (List ℕ) → Option (List ℕ) → Option (List ℕ) → Ending → Type 0
+IsSolvedBy (Solve budget name) content left old new e = IsSolved budget (content (input_name (option_map (λ s. s.now) name))) left old new e
+
+-- what is known of a run by its ending
+abbrev pub Carried : List (List ℕ) → (List ℕ → Option (List ℕ)) → Option (List ℕ) → Option (List ℕ) → Option (List ℕ) → RunEnding → Type 0
+Carried words content left old new (Usage text) = HasNoForm words × Keeps old new
+Carried words content left old new (Worked e) = ((e ≡ NoMemory) × Keeps old new) ⊎ ((c : Command) × Asks words c × IsSolvedBy c content left old new e)

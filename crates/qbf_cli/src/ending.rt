@@ -12,12 +12,12 @@ use qdimacs::Quantity;
 use session::Ending;
 
 /// How a run ends.
-#[derive(Clone, Copy, Debug, PartialEq, Eq)]
+#[derive(Debug, Drop)]
 pub(crate) enum RunEnding {
     /// The work on the input ended so.
     Worked(Ending),
-    /// The words are none of the program's commands.
-    Usage,
+    /// The words ask for no command. The text says what is asked for.
+    Usage(String),
 }
 
 impl RunEnding {
@@ -32,7 +32,7 @@ impl RunEnding {
             Self::Worked(Ending::WriteFault) => 4,
             Self::Worked(Ending::NoMemory) => 5,
             Self::Worked(Ending::Limit { .. }) => 6,
-            Self::Usage => 7,
+            Self::Usage(_) => 7,
         }
     }
 
@@ -54,7 +54,7 @@ impl RunEnding {
             Self::Worked(Ending::ReadFault) => write_all(err, b"qbf: read fault\n"),
             Self::Worked(Ending::WriteFault) => write_all(err, b"qbf: write fault\n"),
             Self::Worked(Ending::NoMemory) => write_all(err, b"qbf: no memory\n"),
-            Self::Usage => write_all(err, b"qbf: usage: qbf solve\n"),
+            Self::Usage(text) => write_all(err, text.as_bytes()),
         }
     }
 }

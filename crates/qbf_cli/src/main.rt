@@ -21,16 +21,29 @@ fn main(rt: HostRuntime) -> ExitCode {
             let mut desk = HostDesk::new(rt);
             run::run(rt.alloc(), &words, &mut desk, &mut out, &mut err)
         }
-        Err(e) if e.kind() == io::ErrorKind::OutOfMemory => {
-            run::report(&mut err, &RunEnding::Worked(Ending::NoMemory))
-        }
-        // A word that isn't UTF-8 is none of the program's.
-        Err(_) => run::report(&mut err, &RunEnding::Usage),
+        Err(ending) => run::report(&mut err, &ending),
     };
     ExitCode::from(status)
 }
 
 // The words of the command line, the program's name first.
-fn words_of(rt: &(impl Env + AllocGlobal)) -> io::Result<Vec<String>> {
+fn words_of(rt: &(impl Env + AllocGlobal)) -> Result<Vec<String>, RunEnding> {
+    match collected(rt) {
+        Ok(words) => Ok(words),
+        Err(e) if e.kind() == io::ErrorKind::OutOfMemory => Err(RunEnding::Worked(
+            Ending::NoMemory,
+        )),
+        // A word that isn't UTF-8 is none of the program's.
+        Err(_) => Err(
+            match String::from_str(rt.alloc(), "error: a word isn't UTF-8\n") {
+                Ok(text) => RunEnding::Usage(text),
+                Err(_) => RunEnding::Worked(Ending::NoMemory),
+            },
+        ),
+    }
+}
+
+// The words as the system gives them.
+fn collected(rt: &(impl Env + AllocGlobal)) -> io::Result<Vec<String>> {
     Ok(env::args(rt)?.collect(rt.alloc())?)
 }

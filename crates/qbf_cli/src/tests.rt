@@ -220,24 +220,84 @@ fn a_failing_error_output_changes_no_status(rt: HostRuntime) -> Result<(), Fail>
     Ok(())
 }
 
+// The status, the output and whether the error output got something, of `qbf` with these words on a desk that keeps a
+// formula of one step as standard input, and another one under the name `f`.
+fn runs(alloc: Global, others: &[&str]) -> Result<(u8, String, bool), Fail> {
+    let mut inputs = Vec::new(alloc);
+    inputs.push(Input {
+        name: String::from_str(alloc, "-")?,
+        bytes: Vec::from_slice(alloc, b"p cnf 1 1\ne 1 0\n1 0\n")?,
+    })?;
+    inputs.push(Input {
+        name: String::from_str(alloc, "f")?,
+        bytes: Vec::from_slice(alloc, b"p cnf 1 1\na 1 0\n1 0\n")?,
+    })?;
+    let mut desk = MemoryDesk::new(inputs, 7, Vec::new(alloc));
+    let mut out = MemorySink::new(alloc, 64, 64, Vec::new(alloc))?;
+    let mut err = MemorySink::new(alloc, 4096, 64, Vec::new(alloc))?;
+    let status = run(alloc, &words(alloc, others)?, &mut desk, &mut out, &mut err);
+    let written = String::from_utf8_lossy(alloc, out.bytes())?;
+    Ok((status, written, err.bytes().is_empty()))
+}
+
+#[test]
+fn words_choose_the_input_and_the_budget(rt: HostRuntime) -> Result<(), Fail> {
+    let alloc = rt.alloc();
+    for (others, status, line) in [
+        (["qbf", "solve"].as_slice(), 10, "SAT\n"),
+        (&["qbf", "solve", "f"], 20, "UNSAT\n"),
+        (&["qbf", "solve", "--budget", "0"], 0, "UNKNOWN\n"),
+        (&["qbf", "solve", "--budget=0"], 0, "UNKNOWN\n"),
+        (&["qbf", "solve", "--budget", "1"], 0, "UNKNOWN\n"),
+        (&["qbf", "solve", "--budget", "2"], 10, "SAT\n"),
+        (&["qbf", "solve", "--budget", "32"], 10, "SAT\n"),
+        (&["qbf", "solve", "--budget", "1", "f"], 20, "UNSAT\n"),
+        (&["qbf", "solve", "f", "--budget=0"], 0, "UNKNOWN\n"),
+        (
+            &["qbf", "solve", "--budget", "18446744073709551615"],
+            10,
+            "SAT\n",
+        ),
+        (&["qbf", "solve", "g"], 3, ""),
+        (&["qbf", "solve", ""], 3, ""),
+    ] {
+        let (found, written, silent) = runs(alloc, others)?;
+        assert_eq!(rt; found, status, "{others:?}");
+        assert_eq!(rt; written.as_str(), line, "{others:?}");
+        assert_eq!(rt; silent, status != 3, "{others:?}");
+    }
+    Ok(())
+}
+
 #[test]
 fn other_words_are_usage(rt: HostRuntime) -> Result<(), Fail> {
     let alloc = rt.alloc();
-    for other in [
-        ["qbf"].as_slice(),
+    for others in [
+        [].as_slice(),
+        &["qbf"],
         &["qbf", "jump"],
-        &["qbf", "solve", "solve"],
-        &[],
+        &["qbf", "help"],
+        &["qbf", "--help"],
+        &["qbf", "-h"],
+        &["qbf", "--version"],
+        &["qbf", "solve", "--help"],
+        &["qbf", "solve", "f", "g"],
+        &["qbf", "solve", "-x"],
+        &["qbf", "solve", "-"],
+        &["qbf", "solve", "--", "f"],
+        &["qbf", "solve", "--budget"],
+        &["qbf", "solve", "--budget", "x"],
+        &["qbf", "solve", "--budget", "-1"],
+        &["qbf", "solve", "--budget", "+1"],
+        &["qbf", "solve", "--budget", "01"],
+        &["qbf", "solve", "--budget="],
+        &["qbf", "solve", "--budget", "18446744073709551616"],
+        &["qbf", "solve", "--budget", "1", "--budget", "2"],
     ] {
-        let mut desk = desk(alloc, DIFFERS.as_bytes(), 100, Vec::new(alloc))?;
-        let mut out = MemorySink::new(alloc, 64, 64, Vec::new(alloc))?;
-        let mut err = MemorySink::new(alloc, 64, 64, Vec::new(alloc))?;
-        assert_eq!(rt;
-            run(alloc, &words(alloc, other)?, &mut desk, &mut out, &mut err),
-            7
-        );
-        assert_eq!(rt; out.bytes(), b"".as_slice());
-        assert_eq!(rt; err.bytes(), b"qbf: usage: qbf solve\n".as_slice());
+        let (found, written, silent) = runs(alloc, others)?;
+        assert_eq!(rt; found, 7, "{others:?}");
+        assert_eq!(rt; written.as_str(), "", "{others:?}");
+        assert!(rt; !silent, "{others:?}");
     }
     Ok(())
 }

@@ -1,0 +1,9 @@
+pub mod NumberLemmas
+pub mod Turns
+pub mod WordKinds
+pub mod Spelled
+pub mod SolveWalk
+pub mod SolveReads
+pub mod TopWalk
+pub mod FormLemmas
+pub mod AccountLemmas

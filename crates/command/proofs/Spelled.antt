@@ -1,0 +1,47 @@
+-- A word with two hyphens is spelled by its name and its value.
+use Rattle.std.proofs.Common.{◌≡◌, ◌+◌, ◌++◌, ◌==◌, ℕ, suc, take, drop, arith, Bool, cond, true, false, [], ◌∷◌, Option, Some, None, refl, ap, subst, eqb-true}
+use Rattle.std.specs.Prelude.{unwrap_or}
+use Rattle.std.specs.List.{list_any}
+use Rattle.clap.specs.Lexer.{long_of, long_of_rest, name_and_value}
+use Rattle.clap.specs.Words.{Text}
+
+-- what stands behind a name: nothing, or `=` and the value
+abbrev pub value_tail : Option Text → Text
+value_tail None = []
+value_tail (Some t) = 61 ∷ t
+
+abbrev is_equals : ℕ → Bool
+is_equals x = x == 61
+
+-- a cut one place later, in a list that is one longer
+cut_more : (x : ℕ) (xs : Text) (p q : ℕ) (has : Bool) → q ≡ suc p → q + 1 ≡ suc (p + 1) → xs ≡ take p xs ++ value_tail (cond has (Some (drop (p + 1) xs)) None)
+    → x ∷ xs ≡ take q (x ∷ xs) ++ value_tail (cond has (Some (drop (q + 1) (x ∷ xs))) None)
+cut_more x xs p q has is next same = rw (next, is) (ap (λ t. x ∷ t) same)
+
+split : (text : Text) → text ≡ (name_and_value text).0 ++ value_tail (name_and_value text).1
+split [] = refl
+split (x ∷ xs) = go (x == 61) refl (split xs)
+  where
+    go : (b : Bool) → (x == 61) ≡ b → xs ≡ (name_and_value xs).0 ++ value_tail (name_and_value xs).1 → x ∷ xs ≡ (name_and_value (x ∷ xs)).0 ++ value_tail (name_and_value (x ∷ xs)).1
+    go true e same = rw e (ap (λ n. n ∷ xs) (eqb-true x 61 e))
+    go false e same = rw e (cut_more x xs _ _ (list_any is_equals xs) (omega arith) (omega arith) same)
+
+rest_spelled : (rest name : Text) (v : Option Text) → long_of_rest rest ≡ Some (name, v) → rest ≡ name ++ value_tail v
+rest_spelled [] name v e = absurd cc
+rest_spelled (x ∷ xs) name v e =
+    let is : name_and_value (x ∷ xs) ≡ (name, v) = ap (λ o. unwrap_or o ([], None)) e in
+    subst (λ p. x ∷ xs ≡ p.0 ++ value_tail p.1) is (split (x ∷ xs))
+
+pub long_spelled : (w name : Text) (v : Option Text) → long_of w ≡ Some (name, v) → w ≡ 45 ∷ 45 ∷ (name ++ value_tail v)
+long_spelled [] name v e = absurd cc
+long_spelled (x ∷ []) name v e = go (x == 45) refl
+  where
+    go : (b : Bool) → (x == 45) ≡ b → x ∷ [] ≡ 45 ∷ 45 ∷ (name ++ value_tail v)
+    go true t = let bad = rw t at e in absurd cc
+    go false t = let bad = rw t at e in absurd cc
+long_spelled (x ∷ y ∷ rest) name v e = go (x == 45) refl (y == 45) refl
+  where
+    go : (b : Bool) → (x == 45) ≡ b → (d : Bool) → (y == 45) ≡ d → x ∷ y ∷ rest ≡ 45 ∷ 45 ∷ (name ++ value_tail v)
+    go false t d u = let bad = rw t at e in absurd cc
+    go true t false u = let bad = rw (t, u) at e in absurd cc
+    go true t true u = let same = rw (t, u) at e in (λ i. eqb-true x 45 t i ∷ eqb-true y 45 u i ∷ rest_spelled rest name v same i)

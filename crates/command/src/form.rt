@@ -1,0 +1,38 @@
+//! The command line as `clap` is told of it.
+ghost use Rattle.std.specs.Prelude.{◌≡◌, IfOk, false};
+ghost use Rattle.clap.specs.Words.{app_of};
+ghost use Rattle.clap.specs.declared.builder.Command.TheViews.{out-Command as fields_of};
+ghost use Rattle.command.specs.Account.{qbf_app, solve_app};
+
+use clap::{Arg, Command, value_parser};
+use std::alloc::{AllocError, Global};
+
+/// The program `qbf`.
+pub(crate) fn program<'a>(alloc: Global) -> Result<Command<'a>, AllocError>
+    ensures { IfOk result (λ c. app_of c ≡ qbf_app) }
+{
+    Command::new(alloc, "qbf")
+        .about("Decides quantified Boolean formulas")
+        .subcommand_required(true)
+        .subcommand(solve(alloc)?)
+}
+
+// The command `solve`.
+fn solve<'a>(alloc: Global) -> Result<Command<'a>, AllocError>
+    ensures app { IfOk result (λ c. app_of c ≡ solve_app) }
+    ensures local { IfOk result (λ c. (fields_of c).has_globals ≡ false) }
+{
+    let budget = Arg::new(alloc, "budget")
+        .long("budget")
+        .value_name("N")
+        .help("The most steps that the search may take")
+        .value_parser(value_parser!(u64))
+        .default_value("18446744073709551615");
+    let name = Arg::new(alloc, "name").value_name("NAME").help(
+        "The file of the formula; without it standard input is read",
+    );
+    Command::new(alloc, "solve")
+        .about("Decides one formula in QDIMACS")
+        .arg(budget)?
+        .arg(name)
+}

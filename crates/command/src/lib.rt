@@ -1,0 +1,14 @@
+//! The command line of `qbf`.
+#![tactic(auto)]
+
+mod command;
+mod form;
+mod number;
+mod read;
+mod refused;
+#[cfg(test)]
+mod tests;
+
+pub use command::Command;
+pub use read::{read_command, words_ask_for_one_command};
+pub use refused::Refused;
