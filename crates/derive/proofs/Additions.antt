@@ -1,9 +1,9 @@
 -- One more step.
-use Rattle.std.proofs.Common.{◌≡◌, ◌≢◌, ℕ, zero, suc, ◌+◌, ◌<◌, ◌≤◌, ◌⊎◌, Bool, true, false, List, [], ◌∷◌, ◌++◌, length, get_or, Option, Some, None, is_some, sym, refl, ap, ap₂, ◌∙◌, inl, inr, ⊎_elim, arith}
+use Rattle.std.proofs.Common.{◌≡◌, ◌≢◌, ℕ, zero, suc, ◌+◌, ◌<◌, ◌≤◌, ◌⊎◌, Bool, true, false, List, [], ◌∷◌, ◌++◌, length, get_or, Option, Some, None, is_some, IsTrue, sym, refl, ap, ap₂, ◌∙◌, inl, inr, ⊎_elim, arith}
 use Rattle.std.specs.List.{filter_map, range_with_len, cons_option}
 use Rattle.std.specs.Prelude.{max}
 use Rattle.std.specs.Option.{option_and_then}
-use Rattle.std.proofs.lemmas.Bool.{cases_eq, cases_lt}
+use Rattle.std.proofs.lemmas.Bool.{cases_eq, cases_lt, false≢true}
 use Rattle.std.proofs.lemmas.List.{get_or_append_left, get_or_push, get_or_past, length_push}
 use Rattle.prefix.specs.declared.quant.Quant.{Quant}
 use Rattle.prefix.specs.declared.quant.Quant.TheVariants.{Exists, Forall}
@@ -11,11 +11,11 @@ use Rattle.rows.specs.Arena.{Arena, StoredRow, row_at as stored_at, is_live as i
 use Rattle.calculus.specs.Rows.{Row}
 use Rattle.calculus.specs.Derivations.{Why, RestsOn}
 use Rattle.calculus.specs.Derivations.Why.{Given, ReducedFrom, ResolvedFrom, FinishedFrom}
-use Rattle.derive.specs.State.{Note, Notes, State, note_in, note_at, next_id, row_of, tag_in, is_finish, step_at, step_from, steps_of, clause_at, clause_from, clauses_of, with_step}
+use Rattle.derive.specs.State.{Note, Notes, State, SameStep, note_in, note_at, next_id, is_live, has_rows, row_of, side_in, tag_in, is_finish, step_at, step_from, steps_of, clause_at, clause_from, clauses_of, with_step}
 use Rattle.derive.specs.Grounds.{IsGround, IsGrounded, IsGroundedAt, HasTag, Fits}
 use Rattle.derive.specs.Kept.{AreFrom, IsKept}
 use Rattle.derive.specs.Dropping.{StepTest}
-use Rattle.derive.specs.Adding.{Adds, AddsBoth, clause_note, note_over}
+use Rattle.derive.specs.Adding.{Adds, AddsBoth, Removes, clause_note, note_over}
 use Rattle.derive.proofs.Ids.{listed_push}
 use Rattle.derive.proofs.Falling.{none_some}
 
@@ -31,6 +31,12 @@ pushed_past xs y d k h = get_or_past (xs ++ y ∷ []) k d (let e = length_push x
 
 pub pushed_length : {X : Type 0} (xs : List X) (y : X) → length (xs ++ y ∷ []) ≡ suc (length xs)
 pushed_length xs y = let e = length_push xs y in omega arith
+
+-- a live id is one that was given
+pub live_below : (notes : Notes) (id : ℕ) → is_some (note_in notes id) ≡ true → id < length notes
+live_below [] id live = absurd (false≢true live)
+live_below (first ∷ notes) zero live = omega arith
+live_below (first ∷ notes) (suc id) live = let h = live_below notes id live in omega arith
 
 -- what is listed with one more step
 module _ (notes : Notes) (arena : Arena) (same : next_row arena ≡ length notes) (note : Note) (row : Row) where
@@ -56,8 +62,23 @@ module _ (notes : Notes) (arena : Arena) (same : next_row arena ≡ length notes
       (λ k h. ap₂ (λ r o. option_and_then (f k r) o) (row_before k h) (pushed_old notes (Some note) None k h))
       (ap₂ (λ r o. option_and_then (f (length notes) r) o) row_last (pushed_new notes (Some note) None (length notes) refl))
 
+  others_stay : (other : ℕ) → IsTrue (is_some (note_in notes other)) → SameStep (record { notes = notes; rows = Some arena }) (with_step (record { notes = notes; rows = Some arena }) note row) other
+  others_stay other live =
+      let below : other < length notes = live_below notes other live in
+      record { note = pushed_old notes (Some note) None other below; row = pushed_old arena (Some (new_row row)) None other (omega arith) }
+
   pub adds : Adds (record { notes = notes; rows = Some arena }) (with_step (record { notes = notes; rows = Some arena }) note row) (length notes) note row
-  adds = record { is_next = refl; state = refl; steps = listed_more step_from; clauses = listed_more clause_from }
+  adds =
+      record {
+        is_next = refl;
+        state = refl;
+        has_rows = refl;
+        there = pushed_new notes (Some note) None (length notes) refl;
+        has_row = row_last;
+        others = others_stay;
+        steps = listed_more step_from;
+        clauses = listed_more clause_from;
+      }
 
 -- what steps rest on, and their tags, with one more step
 
@@ -181,4 +202,30 @@ adds_both d notes after rows arena new_arena frame row reduced first second cube
       reduction =
           adds_of middle (notes ++ Some (clause_note frame) ∷ []) after (Some (with_row arena row)) (with_row arena row) new_arena (note_over middle first (ReducedFrom first)) reduced second cubes finishes refl refl
           (is_after ∙ ap (λ n. (notes ++ Some (clause_note frame) ∷ []) ++ Some n ∷ []) note_is) is_arena (is_second ∙ sym (length_push arena (Some (new_row row)))) kept_first;
+    }
+
+-- removals
+
+pub removes_none : (d : State) (on : ℕ) (why : Why) (row : Row) → has_rows d ≡ true → is_live d on ≡ true → row ≡ row_of d on → Removes d d on on why row
+removes_none d on why row has live is =
+    record {
+      cases = inl (is, refl, refl);
+      has_rows = has;
+      live = live;
+      has_side = refl;
+      has_row = sym is;
+      has_tag = refl;
+      others = λ other l. record { note = refl; row = refl };
+    }
+
+pub removes_more : (old new : State) (id on : ℕ) (why : Why) (row : Row) → row ≢ row_of old on → Adds old new id (note_over old on why) row → Removes old new id on why row
+removes_more old new id on why row differs adds =
+    record {
+      cases = inr (differs, adds);
+      has_rows = adds.has_rows;
+      live = ap is_some adds.there;
+      has_side = ap side_in adds.there;
+      has_row = adds.has_row;
+      has_tag = ap tag_in adds.there;
+      others = adds.others;
     }

@@ -14,10 +14,10 @@ use Rattle.calculus.proofs.Lists.{contains_cons, contains_nil, contains_head, co
 use Rattle.calculus.proofs.StepLemmas.{kept_derivation}
 use Rattle.calculus.proofs.Levels.{contains_map_of}
 use Rattle.calculus.proofs.Changes.{changed_derivation, extends_itself}
-use Rattle.derive.specs.State.{Note, Notes, State, OpenClause, note_in, note_at, next_id, row_of, is_finish, is_live, step_at, step_from, step_with, steps_of, clause_at, clause_from, clause_with, clauses_of, open_clauses, arena_of, has_rows, IsLegalFor}
+use Rattle.derive.specs.State.{Note, Notes, State, SameStep, OpenClause, note_in, note_at, next_id, row_of, is_finish, is_live, step_at, step_from, step_with, steps_of, clause_at, clause_from, clause_with, clauses_of, open_clauses, arena_of, has_rows, IsLegalFor}
 use Rattle.derive.specs.Grounds.{IsGround, IsGrounded, IsGroundedAt, Fits}
 use Rattle.derive.specs.Kept.{AreFrom, IsKept}
-use Rattle.derive.specs.Dropping.{StepTest, Falls, DropsFrom, Drops, has_tag, is_initial_cube, finishes, is_from}
+use Rattle.derive.specs.Dropping.{StepTest, Falls, DropsFrom, Drops, has_tag, is_cube, is_initial_cube, finishes, is_from, unless_finish}
 use Rattle.derive.specs.Dropping.Falls.{root, rests}
 use Rattle.derive.proofs.Ids.{listed_at, listed_from, listed_filter, kept_if}
 use Rattle.derive.proofs.Falling.{none_some, some_is}
@@ -172,8 +172,13 @@ given_root is_root notes id note there given (rests j on n at r falls) =
 
 -- drops of derivations
 module _ (is_root : StepTest) (old new : State) (has : has_rows new ≡ true) (drops : DropsFrom is_root old.notes new.notes (arena_of old) (arena_of new)) where
+  others_stay : (id : ℕ) → IsTrue (is_live new id) → SameStep old new id
+  others_stay id live =
+      let n = some_is (note_at new id) live in
+      record { note = n.1 ∙ sym (live_before is_root old.notes new.notes (arena_of old) (arena_of new) drops id n.0 n.1).1; row = drops.rows id ∙ cond-true _ (stored_at (arena_of old) id) None live }
+
   pub dropped : Drops is_root old new
-  dropped = record { has_rows = has; exactly = drops; left = listed_left is_root old.notes new.notes (arena_of old) (arena_of new) drops step_from (λ (s : Step). s.id) step_id }
+  dropped = record { has_rows = has; exactly = drops; others = others_stay; left = listed_left is_root old.notes new.notes (arena_of old) (arena_of new) drops step_from (λ (s : Step). s.id) step_id }
 
   clauses_left : clauses_of new ≡ filter (λ (c : OpenClause). is_live new c.id) (clauses_of old)
   clauses_left = listed_left is_root old.notes new.notes (arena_of old) (arena_of new) drops clause_from (λ (c : OpenClause). c.id) clause_id
@@ -298,3 +303,35 @@ not_from k first =
       | inl h ↦ lt-ltb k first h ∙ ap not (sym (lt-leb first k h))
       | inr h ↦ le-ltb k first h ∙ ap not (sym (le-leb first k h))
     ]
+
+-- exactly the finishes go
+pub finishes_go : (old new : State) → IsGrounded old.notes → Drops finishes old new → (id : ℕ) → note_at new id ≡ unless_finish (note_at old id)
+finishes_go old new grounded drops id = go (note_at old id) refl
+  where
+    go : (o : Option Note) → note_at old id ≡ o → note_at new id ≡ unless_finish (note_at old id)
+    go None there =
+        ⊎_elim (λ p. p.1 ∙ ap unless_finish (sym there)) (λ p. p.1 ∙ there ∙ ap unless_finish (sym there)) (drops.exactly.steps id)
+    go (Some note) there =
+        ⊎_elim
+        (λ p. p.1 ∙ sym (ap unless_finish there ∙ cond-true (is_finish note.why) None (Some note) (finish_falls old.notes grounded id p.0 note there)))
+        (λ p. p.1 ∙ there ∙ sym (ap unless_finish there ∙ cond-false (is_finish note.why) None (Some note) (⊎_elim (λ t. absurd (p.0 (root id note there t))) (λ f. f) (cases_Bool (is_finish note.why)))))
+        (drops.exactly.steps id)
+
+-- with the initial cubes go steps of their side alone
+no_clause_cube : (side : Quant) (why : Why) → side ≡ Exists → is_cube side why ≡ false
+no_clause_cube side why e = rw e refl
+
+cube_falls : (notes : Notes) → IsGrounded notes → (id : ℕ) → Falls is_initial_cube notes id → (note : Note) → note_in notes id ≡ Some note → note.side ≡ Exists → ⊥
+cube_falls notes grounded id (root j n at r) note there side =
+    let e : Some n ≡ Some note = sym at ∙ there in
+    let is : n ≡ note = cc in
+    false≢true (sym (no_clause_cube n.side n.why (ap (λ (m : Note). m.side) is ∙ side)) ∙ r)
+cube_falls notes grounded id (rests j on n at r falls) note there side =
+    let e : Some n ≡ Some note = sym at ∙ there in
+    let is : n ≡ note = cc in
+    let g = (grounded id n at).grounds on r in
+    cube_falls notes grounded on falls g.under g.there (g.one_side ∙ ap (λ (m : Note). m.side) is ∙ side)
+
+pub clause_side_stays : (old new : State) → IsGrounded old.notes → Drops is_initial_cube old new → (id : ℕ) (note : Note) → note_at old id ≡ Some note → note.side ≡ Exists → note_at new id ≡ Some note
+clause_side_stays old new grounded drops id note there side =
+    ⊎_elim (λ p. absurd (cube_falls old.notes grounded id p.0 note there side)) (λ p. p.1 ∙ there) (drops.exactly.steps id)

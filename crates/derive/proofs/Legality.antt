@@ -1,5 +1,5 @@
 -- Each live step but a finish stays legal.
-use Rattle.std.proofs.Common.{◌≡◌, ◌≢◌, ℕ, zero, suc, ◌+◌, ◌<◌, ◌≤◌, ◌⊎◌, Bool, true, false, cond, List, [], ◌∷◌, ◌++◌, length, map, filter, Contains, Option, Some, None, is_some, IsTrue, IsFalse, sym, refl, ap, ap₂, ◌∙◌, inl, inr, ⊎_elim, arith}
+use Rattle.std.proofs.Common.{◌≡◌, ◌≢◌, ℕ, zero, suc, ◌+◌, ◌<◌, ◌≤◌, ◌⊎◌, Bool, true, false, not, cond, List, [], ◌∷◌, ◌++◌, length, map, filter, Contains, Option, Some, None, is_some, IsTrue, IsFalse, sym, refl, ap, ap₂, ◌∙◌, inl, inr, ⊎_elim, arith}
 use Rattle.std.specs.List.{filter_map, range_with_len, cons_option}
 use Rattle.std.specs.Option.{option_and_then}
 use Rattle.std.proofs.lemmas.Bool.{true≢false, false≢true, cond-true, cond-false}
@@ -10,20 +10,20 @@ use Rattle.prefix.specs.declared.quant.Quant.TheVariants.{Exists, Forall}
 use Rattle.prefix.specs.Scopes.{Scope}
 use Rattle.rows.specs.Arena.{Arena, literals_at, row_at as stored_at, literals_of, StoredRow}
 use Rattle.calculus.specs.Rows.{Row, IsRow, reduce, resolve}
-use Rattle.calculus.specs.Derivations.{Step, Why, RestsOn, Antecedent, IsDerivation, IsLegalStep, IsReductionStep, IsResolutionStep, IsInput, Hits, IsClosed}
+use Rattle.calculus.specs.Derivations.{Step, Why, RestsOn, Antecedent, IsDerivation, IsLegalStep, IsReductionStep, IsResolutionStep, IsInput, Hits, Extends}
 use Rattle.calculus.specs.Derivations.Why.{Given, ReducedFrom, ResolvedFrom, FinishedFrom}
-use Rattle.calculus.proofs.Lists.{contains_cons, contains_nil, contains_head, contains_tail, filter_at, filter_from}
+use Rattle.calculus.proofs.Lists.{contains_cons, contains_nil, contains_head, contains_tail, pairs_nil}
 use Rattle.calculus.proofs.StepLemmas.{kept_derivation, one_more_step}
 use Rattle.calculus.proofs.Changes.{changed_derivation, extends_itself}
 use Rattle.calculus.proofs.RowLaws.{reduce_row, resolve_row}
-use Rattle.derive.specs.State.{Note, Notes, State, OpenClause, note_in, note_at, next_id, row_of, side_in, side_at, tag_at, why_in, is_finish, is_live, is_step, step_at, step_from, step_with, steps_of, clause_at, clause_from, clause_with, clauses_of, open_clauses, arena_of, with_step, IsLegalFor}
+use Rattle.derive.specs.State.{Note, Notes, State, OpenClause, note_in, note_at, next_id, row_of, side_in, side_at, tag_at, why_in, is_finish, is_live, may_bear, is_step, step_at, step_from, step_with, steps_of, clause_at, clause_from, clause_with, clauses_of, open_clauses, arena_of, with_step, IsLegalFor}
 use Rattle.derive.specs.Adding.{Adds, Removes, AreResolvable, note_over, clause_note, cube_note}
 use Rattle.derive.specs.Dropping.{StepTest, Falls, DropsFrom, Drops}
 use Rattle.derive.specs.Dropping.Falls.{root, rests}
 use Rattle.derive.proofs.Ids.{listed_at, listed_from, listed_same}
 use Rattle.derive.specs.Grounds.{IsGround, IsGroundedAt}
 use Rattle.derive.proofs.Falling.{none_some, some_is}
-use Rattle.derive.proofs.Additions.{pushed_new}
+use Rattle.derive.proofs.Additions.{live_below}
 use Rattle.std.specs.Prelude.{max}
 
 pub contains_last : {X : Type 0} (xs : List X) (x : X) → Contains (xs ++ x ∷ []) x
@@ -87,26 +87,29 @@ listed_step d k note there no_finish within =
     listed_from (step_at d) 0 (next_id d) _ k (omega arith) (omega arith)
     (ap (option_and_then (step_from k (row_of d k))) there ∙ step_with_from k note.side (row_of d k) note.why no_finish)
 
+-- a step that others may rest on
+pub record Bears (d : State) (k : ℕ) : Type 0 where
+  pub note : Note
+  pub there : note_at d k ≡ Some note
+  pub no_finish : is_finish note.why ≡ false
+  pub given : k < next_id d
+
+bears_with : (d : State) (k : ℕ) (o : Option Note) → note_at d k ≡ o → may_bear o ≡ true → Bears d k
+bears_with d k None there is = absurd (false≢true is)
+bears_with d k (Some note) there is = record { note = note; there = there; no_finish = false_from_not (is_finish note.why) is; given = live_below d.notes k (ap is_some there) }
+  where
+    false_from_not : (b : Bool) → not b ≡ true → b ≡ false
+    false_from_not true e = sym e
+    false_from_not false e = refl
+
+pub bears : (d : State) (k : ℕ) → IsTrue (is_step d k) → Bears d k
+bears d k is = bears_with d k (note_at d k) refl is
+
 -- the step under an id that `is_step` holds of
 pub step_found : (d : State) (k : ℕ) → IsTrue (is_step d k) → (s : Step) × (s.id ≡ k) × (s.side ≡ side_at d k) × (s.row ≡ row_of d k) × Contains (steps_of d) s
 step_found d k is =
-    let p = some_is (step_at d k) is in
-    go (note_at d k) refl p.0 p.1
-  where
-    within_at : (notes : Notes) (k : ℕ) (note : Note) → note_in notes k ≡ Some note → k < length notes
-    within_at [] k note e = absurd (none_some None note refl e)
-    within_at (o ∷ notes) zero note e = omega arith
-    within_at (o ∷ notes) (suc k) note e = let h = within_at notes k note e in omega arith
-
-    go : (o : Option Note) → note_at d k ≡ o → (s : Step) → step_at d k ≡ Some s → (s : Step) × (s.id ≡ k) × (s.side ≡ side_at d k) × (s.row ≡ row_of d k) × Contains (steps_of d) s
-    go None there s e = absurd (none_some None s refl (sym (ap (option_and_then (step_from k (row_of d k))) there) ∙ e))
-    go (Some note) there s e =
-        let within = within_at d.notes k note there in
-        let q = stands_with d k s (Some note) there within (sym (ap (option_and_then (step_from k (row_of d k))) there) ∙ e) in
-        let st = q.1 in
-        let same : Some note ≡ Some st.note = sym there ∙ ap (note_at d) (sym q.0) ∙ st.there in
-        let is : note ≡ st.note = cc in
-        (s, q.0, st.side ∙ ap (λ (n : Note). n.side) (sym is) ∙ ap side_in (sym there), st.row ∙ ap (row_of d) q.0, listed_from (step_at d) 0 (next_id d) s k (omega arith) (omega arith) e)
+    let b = bears d k is in
+    (record { id = k; side = b.note.side; row = row_of d k; why = b.note.why }, refl, ap side_in (sym b.there), refl, listed_step d k b.note b.there b.no_finish b.given)
 
 -- one more step
 module _ (scopes : List Scope) (old new : State) (id : ℕ) (note : Note) (row : Row) (adds : Adds old new id note row) (legal : IsLegalFor scopes old) where
@@ -164,7 +167,7 @@ legal_reduction scopes old new id a is removes legal =
     legal_added scopes old new id (note_over old a (ReducedFrom a)) row adds legal refl (no_clause_over id row _ (side_at old a) a)
     (rw (← from_row) (reduce_row (side_at old a) scopes from.step.row (legal.rows from.step from.stands)))
     (record { from = from; removes = rw from_row more.0; result = rw from_row refl }))
-    removes
+    removes.cases
 
 -- a resolvent
 pub legal_resolvent : (scopes : List Scope) (old new : State) (id a b x tag : ℕ) → IsTrue (is_step old a) → IsTrue (is_step old b) → side_at old a ≡ side_at old b → Adds old new id (record { side = side_at old a; why = ResolvedFrom a b x; tag = tag }) (resolve (row_of old a) (row_of old b) x) → AreResolvable scopes old a b x → IsLegalFor scopes old → IsLegalFor scopes new
@@ -192,7 +195,7 @@ pub legal_finished : (scopes : List Scope) (old new : State) (id a : ℕ) (row :
 legal_finished scopes old new id a row removes legal =
     ⊎_elim (λ same. rw same.2 legal)
     (λ more. legal_finish scopes old new id (note_over old a (FinishedFrom a)) row more.1 legal refl (no_clause_finish id row _ (side_at old a) a) refl)
-    removes
+    removes.cases
 
 -- a derivation with the same notes and literals
 pub same_legal : (scopes : List Scope) (before after : State) → before.notes ≡ after.notes → ((id : ℕ) → row_of before id ≡ row_of after id) → IsLegalFor scopes before → IsLegalFor scopes after
@@ -209,22 +212,9 @@ same_legal scopes before after notes rows legal =
         ap (λ n. filter_map (clause_at after) (range_with_len 0 n)) (ap (λ (ns : Notes). length ns) (sym notes))
         ∙ listed_same (clause_at after) (clause_at before) 0 (next_id before) (λ k low high. ap₂ (λ r o. option_and_then (clause_from k r) o) (sym (rows k)) (ap (λ (ns : Notes). note_in ns k) (sym notes)))
 
--- a step that others may rest on
-pub record MayBear (d : State) (k : ℕ) : Type 0 where
-  pub note : Note
-  pub there : note_at d k ≡ Some note
-  pub no_finish : is_finish note.why ≡ false
-  pub given : k < next_id d
-
-pub may_bear : (d : State) (k : ℕ) → IsTrue (is_step d k) → MayBear d k
-may_bear d k is =
-    let p = step_found d k is in
-    let st = stands_at d p.0 p.4 in
-    record { note = st.note; there = ap (note_at d) (sym p.1) ∙ st.there; no_finish = st.no_finish; given = rw (← p.1) st.given }
-
 pub ground_of : (d : State) (k : ℕ) (side : Quant) → IsTrue (is_step d k) → side_at d k ≡ side → IsGround d.notes (next_id d) side k
 ground_of d k side is same =
-    let b = may_bear d k is in
+    let b = bears d k is in
     record { under = b.note; there = b.there; earlier = b.given; one_side = sym (ap side_in b.there) ∙ same; no_finish = b.no_finish }
 
 -- a resolvent stands on its antecedents
@@ -235,18 +225,28 @@ grounded_resolvent d a b x note is is_a is_b one =
       tag = refl;
     })
 
--- an added step is listed
-pub added_there : (old new : State) (id : ℕ) (note : Note) (row : Row) → Adds old new id note row → note_at new id ≡ Some note
-added_there old new id note row adds = rw (adds.state, adds.is_next) (pushed_new old.notes (Some note) None (next_id old) refl)
-
-pub added_listed : (old new : State) (id : ℕ) (note : Note) (row : Row) → Adds old new id note row → is_finish note.why ≡ false → Contains (steps_of new) (record { id = id; side = note.side; row = row; why = note.why })
-added_listed old new id note row adds no_finish =
-    rw (adds.steps, step_with_from id note.side row note.why no_finish)
-    (contains_last (steps_of old) (record { id = id; side = note.side; row = row; why = note.why }))
-
-pub added_row : (old new : State) (id : ℕ) (note : Note) (row : Row) → Adds old new id note row → is_finish note.why ≡ false → row ≡ row_of new id
-added_row old new id note row adds no_finish = (stands_at new (record { id = id; side = note.side; row = row; why = note.why }) (added_listed old new id note row adds no_finish)).row
-
 -- an input is one by its step
 pub given_input : (scopes : List Scope) (clauses : List Row) (steps : List Step) (s : Step) (why : Why) → why ≡ Given → IsLegalStep scopes clauses steps s why → IsInput s.side clauses s.row
 given_input scopes clauses steps s why given legal = rw given at legal
+
+-- a derivation of no steps is legal
+pub legal_none : (scopes : List Scope) (notes : Notes) (rows : Option Arena) → notes ≡ [] → IsLegalFor scopes (record { notes = notes; rows = rows })
+legal_none scopes notes rows e =
+    rw e (record { ascending_ids = pairs_nil (λ (s : Step) (t : Step). s.id < t.id); rows = λ s i. absurd (contains_nil s i); legal = λ s i. absurd (contains_nil s i) })
+
+-- a larger prefix, and the same clauses in another list
+
+same_input : (before after : List Row) → ((row : Row) → Contains before row → Contains after row) → ((row : Row) → Contains after row → Contains before row) → (side : Quant) (row : Row) → IsInput side before row → IsInput side after row
+same_input before after to from Exists row is = to row is
+same_input before after to from Forall row is = λ clause i. is clause (from clause i)
+
+changed : (old new : List Scope) (d : State) (clauses : List Row) → Extends old new → ((row : Row) → Contains (open_clauses d) row → Contains clauses row) → ((row : Row) → Contains clauses row → Contains (open_clauses d) row) → IsLegalFor old d → IsDerivation new clauses (steps_of d)
+changed old new d clauses extends to from legal =
+    changed_derivation old new (open_clauses d) clauses (steps_of d) extends
+    (λ s i why. same_input (open_clauses d) clauses to from s.side s.row (given_input old (open_clauses d) (steps_of d) s s.why why (legal.legal s i))) legal
+
+pub grown : (old new : List Scope) (d : State) → Extends old new → IsLegalFor old d → IsLegalFor new d
+grown old new d extends legal = changed old new d (open_clauses d) extends (λ row i. i) (λ row i. i) legal
+
+pub served : (scopes : List Scope) (d : State) (clauses : List Row) → ((row : Row) → Contains (open_clauses d) row → Contains clauses row) → ((row : Row) → Contains clauses row → Contains (open_clauses d) row) → IsLegalFor scopes d → IsDerivation scopes clauses (steps_of d)
+served scopes d clauses to from legal = changed scopes scopes d clauses (extends_itself scopes) to from legal

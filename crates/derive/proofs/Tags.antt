@@ -3,6 +3,7 @@ use Rattle.std.proofs.Common.{◌≡◌, ℕ, zero, suc, ◌<◌, ◌≤◌, ◌
 use Rattle.std.specs.Prelude.{max}
 use Rattle.std.proofs.lemmas.Bool.{cases_lt, false≢true}
 use Rattle.prefix.specs.declared.quant.Quant.{Quant}
+use Rattle.prefix.specs.declared.quant.Quant.TheVariants.{Forall}
 use Rattle.calculus.specs.Derivations.{Why, RestsOn}
 use Rattle.calculus.specs.Derivations.Why.{Given, ReducedFrom, ResolvedFrom, FinishedFrom}
 use Rattle.derive.specs.State.{Note, Notes, note_in, tag_in}
@@ -80,3 +81,19 @@ pub note_found : (notes : Notes) (id : ℕ) (found : Option Note) → found ≡ 
 note_found [] id found is live = absurd (false≢true live)
 note_found (first ∷ notes) zero found is live = sym is
 note_found (first ∷ notes) (suc id) found is live = note_found notes id found is live
+
+-- what supports a cube is a cube, and has tag 0
+cube_support : (notes : Notes) → IsGrounded notes → (id input : ℕ) → Supports notes id input → (note : Note) → note_in notes id ≡ Some note → note.side ≡ Forall → tag_in (note_in notes input) ≡ 0
+cube_support notes grounded id input (itself j n at given) note there side =
+    let same = one_note notes id n note at there in
+    let zero_tag : n.tag ≡ 0 = (let has = (grounded id n at).tag in let h : HasTag notes n.side n.tag Given = rw given at has in h (ap (λ (m : Note). m.side) same ∙ side)) in
+    ap tag_in at ∙ zero_tag
+cube_support notes grounded id input (through j on i n at r s) note there side =
+    let same = one_note notes id n note at there in
+    let g = (grounded id n at).grounds on r in
+    cube_support notes grounded on input s g.under g.there (g.one_side ∙ ap (λ (m : Note). m.side) same ∙ side)
+
+pub cube_tag : (notes : Notes) → IsGrounded notes → (id : ℕ) (note : Note) (tag : ℕ) → note_in notes id ≡ Some note → tag ≡ note.tag → note.side ≡ Forall → tag ≡ 0
+cube_tag notes grounded id note tag there is side =
+    let g = greatest notes grounded id note tag there is in
+    sym g.reached.2 ∙ cube_support notes grounded id g.reached.0 g.reached.1 note there side

@@ -1,5 +1,5 @@
 -- What goes in where steps are added.
-use Rattle.std.specs.Prelude.{◌≡◌, ◌≢◌, ℕ, ◌⊎◌, true, false, IsFalse, List, [], ◌∷◌, ◌++◌, Contains, Some}
+use Rattle.std.specs.Prelude.{◌≡◌, ◌≢◌, ℕ, ◌⊎◌, true, false, IsTrue, IsFalse, List, [], ◌∷◌, ◌++◌, Contains, Some}
 use Rattle.std.specs.List.{cons_option}
 use Rattle.prefix.specs.declared.quant.Quant.{Quant}
 use Rattle.prefix.specs.declared.quant.Quant.TheVariants.{Exists, Forall}
@@ -7,13 +7,17 @@ use Rattle.prefix.specs.Scopes.{Scope, quantifier_of}
 use Rattle.calculus.specs.Rows.{Row, clashes, reduce}
 use Rattle.calculus.specs.Derivations.{Why}
 use Rattle.calculus.specs.Derivations.Why.{Given, ReducedFrom, ResolvedFrom, FinishedFrom}
-use Rattle.derive.specs.State.{Note, State, next_id, row_of, side_at, tag_at, with_step, steps_of, clauses_of, step_from, clause_from}
+use Rattle.derive.specs.State.{Note, State, SameStep, IsStepOf, next_id, note_at, is_live, has_rows, row_of, side_at, tag_at, with_step, steps_of, clauses_of, step_from, clause_from}
 use Rattle.derive.specs.Dropping.{Drops, is_initial_cube}
 
 -- one step comes in, under the id that comes next; the others stay, with their rows and the links of these
 pub record Adds (old new : State) (id : ℕ) (note : Note) (row : Row) : Type 0 where
   pub is_next : id ≡ next_id old
   pub state : new ≡ with_step old note row
+  pub has_rows : has_rows new ≡ true
+  pub there : note_at new id ≡ Some note
+  pub has_row : row_of new id ≡ row
+  pub others : (other : ℕ) → IsTrue (is_live old other) → SameStep old new other
   pub steps : steps_of new ≡ steps_of old ++ cons_option (step_from id row note) []
   pub clauses : clauses_of new ≡ clauses_of old ++ cons_option (clause_from id row note) []
 
@@ -22,8 +26,14 @@ abbrev pub note_over : State → ℕ → Why → Note
 note_over d on why = record { side = side_at d on; why = why; tag = tag_at d on }
 
 -- a row with literals removed from that of a step: a step comes in where something goes, and else the step itself is the answer
-abbrev pub Removes : State → State → ℕ → ℕ → Why → Row → Type 0
-Removes old new id on why row = ((row ≡ row_of old on) × (id ≡ on) × (new ≡ old)) ⊎ ((row ≢ row_of old on) × Adds old new id (note_over old on why) row)
+pub record Removes (old new : State) (id on : ℕ) (why : Why) (row : Row) : Type 0 where
+  pub cases : ((row ≡ row_of old on) × (id ≡ on) × (new ≡ old)) ⊎ ((row ≢ row_of old on) × Adds old new id (note_over old on why) row)
+  pub has_rows : has_rows new ≡ true
+  pub live : IsTrue (is_live new id)
+  pub has_side : side_at new id ≡ side_at old on
+  pub has_row : row_of new id ≡ row
+  pub has_tag : tag_at new id ≡ tag_at old on
+  pub others : (other : ℕ) → IsTrue (is_live old other) → SameStep old new other
 
 -- two steps that may be resolved: a pivot-type variable stands in them with either sign, and no other one with both
 pub record AreResolvable (scopes : List Scope) (d : State) (positive negative variable : ℕ) : Type 0 where
@@ -51,6 +61,8 @@ pub record InputsClause (scopes : List Scope) (old new : State) (first second fr
   pub added : State
   pub adds : AddsClause scopes old added first second frame row
   pub cubes : Drops is_initial_cube added new
+  pub input : IsStepOf new first Exists row frame
+  pub reduction : IsStepOf new second Exists (reduce Exists scopes row) frame
 
 -- a clause comes in with another row, as its reduction
 pub record AddsBoth (old new : State) (first second frame : ℕ) (row reduced : Row) : Type 0 where

@@ -1,11 +1,11 @@
 -- What goes where steps are dropped: some steps, the roots, with all that rests on them.
-use Rattle.std.specs.Prelude.{◌≡◌, ℕ, Bool, true, false, ◌==◌, nat_le, ◌⊎◌, if◌then◌else◌, length, List, Option, Some, None, is_some, filter}
+use Rattle.std.specs.Prelude.{◌≡◌, ℕ, Bool, true, false, ◌==◌, nat_le, ◌⊎◌, if◌then◌else◌, length, List, Option, Some, None, is_some, filter, IsTrue}
 use Rattle.prefix.specs.declared.quant.Quant.{Quant}
 use Rattle.prefix.specs.declared.quant.Quant.TheVariants.{Exists, Forall}
 use Rattle.rows.specs.Arena.{Arena, next_id as next_row, row_at as stored_at}
 use Rattle.calculus.specs.Derivations.{Step, Why, RestsOn}
 use Rattle.calculus.specs.Derivations.Why.{Given, ReducedFrom, ResolvedFrom, FinishedFrom}
-use Rattle.derive.specs.State.{Note, Notes, State, note_in, is_finish, is_live, steps_of, arena_of, has_rows}
+use Rattle.derive.specs.State.{Note, Notes, State, SameStep, note_in, is_finish, is_live, steps_of, arena_of, has_rows}
 use Rattle.derive.specs.declared.dropping.Roots.{Roots}
 use Rattle.derive.specs.declared.dropping.Roots.TheVariants.{Frame, InitialCubes, Finishes, From}
 
@@ -32,6 +32,11 @@ is_initial_cube id note = is_cube note.side note.why
 abbrev pub finishes : StepTest
 finishes id note = is_finish note.why
 
+-- the note under an id once the finishes are dropped
+abbrev pub unless_finish : Option Note → Option Note
+unless_finish None = None
+unless_finish (Some note) = if is_finish note.why then None else Some note
+
 -- whether a step has this id or a later one
 abbrev pub is_from : ℕ → StepTest
 is_from first id note = nat_le first id
@@ -52,6 +57,7 @@ pub record DropsFrom (is_root : StepTest) (old new : Notes) (old_rows new_rows :
 pub record Drops (is_root : StepTest) (old new : State) : Type 0 where
   pub has_rows : has_rows new ≡ true
   pub exactly : DropsFrom is_root old.notes new.notes (arena_of old) (arena_of new)
+  pub others : (id : ℕ) → IsTrue (is_live new id) → SameStep old new id
   pub left : steps_of new ≡ filter (λ (s : Step). is_live new s.id) (steps_of old)
 
 -- the steps that a sort of roots names

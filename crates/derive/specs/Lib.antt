@@ -4,4 +4,5 @@ pub mod Grounds
 pub mod Kept
 pub mod Missing
 pub mod State
+pub mod Theorems
 pub mod Told

@@ -1,5 +1,5 @@
 -- A derivation, as contracts see it.
-use Rattle.std.specs.Prelude.{◌≡◌, ℕ, Bool, true, false, List, [], ◌∷◌, ◌++◌, map, length, Option, Some, None, is_some, unwrap_or, slice_index_or}
+use Rattle.std.specs.Prelude.{◌≡◌, ℕ, Bool, true, false, not, IsTrue, List, [], ◌∷◌, ◌++◌, map, length, Option, Some, None, is_some, unwrap_or, slice_index_or}
 use Rattle.std.specs.List.{filter_map, range_with_len}
 use Rattle.std.specs.Option.{option_map, option_and_then}
 use Rattle.prefix.specs.declared.quant.Quant.{Quant}
@@ -104,9 +104,21 @@ ids_of d = range_with_len 0 (next_id d)
 abbrev pub steps_of : State → List Step
 steps_of d = filter_map (step_at d) (ids_of d)
 
+-- whether there is a step that others may rest on: any but a finish
+abbrev pub may_bear : Option Note → Bool
+may_bear None = false
+may_bear (Some note) = not (is_finish note.why)
+
 -- whether a live step stands under an id that is no finish
 abbrev pub is_step : State → ℕ → Bool
-is_step d id = is_some (step_at d id)
+is_step d id = may_bear (note_at d id)
+
+-- a live step that is no finish, with this side, these literals and this tag
+pub record IsStepOf (d : State) (id : ℕ) (side : Quant) (row : Row) (tag : ℕ) : Type 0 where
+  pub step : IsTrue (is_step d id)
+  pub has_side : side_at d id ≡ side
+  pub has_row : row_of d id ≡ row
+  pub has_tag : tag_at d id ≡ tag
 
 -- an open clause: the literals of a live input step of the side of clauses, with its id and its frame
 pub record OpenClause : Type 0 where
@@ -138,6 +150,11 @@ open_clauses d = map (λ (c : OpenClause). c.row) (clauses_of d)
 -- each live step but a finish is legal for the open clauses, under this prefix
 abbrev pub IsLegalFor : List Scope → State → Type 0
 IsLegalFor scopes d = IsDerivation scopes (open_clauses d) (steps_of d)
+
+-- a step stays as it was, with its row and the links of that row
+pub record SameStep (old new : State) (id : ℕ) : Type 0 where
+  pub note : note_at new id ≡ note_at old id
+  pub row : stored_at (arena_of new) id ≡ stored_at (arena_of old) id
 
 -- the derivation with one more step, under the id that comes next
 abbrev pub with_step : State → Note → Row → State

@@ -7,10 +7,10 @@ ghost use Rattle.calculus.specs.Rows.{IsRow, reduce as reduction, resolve as res
 ghost use Rattle.calculus.specs.Derivations.{Hits, RestsOn};
 ghost use Rattle.calculus.specs.Derivations.Why.{ReducedFrom, ResolvedFrom, FinishedFrom};
 ghost use Rattle.calculus.specs.Verdicts.{finished, IsEndRow, IsFinish};
-ghost use Rattle.derive.specs.State.{State, OpenClause, next_id, is_live, is_step, has_rows, arena_of, row_of, side_at, why_at, tag_at, note_at, steps_of, clauses_of, open_clauses, IsLegalFor, Note as Kept};
+ghost use Rattle.derive.specs.State.{State, IsStepOf, SameStep, OpenClause, next_id, is_live, is_step, has_rows, arena_of, row_of, side_at, why_at, tag_at, note_at, steps_of, clauses_of, open_clauses, IsLegalFor, Note as Kept};
 ghost use Rattle.derive.specs.Grounds.{Fits, IsGround, IsGrounded, IsGroundedAt, IsGreatestFrame};
 ghost use Rattle.derive.specs.Adding.{Adds, AddsBoth, AddsClause, AreResolvable, InputsClause, IsOver, Removes, cube_note};
-ghost use Rattle.derive.specs.Dropping.{Drops, has_tag, is_initial_cube, finishes, is_from, is_root};
+ghost use Rattle.derive.specs.Dropping.{Drops, has_tag, is_initial_cube, finishes, is_from, is_root, unless_finish};
 ghost use Rattle.derive.specs.Told.{told, why_of};
 
 use super::dropping::{Roots, drop_roots};
@@ -57,7 +57,8 @@ impl Model for Derivation {
 impl Derivation {
     /// A derivation of no steps. This takes no memory.
     pub fn new(alloc: Global) -> Self
-        ensures { result ≡ record { notes = []; rows = Some [] } }
+        ensures state { result ≡ record { notes = []; rows = Some [] } }
+        ensures legal { (scopes : List Scope) → IsLegalFor scopes result }
     {
         Self {
             notes: Vec::new(alloc),
@@ -99,6 +100,7 @@ impl Derivation {
         requires { IsTrue (is_live self.now id) }
         ensures value { result ≡ tag_at self.now id }
         ensures greatest { IsGreatestFrame self.now.notes id result }
+        ensures cubes { side_at self.now id ≡ forall → result ≡ 0 }
     {
         match &self.notes[id] {
             Some(note) => note.tag(),
@@ -129,7 +131,9 @@ impl Derivation {
     ) -> Result<(StepId, StepId), NoMemory>
         requires { IsTrue (has_rows self.old) }
         ensures ok { IfOk result (λ ids. InputsClause prefix.now self.old self.new ids.0 ids.1 frame lits.now) }
+        ensures kept { OnOk result ((id : ℕ) (note : Kept) → note_at self.old id ≡ Some note → note.side ≡ exists → SameStep self.old self.new id) }
         ensures clauses { IfOk result (λ ids. clauses_of self.new ≡ clauses_of self.old ++ (record { id = ids.0; frame = frame; row = lits.now }) ∷ []) }
+        ensures rows { IsTrue (has_rows self.new) }
         ensures legal { OnOk result (IsRow prefix.now lits.now → IsLegalFor prefix.now self.old → IsLegalFor prefix.now self.new) }
         ensures err { OnErr result (self.new ≡ self.old) }
     {
@@ -142,6 +146,8 @@ impl Derivation {
     pub fn input_cube(&mut self, lits: &[Lit]) -> Result<StepId, NoMemory>
         requires { IsTrue (has_rows self.old) }
         ensures ok { IfOk result (λ id. Adds self.old self.new id cube_note lits.now) }
+        ensures step { IfOk result (λ id. IsStepOf self.new id forall lits.now 0) }
+        ensures rows { IsTrue (has_rows self.new) }
         ensures legal { OnOk result ((scopes : List Scope) → IsRow scopes lits.now → Hits lits.now (open_clauses self.old) → IsLegalFor scopes self.old → IsLegalFor scopes self.new) }
         ensures err { OnErr result (self.new ≡ self.old) }
     {
@@ -163,6 +169,8 @@ impl Derivation {
         requires negative { IsTrue (is_step self.old b) }
         requires one_side { side_at self.old a ≡ side_at self.old b }
         ensures ok { IfOk result (λ id. Adds self.old self.new id (record { side = side_at self.old a; why = ResolvedFrom a b pivot; tag = max (tag_at self.old a) (tag_at self.old b) }) (resolvent (row_of self.old a) (row_of self.old b) pivot)) }
+        ensures step { IfOk result (λ id. IsStepOf self.new id (side_at self.old a) (resolvent (row_of self.old a) (row_of self.old b) pivot) (max (tag_at self.old a) (tag_at self.old b))) }
+        ensures rows { IsTrue (has_rows self.new) }
         ensures legal { OnOk result (AreResolvable prefix.now self.old a b pivot → IsLegalFor prefix.now self.old → IsLegalFor prefix.now self.new) }
         ensures err { OnErr result (self.new ≡ self.old) }
     {
@@ -179,6 +187,8 @@ impl Derivation {
         requires rows { IsTrue (has_rows self.old) }
         requires step { IsTrue (is_step self.old a) }
         ensures ok { IfOk result (λ id. Removes self.old self.new id a (ReducedFrom a) (reduction (side_at self.old a) prefix.now (row_of self.old a))) }
+        ensures step { IfOk result (λ id. IsStepOf self.new id (side_at self.old a) (reduction (side_at self.old a) prefix.now (row_of self.old a)) (tag_at self.old a)) }
+        ensures rows { IsTrue (has_rows self.new) }
         ensures legal { OnOk result (IsLegalFor prefix.now self.old → IsLegalFor prefix.now self.new) }
         ensures err { OnErr result (self.new ≡ self.old) }
     {
@@ -199,6 +209,7 @@ impl Derivation {
         requires step { IsTrue (is_step self.old row) }
         ensures ok { IfOk result (λ id. Removes self.old self.new id row (FinishedFrom row) (finished assumptions.now (row_of self.old row))) }
         ensures finish { IfOk result (λ id. IsEndRow (side_at self.old row) prefix.now assumptions.now (row_of self.old row) → IsFinish (side_at self.old row) prefix.now assumptions.now (row_of self.old row) (row_of self.new id)) }
+        ensures rows { IsTrue (has_rows self.new) }
         ensures legal { OnOk result ((scopes : List Scope) → IsLegalFor scopes self.old → IsLegalFor scopes self.new) }
         ensures err { OnErr result (self.new ≡ self.old) }
     {
@@ -222,6 +233,7 @@ impl Derivation {
     pub fn drop_cubes_missing(&mut self, clause: &[Lit])
         requires { IsTrue (has_rows self.old) }
         ensures drops { Drops is_initial_cube self.old self.new }
+        ensures kept { (id : ℕ) (note : Kept) → note_at self.old id ≡ Some note → note.side ≡ exists → note_at self.new id ≡ Some note }
         ensures clauses { clauses_of self.new ≡ clauses_of self.old }
         ensures legal { (scopes : List Scope) → IsLegalFor scopes self.old → IsLegalFor scopes self.new }
     {
@@ -233,6 +245,7 @@ impl Derivation {
     pub fn drop_finish(&mut self)
         requires { IsTrue (has_rows self.old) }
         ensures drops { Drops finishes self.old self.new }
+        ensures exactly { (id : ℕ) → note_at self.new id ≡ unless_finish (note_at self.old id) }
         ensures steps { steps_of self.new ≡ steps_of self.old }
         ensures clauses { clauses_of self.new ≡ clauses_of self.old }
         ensures legal { (scopes : List Scope) → IsLegalFor scopes self.old → IsLegalFor scopes self.new }

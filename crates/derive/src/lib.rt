@@ -3,9 +3,14 @@
 
 mod derivation;
 mod dropping;
+mod laws;
 mod note;
 mod removal;
 mod step;
 
 pub use derivation::Derivation;
+pub use laws::{prefixes_may_grow, same_clauses_serve};
 pub use step::{Step, StepId};
+
+#[cfg(test)]
+mod tests;

@@ -1,10 +1,10 @@
-use Rattle.std.proofs.Common.{◌≡◌, ◌≢◌, ◌∙◌, ap, refl, inl, inr, length, sym}
+use Rattle.std.proofs.Common.{◌≡◌, ◌≢◌, ◌∙◌, ap, is_some, length, sym}
 use Rattle.std.proofs.lemmas.Result.{IfOk-weaker}
 use Rattle.prefix.specs.declared.quant.Quant.TheVariants.{Exists}
 use Rattle.calculus.specs.Rows.{Row, reduce}
 use Rattle.derive.specs.State.{State, row_of}
 use Rattle.derive.specs.Adding.{Adds, AddsClause, clause_note}
-use Rattle.derive.proofs.Legality.{added_row}
+use Rattle.derive.proofs.Additions.{removes_none, removes_more}
 use Rattle.derive.proofs.Removals.{reduced_whole}
 use Rattle.derive.proofs.derivation.Derivation.add_clause.Goals as goal
 
@@ -13,7 +13,7 @@ returns-then-len-lits-clause-ok c =
     let reduced = c.in_ok-reduce_of.ensures in
     let whole : reduce Exists c.args.prefix.now c.args.lits.now ≡ c.args.lits.now = sym reduced ∙ reduced_whole Exists c.args.prefix.now c.args.lits.now _ reduced (sym c.len.ensures.value ∙ c.if-len-lits.true) in
     let adds : Adds c.args.self.now c.add.new.self c.in_ok-id.id (clause_note c.args.frame) c.args.lits.now = rw c.new-input.ensures at c.in_ok-id.ensures.ok in
-    record { with_input = c.add.new.self; input = adds; reduction = inl (whole ∙ added_row _ _ _ _ _ adds refl, refl, refl) }
+    record { with_input = c.add.new.self; input = adds; reduction = removes_none _ _ _ _ adds.has_rows (ap is_some adds.there) (whole ∙ sym adds.has_row) }
 
 pub returns-clause-ok : goal.returns-clause-ok
 returns-clause-ok c =
@@ -23,6 +23,6 @@ returns-clause-ok c =
     (λ ids both. record {
       with_input = both.with_input;
       input = both.input;
-      reduction = inr (λ e. shorter (e ∙ sym (added_row _ _ _ _ _ both.input refl)), rw reduced at both.reduction);
+      reduction = removes_more _ _ _ _ _ _ (λ e. shorter (e ∙ both.input.has_row)) (rw reduced at both.reduction);
     })
     c.add_both.ensures.ok

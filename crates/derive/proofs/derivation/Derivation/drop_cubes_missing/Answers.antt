@@ -1,6 +1,6 @@
 use Rattle.std.proofs.Common.{◌≡◌, ◌∙◌, refl, ap, subst, sym, length}
-use Rattle.derive.specs.State.{State, IsLegalFor, clauses_of}
-use Rattle.derive.proofs.Drops.{legal_drops, clauses_same, kept_cubes}
+use Rattle.derive.specs.State.{State, IsLegalFor, note_at, clauses_of}
+use Rattle.derive.proofs.Drops.{legal_drops, clauses_same, clause_side_stays, kept_cubes}
 use Rattle.derive.proofs.derivation.Derivation.drop_cubes_missing.Goals as goal
 
 pub returns-clause-legal : goal.returns-clause-legal
@@ -13,3 +13,6 @@ returns-clause-clauses c = ap clauses_of c.self.view_is ∙ clauses_same _ _ _ c
 
 pub invariant_of-self : goal.invariant_of-self
 invariant_of-self c = kept_cubes _ _ _ _ _ _ _ c.drop_all-2.ensures.drops c.self.view_is (c.len-self-inside.ensures ∙ c.self.inside.notes.ok.0) c.self.invariant
+
+pub returns-clause-kept : goal.returns-clause-kept
+returns-clause-kept c id note there side = ap (λ (d : State). note_at d id) c.self.view_is ∙ clause_side_stays _ _ c.drop_all-2.ensures.grounded c.drop_all-2.ensures.drops id note there side

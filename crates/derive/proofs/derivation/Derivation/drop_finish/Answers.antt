@@ -1,6 +1,6 @@
 use Rattle.std.proofs.Common.{◌≡◌, ◌∙◌, refl, ap, subst, sym, length}
-use Rattle.derive.specs.State.{State, IsLegalFor, clauses_of, steps_of}
-use Rattle.derive.proofs.Drops.{legal_drops, clauses_same, steps_same, kept_finishes}
+use Rattle.derive.specs.State.{State, IsLegalFor, note_at, clauses_of, steps_of}
+use Rattle.derive.proofs.Drops.{legal_drops, clauses_same, steps_same, finishes_go, kept_finishes}
 use Rattle.derive.proofs.derivation.Derivation.drop_finish.Goals as goal
 
 pub returns-clause-legal : goal.returns-clause-legal
@@ -16,3 +16,6 @@ returns-clause-steps c = ap steps_of c.self.view_is ∙ steps_same _ _ c.drop_al
 
 pub invariant_of-self : goal.invariant_of-self
 invariant_of-self c = kept_finishes _ _ _ _ _ _ _ c.drop_all-2.ensures.drops c.self.view_is (c.len-self-inside.ensures ∙ c.self.inside.notes.ok.0) c.self.invariant
+
+pub returns-clause-exactly : goal.returns-clause-exactly
+returns-clause-exactly c id = ap (λ (d : State). note_at d id) c.self.view_is ∙ finishes_go _ _ c.drop_all-2.ensures.grounded c.drop_all-2.ensures.drops id
