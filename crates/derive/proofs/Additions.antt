@@ -1,18 +1,18 @@
 -- One more step.
-use Rattle.std.proofs.Common.{◌≡◌, ◌≢◌, ℕ, zero, suc, ◌+◌, ◌<◌, ◌≤◌, ◌⊎◌, Bool, true, false, List, [], ◌∷◌, ◌++◌, length, get_or, Option, Some, None, is_some, IsTrue, sym, refl, ap, ap₂, ◌∙◌, inl, inr, ⊎_elim, arith}
+use Rattle.std.proofs.Common.{◌≡◌, ◌≢◌, ℕ, zero, suc, ◌+◌, ◌<◌, ◌≤◌, ◌⊎◌, true, List, [], ◌∷◌, ◌++◌, length, get_or, Option, Some, None, is_some, IsTrue, sym, refl, ap, ap₂, ◌∙◌, inl, inr, arith}
 use Rattle.std.specs.List.{filter_map, range_with_len, cons_option}
 use Rattle.std.specs.Prelude.{max}
 use Rattle.std.specs.Option.{option_and_then}
 use Rattle.std.proofs.lemmas.Bool.{cases_eq, cases_lt, false≢true}
 use Rattle.std.proofs.lemmas.List.{get_or_append_left, get_or_push, get_or_past, length_push}
 use Rattle.prefix.specs.declared.quant.Quant.{Quant}
-use Rattle.prefix.specs.declared.quant.Quant.TheVariants.{Exists, Forall}
-use Rattle.rows.specs.Arena.{Arena, StoredRow, row_at as stored_at, is_live as is_stored, next_id as next_row, literals_at, literals_of, new_row, with_row}
+use Rattle.prefix.specs.declared.quant.Quant.TheVariants.{Exists}
+use Rattle.rows.specs.Arena.{Arena, next_id as next_row, literals_at, literals_of, new_row, with_row}
 use Rattle.calculus.specs.Rows.{Row}
 use Rattle.calculus.specs.Derivations.{Why, RestsOn}
 use Rattle.calculus.specs.Derivations.Why.{Given, ReducedFrom, ResolvedFrom, FinishedFrom}
-use Rattle.derive.specs.State.{Note, Notes, State, SameStep, note_in, note_at, next_id, is_live, has_rows, row_of, side_in, tag_in, is_finish, step_at, step_from, steps_of, clause_at, clause_from, clauses_of, with_step}
-use Rattle.derive.specs.Grounds.{IsGround, IsGrounded, IsGroundedAt, HasTag, Fits}
+use Rattle.derive.specs.State.{Note, Notes, State, SameStep, note_in, note_at, is_live, has_rows, row_of, side_in, tag_in, step_from, clause_from, with_step}
+use Rattle.derive.specs.Grounds.{IsGrounded, IsGroundedAt, HasTag, Fits}
 use Rattle.derive.specs.Kept.{AreFrom, IsKept}
 use Rattle.derive.specs.Dropping.{StepTest}
 use Rattle.derive.specs.Adding.{Adds, AddsBoth, Removes, clause_note, note_over}
@@ -40,12 +40,6 @@ live_below (first ∷ notes) (suc id) live = let h = live_below notes id live in
 
 -- what is listed with one more step
 module _ (notes : Notes) (arena : Arena) (same : next_row arena ≡ length notes) (note : Note) (row : Row) where
-  old : State
-  old = record { notes = notes; rows = Some arena }
-
-  new : State
-  new = with_step old note row
-
   row_before : (k : ℕ) → k < length notes → literals_at (with_row arena row) k ≡ literals_at arena k
   row_before k h = ap literals_of (pushed_old arena (Some (new_row row)) None k (omega arith))
 
@@ -76,6 +70,7 @@ module _ (notes : Notes) (arena : Arena) (same : next_row arena ≡ length notes
         there = pushed_new notes (Some note) None (length notes) refl;
         has_row = row_last;
         others = others_stay;
+        given = λ other h. ap is_some (pushed_old notes (Some note) None other h);
         steps = listed_more step_from;
         clauses = listed_more clause_from;
       }
@@ -216,6 +211,7 @@ removes_none d on why row has live is =
       has_row = sym is;
       has_tag = refl;
       others = λ other l. record { note = refl; row = refl };
+      given = λ other h. refl;
     }
 
 pub removes_more : (old new : State) (id on : ℕ) (why : Why) (row : Row) → row ≢ row_of old on → Adds old new id (note_over old on why) row → Removes old new id on why row
@@ -228,4 +224,5 @@ removes_more old new id on why row differs adds =
       has_row = adds.has_row;
       has_tag = ap tag_in adds.there;
       others = adds.others;
+      given = adds.given;
     }

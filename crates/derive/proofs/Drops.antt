@@ -1,28 +1,29 @@
 -- What stays where steps are dropped.
-use Rattle.std.proofs.Common.{◌≡◌, ◌≢◌, ℕ, zero, suc, ◌+◌, ◌<◌, ◌≤◌, ◌⊎◌, Bool, true, false, not, ◌==◌, cond, nat_le, nat_lt, List, [], ◌∷◌, ◌++◌, length, map, filter, Contains, Option, Some, None, is_some, IsTrue, sym, refl, ap, ap₂, ◌∙◌, inl, inr, ⊎_elim, arith}
-use Rattle.std.specs.List.{filter_map, range_with_len, cons_option}
+use Rattle.std.proofs.Common.{◌≡◌, ℕ, zero, suc, ◌+◌, ◌-◌, ◌<◌, ◌≤◌, Bool, true, false, not, cond, nat_le, nat_lt, List, [], ◌∷◌, length, map, filter, Contains, Option, Some, None, is_some, IsTrue, sym, refl, ap, ap₂, ◌∙◌, inl, inr, ⊎_elim, arith}
+use Rattle.std.specs.List.{filter_map, range_with_len}
 use Rattle.std.specs.Option.{option_and_then}
 use Rattle.std.proofs.lemmas.Bool.{true≢false, false≢true, cond-true, cond-false, cases_Bool, cases_lt, leb-true, le-leb, lt-ltb, le-ltb, lt-leb}
+use Rattle.std.proofs.lemmas.List.{append-nil}
 use Rattle.prefix.specs.declared.quant.Quant.{Quant}
 use Rattle.prefix.specs.declared.quant.Quant.TheVariants.{Exists, Forall}
 use Rattle.prefix.specs.Scopes.{Scope}
-use Rattle.rows.specs.Arena.{Arena, StoredRow, literals_at, literals_of, row_at as stored_at, is_live as is_stored, next_id as next_row}
-use Rattle.calculus.specs.Rows.{Row, IsRow}
-use Rattle.calculus.specs.Derivations.{Step, Why, RestsOn, IsInput, Hits, IsClosed, IsDerivation, IsLegalStep}
+use Rattle.rows.specs.Arena.{Arena, literals_at, literals_of, row_at as stored_at}
+use Rattle.calculus.specs.Rows.{Row}
+use Rattle.calculus.specs.Derivations.{Step, Why, IsInput, IsClosed}
 use Rattle.calculus.specs.Derivations.Why.{Given, ReducedFrom, ResolvedFrom, FinishedFrom}
-use Rattle.calculus.proofs.Lists.{contains_cons, contains_nil, contains_head, contains_tail, filter_at, filter_from, filter_same, filter_all}
+use Rattle.calculus.proofs.Lists.{contains_cons, contains_nil, contains_head, contains_tail, filter_at, filter_same, filter_all}
 use Rattle.calculus.proofs.StepLemmas.{kept_derivation}
 use Rattle.calculus.proofs.Levels.{contains_map_of}
 use Rattle.calculus.proofs.Changes.{changed_derivation, extends_itself}
-use Rattle.derive.specs.State.{Note, Notes, State, SameStep, OpenClause, note_in, note_at, next_id, row_of, is_finish, is_live, step_at, step_from, step_with, steps_of, clause_at, clause_from, clause_with, clauses_of, open_clauses, arena_of, has_rows, IsLegalFor}
-use Rattle.derive.specs.Grounds.{IsGround, IsGrounded, IsGroundedAt, Fits}
+use Rattle.derive.specs.State.{Note, Notes, State, SameStep, OpenClause, note_in, note_at, next_id, row_of, is_finish, is_live, step_from, steps_of, clause_at, clause_from, clause_with, clauses_of, open_clauses, arena_of, has_rows, IsLegalFor}
+use Rattle.derive.specs.Grounds.{IsGrounded, Fits}
 use Rattle.derive.specs.Kept.{AreFrom, IsKept}
-use Rattle.derive.specs.Dropping.{StepTest, Falls, DropsFrom, Drops, has_tag, is_cube, is_initial_cube, finishes, is_from, unless_finish}
+use Rattle.derive.specs.Dropping.{StepTest, Falls, DropsFrom, Drops, is_cube, is_initial_cube, finishes, is_from, unless_finish}
 use Rattle.derive.specs.Dropping.Falls.{root, rests}
-use Rattle.derive.proofs.Ids.{listed_at, listed_from, listed_filter, kept_if}
+use Rattle.derive.proofs.Ids.{listed_at, listed_from, listed_filter, listed_same, listed_push, kept_if}
 use Rattle.derive.proofs.Falling.{none_some, some_is}
 use Rattle.derive.proofs.Additions.{grounded_same}
-use Rattle.derive.proofs.Legality.{StandsAt, stands_at, step_with_is, given_input}
+use Rattle.derive.proofs.Legality.{stands_at, step_with_is, given_input}
 
 module _ (is_root : StepTest) (old new : Notes) (old_rows new_rows : Arena) (drops : DropsFrom is_root old new old_rows new_rows) where
   -- a live note was there before, and doesn't fall
@@ -335,3 +336,57 @@ cube_falls notes grounded id (rests j on n at r falls) note there side =
 pub clause_side_stays : (old new : State) → IsGrounded old.notes → Drops is_initial_cube old new → (id : ℕ) (note : Note) → note_at old id ≡ Some note → note.side ≡ Exists → note_at new id ≡ Some note
 clause_side_stays old new grounded drops id note there side =
     ⊎_elim (λ p. absurd (cube_falls old.notes grounded id p.0 note there side)) (λ p. p.1 ∙ there) (drops.exactly.steps id)
+
+none_from_live : {A : Type 0} (o : Option A) → is_some o ≡ false → o ≡ None
+none_from_live None e = refl
+none_from_live (Some x) e = absurd (true≢false e)
+
+-- a cut gives the steps from before again
+module _ {X : Type 0} (f : ℕ → Row → Note → Option X) (before cut : State) (longer : next_id before ≤ next_id cut) (below : (k : ℕ) → k < next_id before → note_at cut k ≡ note_at before k) (rows : (k : ℕ) → is_live cut k ≡ true → row_of cut k ≡ row_of before k) (past : (k : ℕ) → next_id before ≤ k → note_at cut k ≡ None) where
+  abbrev told : State → ℕ → Option X
+  told d k = option_and_then (f k (row_of d k)) (note_at d k)
+
+  told_same : (k : ℕ) (o : Option Note) → note_at before k ≡ o → note_at cut k ≡ o → told cut k ≡ told before k
+  told_same k None there same = ap (option_and_then (f k (row_of cut k))) same ∙ sym (ap (option_and_then (f k (row_of before k))) there)
+  told_same k (Some note) there same = ap₂ (λ r o. option_and_then (f k r) o) (rows k (ap is_some same)) (same ∙ sym there)
+
+  told_shorter : (m : ℕ) → filter_map (told cut) (range_with_len 0 (next_id before + m)) ≡ filter_map (told before) (range_with_len 0 (next_id before))
+  told_shorter zero =
+      let none_more : next_id before + zero ≡ next_id before = omega arith in
+      ap (λ n. filter_map (told cut) (range_with_len 0 n)) none_more
+      ∙ listed_same (told cut) (told before) 0 (next_id before) (λ k low high. let h : k < next_id before = omega arith in told_same k (note_at before k) refl (below k h))
+  told_shorter (suc m) =
+      let one_more : next_id before + suc m ≡ suc (next_id before + m) = omega arith in
+      ap (λ n. filter_map (told cut) (range_with_len 0 n)) one_more
+      ∙ listed_push (told cut) (told cut) (next_id before + m) None (λ k h. refl) (ap (option_and_then (f (next_id before + m) (row_of cut (next_id before + m)))) (past (next_id before + m) (omega arith)))
+      ∙ append-nil (filter_map (told cut) (range_with_len 0 (next_id before + m)))
+      ∙ told_shorter m
+
+  pub told_again : filter_map (told cut) (range_with_len 0 (next_id cut)) ≡ filter_map (told before) (range_with_len 0 (next_id before))
+  told_again =
+      let e : next_id cut ≡ next_id before + (next_id cut - next_id before) = omega arith in
+      ap (λ n. filter_map (told cut) (range_with_len 0 n)) e ∙ told_shorter (next_id cut - next_id before)
+
+pub restored : (before after cut : State) → next_id before ≤ next_id after → ((id : ℕ) → IsTrue (is_live before id) → SameStep before after id) → ((id : ℕ) → id < next_id before → is_live after id ≡ is_live before id) → Drops (is_from (next_id before)) after cut → ((id : ℕ) → note_at cut id ≡ cond (nat_lt id (next_id before)) (note_at after id) None) → (steps_of cut ≡ steps_of before) × (clauses_of cut ≡ clauses_of before)
+restored before after cut longer same given drops front =
+    (told_again step_from before cut longer_cut below rows past, told_again clause_from before cut longer_cut below rows past)
+  where
+    longer_cut : next_id before ≤ next_id cut
+    longer_cut = let e = drops.exactly.same_next in omega arith
+
+    after_same : (k : ℕ) (o : Option Note) → note_at before k ≡ o → k < next_id before → note_at after k ≡ note_at before k
+    after_same k None there h = none_from_live (note_at after k) (given k h ∙ ap is_some there) ∙ sym there
+    after_same k (Some note) there h = (same k (ap is_some there)).note
+
+    below : (k : ℕ) → k < next_id before → note_at cut k ≡ note_at before k
+    below k h = front k ∙ cond-true (nat_lt k (next_id before)) (note_at after k) None (lt-ltb k (next_id before) h) ∙ after_same k (note_at before k) refl h
+
+    past : (k : ℕ) → next_id before ≤ k → note_at cut k ≡ None
+    past k h = front k ∙ cond-false (nat_lt k (next_id before)) (note_at after k) None (le-ltb k (next_id before) h)
+
+    rows : (k : ℕ) → is_live cut k ≡ true → row_of cut k ≡ row_of before k
+    rows k live =
+        elim (cases_lt k (next_id before)) [
+          | inl h ↦ ap literals_of ((drops.others k live).row ∙ (same k (ap is_some (sym (below k h)) ∙ live)).row)
+          | inr h ↦ absurd (false≢true (sym (ap is_some (past k h)) ∙ live))
+        ]

@@ -1,13 +1,12 @@
 -- A pass over the ids that drops roots and what rests on them.
-use Rattle.std.proofs.Common.{◌≡◌, ◌≢◌, ℕ, zero, suc, ◌+◌, ◌<◌, ◌≤◌, ◌⊎◌, Bool, true, false, ◌||◌, cond, List, [], ◌∷◌, length, get_or, set, Option, Some, None, is_some, is_none, IsTrue, sym, refl, ap, ◌∙◌, inl, inr, ⊎_elim, arith}
+use Rattle.std.proofs.Common.{◌≡◌, ◌≢◌, ℕ, ◌+◌, ◌<◌, ◌≤◌, ◌⊎◌, true, false, cond, length, set, Option, Some, None, is_some, is_none, sym, refl, ap, ◌∙◌, inl, inr, ⊎_elim, arith}
 use Rattle.std.proofs.lemmas.Bool.{cases_Bool, cases_eq, cases_lt, or_cases, or_left, or_right, true≢false, false≢true, cond-true, cond-false}
 use Rattle.std.proofs.lemmas.List.{get_or-set_same, get_or-set_other, get_or_past, length-set}
-use Rattle.prefix.specs.declared.quant.Quant.{Quant}
-use Rattle.rows.specs.Arena.{Arena, StoredRow, row_at as stored_at, is_live as is_stored, next_id as next_row, ChangesAt}
+use Rattle.rows.specs.Arena.{Arena, StoredRow, row_at as stored_at, next_id as next_row, ChangesAt}
 use Rattle.calculus.specs.Derivations.{Why, RestsOn}
 use Rattle.calculus.specs.Derivations.Why.{Given, ReducedFrom, ResolvedFrom, FinishedFrom}
-use Rattle.derive.specs.State.{Note, Notes, note_in, is_finish}
-use Rattle.derive.specs.Grounds.{IsGround, IsGrounded, IsGroundedAt, Fits}
+use Rattle.derive.specs.State.{Note, Notes, note_in}
+use Rattle.derive.specs.Grounds.{IsGrounded, Fits}
 use Rattle.derive.specs.Dropping.{StepTest, Falls, DropsFrom}
 use Rattle.derive.specs.Dropping.Falls.{root, rests}
 use Rattle.derive.specs.Missing.{misses_ground, falls_now, falls_with}

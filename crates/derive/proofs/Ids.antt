@@ -1,8 +1,7 @@
 -- Lists of what stands under the ids given so far.
-use Rattle.std.proofs.Common.{◌≡◌, ℕ, zero, suc, ◌+◌, ◌<◌, ◌≤◌, ◌⊎◌, Bool, true, false, cond, List, [], ◌∷◌, ◌++◌, filter, Contains, Option, Some, None, sym, refl, ap, ap₂, ◌∙◌, inl, inr, ⊎_elim, arith, length, append_assoc, zero-add}
+use Rattle.std.proofs.Common.{◌≡◌, ℕ, zero, suc, ◌+◌, ◌<◌, ◌≤◌, ◌⊎◌, Bool, true, false, cond, List, [], ◌∷◌, ◌++◌, filter, Contains, Option, Some, None, refl, ap, ap₂, ◌∙◌, inl, inr, ⊎_elim, arith, zero-add}
 use Rattle.std.specs.List.{filter_map, range_with_len, cons_option}
-use Rattle.std.proofs.lemmas.List.{append-nil}
-use Rattle.std.proofs.lemmas.List.Elements.{filter_map-append, filter-append}
+use Rattle.std.proofs.lemmas.List.Elements.{filter_map-append}
 use Rattle.calculus.proofs.Lists.{contains_cons, contains_nil, contains_head, contains_tail}
 
 -- the ids from a on, with one more at the end

@@ -1,7 +1,7 @@
 -- A clause with its reduction comes in.
-use Rattle.std.proofs.Common.{◌≡◌, ◌≢◌, ℕ, zero, suc, ◌+◌, ◌<◌, ◌≤◌, ◌⊎◌, Bool, true, false, not, cond, List, [], ◌∷◌, ◌++◌, length, map, filter, Contains, Option, Some, None, is_some, sym, refl, ap, ap₂, ◌∙◌, inl, inr, ⊎_elim, arith}
+use Rattle.std.proofs.Common.{◌≡◌, ◌≢◌, ℕ, ◌<◌, Bool, true, false, List, [], ◌∷◌, ◌++◌, map, filter, Contains, Some, None, is_some, sym, refl, ap, ap₂, ◌∙◌, ⊎_elim}
 use Rattle.std.specs.List.{cons_option}
-use Rattle.std.proofs.lemmas.Bool.{true≢false, false≢true, cond-true, cond-false}
+use Rattle.std.proofs.lemmas.Bool.{false≢true, cond-true}
 use Rattle.std.proofs.lemmas.List.{map_push, append-nil}
 use Rattle.std.proofs.lemmas.List.Elements.{Contains-append_left, filter-append}
 use Rattle.prefix.specs.declared.quant.Quant.{Quant}
@@ -9,18 +9,17 @@ use Rattle.prefix.specs.declared.quant.Quant.TheVariants.{Exists, Forall}
 use Rattle.prefix.specs.Scopes.{Scope}
 use Rattle.rows.specs.Arena.{literals_of}
 use Rattle.calculus.specs.Rows.{Row, IsRow, reduce}
-use Rattle.calculus.specs.Derivations.{Step, Why, Antecedent, IsDerivation, IsLegalStep, IsInput, IsClosed, RestsOn}
-use Rattle.calculus.specs.Derivations.Why.{Given, ReducedFrom, ResolvedFrom, FinishedFrom}
-use Rattle.calculus.proofs.Lists.{filter_at, filter_from}
+use Rattle.calculus.specs.Derivations.{Step, IsDerivation, IsInput, IsClosed}
+use Rattle.calculus.specs.Derivations.Why.{Given, ReducedFrom}
+use Rattle.calculus.proofs.Lists.{filter_at}
 use Rattle.calculus.proofs.StepLemmas.{kept_derivation, one_more_step}
 use Rattle.calculus.proofs.Changes.{changed_derivation, extends_itself}
 use Rattle.calculus.proofs.RowLaws.{reduce_row}
-use Rattle.derive.specs.State.{Note, Notes, State, SameStep, IsStepOf, OpenClause, note_in, note_at, next_id, row_of, side_in, tag_in, side_at, is_finish, is_live, may_bear, is_step, steps_of, clause_with, clauses_of, open_clauses, IsLegalFor}
-use Rattle.derive.specs.Adding.{Adds, Removes, AddsClause, InputsClause, note_over, clause_note}
-use Rattle.derive.specs.Dropping.{StepTest, Falls, Drops, is_cube, is_initial_cube}
+use Rattle.derive.specs.State.{Note, Notes, State, SameStep, IsStepOf, OpenClause, note_in, note_at, next_id, row_of, side_in, tag_in, side_at, is_live, may_bear, is_step, steps_of, clause_with, clauses_of, open_clauses, IsLegalFor}
+use Rattle.derive.specs.Adding.{Adds, AddsClause, InputsClause, note_over, clause_note}
+use Rattle.derive.specs.Dropping.{Falls, Drops, is_cube, is_initial_cube}
 use Rattle.derive.specs.Dropping.Falls.{root, rests}
-use Rattle.derive.proofs.Falling.{none_some}
-use Rattle.derive.proofs.Legality.{StandsAt, stands_at, contains_last, given_input}
+use Rattle.derive.proofs.Legality.{stands_at, contains_last, given_input}
 use Rattle.derive.proofs.Additions.{pushed_old}
 use Rattle.derive.proofs.Drops.{clauses_same, given_root, closed_left}
 

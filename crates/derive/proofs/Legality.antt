@@ -1,28 +1,25 @@
 -- Each live step but a finish stays legal.
-use Rattle.std.proofs.Common.{◌≡◌, ◌≢◌, ℕ, zero, suc, ◌+◌, ◌<◌, ◌≤◌, ◌⊎◌, Bool, true, false, not, cond, List, [], ◌∷◌, ◌++◌, length, map, filter, Contains, Option, Some, None, is_some, IsTrue, IsFalse, sym, refl, ap, ap₂, ◌∙◌, inl, inr, ⊎_elim, arith}
+use Rattle.std.proofs.Common.{◌≡◌, ℕ, ◌<◌, Bool, true, false, not, List, [], ◌∷◌, ◌++◌, length, map, Contains, Option, Some, None, is_some, IsTrue, sym, refl, ap, ap₂, ◌∙◌, ⊎_elim, arith}
 use Rattle.std.specs.List.{filter_map, range_with_len, cons_option}
 use Rattle.std.specs.Option.{option_and_then}
-use Rattle.std.proofs.lemmas.Bool.{true≢false, false≢true, cond-true, cond-false}
-use Rattle.std.proofs.lemmas.List.{map-append, append-nil}
-use Rattle.std.proofs.lemmas.List.Elements.{Contains-append_left, Contains-push_cases}
+use Rattle.std.proofs.lemmas.Bool.{true≢false, false≢true}
+use Rattle.std.proofs.lemmas.List.{append-nil}
 use Rattle.prefix.specs.declared.quant.Quant.{Quant}
 use Rattle.prefix.specs.declared.quant.Quant.TheVariants.{Exists, Forall}
 use Rattle.prefix.specs.Scopes.{Scope}
-use Rattle.rows.specs.Arena.{Arena, literals_at, row_at as stored_at, literals_of, StoredRow}
+use Rattle.rows.specs.Arena.{Arena}
 use Rattle.calculus.specs.Rows.{Row, IsRow, reduce, resolve}
-use Rattle.calculus.specs.Derivations.{Step, Why, RestsOn, Antecedent, IsDerivation, IsLegalStep, IsReductionStep, IsResolutionStep, IsInput, Hits, Extends}
+use Rattle.calculus.specs.Derivations.{Step, Why, Antecedent, IsDerivation, IsLegalStep, IsInput, Hits, Extends}
 use Rattle.calculus.specs.Derivations.Why.{Given, ReducedFrom, ResolvedFrom, FinishedFrom}
-use Rattle.calculus.proofs.Lists.{contains_cons, contains_nil, contains_head, contains_tail, pairs_nil}
-use Rattle.calculus.proofs.StepLemmas.{kept_derivation, one_more_step}
+use Rattle.calculus.proofs.Lists.{contains_nil, contains_head, contains_tail, pairs_nil}
+use Rattle.calculus.proofs.StepLemmas.{one_more_step}
 use Rattle.calculus.proofs.Changes.{changed_derivation, extends_itself}
 use Rattle.calculus.proofs.RowLaws.{reduce_row, resolve_row}
-use Rattle.derive.specs.State.{Note, Notes, State, OpenClause, note_in, note_at, next_id, row_of, side_in, side_at, tag_at, why_in, is_finish, is_live, may_bear, is_step, step_at, step_from, step_with, steps_of, clause_at, clause_from, clause_with, clauses_of, open_clauses, arena_of, with_step, IsLegalFor}
-use Rattle.derive.specs.Adding.{Adds, Removes, AreResolvable, note_over, clause_note, cube_note}
-use Rattle.derive.specs.Dropping.{StepTest, Falls, DropsFrom, Drops}
-use Rattle.derive.specs.Dropping.Falls.{root, rests}
+use Rattle.derive.specs.State.{Note, Notes, State, OpenClause, note_in, note_at, next_id, row_of, side_in, side_at, tag_at, is_finish, may_bear, is_step, step_at, step_from, step_with, steps_of, clause_at, clause_from, clause_with, clauses_of, open_clauses, IsLegalFor}
+use Rattle.derive.specs.Adding.{Adds, Removes, AreResolvable, note_over, cube_note}
 use Rattle.derive.proofs.Ids.{listed_at, listed_from, listed_same}
 use Rattle.derive.specs.Grounds.{IsGround, IsGroundedAt}
-use Rattle.derive.proofs.Falling.{none_some, some_is}
+use Rattle.derive.proofs.Falling.{none_some}
 use Rattle.derive.proofs.Additions.{live_below}
 use Rattle.std.specs.Prelude.{max}
 

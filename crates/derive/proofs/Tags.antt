@@ -1,15 +1,12 @@
 -- The tag of a step is the greatest frame in its support.
-use Rattle.std.proofs.Common.{◌≡◌, ℕ, zero, suc, ◌<◌, ◌≤◌, ◌⊎◌, true, [], ◌∷◌, get_or, is_some, Option, Some, None, sym, refl, ap, ◌∙◌, inl, inr, ⊎_elim, arith}
-use Rattle.std.specs.Prelude.{max}
+use Rattle.std.proofs.Common.{◌≡◌, ℕ, zero, suc, ◌<◌, ◌≤◌, ◌⊎◌, true, [], ◌∷◌, get_or, is_some, Option, Some, sym, refl, ap, ◌∙◌, inl, inr, ⊎_elim, arith}
 use Rattle.std.proofs.lemmas.Bool.{cases_lt, false≢true}
-use Rattle.prefix.specs.declared.quant.Quant.{Quant}
 use Rattle.prefix.specs.declared.quant.Quant.TheVariants.{Forall}
 use Rattle.calculus.specs.Derivations.{Why, RestsOn}
 use Rattle.calculus.specs.Derivations.Why.{Given, ReducedFrom, ResolvedFrom, FinishedFrom}
 use Rattle.derive.specs.State.{Note, Notes, note_in, tag_in}
-use Rattle.derive.specs.Grounds.{IsGround, IsGrounded, IsGroundedAt, HasTag, Supports, IsGreatestFrame}
+use Rattle.derive.specs.Grounds.{IsGrounded, HasTag, Supports, IsGreatestFrame}
 use Rattle.derive.specs.Grounds.Supports.{itself, through}
-use Rattle.derive.proofs.Falling.{none_some}
 
 module _ (notes : Notes) where
   -- two notes under an id are one

@@ -1,7 +1,6 @@
 -- What goes in where steps are added.
-use Rattle.std.specs.Prelude.{◌≡◌, ◌≢◌, ℕ, ◌⊎◌, true, false, IsTrue, IsFalse, List, [], ◌∷◌, ◌++◌, Contains, Some}
+use Rattle.std.specs.Prelude.{◌≡◌, ◌≢◌, ℕ, ◌<◌, ◌⊎◌, true, false, IsTrue, IsFalse, List, [], ◌++◌, Contains, Some}
 use Rattle.std.specs.List.{cons_option}
-use Rattle.prefix.specs.declared.quant.Quant.{Quant}
 use Rattle.prefix.specs.declared.quant.Quant.TheVariants.{Exists, Forall}
 use Rattle.prefix.specs.Scopes.{Scope, quantifier_of}
 use Rattle.calculus.specs.Rows.{Row, clashes, reduce}
@@ -18,6 +17,7 @@ pub record Adds (old new : State) (id : ℕ) (note : Note) (row : Row) : Type 0 
   pub there : note_at new id ≡ Some note
   pub has_row : row_of new id ≡ row
   pub others : (other : ℕ) → IsTrue (is_live old other) → SameStep old new other
+  pub given : (other : ℕ) → other < next_id old → is_live new other ≡ is_live old other
   pub steps : steps_of new ≡ steps_of old ++ cons_option (step_from id row note) []
   pub clauses : clauses_of new ≡ clauses_of old ++ cons_option (clause_from id row note) []
 
@@ -34,6 +34,7 @@ pub record Removes (old new : State) (id on : ℕ) (why : Why) (row : Row) : Typ
   pub has_row : row_of new id ≡ row
   pub has_tag : tag_at new id ≡ tag_at old on
   pub others : (other : ℕ) → IsTrue (is_live old other) → SameStep old new other
+  pub given : (other : ℕ) → other < next_id old → is_live new other ≡ is_live old other
 
 -- two steps that may be resolved: a pivot-type variable stands in them with either sign, and no other one with both
 pub record AreResolvable (scopes : List Scope) (d : State) (positive negative variable : ℕ) : Type 0 where

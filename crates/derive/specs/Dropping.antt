@@ -1,5 +1,5 @@
 -- What goes where steps are dropped: some steps, the roots, with all that rests on them.
-use Rattle.std.specs.Prelude.{◌≡◌, ℕ, Bool, true, false, ◌==◌, nat_le, ◌⊎◌, if◌then◌else◌, length, List, Option, Some, None, is_some, filter, IsTrue}
+use Rattle.std.specs.Prelude.{◌≡◌, ℕ, Bool, true, false, ◌==◌, nat_le, ◌⊎◌, if◌then◌else◌, length, Option, Some, None, is_some, filter, IsTrue}
 use Rattle.prefix.specs.declared.quant.Quant.{Quant}
 use Rattle.prefix.specs.declared.quant.Quant.TheVariants.{Exists, Forall}
 use Rattle.rows.specs.Arena.{Arena, next_id as next_row, row_at as stored_at}

@@ -5,7 +5,7 @@ use Rattle.std.specs.Option.{option_map, option_and_then}
 use Rattle.prefix.specs.declared.quant.Quant.{Quant}
 use Rattle.prefix.specs.declared.quant.Quant.TheVariants.{Exists, Forall}
 use Rattle.prefix.specs.Scopes.{Scope}
-use Rattle.rows.specs.Arena.{Arena, StoredRow, literals_at, row_at as stored_at, with_row}
+use Rattle.rows.specs.Arena.{Arena, literals_at, row_at as stored_at, with_row}
 use Rattle.calculus.specs.Rows.{Row}
 use Rattle.calculus.specs.Derivations.{Step, Why, IsDerivation}
 use Rattle.calculus.specs.Derivations.Why.{Given, ReducedFrom, ResolvedFrom, FinishedFrom}

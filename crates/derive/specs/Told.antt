@@ -1,5 +1,4 @@
 -- A step as it is told to callers.
-use Rattle.std.specs.Prelude.{ℕ}
 use Rattle.prefix.specs.declared.quant.Quant.{Quant}
 use Rattle.prefix.specs.declared.quant.Quant.TheVariants.{Exists, Forall}
 use Rattle.calculus.specs.Derivations.{Why}

@@ -1,3 +1,6 @@
+ghost use Rattle.std.specs.Prelude.{IsTrue};
+ghost use Rattle.derive.specs.State.{has_rows, is_step};
+
 use super::{Derivation, Step};
 use prefix::{Lit, Prefix, Quant, Var};
 use std::alloc::Global;
@@ -90,6 +93,39 @@ fn a_clause_comes_with_its_reduction(rt: HostRuntime) -> Result<(), Fail> {
     Ok(())
 }
 
+// What nothing blocks goes, and else the step itself is the answer: with variable 1 before 2, and the side's pivot
+// quantifier first or last.
+#[test]
+fn reductions_on_both_sides(rt: HostRuntime) -> Result<(), Fail> {
+    let alloc = rt.alloc();
+    let exists_first = one_then_two(alloc, Quant::Exists, Quant::Forall)?;
+    let forall_first = one_then_two(alloc, Quant::Forall, Quant::Exists)?;
+    for (pivot_first, numbers, want) in [
+        (true, [1, 2].as_slice(), [1].as_slice()),
+        (true, [-1, -2].as_slice(), [-1].as_slice()),
+        (true, [2].as_slice(), [2].as_slice()),
+        (false, [1, 2].as_slice(), [1, 2].as_slice()),
+        (false, [1].as_slice(), [1].as_slice()),
+        (false, [].as_slice(), [].as_slice()),
+    ] {
+        let lits = row(alloc, numbers)?;
+        let want = row(alloc, want)?;
+        let (clauses, cubes) = if pivot_first {
+            (&exists_first, &forall_first)
+        } else {
+            (&forall_first, &exists_first)
+        };
+        let mut derivation = Derivation::new(alloc);
+        let (_, clause) = derivation.input_clause(clauses, &lits, 0)?;
+        assert_eq!(rt; derivation.lits(clause), want.as_slice(), "a clause");
+        let cube = derivation.input_cube(&lits)?;
+        let reduced = derivation.reduce(cubes, cube)?;
+        assert_eq!(rt; derivation.lits(reduced), want.as_slice(), "a cube");
+        assert_eq!(rt; reduced == cube, want.len() == lits.len());
+    }
+    Ok(())
+}
+
 #[test]
 fn a_clause_takes_the_cubes(rt: HostRuntime) -> Result<(), Fail> {
     let prefix = one_then_two(rt.alloc(), Quant::Forall, Quant::Exists)?;
@@ -119,14 +155,19 @@ fn a_clause_takes_the_cubes(rt: HostRuntime) -> Result<(), Fail> {
     Ok(())
 }
 
-// An end row over an assumed variable and another one, on either side.
+// The finish of an end row under assumptions over its first variable, on either side.
 fn finished(
     rt: &impl Abort,
     alloc: Global,
     derivation: &mut Derivation,
     prefix: &Prefix,
     end: usize,
-) -> Result<(), Fail> {
+) -> Result<(), Fail>
+    requires rows { IsTrue (has_rows derivation.old) }
+    requires step { IsTrue (is_step derivation.old end) }
+{
+    let both = row(alloc, &[-1, -2])?;
+    assert_eq!(rt; derivation.finish(prefix, end, &both)?, end);
     let assumptions = row(alloc, &[7, -1])?;
     let finish = derivation.finish(prefix, end, &assumptions)?;
     assert_eq!(rt; derivation.step(finish), Step::Finished(end));
@@ -136,8 +177,6 @@ fn finished(
         (derivation.is_live(end), derivation.is_live(finish)),
         (true, false)
     );
-    let both = row(alloc, &[-1, -2])?;
-    assert_eq!(rt; derivation.finish(prefix, end, &both)?, end);
     Ok(())
 }
 
@@ -145,12 +184,12 @@ fn finished(
 fn a_finish_keeps_what_is_assumed(rt: HostRuntime) -> Result<(), Fail> {
     let clauses = one_then_two(rt.alloc(), Quant::Forall, Quant::Exists)?;
     let mut derivation = Derivation::new(rt.alloc());
-    derivation.input_clause(&clauses, &row(rt.alloc(), &[1, 2])?, 0)?;
-    finished(&rt, rt.alloc(), &mut derivation, &clauses, 0)?;
+    let (end, _) = derivation.input_clause(&clauses, &row(rt.alloc(), &[1, 2])?, 0)?;
+    finished(&rt, rt.alloc(), &mut derivation, &clauses, end)?;
     let cubes = one_then_two(rt.alloc(), Quant::Exists, Quant::Forall)?;
     let mut derivation = Derivation::new(rt.alloc());
-    derivation.input_cube(&row(rt.alloc(), &[1, 2])?)?;
-    finished(&rt, rt.alloc(), &mut derivation, &cubes, 0)
+    let end = derivation.input_cube(&row(rt.alloc(), &[1, 2])?)?;
+    finished(&rt, rt.alloc(), &mut derivation, &cubes, end)
 }
 
 #[test]
@@ -160,6 +199,7 @@ fn links_stay_with_rows_that_are_taken_and_put_back(rt: HostRuntime) -> Result<(
     derivation.input_clause(&prefix, &row(rt.alloc(), &[1])?, 0)?;
     derivation.input_clause(&prefix, &row(rt.alloc(), &[-1])?, 1)?;
     let mut rows = derivation.take_rows();
+    assert!(rt; derivation.is_live(1));
     assert_eq!(rt; derivation.step(1), Step::InputClause);
     assert_eq!(rt;
         (

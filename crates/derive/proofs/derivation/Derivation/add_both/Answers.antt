@@ -1,4 +1,4 @@
-use Rattle.std.proofs.Common.{◌≡◌, ◌<◌, ◌++◌, ◌∷◌, [], ◌∙◌, ap, ap₂, sym, Some, length, arith}
+use Rattle.std.proofs.Common.{◌≡◌, ◌<◌, ◌++◌, ◌∷◌, [], ◌∙◌, ap, ap₂, Some, length, arith}
 use Rattle.std.specs.Prelude.{vec_len, vec_capacity, IsOk}
 use Rattle.std.proofs.lemmas.Bool.{cond-true}
 use Rattle.prefix.specs.declared.quant.Quant.TheVariants.{Exists}

@@ -2,8 +2,7 @@ use Rattle.std.proofs.Common.{◌≡◌, ◌≢◌, ◌∙◌, ap, is_some, leng
 use Rattle.std.proofs.lemmas.Result.{IfOk-weaker}
 use Rattle.prefix.specs.declared.quant.Quant.TheVariants.{Exists}
 use Rattle.calculus.specs.Rows.{Row, reduce}
-use Rattle.derive.specs.State.{State, row_of}
-use Rattle.derive.specs.Adding.{Adds, AddsClause, clause_note}
+use Rattle.derive.specs.Adding.{Adds, clause_note}
 use Rattle.derive.proofs.Additions.{removes_none, removes_more}
 use Rattle.derive.proofs.Removals.{reduced_whole}
 use Rattle.derive.proofs.derivation.Derivation.add_clause.Goals as goal

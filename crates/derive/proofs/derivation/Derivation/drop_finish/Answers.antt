@@ -1,4 +1,4 @@
-use Rattle.std.proofs.Common.{◌≡◌, ◌∙◌, refl, ap, subst, sym, length}
+use Rattle.std.proofs.Common.{◌∙◌, refl, ap, subst, sym}
 use Rattle.derive.specs.State.{State, IsLegalFor, note_at, clauses_of, steps_of}
 use Rattle.derive.proofs.Drops.{legal_drops, clauses_same, steps_same, finishes_go, kept_finishes}
 use Rattle.derive.proofs.derivation.Derivation.drop_finish.Goals as goal

@@ -1,4 +1,4 @@
-use Rattle.std.proofs.Common.{◌≡◌, ◌∙◌, ap₂, length}
+use Rattle.std.proofs.Common.{◌≡◌, ◌∙◌, ap₂}
 use Rattle.std.proofs.lemmas.Result.{IfOk-weaker}
 use Rattle.calculus.specs.Rows.{Row, reduce}
 use Rattle.derive.specs.State.{row_of, side_at}
