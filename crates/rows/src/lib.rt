@@ -34,6 +34,18 @@ mod tests {
     }
 
     #[test]
+    fn a_pair_of_rows_comes_with_two_ids(rt: HostRuntime) -> Result<(), Fail> {
+        let mut rows = Rows::new(rt.alloc());
+        rows.add(&[lit(4)?])?;
+        assert_eq!(rt; rows.add_pair(&[lit(1)?, lit(2)?], &[lit(1)?])?, (1, 2));
+        assert_eq!(rt; rows.lits(1), [lit(1)?, lit(2)?].as_slice());
+        assert_eq!(rt; rows.lits(2), [lit(1)?].as_slice());
+        assert_eq!(rt; (rows.link(1, 0), rows.link(2, 7)), (None, None));
+        assert_eq!(rt; rows.next_id(), 3);
+        Ok(())
+    }
+
+    #[test]
     fn literals_and_links_stay_while_others_come_and_go(rt: HostRuntime) -> Result<(), Fail> {
         let mut rows = Rows::new(rt.alloc());
         let before = rows.add(&[lit(9)?])?;

@@ -1,6 +1,7 @@
 //! The arena.
-ghost use Rattle.std.specs.Prelude.{◌≡◌, ◌↔◌, ◌<◌, ◌+◌, [], ◌∷◌, IsTrue, Some, None, IfOk, OnErr, length, slice_set};
+ghost use Rattle.std.specs.Prelude.{◌≡◌, ◌↔◌, ◌<◌, ◌+◌, [], ◌∷◌, IsTrue, Some, None, IfOk, OnOk, OnErr, length, slice_set};
 ghost use Rattle.rows.specs.Arena.{ChangesAt, ChangesLink, next_id, row_at, is_live, literals_at, link_at, new_row, with_row, without_row, with_link};
+ghost use Rattle.rows.specs.Stored.{stored};
 
 use prefix::Lit;
 use std::alloc::Global;
@@ -21,6 +22,16 @@ struct Row {
 }
 
 impl Row {
+    // A row with a copy of these literals and no links.
+    fn new(alloc: Global, lits: &[Lit]) -> Result<Self, NoMemory>
+        ensures { IfOk result (λ row. stored row ≡ new_row lits.now) }
+    {
+        Ok(Self {
+            lits: lits.to_vec(alloc)?,
+            links: [None; LINKS],
+        })
+    }
+
     // Writes a link field.
     fn set_link(&mut self, k: usize, value: Option<usize>)
         requires { k < 8 }
@@ -122,12 +133,24 @@ impl Rows {
         ensures err { OnErr result (self.new ≡ self.old) }
     {
         let id = self.rows.len();
-        let row = Row {
-            lits: lits.to_vec(*self.rows.allocator())?,
-            links: [None; LINKS],
-        };
+        let row = Row::new(*self.rows.allocator(), lits)?;
         self.rows.push(Some(row))?;
         Ok(id)
+    }
+
+    /// Puts in two rows as two calls of `add` do, or none: with no memory the arena stays as it was.
+    pub fn add_pair(&mut self, first: &[Lit], second: &[Lit]) -> Result<(RowId, RowId), NoMemory>
+        ensures ids { IfOk result (λ ids. (ids.0 ≡ next_id self.old) × (ids.1 ≡ next_id self.old + 1)) }
+        ensures arena { OnOk result (self.new ≡ with_row (with_row self.old first.now) second.now) }
+        ensures err { OnErr result (self.new ≡ self.old) }
+    {
+        let id = self.rows.len();
+        self.rows.reserve(2)?;
+        let first = Row::new(*self.rows.allocator(), first)?;
+        let second = Row::new(*self.rows.allocator(), second)?;
+        let _ = self.rows.push(Some(first));
+        let _ = self.rows.push(Some(second));
+        Ok((id, id + 1))
     }
 
     /// Takes a live row out, and no other. Its id is never given again. This takes no memory.

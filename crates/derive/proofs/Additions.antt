@@ -1,0 +1,228 @@
+-- One more step.
+use Rattle.std.proofs.Common.{◌≡◌, ◌≢◌, ℕ, zero, suc, ◌+◌, ◌<◌, ◌≤◌, ◌⊎◌, true, List, [], ◌∷◌, ◌++◌, length, get_or, Option, Some, None, is_some, IsTrue, sym, refl, ap, ap₂, ◌∙◌, inl, inr, arith}
+use Rattle.std.specs.List.{filter_map, range_with_len, cons_option}
+use Rattle.std.specs.Prelude.{max}
+use Rattle.std.specs.Option.{option_and_then}
+use Rattle.std.proofs.lemmas.Bool.{cases_eq, cases_lt, false≢true}
+use Rattle.std.proofs.lemmas.List.{get_or_append_left, get_or_push, get_or_past, length_push}
+use Rattle.prefix.specs.declared.quant.Quant.{Quant}
+use Rattle.prefix.specs.declared.quant.Quant.TheVariants.{Exists}
+use Rattle.rows.specs.Arena.{Arena, next_id as next_row, literals_at, literals_of, new_row, with_row}
+use Rattle.calculus.specs.Rows.{Row}
+use Rattle.calculus.specs.Derivations.{Why, RestsOn}
+use Rattle.calculus.specs.Derivations.Why.{Given, ReducedFrom, ResolvedFrom, FinishedFrom}
+use Rattle.derive.specs.State.{Note, Notes, State, SameStep, note_in, note_at, is_live, has_rows, row_of, side_in, tag_in, step_from, clause_from, with_step}
+use Rattle.derive.specs.Grounds.{IsGrounded, IsGroundedAt, HasTag, Fits}
+use Rattle.derive.specs.Kept.{AreFrom, IsKept}
+use Rattle.derive.specs.Dropping.{StepTest}
+use Rattle.derive.specs.Adding.{Adds, AddsBoth, Removes, clause_note, note_over}
+use Rattle.derive.proofs.Ids.{listed_push}
+use Rattle.derive.proofs.Falling.{none_some}
+
+-- a list with one more item
+pub pushed_old : {X : Type 0} (xs : List X) (y d : X) (k : ℕ) → k < length xs → get_or (xs ++ y ∷ []) k d ≡ get_or xs k d
+pushed_old xs y d k h = get_or_append_left xs (y ∷ []) d k h
+
+pub pushed_new : {X : Type 0} (xs : List X) (y d : X) (k : ℕ) → k ≡ length xs → get_or (xs ++ y ∷ []) k d ≡ y
+pushed_new xs y d k e = get_or_push xs y d k (sym e)
+
+pub pushed_past : {X : Type 0} (xs : List X) (y d : X) (k : ℕ) → length xs < k → get_or (xs ++ y ∷ []) k d ≡ d
+pushed_past xs y d k h = get_or_past (xs ++ y ∷ []) k d (let e = length_push xs y in omega arith)
+
+pub pushed_length : {X : Type 0} (xs : List X) (y : X) → length (xs ++ y ∷ []) ≡ suc (length xs)
+pushed_length xs y = let e = length_push xs y in omega arith
+
+-- a live id is one that was given
+pub live_below : (notes : Notes) (id : ℕ) → is_some (note_in notes id) ≡ true → id < length notes
+live_below [] id live = absurd (false≢true live)
+live_below (first ∷ notes) zero live = omega arith
+live_below (first ∷ notes) (suc id) live = let h = live_below notes id live in omega arith
+
+-- what is listed with one more step
+module _ (notes : Notes) (arena : Arena) (same : next_row arena ≡ length notes) (note : Note) (row : Row) where
+  row_before : (k : ℕ) → k < length notes → literals_at (with_row arena row) k ≡ literals_at arena k
+  row_before k h = ap literals_of (pushed_old arena (Some (new_row row)) None k (omega arith))
+
+  row_last : literals_at (with_row arena row) (length notes) ≡ row
+  row_last = ap literals_of (pushed_new arena (Some (new_row row)) None (length notes) (sym same))
+
+  abbrev listed : {X : Type 0} → (ℕ → Row → Note → Option X) → Notes → Arena → ℕ → Option X
+  listed f ns a k = option_and_then (f k (literals_at a k)) (note_in ns k)
+
+  listed_more : {X : Type 0} (f : ℕ → Row → Note → Option X) → filter_map (listed f (notes ++ Some note ∷ []) (with_row arena row)) (range_with_len 0 (length (notes ++ Some note ∷ []))) ≡ filter_map (listed f notes arena) (range_with_len 0 (length notes)) ++ cons_option (f (length notes) row note) []
+  listed_more f =
+      ap (λ n. filter_map (listed f (notes ++ Some note ∷ []) (with_row arena row)) (range_with_len 0 n)) (pushed_length notes (Some note))
+      ∙ listed_push (listed f notes arena) (listed f (notes ++ Some note ∷ []) (with_row arena row)) (length notes) (f (length notes) row note)
+      (λ k h. ap₂ (λ r o. option_and_then (f k r) o) (row_before k h) (pushed_old notes (Some note) None k h))
+      (ap₂ (λ r o. option_and_then (f (length notes) r) o) row_last (pushed_new notes (Some note) None (length notes) refl))
+
+  others_stay : (other : ℕ) → IsTrue (is_some (note_in notes other)) → SameStep (record { notes = notes; rows = Some arena }) (with_step (record { notes = notes; rows = Some arena }) note row) other
+  others_stay other live =
+      let below : other < length notes = live_below notes other live in
+      record { note = pushed_old notes (Some note) None other below; row = pushed_old arena (Some (new_row row)) None other (omega arith) }
+
+  pub adds : Adds (record { notes = notes; rows = Some arena }) (with_step (record { notes = notes; rows = Some arena }) note row) (length notes) note row
+  adds =
+      record {
+        is_next = refl;
+        state = refl;
+        has_rows = refl;
+        there = pushed_new notes (Some note) None (length notes) refl;
+        has_row = row_last;
+        others = others_stay;
+        given = λ other h. ap is_some (pushed_old notes (Some note) None other h);
+        steps = listed_more step_from;
+        clauses = listed_more clause_from;
+      }
+
+-- what steps rest on, and their tags, with one more step
+
+pub tag_same : (old new : Notes) (side : Quant) (tag : ℕ) (why : Why) → ((on : ℕ) → RestsOn why on → note_in new on ≡ note_in old on) → HasTag old side tag why → HasTag new side tag why
+tag_same old new side tag Given same has = has
+tag_same old new side tag (ReducedFrom a) same has = has ∙ ap tag_in (sym (same a refl))
+tag_same old new side tag (ResolvedFrom a b x) same has = has ∙ ap₂ (λ o p. max (tag_in o) (tag_in p)) (sym (same a (inl refl))) (sym (same b (inr refl)))
+tag_same old new side tag (FinishedFrom a) same has = has ∙ ap tag_in (sym (same a refl))
+
+-- a note stands on the same ground where what it rests on stays
+pub grounded_same : (old new : Notes) (id : ℕ) (note : Note) → IsGroundedAt old id note → ((on : ℕ) → RestsOn note.why on → note_in new on ≡ note_in old on) → IsGroundedAt new id note
+grounded_same old new id note g same =
+    record {
+      grounds = λ on r. let h = g.grounds on r in record { under = h.under; there = same on r ∙ h.there; earlier = h.earlier; one_side = h.one_side; no_finish = h.no_finish };
+      tag = tag_same old new note.side note.tag note.why same g.tag;
+    }
+
+pub grounded_more : (notes : Notes) (last : Option Note) (id : ℕ) (note : Note) → id ≤ length notes → IsGroundedAt notes id note → IsGroundedAt (notes ++ last ∷ []) id note
+grounded_more notes last id note within g = grounded_same notes (notes ++ last ∷ []) id note g (λ on r. let e = (g.grounds on r).earlier in pushed_old notes last None on (omega arith))
+
+-- where an id stands against the end of a list
+ends : (k n : ℕ) → (k < n) ⊎ ((k ≡ n) ⊎ (n < k))
+ends k n = elim (cases_lt k n) [ inl h ↦ inl h | inr h ↦ elim (cases_eq k n) [ inl e ↦ inr (inl e) | inr ne ↦ inr (inr (grind arith)) ] ]
+
+module _ (notes : Notes) (arena : Arena) (note : Note) (row : Row) (fits : Fits notes arena) (ground : IsGroundedAt notes (length notes) note) where
+  all_grounded : IsGrounded notes → IsGrounded (notes ++ Some note ∷ [])
+  all_grounded grounded id n there =
+      elim (ends id (length notes)) [
+        | inl h ↦ grounded_more notes (Some note) id n (omega arith) (grounded id n (sym (pushed_old notes (Some note) None id h) ∙ there))
+        | inr e ↦ elim e [
+          | inl s ↦
+              let f : Some note ≡ Some n = sym (pushed_new notes (Some note) None id s) ∙ there in
+              let is : note ≡ n = cc in
+              rw (s, ← is) (grounded_more notes (Some note) (length notes) note (omega arith) ground)
+          | inr h ↦ absurd (none_some (note_in (notes ++ Some note ∷ []) id) n (pushed_past notes (Some note) None id h) there)
+        ]
+      ]
+
+  fits_more : Fits (notes ++ Some note ∷ []) (with_row arena row)
+  fits_more =
+      record {
+        same_next = pushed_length arena (Some (new_row row)) ∙ ap suc fits.same_next ∙ sym (pushed_length notes (Some note));
+        same_live =
+            λ id.
+            let same = fits.same_next in
+            elim (ends id (length notes)) [
+              | inl h ↦ ap is_some (pushed_old arena (Some (new_row row)) None id (omega arith)) ∙ fits.same_live id ∙ ap is_some (sym (pushed_old notes (Some note) None id h))
+              | inr e ↦ elim e [
+                | inl s ↦ ap is_some (pushed_new arena (Some (new_row row)) None id (s ∙ sym same)) ∙ ap is_some (sym (pushed_new notes (Some note) None id s))
+                | inr h ↦ ap is_some (pushed_past arena (Some (new_row row)) None id (omega arith)) ∙ ap is_some (sym (pushed_past notes (Some note) None id h))
+              ]
+            ];
+      }
+
+  from_more : (sort : StepTest) (from : ℕ) → AreFrom sort notes from → AreFrom sort (notes ++ Some note ∷ []) from
+  from_more sort from are =
+      record {
+        above =
+            λ id n there is.
+            let within = are.within in
+            elim (ends id (length notes)) [
+              | inl h ↦ are.above id n (sym (pushed_old notes (Some note) None id h) ∙ there) is
+              | inr e ↦ elim e [ inl s ↦ omega arith | inr h ↦ omega arith ]
+            ];
+        within = let within = are.within in let e = pushed_length notes (Some note) in omega arith;
+      }
+
+  pub kept_more : (cubes finishes : ℕ) → IsKept notes (Some arena) cubes finishes → IsKept (notes ++ Some note ∷ []) (Some (with_row arena row)) cubes finishes
+  kept_more cubes finishes kept =
+      record {
+        grounded = all_grounded kept.grounded;
+        fits = λ a e. let f : Some (with_row arena row) ≡ Some a = e in let is : with_row arena row ≡ a = cc in rw (← is) fits_more;
+        cubes = from_more _ cubes kept.cubes;
+        finishing = from_more _ finishes kept.finishing;
+      }
+
+-- the same where the parts are told by equations
+
+some_same : (a b : Arena) → ◌≡◌ {A = Option Arena} (Some a) (Some b) → a ≡ b
+some_same a b e = cc
+
+pub kept_add : (notes after : Notes) (rows : Option Arena) (arena new_arena : Arena) (note : Note) (row : Row) (cubes finishes : ℕ) → rows ≡ Some arena → after ≡ notes ++ Some note ∷ [] → new_arena ≡ with_row arena row → IsGroundedAt notes (length notes) note → IsKept notes rows cubes finishes → IsKept after (Some new_arena) cubes finishes
+kept_add notes after rows arena new_arena note row cubes finishes has is_after is_arena ground kept =
+    rw (is_after, is_arena) (kept_more notes arena note row (kept.fits arena has) ground cubes finishes (rw has at kept))
+
+pub adds_of : (d : State) (notes after : Notes) (rows : Option Arena) (arena new_arena : Arena) (note : Note) (row : Row) (id cubes finishes : ℕ) → record { notes = notes; rows = rows } ≡ d → rows ≡ Some arena → after ≡ notes ++ Some note ∷ [] → new_arena ≡ with_row arena row → id ≡ next_row arena → IsKept notes rows cubes finishes → Adds d (record { notes = after; rows = Some new_arena }) id note row
+adds_of d notes after rows arena new_arena note row id cubes finishes view has is_after is_arena is_id kept =
+    let same = (kept.fits arena has).same_next in
+    rw (← view, has, is_after, is_arena, is_id ∙ same) (adds notes arena same note row)
+
+-- a clause with its reduction
+
+clause_grounded : (notes : Notes) (frame : ℕ) → IsGroundedAt notes (length notes) (clause_note frame)
+clause_grounded notes frame = record { grounds = λ on r. absurd r; tag = λ e. absurd (cc) }
+
+over_clause : (notes : Notes) (frame : ℕ) → IsGroundedAt (notes ++ Some (clause_note frame) ∷ []) (length (notes ++ Some (clause_note frame) ∷ [])) (record { side = Exists; why = ReducedFrom (length notes); tag = frame })
+over_clause notes frame =
+    let there : note_in (notes ++ Some (clause_note frame) ∷ []) (length notes) ≡ Some (clause_note frame) = pushed_new notes (Some (clause_note frame)) None (length notes) refl in
+    let longer = pushed_length notes (Some (clause_note frame)) in
+    record {
+      grounds = λ on r. record { under = clause_note frame; there = ap (note_in (notes ++ Some (clause_note frame) ∷ [])) (sym r) ∙ there; earlier = rw (← r) (omega arith); one_side = refl; no_finish = refl };
+      tag = sym (ap tag_in there);
+    }
+
+pub kept_both : (notes after : Notes) (rows : Option Arena) (arena new_arena : Arena) (frame : ℕ) (row reduced : Row) (cubes finishes : ℕ) → rows ≡ Some arena → after ≡ (notes ++ Some (clause_note frame) ∷ []) ++ Some (record { side = Exists; why = ReducedFrom (length notes); tag = frame }) ∷ [] → new_arena ≡ with_row (with_row arena row) reduced → IsKept notes rows cubes finishes → IsKept after (Some new_arena) cubes finishes
+kept_both notes after rows arena new_arena frame row reduced cubes finishes has is_after is_arena kept =
+    kept_add (notes ++ Some (clause_note frame) ∷ []) after (Some (with_row arena row)) (with_row arena row) new_arena (record { side = Exists; why = ReducedFrom (length notes); tag = frame }) reduced cubes finishes refl is_after is_arena (over_clause notes frame)
+    (kept_add notes (notes ++ Some (clause_note frame) ∷ []) rows arena (with_row arena row) (clause_note frame) row cubes finishes has refl refl (clause_grounded notes frame) kept)
+
+pub adds_both : (d : State) (notes after : Notes) (rows : Option Arena) (arena new_arena : Arena) (frame : ℕ) (row reduced : Row) (first second cubes finishes : ℕ) → record { notes = notes; rows = rows } ≡ d → rows ≡ Some arena → after ≡ (notes ++ Some (clause_note frame) ∷ []) ++ Some (record { side = Exists; why = ReducedFrom (length notes); tag = frame }) ∷ [] → new_arena ≡ with_row (with_row arena row) reduced → first ≡ next_row arena → second ≡ next_row arena + 1 → IsKept notes rows cubes finishes → AddsBoth d (record { notes = after; rows = Some new_arena }) first second frame row reduced
+adds_both d notes after rows arena new_arena frame row reduced first second cubes finishes view has is_after is_arena is_first is_second kept =
+    let same = (kept.fits arena has).same_next in
+    let middle : State = record { notes = notes ++ Some (clause_note frame) ∷ []; rows = Some (with_row arena row) } in
+    let there : note_at middle (length notes) ≡ Some (clause_note frame) = pushed_new notes (Some (clause_note frame)) None (length notes) refl in
+    let first_is : first ≡ length notes = is_first ∙ same in
+    let kept_first = kept_add notes (notes ++ Some (clause_note frame) ∷ []) rows arena (with_row arena row) (clause_note frame) row cubes finishes has refl refl (clause_grounded notes frame) kept in
+    let note_is : record { side = Exists; why = ReducedFrom (length notes); tag = frame } ≡ note_over middle first (ReducedFrom first) = rw (first_is, there) refl in
+    record {
+      with_input = middle;
+      input = adds_of d notes (notes ++ Some (clause_note frame) ∷ []) rows arena (with_row arena row) (clause_note frame) row first cubes finishes view has refl refl is_first kept;
+      reduction =
+          adds_of middle (notes ++ Some (clause_note frame) ∷ []) after (Some (with_row arena row)) (with_row arena row) new_arena (note_over middle first (ReducedFrom first)) reduced second cubes finishes refl refl
+          (is_after ∙ ap (λ n. (notes ++ Some (clause_note frame) ∷ []) ++ Some n ∷ []) note_is) is_arena (is_second ∙ sym (length_push arena (Some (new_row row)))) kept_first;
+    }
+
+-- removals
+
+pub removes_none : (d : State) (on : ℕ) (why : Why) (row : Row) → has_rows d ≡ true → is_live d on ≡ true → row ≡ row_of d on → Removes d d on on why row
+removes_none d on why row has live is =
+    record {
+      cases = inl (is, refl, refl);
+      has_rows = has;
+      live = live;
+      has_side = refl;
+      has_row = sym is;
+      has_tag = refl;
+      others = λ other l. record { note = refl; row = refl };
+      given = λ other h. refl;
+    }
+
+pub removes_more : (old new : State) (id on : ℕ) (why : Why) (row : Row) → row ≢ row_of old on → Adds old new id (note_over old on why) row → Removes old new id on why row
+removes_more old new id on why row differs adds =
+    record {
+      cases = inr (differs, adds);
+      has_rows = adds.has_rows;
+      live = ap is_some adds.there;
+      has_side = ap side_in adds.there;
+      has_row = adds.has_row;
+      has_tag = ap tag_in adds.there;
+      others = adds.others;
+      given = adds.given;
+    }

@@ -1,0 +1,18 @@
+use Rattle.std.proofs.Common.{◌∙◌, refl, ap, subst, sym}
+use Rattle.derive.specs.State.{State, IsLegalFor, note_at, clauses_of}
+use Rattle.derive.proofs.Drops.{legal_drops, clauses_same, clause_side_stays, kept_cubes}
+use Rattle.derive.proofs.derivation.Derivation.drop_cubes_missing.Goals as goal
+
+pub returns-clause-legal : goal.returns-clause-legal
+returns-clause-legal c scopes legal =
+    let P : State → Type 0 = IsLegalFor scopes in
+    subst P (sym c.self.view_is) (legal_drops _ _ _ c.drop_all-2.ensures.drops scopes legal)
+
+pub returns-clause-clauses : goal.returns-clause-clauses
+returns-clause-clauses c = ap clauses_of c.self.view_is ∙ clauses_same _ _ _ c.drop_all-2.ensures.drops (λ clause. refl)
+
+pub invariant_of-self : goal.invariant_of-self
+invariant_of-self c = kept_cubes _ _ _ _ _ _ _ c.drop_all-2.ensures.drops c.self.view_is (c.len-self-inside.ensures ∙ c.self.inside.notes.ok.0) c.self.invariant
+
+pub returns-clause-kept : goal.returns-clause-kept
+returns-clause-kept c id note there side = ap (λ (d : State). note_at d id) c.self.view_is ∙ clause_side_stays _ _ c.drop_all-2.ensures.grounded c.drop_all-2.ensures.drops id note there side

@@ -1,0 +1,68 @@
+-- What goes where steps are dropped: some steps, the roots, with all that rests on them.
+use Rattle.std.specs.Prelude.{◌≡◌, ℕ, Bool, true, false, ◌==◌, nat_le, ◌⊎◌, if◌then◌else◌, length, Option, Some, None, is_some, filter, IsTrue}
+use Rattle.prefix.specs.declared.quant.Quant.{Quant}
+use Rattle.prefix.specs.declared.quant.Quant.TheVariants.{Exists, Forall}
+use Rattle.rows.specs.Arena.{Arena, next_id as next_row, row_at as stored_at}
+use Rattle.calculus.specs.Derivations.{Step, Why, RestsOn}
+use Rattle.calculus.specs.Derivations.Why.{Given, ReducedFrom, ResolvedFrom, FinishedFrom}
+use Rattle.derive.specs.State.{Note, Notes, State, SameStep, note_in, is_finish, is_live, steps_of, arena_of, has_rows}
+use Rattle.derive.specs.declared.dropping.Roots.{Roots}
+use Rattle.derive.specs.declared.dropping.Roots.TheVariants.{Frame, InitialCubes, Finishes, From}
+
+-- a test of steps, by id and note
+abbrev pub StepTest : Type 0
+StepTest = ℕ → Note → Bool
+
+-- whether a step has this tag
+abbrev pub has_tag : ℕ → StepTest
+has_tag frame id note = note.tag == frame
+
+-- whether a step is an initial cube
+abbrev pub is_cube : Quant → Why → Bool
+is_cube Exists why = false
+is_cube Forall Given = true
+is_cube Forall (ReducedFrom a) = false
+is_cube Forall (ResolvedFrom a b x) = false
+is_cube Forall (FinishedFrom a) = false
+
+abbrev pub is_initial_cube : StepTest
+is_initial_cube id note = is_cube note.side note.why
+
+-- whether a step is a finish
+abbrev pub finishes : StepTest
+finishes id note = is_finish note.why
+
+-- the note under an id once the finishes are dropped
+abbrev pub unless_finish : Option Note → Option Note
+unless_finish None = None
+unless_finish (Some note) = if is_finish note.why then None else Some note
+
+-- whether a step has this id or a later one
+abbrev pub is_from : ℕ → StepTest
+is_from first id note = nat_le first id
+
+-- a step that goes with the roots: a root itself, or a step that rests on one that goes
+pub data Falls (is_root : StepTest) (notes : Notes) : ℕ → Type 0 where
+  root : (id : ℕ) (note : Note) → note_in notes id ≡ Some note → is_root id note ≡ true → Falls is_root notes id
+  rests : (id on : ℕ) (note : Note) → note_in notes id ≡ Some note → RestsOn note.why on → Falls is_root notes on → Falls is_root notes id
+
+-- the roots go, with all that rests on them, and their rows; every other step stays as it was, with its row and the links of that row
+pub record DropsFrom (is_root : StepTest) (old new : Notes) (old_rows new_rows : Arena) : Type 0 where
+  pub same_next : length new ≡ length old
+  pub steps : (id : ℕ) → (Falls is_root old id × (note_in new id ≡ None)) ⊎ ((Falls is_root old id → ⊥) × (note_in new id ≡ note_in old id))
+  pub same_next_row : next_row new_rows ≡ next_row old_rows
+  pub rows : (id : ℕ) → stored_at new_rows id ≡ (if is_some (note_in new id) then stored_at old_rows id else None)
+
+-- the same of derivations
+pub record Drops (is_root : StepTest) (old new : State) : Type 0 where
+  pub has_rows : has_rows new ≡ true
+  pub exactly : DropsFrom is_root old.notes new.notes (arena_of old) (arena_of new)
+  pub others : (id : ℕ) → IsTrue (is_live new id) → SameStep old new id
+  pub left : steps_of new ≡ filter (λ (s : Step). is_live new s.id) (steps_of old)
+
+-- the steps that a sort of roots names
+abbrev pub is_root : Roots → StepTest
+is_root (Frame frame) = has_tag frame
+is_root InitialCubes = is_initial_cube
+is_root Finishes = finishes
+is_root (From first) = is_from first

@@ -1,0 +1,394 @@
+//! Derivations.
+ghost use Rattle.std.specs.Prelude.{◌≡◌, ◌≢◌, ◌<◌, ◌⊎◌, ℕ, Bool, true, false, IsTrue, IsFalse, IsSome, IsNone, Some, None, IfOk, OnOk, OnErr, List, [], ◌∷◌, ◌++◌, filter, max, not, nat_lt, ◌==◌, if◌then◌else◌, length};
+ghost use Rattle.prefix.specs.Scopes.{Scope};
+ghost use Rattle.prefix.specs.declared.quant.Quant.TheVariants.{Exists as exists, Forall as forall};
+ghost use Rattle.rows.specs.Arena.{Arena, literals_at};
+ghost use Rattle.calculus.specs.Rows.{IsRow, reduce as reduction, resolve as resolvent};
+ghost use Rattle.calculus.specs.Derivations.{Hits, RestsOn};
+ghost use Rattle.calculus.specs.Derivations.Why.{ReducedFrom, ResolvedFrom, FinishedFrom};
+ghost use Rattle.calculus.specs.Verdicts.{finished, IsEndRow, IsFinish};
+ghost use Rattle.derive.specs.State.{State, IsStepOf, SameStep, OpenClause, next_id, is_live, is_step, has_rows, arena_of, row_of, side_at, why_at, tag_at, note_at, steps_of, clauses_of, open_clauses, IsLegalFor, Note as Kept};
+ghost use Rattle.derive.specs.Grounds.{Fits, IsGround, IsGrounded, IsGroundedAt, IsGreatestFrame};
+ghost use Rattle.derive.specs.Adding.{Adds, AddsBoth, AddsClause, AreResolvable, InputsClause, IsOver, Removes, cube_note};
+ghost use Rattle.derive.specs.Dropping.{Drops, has_tag, is_initial_cube, finishes, is_from, is_root, unless_finish};
+ghost use Rattle.derive.specs.Told.{told, why_of};
+
+use super::dropping::{Roots, drop_roots};
+use super::note::Note;
+use super::removal::{push_assumed, reduce_of};
+use super::{Step, StepId};
+use prefix::{Lit, Prefix, Quant, Var};
+use reduce::{Row, resolve};
+use rows::Rows;
+use std::alloc::Global;
+use std::marker::Model;
+use steps::NoMemory;
+
+/// A derivation of clauses and cubes: input steps, reductions, resolvents and finishes, each with its row. Contracts
+/// see it as the list that has, for each id given so far, what is kept of the step that is live under it, and beside
+/// it the rows.
+///
+/// A step has a tag: the greatest frame among the input clauses that it rests on, through other steps or at once, and
+/// 0 for cubes. No step rests on a finish. The rows can be taken and put back; between the two only `step`, `is_live`,
+/// `tag` and `next_id` are called.
+#[derive(Debug, Drop)]
+pub struct Derivation {
+    // What is kept of the step of each id, if it is live.
+    notes: Vec<Option<Note>>,
+    rows: Option<Rows>,
+    // No initial cube is live under an id before this one.
+    cubes_from: StepId,
+    // No finish is live under an id before this one.
+    finishes_from: StepId,
+}
+
+impl Model for Derivation {
+    ghost use Rattle.derive.specs.State.{State};
+
+    ghost Value = { State };
+
+    ghost use Rattle.derive.specs.Kept.{IsKept};
+
+    ghost view = { λ d. record { notes = d.notes.items; rows = d.rows } };
+
+    ghost invariant = { λ d. IsKept d.notes.items d.rows d.cubes_from d.finishes_from };
+}
+
+impl Derivation {
+    /// A derivation of no steps. This takes no memory.
+    pub fn new(alloc: Global) -> Self
+        ensures state { result ≡ record { notes = []; rows = Some [] } }
+        ensures legal { (scopes : List Scope) → IsLegalFor scopes result }
+    {
+        Self {
+            notes: Vec::new(alloc),
+            rows: Some(Rows::new(alloc)),
+            cubes_from: 0,
+            finishes_from: 0,
+        }
+    }
+
+    /// The id that the next step gets, which is greater than every id given.
+    pub fn next_id(&self) -> StepId
+        ensures value { result ≡ next_id self.now }
+        ensures above { (id : ℕ) → IsTrue (is_live self.now id) → id < result }
+    {
+        self.notes.len()
+    }
+
+    /// Whether a step is live under an id, which may be any number.
+    pub fn is_live(&self, id: StepId) -> bool
+        ensures { result ≡ is_live self.now id }
+    {
+        matches!(self.notes.get(id), Some(Some(_)))
+    }
+
+    /// What a live step is.
+    pub fn step(&self, id: StepId) -> Step
+        requires { IsTrue (is_live self.now id) }
+        ensures value { result ≡ told (side_at self.now id) (why_at self.now id) }
+        ensures grounds { (on : ℕ) → RestsOn (why_at self.now id) on → IsGround self.now.notes id (side_at self.now id) on }
+    {
+        match &self.notes[id] {
+            Some(note) => note.step(),
+            None => unreachable!(),
+        }
+    }
+
+    /// The greatest frame in the support of a live step, 0 for a cube.
+    pub fn tag(&self, id: StepId) -> usize
+        requires { IsTrue (is_live self.now id) }
+        ensures value { result ≡ tag_at self.now id }
+        ensures greatest { IsGreatestFrame self.now.notes id result }
+        ensures cubes { side_at self.now id ≡ forall → result ≡ 0 }
+    {
+        match &self.notes[id] {
+            Some(note) => note.tag(),
+            None => unreachable!(),
+        }
+    }
+
+    /// The literals of a live step, while the rows are here.
+    pub fn lits(&self, id: StepId) -> &[Lit]
+        requires live { IsTrue (is_live self.now id) }
+        requires rows { IsTrue (has_rows self.now) }
+        ensures { result.now ≡ row_of self.now id }
+    {
+        match &self.rows {
+            Some(rows) => rows.lits(id),
+            None => unreachable!(),
+        }
+    }
+
+    /// Puts in a clause of the formula, of a frame, with its reduction. The answer has the id of the input step and
+    /// that of the reduction, which are equal where nothing goes. Every initial cube goes, with all that rests on it,
+    /// since it may miss the clause. With no memory the derivation stays as it was.
+    pub fn input_clause(
+        &mut self,
+        prefix: &Prefix,
+        lits: &[Lit],
+        frame: usize,
+    ) -> Result<(StepId, StepId), NoMemory>
+        requires { IsTrue (has_rows self.old) }
+        ensures ok { IfOk result (λ ids. InputsClause prefix.now self.old self.new ids.0 ids.1 frame lits.now) }
+        ensures kept { OnOk result ((id : ℕ) (note : Kept) → note_at self.old id ≡ Some note → note.side ≡ exists → SameStep self.old self.new id) }
+        ensures clauses { IfOk result (λ ids. clauses_of self.new ≡ clauses_of self.old ++ (record { id = ids.0; frame = frame; row = lits.now }) ∷ []) }
+        ensures rows { IsTrue (has_rows self.new) }
+        ensures legal { OnOk result (IsRow prefix.now lits.now → IsLegalFor prefix.now self.old → IsLegalFor prefix.now self.new) }
+        ensures err { OnErr result (self.new ≡ self.old) }
+    {
+        let ids = self.add_clause(prefix, lits, frame)?;
+        self.drop_cubes_missing(lits);
+        Ok(ids)
+    }
+
+    /// Puts in an initial cube. With no memory the derivation stays as it was.
+    pub fn input_cube(&mut self, lits: &[Lit]) -> Result<StepId, NoMemory>
+        requires { IsTrue (has_rows self.old) }
+        ensures ok { IfOk result (λ id. Adds self.old self.new id cube_note lits.now) }
+        ensures step { IfOk result (λ id. IsStepOf self.new id forall lits.now 0) }
+        ensures rows { IsTrue (has_rows self.new) }
+        ensures legal { OnOk result ((scopes : List Scope) → IsRow scopes lits.now → Hits lits.now (open_clauses self.old) → IsLegalFor scopes self.old → IsLegalFor scopes self.new) }
+        ensures err { OnErr result (self.new ≡ self.old) }
+    {
+        let note = Note::new(Quant::Forall, Step::InputCube, 0);
+        self.add(note, lits)
+    }
+
+    /// Puts in the resolvent of two steps of one side, neither of them a finish, on a variable that is positive in
+    /// `a` and negative in `b`. With no memory the derivation stays as it was.
+    pub fn resolve(
+        &mut self,
+        prefix: &Prefix,
+        a: StepId,
+        b: StepId,
+        pivot: Var,
+    ) -> Result<StepId, NoMemory>
+        requires rows { IsTrue (has_rows self.old) }
+        requires positive { IsTrue (is_step self.old a) }
+        requires negative { IsTrue (is_step self.old b) }
+        requires one_side { side_at self.old a ≡ side_at self.old b }
+        ensures ok { IfOk result (λ id. Adds self.old self.new id (record { side = side_at self.old a; why = ResolvedFrom a b pivot; tag = max (tag_at self.old a) (tag_at self.old b) }) (resolvent (row_of self.old a) (row_of self.old b) pivot)) }
+        ensures step { IfOk result (λ id. IsStepOf self.new id (side_at self.old a) (resolvent (row_of self.old a) (row_of self.old b) pivot) (max (tag_at self.old a) (tag_at self.old b))) }
+        ensures rows { IsTrue (has_rows self.new) }
+        ensures legal { OnOk result (AreResolvable prefix.now self.old a b pivot → IsLegalFor prefix.now self.old → IsLegalFor prefix.now self.new) }
+        ensures err { OnErr result (self.new ≡ self.old) }
+    {
+        let mut row = Row::new(*self.notes.allocator());
+        resolve(self.lits(a), self.lits(b), pivot, &mut row)?;
+        let tag = self.tag(a).max(self.tag(b));
+        let note = Note::new(self.side(a), Step::Resolved { a, b, pivot }, tag);
+        self.add(note, row.as_slice())
+    }
+
+    /// Puts in the reduction of a step that is no finish, and answers its id; where nothing goes, that of the step
+    /// itself. With no memory the derivation stays as it was.
+    pub fn reduce(&mut self, prefix: &Prefix, a: StepId) -> Result<StepId, NoMemory>
+        requires rows { IsTrue (has_rows self.old) }
+        requires step { IsTrue (is_step self.old a) }
+        ensures ok { IfOk result (λ id. Removes self.old self.new id a (ReducedFrom a) (reduction (side_at self.old a) prefix.now (row_of self.old a))) }
+        ensures step { IfOk result (λ id. IsStepOf self.new id (side_at self.old a) (reduction (side_at self.old a) prefix.now (row_of self.old a)) (tag_at self.old a)) }
+        ensures rows { IsTrue (has_rows self.new) }
+        ensures legal { OnOk result (IsLegalFor prefix.now self.old → IsLegalFor prefix.now self.new) }
+        ensures err { OnErr result (self.new ≡ self.old) }
+    {
+        let mut row = Row::new(*self.notes.allocator());
+        reduce_of(self.side(a), prefix, self.lits(a), &mut row)?;
+        self.add_removal(a, Step::Reduced(a), row.as_slice())
+    }
+
+    /// Puts in the finish of an end row, which keeps the literals over assumed variables, and answers its id; where
+    /// nothing goes, that of the end row itself. With no memory the derivation stays as it was.
+    pub fn finish(
+        &mut self,
+        prefix: &Prefix,
+        row: StepId,
+        assumptions: &[Lit],
+    ) -> Result<StepId, NoMemory>
+        requires rows { IsTrue (has_rows self.old) }
+        requires step { IsTrue (is_step self.old row) }
+        ensures ok { IfOk result (λ id. Removes self.old self.new id row (FinishedFrom row) (finished assumptions.now (row_of self.old row))) }
+        ensures finish { IfOk result (λ id. IsEndRow (side_at self.old row) prefix.now assumptions.now (row_of self.old row) → IsFinish (side_at self.old row) prefix.now assumptions.now (row_of self.old row) (row_of self.new id)) }
+        ensures rows { IsTrue (has_rows self.new) }
+        ensures legal { OnOk result ((scopes : List Scope) → IsLegalFor scopes self.old → IsLegalFor scopes self.new) }
+        ensures err { OnErr result (self.new ≡ self.old) }
+    {
+        let mut finish = Row::new(*self.notes.allocator());
+        push_assumed(self.lits(row), assumptions, &mut finish)?;
+        self.add_removal(row, Step::Finished(row), finish.as_slice())
+    }
+
+    /// Drops the steps with this tag, with all that rests on them. This takes no memory.
+    pub fn drop_frame(&mut self, frame: usize)
+        requires { IsTrue (has_rows self.old) }
+        ensures drops { Drops (has_tag frame) self.old self.new }
+        ensures clauses { clauses_of self.new ≡ filter (λ (c : OpenClause). not (c.frame == frame)) (clauses_of self.old) }
+        ensures legal { (scopes : List Scope) → IsLegalFor scopes self.old → IsLegalFor scopes self.new }
+    {
+        self.drop_all(0, Roots::Frame(frame));
+    }
+
+    /// Drops the initial cubes that may miss a clause, which here is every one, with all that rests on them. This
+    /// takes no memory.
+    pub fn drop_cubes_missing(&mut self, clause: &[Lit])
+        requires { IsTrue (has_rows self.old) }
+        ensures drops { Drops is_initial_cube self.old self.new }
+        ensures kept { (id : ℕ) (note : Kept) → note_at self.old id ≡ Some note → note.side ≡ exists → note_at self.new id ≡ Some note }
+        ensures clauses { clauses_of self.new ≡ clauses_of self.old }
+        ensures legal { (scopes : List Scope) → IsLegalFor scopes self.old → IsLegalFor scopes self.new }
+    {
+        self.drop_all(self.cubes_from, Roots::InitialCubes);
+        self.cubes_from = self.notes.len();
+    }
+
+    /// Drops the finishes. This takes no memory.
+    pub fn drop_finish(&mut self)
+        requires { IsTrue (has_rows self.old) }
+        ensures drops { Drops finishes self.old self.new }
+        ensures exactly { (id : ℕ) → note_at self.new id ≡ unless_finish (note_at self.old id) }
+        ensures steps { steps_of self.new ≡ steps_of self.old }
+        ensures clauses { clauses_of self.new ≡ clauses_of self.old }
+        ensures legal { (scopes : List Scope) → IsLegalFor scopes self.old → IsLegalFor scopes self.new }
+    {
+        self.drop_all(self.finishes_from, Roots::Finishes);
+        self.finishes_from = self.notes.len();
+    }
+
+    /// Drops every step with this id or a later one. This takes no memory.
+    pub fn cut_to(&mut self, first: StepId)
+        requires { IsTrue (has_rows self.old) }
+        ensures drops { Drops (is_from first) self.old self.new }
+        ensures front { (id : ℕ) → note_at self.new id ≡ (if nat_lt id first then note_at self.old id else None) }
+        ensures clauses { clauses_of self.new ≡ filter (λ (c : OpenClause). nat_lt c.id first) (clauses_of self.old) }
+        ensures legal { (scopes : List Scope) → IsLegalFor scopes self.old → IsLegalFor scopes self.new }
+    {
+        self.drop_all(first, Roots::From(first));
+    }
+
+    /// Hands out the rows. Then only `step`, `is_live`, `tag` and `next_id` are called, until they are put back. This
+    /// takes no memory.
+    pub fn take_rows(&mut self) -> Rows
+        requires { IsTrue (has_rows self.old) }
+        ensures rows { Some result ≡ self.old.rows }
+        ensures state { self.new ≡ record { notes = self.old.notes; rows = None } }
+        ensures fits { Fits self.old.notes result }
+    {
+        match self.rows.take() {
+            Some(rows) => rows,
+            None => unreachable!(),
+        }
+    }
+
+    /// Takes the rows back, under the ids that they were taken with. Their links are those of these rows. This takes
+    /// no memory.
+    pub fn put_rows(&mut self, rows: Rows)
+        requires taken { IsFalse (has_rows self.old) }
+        requires fits { Fits self.old.notes rows }
+        ensures state { self.new ≡ record { notes = self.old.notes; rows = Some rows } }
+        ensures same { (before : State) → before.notes ≡ self.old.notes → ((id : ℕ) → row_of before id ≡ literals_at rows id) → (steps_of self.new ≡ steps_of before) × (clauses_of self.new ≡ clauses_of before) }
+        ensures legal { (before : State) (scopes : List Scope) → before.notes ≡ self.old.notes → ((id : ℕ) → row_of before id ≡ literals_at rows id) → IsLegalFor scopes before → IsLegalFor scopes self.new }
+    {
+        self.rows = Some(rows);
+    }
+
+    // The side of a live step.
+    fn side(&self, id: StepId) -> Quant
+        requires { IsTrue (is_live self.now id) }
+        ensures { result ≡ side_at self.now id }
+    {
+        match &self.notes[id] {
+            Some(note) => note.side(),
+            None => unreachable!(),
+        }
+    }
+
+    // Adds a step with its row.
+    fn add(&mut self, note: Note, lits: &[Lit]) -> Result<StepId, NoMemory>
+        requires rows { IsTrue (has_rows self.old) }
+        requires ground { IsGroundedAt self.old.notes (next_id self.old) note }
+        ensures ok { IfOk result (λ id. Adds self.old self.new id note lits.now) }
+        ensures err { OnErr result (self.new ≡ self.old) }
+    {
+        self.notes.reserve(1)?;
+        let id = match &mut self.rows {
+            Some(rows) => rows.add(lits)?,
+            None => unreachable!(),
+        };
+        let _ = self.notes.push(Some(note));
+        Ok(id)
+    }
+
+    // Adds a step whose row is that of another one without some literals, if there are any.
+    fn add_removal(&mut self, on: StepId, step: Step, row: &[Lit]) -> Result<StepId, NoMemory>
+        requires rows { IsTrue (has_rows self.old) }
+        requires on { IsTrue (is_step self.old on) }
+        requires over { IsOver (why_of step) on }
+        requires told { step ≡ told (side_at self.old on) (why_of step) }
+        requires part { length row.now ≡ length (row_of self.old on) → row.now ≡ row_of self.old on }
+        ensures ok { IfOk result (λ id. Removes self.old self.new id on (why_of step) row.now) }
+        ensures err { OnErr result (self.new ≡ self.old) }
+    {
+        if row.len() == self.lits(on).len() {
+            return Ok(on);
+        }
+        let note = Note::new(self.side(on), step, self.tag(on));
+        self.add(note, row)
+    }
+
+    // Adds a clause with its reduction.
+    fn add_clause(
+        &mut self,
+        prefix: &Prefix,
+        lits: &[Lit],
+        frame: usize,
+    ) -> Result<(StepId, StepId), NoMemory>
+        requires { IsTrue (has_rows self.old) }
+        ensures ok { IfOk result (λ ids. AddsClause prefix.now self.old self.new ids.0 ids.1 frame lits.now) }
+        ensures err { OnErr result (self.new ≡ self.old) }
+    {
+        let mut row = Row::new(*self.notes.allocator());
+        reduce_of(Quant::Exists, prefix, lits, &mut row)?;
+        if row.len() == lits.len() {
+            let input = Note::new(Quant::Exists, Step::InputClause, frame);
+            let id = self.add(input, lits)?;
+            return Ok((id, id));
+        }
+        self.add_both(lits, row.as_slice(), frame)
+    }
+
+    // Adds a clause and a reduction of it.
+    fn add_both(
+        &mut self,
+        lits: &[Lit],
+        row: &[Lit],
+        frame: usize,
+    ) -> Result<(StepId, StepId), NoMemory>
+        requires { IsTrue (has_rows self.old) }
+        ensures ok { IfOk result (λ ids. AddsBoth self.old self.new ids.0 ids.1 frame lits.now row.now) }
+        ensures err { OnErr result (self.new ≡ self.old) }
+    {
+        self.notes.reserve(2)?;
+        let (first, second) = match &mut self.rows {
+            Some(rows) => rows.add_pair(lits, row)?,
+            None => unreachable!(),
+        };
+        let input = Note::new(Quant::Exists, Step::InputClause, frame);
+        let reduction = Note::new(Quant::Exists, Step::Reduced(first), frame);
+        let _ = self.notes.push(Some(input));
+        let _ = self.notes.push(Some(reduction));
+        Ok((first, second))
+    }
+
+    // Drops the roots, which have no id below `from`, with all that rests on them.
+    fn drop_all(&mut self, from: StepId, roots: Roots)
+        requires rows { IsTrue (has_rows self.old) }
+        requires below { (id : ℕ) (note : Kept) → note_at self.old id ≡ Some note → id < from → is_root roots id note ≡ false }
+        ensures drops { Drops (is_root roots) self.old self.new }
+        ensures grounded { IsGrounded self.old.notes }
+    {
+        match &mut self.rows {
+            Some(rows) => drop_roots(&mut self.notes, rows, from, &roots),
+            None => unreachable!(),
+        }
+    }
+}

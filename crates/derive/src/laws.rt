@@ -1,0 +1,17 @@
+//! Laws of derivations.
+ghost use Rattle.derive.specs.Theorems.{CutsRestore, PrefixesMayGrow, SameClausesServe};
+
+/// Each live step but a finish stays legal when the prefix gets scopes and variables.
+pub fn prefixes_may_grow()
+    ensures { PrefixesMayGrow }
+{}
+
+/// Each live step but a finish is legal for every formula that has the open clauses and no others.
+pub fn same_clauses_serve()
+    ensures { SameClausesServe }
+{}
+
+/// After steps were added, a cut to the id that came next before gives the same steps and open clauses again.
+pub fn cuts_restore()
+    ensures { CutsRestore }
+{}

@@ -1,0 +1,16 @@
+//! Derivations of clauses and cubes: input steps, reductions, resolvents and finishes, with their rows and their frames.
+#![tactic(auto)]
+
+mod derivation;
+mod dropping;
+mod laws;
+mod note;
+mod removal;
+mod step;
+
+pub use derivation::Derivation;
+pub use laws::{cuts_restore, prefixes_may_grow, same_clauses_serve};
+pub use step::{Step, StepId};
+
+#[cfg(test)]
+mod tests;
