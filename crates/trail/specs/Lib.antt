@@ -1,0 +1,4 @@
+pub mod Causes
+pub mod State
+pub mod Table
+pub mod Worked
