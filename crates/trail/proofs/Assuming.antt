@@ -5,7 +5,7 @@ use Rattle.std.proofs.lemmas.List.{take_more, length-map, length_push, length-ta
 use Rattle.prefix.specs.Literal.{Literal}
 use Rattle.prefix.specs.Scopes.{Scope, is_among, AreDistinct}
 use Rattle.steps.specs.Counter.{Counter, after, left}
-use Rattle.calculus.specs.Rows.{variables_in}
+use Rattle.calculus.specs.Rows.{depth_of, variables_in}
 use Rattle.calculus.specs.Search.{Cause, Placed, Trail, value_on}
 use Rattle.calculus.specs.Search.Cause.{Assumed}
 use Rattle.calculus.proofs.Lists.{contains_cons, contains_nil}
@@ -16,7 +16,7 @@ use Rattle.trail.specs.State.{TrailState, MayFollow, IsTrailFor, assumed, allowe
 
 -- some literals were assumed, with a step for each
 pub record HasAssumed (scopes : List Scope) (old now : TrailState) (literals : List Literal) (first then : Counter) (i : ℕ) : Type 0 where
-  pub trail : now ≡ with_assumed old (take i literals)
+  pub trail : now ≡ with_assumed scopes old (take i literals)
   pub steps : then ≡ after first i
   pub few : i ≤ left first
   pub kept : IsTrailFor scopes now
@@ -52,21 +52,25 @@ allowed_anything [] l allowed = refl
 allowed_anything (m ∷ ls) l allowed = refl
 
 -- one more assumption
-pub assumed_more : (t : TrailState) (ls : List Literal) (l : Literal) → with_literal (with_assumed t ls) l Assumed ≡ with_assumed t (ls ++ l ∷ [])
-assumed_more t ls l =
+pub assumed_more : (scopes : List Scope) (t : TrailState) (ls : List Literal) (l : Literal) → with_literal scopes (with_assumed scopes t ls) l Assumed ≡ with_assumed scopes t (ls ++ l ∷ [])
+assumed_more scopes t ls l =
+    let depth : Literal → ℕ = λ (m : Literal). depth_of scopes m.variable in
     let placed : map assumed ls ++ assumed l ∷ [] ≡ map assumed (ls ++ l ∷ []) = sym (map-append assumed ls (l ∷ [])) in
+    let depths : map depth ls ++ depth l ∷ [] ≡ map depth (ls ++ l ∷ []) = sym (map-append depth ls (l ∷ [])) in
     let longer : suc (length ls) ≡ length (ls ++ l ∷ []) = (let h = length_push ls l in omega arith) in
     let number : counted (counted t.assigned (length ls)) 1 ≡ counted t.assigned (length (ls ++ l ∷ [])) = counted_more t.assigned (length ls) ∙ ap (counted t.assigned) longer in
     let next = allowed_anything ls l t.allowed in
-    λ i. record { placed = placed i; assigned = number i; room = t.room; allowed = next i }
+    λ i. record { placed = placed i; depths = depths i; assigned = number i; room = t.room; allowed = next i }
 
-pub assumed_next : (t : TrailState) (ls : List Literal) (i : ℕ) (l : Literal) → i < length ls → l ≡ get_or ls i l → with_literal (with_assumed t (take i ls)) l Assumed ≡ with_assumed t (take (i + 1) ls)
-assumed_next t ls i l below is =
-    assumed_more t (take i ls) l ∙ ap (with_assumed t) (ap (λ m. take i ls ++ m ∷ []) is ∙ sym (take_more ls i l below))
+pub assumed_next : (scopes : List Scope) (t : TrailState) (ls : List Literal) (i : ℕ) (l : Literal) → i < length ls → l ≡ get_or ls i l → with_literal scopes (with_assumed scopes t (take i ls)) l Assumed ≡ with_assumed scopes t (take (i + 1) ls)
+assumed_next scopes t ls i l below is =
+    assumed_more scopes t (take i ls) l ∙ ap (with_assumed scopes t) (ap (λ m. take i ls ++ m ∷ []) is ∙ sym (take_more ls i l below))
 
 -- none is assumed yet
-pub assumed_none : (t : TrailState) → t.placed ≡ [] → t ≡ with_assumed t []
-assumed_none t empty = λ i. record { placed = empty i; assigned = t.assigned; room = t.room; allowed = t.allowed }
+pub assumed_none : (scopes : List Scope) (t : TrailState) → IsTrailFor scopes t → t.placed ≡ [] → t ≡ with_assumed scopes t []
+assumed_none scopes t kept empty =
+    let none : t.depths ≡ [] = kept.numbered ∙ ap (map (λ (p : Placed). depth_of scopes p.literal.variable)) empty in
+    λ i. record { placed = empty i; depths = none i; assigned = t.assigned; room = t.room; allowed = t.allowed }
 
 -- steps
 pub after_none : (c : Counter) → c ≡ after c 0

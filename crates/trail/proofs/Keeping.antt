@@ -1,10 +1,12 @@
 -- What a trail keeps for its prefix: its order, and a count of assignments within its weight.
-use Rattle.std.proofs.Common.{◌≡◌, ℕ, zero, suc, ◌+◌, ◌-◌, ◌^◌, ◌<◌, ◌≤◌, Bool, true, false, List, [], ◌∷◌, ◌++◌, length, map, min, Contains, Option, Some, None, IsFalse, refl, sym, ap, ◌∙◌, inl, inr, ⊎_elim, arith, add-one, append_assoc, length-append}
+use Rattle.std.proofs.Common.{◌≡◌, ℕ, zero, suc, ◌+◌, ◌-◌, ◌^◌, ◌<◌, ◌≤◌, Bool, true, false, List, [], ◌∷◌, ◌++◌, length, map, take, min, Contains, Option, Some, None, IsFalse, refl, sym, ap, ◌∙◌, inl, inr, ⊎_elim, arith, add-one, append_assoc, length-append}
 use Rattle.std.proofs.lemmas.Bool.{cases_lt}
 use Rattle.std.proofs.lemmas.List.{length-map, map-append, length_push}
 use Rattle.prefix.specs.Literal.{Literal}
 use Rattle.prefix.specs.Scopes.{Scope, all_variables}
 use Rattle.calculus.specs.Search.{Cause, Placed, Trail, MayStand, IsOrderedTrail, cut_trail, decisions_on, is_decision, last_level, value_on}
+use Rattle.std.proofs.Math.Seq.{take-append_seam}
+use Rattle.calculus.specs.Rows.{depth_of}
 use Rattle.calculus.specs.Weights.{trail_weight}
 use Rattle.calculus.proofs.Weighing.{weight_below, weight_rises, weight_turns}
 use Rattle.calculus.proofs.Sizes.{trail_length}
@@ -57,11 +59,12 @@ weighed_more n Nothing trail assigned p h may = absurd may
 pub raised_more : (n : ℕ) (trail : Trail) (p : Placed) → trail_weight n (decisions_on trail) < trail_weight n (decisions_on (trail ++ p ∷ []))
 raised_more n trail p = rw (decisions_append trail (p ∷ [])) (weight_rises n (decisions_on trail) (is_decision p.cause))
 
-pub kept_more : (scopes : List Scope) (t : TrailState) (l : Literal) (cause : Cause) → IsTrailFor scopes t → Contains (all_variables scopes) l.variable → value_on t.placed l.variable ≡ None → MayStand scopes t.placed l.variable cause → MayFollow t.allowed cause → IsTrailFor scopes (with_literal t l cause)
+pub kept_more : (scopes : List Scope) (t : TrailState) (l : Literal) (cause : Cause) → IsTrailFor scopes t → Contains (all_variables scopes) l.variable → value_on t.placed l.variable ≡ None → MayStand scopes t.placed l.variable cause → MayFollow t.allowed cause → IsTrailFor scopes (with_literal scopes t l cause)
 kept_more scopes t l cause kept known fresh order may =
     let p : Placed = record { literal = l; cause = cause } in
     record {
       ordered = ordered_more scopes [] t.placed p kept.ordered known fresh order;
+      numbered = ap (λ (ds : List ℕ). ds ++ depth_of scopes l.variable ∷ []) kept.numbered ∙ sym (map-append (λ (q : Placed). depth_of scopes q.literal.variable) t.placed (p ∷ []));
       weighed = weighed_more (length (all_variables scopes)) t.allowed t.placed t.assigned p kept.weighed may;
     }
 
@@ -106,23 +109,35 @@ weighed_cut n b NoDecision trail assigned fits high h =
     (omega arith, omega arith)
 weighed_cut n b Nothing trail assigned fits high h = absurd (let top : b < 0 = rw h.0 at high in omega arith)
 
+numbered_cut : (scopes : List Scope) (b : ℕ) (t : TrailState) → b < last_level t.placed → IsTrailFor scopes t → take (length (cut_trail b t.placed)) t.depths ≡ map (λ (p : Placed). depth_of scopes p.literal.variable) (cut_trail b t.placed)
+numbered_cut scopes b t high kept =
+    let depth : Placed → ℕ = λ (p : Placed). depth_of scopes p.literal.variable in
+    let front = cut_trail b t.placed in
+    let at = cut_at 0 b t.placed (omega arith) high in
+    let back : List Placed = at.decision ∷ at.back in
+    let parts : t.depths ≡ map depth front ++ map depth back = kept.numbered ∙ (ap (map depth) at.parts ∙ map-append depth front back) in
+    let long : length (map depth front) ≡ length front = length-map front depth in
+    ap (take (length front)) parts ∙ (ap (λ n. take n (map depth front ++ map depth back)) (sym long) ∙ take-append_seam (map depth front) (map depth back))
+
 pub kept_cut : (scopes : List Scope) (b : ℕ) (t : TrailState) → IsTrailFor scopes t → IsTrailFor scopes (undone_to b t)
 kept_cut scopes b t kept =
     ⊎_elim
     (λ (high : b < last_level t.placed). rw (undone_high b t high) (record {
       ordered = cut_ordered scopes [] 0 b t.placed kept.ordered;
+      numbered = numbered_cut scopes b t high kept;
       weighed = weighed_cut (length (all_variables scopes)) b t.allowed t.placed t.assigned (trail_length scopes t.placed kept.ordered) high kept.weighed;
     }))
     (λ (low : last_level t.placed ≤ b). rw (undone_low b t low) kept)
     (cases_lt b (last_level t.placed))
 
 pub kept_cleared : (scopes : List Scope) (t : TrailState) → IsTrailFor scopes (cleared t)
-kept_cleared scopes t = record { ordered = tt; weighed = omega arith }
+kept_cleared scopes t = record { ordered = tt; numbered = refl; weighed = omega arith }
 
 -- assumptions that are given up
-pub kept_given_up : (scopes : List Scope) (t : TrailState) (placed : Trail) (assigned room : ℕ) → IsTrailFor scopes t → placed ≡ [] → assigned ≡ t.assigned → IsTrailFor scopes (record { placed = placed; assigned = assigned; room = room; allowed = Nothing })
-kept_given_up scopes t placed assigned room kept empty same =
+pub kept_given_up : (scopes : List Scope) (t : TrailState) (placed : Trail) (depths : List ℕ) (assigned room : ℕ) → IsTrailFor scopes t → placed ≡ [] → depths ≡ [] → assigned ≡ t.assigned → IsTrailFor scopes (record { placed = placed; depths = depths; assigned = assigned; room = room; allowed = Nothing })
+kept_given_up scopes t placed depths assigned room kept empty none same =
     record {
       ordered = rw empty tt;
+      numbered = none ∙ ap (map (λ (p : Placed). depth_of scopes p.literal.variable)) (sym empty);
       weighed = (empty, rw same (assigned_few scopes t kept));
     }

@@ -105,3 +105,16 @@ once_less trail p once i q at =
     let place : place_on (trail ++ p ∷ []) q.literal.variable ≡ i = once i q (slice_get_before trail p i below ∙ at) in
     let known = front_has trail (p ∷ []) q.literal.variable (omega arith) in
     sym (place_front trail (p ∷ []) q.literal.variable known).0 ∙ place
+
+-- a variable that stands somewhere stands on the trail
+pub spot_place : (trail : Trail) (x : ℕ) (s : Spot) → Some s ≡ spot_on trail x → s.place < length trail
+spot_place trail x s e = by_value (value_on trail x) refl e
+  where
+    by_value : (o : Option Bool) → value_on trail x ≡ o → Some s ≡ option_map {U = Spot} (λ b. record { value = b; place = place_on trail x }) o → s.place < length trail
+    by_value None is h = absurd (cc)
+    by_value (Some b) is h =
+        let known : is_some (value_on trail x) ≡ true = ap is_some is in
+        let same : s ≡ record { value = b; place = place_on trail x } = cc in
+        let place : s.place ≡ place_on trail x = ap (λ (t : Spot). t.place) same in
+        let below = (place_front trail [] x known).1 in
+        omega arith

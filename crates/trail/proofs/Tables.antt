@@ -1,17 +1,19 @@
 -- The table of a trail stays one.
-use Rattle.std.proofs.Common.{◌≡◌, ℕ, zero, suc, ◌+◌, ◌-◌, ◌<◌, ◌≤◌, Bool, true, false, cond, List, [], ◌∷◌, ◌++◌, length, map, set, get_or, Option, Some, None, is_some, refl, sym, ap, ◌∙◌, inl, inr, ⊎_elim, arith, nat_eq, append-nil}
+use Rattle.std.proofs.Common.{◌≡◌, ℕ, zero, suc, ◌+◌, ◌-◌, ◌<◌, ◌≤◌, Bool, true, false, cond, List, [], ◌∷◌, ◌++◌, length, map, take, set, get_or, Option, Some, None, is_some, refl, sym, ap, ◌∙◌, inl, inr, ⊎_elim, arith, nat_eq, append-nil}
 use Rattle.std.specs.Prelude.{slice_get, count_by}
 use Rattle.std.specs.Option.{option_map}
 use Rattle.std.proofs.lemmas.Bool.{cond_both, cases_Bool, cases_eq, cases_lt, eqb-true, eq-eqb, ne_eqb, false≢true, true≢false}
-use Rattle.std.proofs.lemmas.List.{length_push, length-map, length-set, map-append, get_or-set_same, get_or-set_other, get_or_past}
+use Rattle.std.proofs.lemmas.List.{length_push, length-map, length-set, length-take-le, map-append, get_or-set_same, get_or-set_other, get_or_past}
 use Rattle.std.proofs.lemmas.List.Sums.{sum_by-set, count_by-le-length}
 use Rattle.std.proofs.lemmas.Option.{slice_get-map}
-use Rattle.calculus.specs.Search.{Cause, Placed, Trail, cause_on, is_decision, last_level, last_level_from, literals_on, level_after, level_from_start, place_on, value_on}
+use Rattle.std.proofs.Math.Seq.{take-length, take-suc}
+use Rattle.calculus.specs.Search.{Cause, Placed, Trail, cut_trail, cause_on, is_decision, last_level, last_level_from, literals_on, level_after, level_from_start, place_on, value_on}
 use Rattle.calculus.proofs.Trails.{value_here, value_past, place_here, place_past, cause_here, cause_past, level_here, level_past}
 use Rattle.trail.specs.declared.trail.Entry.{Entry}
 use Rattle.trail.specs.declared.trail.Spot.{Spot}
 use Rattle.trail.specs.Causes.{cause_of}
 use Rattle.trail.specs.Table.{placed_of, trail_of, AreLeveled, spot_at, spot_on, IsTable}
+use Rattle.trail.proofs.Cutting.{cut_all, cut_more}
 use Rattle.trail.proofs.Placing.{slice_get_before, slice_get_last, spot_other, spot_last, spot_none, IsOnce, once_more, once_less, last_new}
 
 -- levels
@@ -226,3 +228,49 @@ pub literal_at : (entries : List Entry) (k : ℕ) (e : Entry) → k < length ent
 literal_at [] k e h at = absurd (omega arith)
 literal_at (x ∷ entries) zero e h at = ap (λ (y : Entry). Some y.lit) (sym at)
 literal_at (x ∷ entries) (suc k) e h at = literal_at entries k e (omega arith) at
+
+-- the level at a place is that of the trail up to it
+level_at_place : (before : ℕ) (entries : List Entry) (j : ℕ) (d : Entry) → AreLeveled before entries → j < length entries → (get_or entries j d).level ≡ last_level_from before (trail_of (take (suc j) entries))
+level_at_place before [] j d h below = absurd (omega arith)
+level_at_place before (e ∷ entries) zero d h below = h.0
+level_at_place before (e ∷ entries) (suc j) d h below =
+    level_at_place e.level entries j d h.1 (omega arith) ∙ ap (λ n. last_level_from n (trail_of (take (suc j) entries))) h.0
+
+-- the length of a cut, from the end
+pub record IsCutLength (level : ℕ) (entries : List Entry) (len : ℕ) : Type 0 where
+  pub within : len ≤ length entries
+  pub same : length (cut_trail level (trail_of (take len entries))) ≡ length (cut_trail level (trail_of entries))
+
+pub cut_length_first : (level : ℕ) (entries : List Entry) → IsCutLength level entries (length entries)
+cut_length_first level entries = record {
+  within = omega arith;
+  same = ap (λ t. length (cut_trail level (trail_of t))) (take-length entries);
+}
+
+pub cut_length_less : (level : ℕ) (entries : List Entry) (len j : ℕ) (e : Entry) → IsCutLength level entries len → AreLeveled 0 entries → len ≡ suc j → e ≡ get_or entries j e → level < e.level → IsCutLength level entries j
+cut_length_less level entries len j e before leveled next is high =
+    let within = before.within in
+    let below : j < length entries = omega arith in
+    let all : take len entries ≡ take j entries ++ e ∷ [] = ap (λ n. take n entries) next ∙ (take-suc entries j e below ∙ ap (λ x. take j entries ++ x ∷ []) (sym is)) in
+    let parts : trail_of (take len entries) ≡ trail_of (take j entries) ++ placed_of e ∷ [] = ap trail_of all ∙ map-append placed_of (take j entries) (e ∷ []) in
+    let top : e.level ≡ last_level (trail_of (take j entries) ++ placed_of e ∷ []) = ap (λ (x : Entry). x.level) is ∙ (level_at_place 0 entries j e leveled below ∙ (ap (λ n. last_level (trail_of (take n entries))) (sym next) ∙ ap last_level parts)) in
+    let above : level < last_level (trail_of (take j entries) ++ placed_of e ∷ []) = rw (← top) high in
+    let cut : cut_trail level (trail_of (take len entries)) ≡ cut_trail level (trail_of (take j entries)) = ap (cut_trail level) parts ∙ cut_more 0 level (trail_of (take j entries)) (placed_of e) above in
+    record { within = omega arith; same = sym (ap length cut) ∙ before.same }
+
+pub cut_length_found : (level : ℕ) (entries : List Entry) (len j : ℕ) (e : Entry) → IsCutLength level entries len → AreLeveled 0 entries → len ≡ suc j → e ≡ get_or entries j e → e.level ≤ level → len ≡ length (cut_trail level (trail_of entries))
+cut_length_found level entries len j e before leveled next is low =
+    let within = before.within in
+    let below : j < length entries = omega arith in
+    let top : e.level ≡ last_level (trail_of (take len entries)) = ap (λ (x : Entry). x.level) is ∙ (level_at_place 0 entries j e leveled below ∙ ap (λ n. last_level (trail_of (take n entries))) (sym next)) in
+    let under : last_level (trail_of (take len entries)) ≤ level = rw (← top) low in
+    let whole : length (cut_trail level (trail_of (take len entries))) ≡ length (trail_of (take len entries)) = ap length (cut_all 0 level (trail_of (take len entries)) under) in
+    let long : length (trail_of (take len entries)) ≡ length (take len entries) = length-map (take len entries) placed_of in
+    let taken : length (take len entries) ≡ len = length-take-le len entries within in
+    sym (sym before.same ∙ (whole ∙ (long ∙ taken)))
+
+pub cut_length_none : (level : ℕ) (entries : List Entry) (len : ℕ) → IsCutLength level entries len → len ≤ 0 → len ≡ length (cut_trail level (trail_of entries))
+cut_length_none level entries len before low =
+    let none : len ≡ 0 = omega arith in
+    let empty : length (cut_trail level (trail_of (take len entries))) ≡ 0 = ap (λ n. length (cut_trail level (trail_of (take n entries)))) none in
+    none ∙ (sym empty ∙ before.same)

@@ -1,6 +1,8 @@
 -- Worked values: trails over three variables.
 use Rattle.std.specs.Prelude.{◌≡◌, ℕ, true, false, List, [], ◌∷◌, Some, None}
 use Rattle.prefix.specs.Literal.{Literal}
+use Rattle.prefix.specs.Scopes.{Scope}
+use Rattle.prefix.specs.declared.quant.Quant.TheVariants.{Exists}
 use Rattle.calculus.specs.Search.{Trail, cause_on, decision_level_on, decisions_on, last_level, place_on, value_on}
 use Rattle.calculus.specs.Search.Cause.{Decided, Propagated}
 use Rattle.calculus.specs.Weights.{trail_weight}
@@ -14,17 +16,21 @@ plus x = record { variable = x; positive = true }
 abbrev pub minus : ℕ → Literal
 minus x = record { variable = x; positive = false }
 
+-- e 1 2 3
+abbrev pub three_variables : List Scope
+three_variables = record { quantifier = Exists; variables = 1 ∷ 2 ∷ 3 ∷ [] } ∷ []
+
 -- 1 is decided, and -2 propagated from step 7
 abbrev pub decided_first : TrailState
-decided_first = with_literal (with_literal new_trail (plus 1) Decided) (minus 2) (Propagated 7)
+decided_first = with_literal three_variables (with_literal three_variables new_trail (plus 1) Decided) (minus 2) (Propagated 7)
 
 -- both are undone, and -1 is propagated from step 8
 abbrev pub turned : TrailState
-turned = with_literal (undone_to 0 decided_first) (minus 1) (Propagated 8)
+turned = with_literal three_variables (undone_to 0 decided_first) (minus 1) (Propagated 8)
 
 -- all three variables are propagated
 abbrev pub propagated : TrailState
-propagated = with_literal (with_literal (with_literal new_trail (plus 1) (Propagated 0)) (plus 2) (Propagated 1)) (plus 3) (Propagated 2)
+propagated = with_literal three_variables (with_literal three_variables (with_literal three_variables new_trail (plus 1) (Propagated 0)) (plus 2) (Propagated 1)) (plus 3) (Propagated 2)
 
 -- the weight of a trail over three variables
 abbrev pub weight_of : TrailState → ℕ

@@ -100,3 +100,46 @@ fn assumptions_that_cant_all_be_paid_are_undone(rt: HostRuntime) -> Result<(), F
     assert_eq!(rt; (trail.at(0), trail.at(1)), (lit(1)?, lit(-2)?));
     Ok(())
 }
+
+#[test]
+fn decided_scopes_come_in_order(rt: HostRuntime) -> Result<(), Fail> {
+    let prefix = two_scopes(rt.alloc())?;
+    let mut steps = Steps::new(10);
+    let mut trail = Trail::new(rt.alloc());
+    trail.reserve(3)?;
+    assert_eq!(rt; trail.first_open(&prefix), Some(1));
+    trail.assign(&prefix, lit(3)?, Why::Propagated(0), &mut steps)?;
+    trail.assign(&prefix, lit(2)?, Why::Decided, &mut steps)?;
+    assert_eq!(rt; trail.first_open(&prefix), Some(1));
+    trail.assign(&prefix, lit(1)?, Why::Decided, &mut steps)?;
+    assert_eq!(rt; trail.first_open(&prefix), None);
+    assert_eq!(rt;
+        (trail.len_to(0), trail.len_to(1), trail.len_to(2)),
+        (1, 2, 3)
+    );
+    trail.undo_to(1);
+    assert_eq!(rt; (trail.len(), trail.first_open(&prefix)), (2, Some(1)));
+    trail.clear();
+    trail.assume_all(&prefix, &[lit(1)?, lit(2)?], &mut steps)?;
+    assert_eq!(rt; trail.first_open(&prefix), Some(2));
+    Ok(())
+}
+
+#[test]
+fn scopes_without_variables_are_no_matter(rt: HostRuntime) -> Result<(), Fail> {
+    let mut prefix = Prefix::new(rt.alloc());
+    for _ in 0..9 {
+        prefix.add_scope(Quant::Exists, None)?;
+    }
+    prefix.add_var(1, 2)?;
+    prefix.add_var(2, 8)?;
+    let mut steps = Steps::new(10);
+    let mut trail = Trail::new(rt.alloc());
+    trail.reserve(2)?;
+    assert_eq!(rt; trail.first_open(&prefix), Some(2));
+    trail.assign(&prefix, lit(1)?, Why::Decided, &mut steps)?;
+    assert_eq!(rt; trail.first_open(&prefix), Some(8));
+    trail.assign(&prefix, lit(2)?, Why::Decided, &mut steps)?;
+    assert_eq!(rt; trail.first_open(&prefix), None);
+    Ok(())
+}

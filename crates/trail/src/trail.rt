@@ -1,31 +1,36 @@
 //! The trail.
-ghost use Rattle.std.specs.Prelude.{◌≡◌, ◌↔◌, ℕ, [], ◌∷◌, ◌++◌, ◌+◌, ◌-◌, ◌^◌, ◌<◌, ◌≤◌, length, map, take, slice_get, is_some, false, All, IsTrue, IsErr, OnOk, OnErr, List, Contains, Some, None, vec_len, vec_capacity};
+ghost use Rattle.std.specs.Prelude.{◌≡◌, ◌↔◌, ℕ, [], ◌∷◌, ◌++◌, ◌+◌, ◌-◌, ◌^◌, ◌<◌, ◌≤◌, length, map, take, slice_get, slice_index, slice_set, is_some, count_by, false, All, IfSome, IsNone, IsTrue, IsErr, OnOk, OnErr, List, Contains, Some, None, vec_len, vec_capacity};
 ghost use Rattle.std.specs.Option.{option_map};
 ghost use Rattle.prefix.specs.Literal.{Literal};
-ghost use Rattle.prefix.specs.Scopes.{Scope, all_variables, AreDistinct};
+ghost use Rattle.prefix.specs.Scopes.{Scope, all_variables, variables_at, AreDistinct, IsPrefix};
 ghost use Rattle.steps.specs.Counter.{after, left};
-ghost use Rattle.calculus.specs.Search.{MayStand, value_on, place_on, cause_on, decision_level_on, decisions_on, last_level, literals_on};
+ghost use Rattle.calculus.specs.Search.{MayStand, value_on, place_on, cause_on, cut_trail, decision_level_on, decisions_on, last_level, literals_on};
 ghost use Rattle.calculus.specs.Search.Cause.{Assumed as assumed_cause};
-ghost use Rattle.calculus.specs.Rows.{variables_in};
+ghost use Rattle.calculus.specs.Rows.{depth_of, variables_in};
 ghost use Rattle.calculus.specs.Weights.{trail_weight};
 ghost use Rattle.calculus.specs.Verdicts.{AreOuter};
+ghost use Rattle.trail.specs.declared.allowed.Allowed.TheVariants.{Anything};
 ghost use Rattle.trail.specs.Causes.{cause_of};
-ghost use Rattle.trail.specs.Table.{spot_on};
+ghost use Rattle.trail.specs.Open.{is_assigned, AreAssigned, AreAssignedBefore, IsFirstOpen};
+ghost use Rattle.trail.specs.Table.{spot_on, AreFloored, IsTallied, floor_from};
 ghost use Rattle.trail.specs.State.{new_trail, without_last, with_room, with_literal, with_assumed, given_up, undone_to, cleared, counted, MayFollow, IsTrailFor};
 
 use super::Why;
 use super::allowed::Allowed;
 use prefix::{Lit, Prefix, Var};
-use std::alloc::Global;
+use std::alloc::{AllocError, Global};
 use std::marker::Model;
 use steps::{NoMemory, Spent, Steps};
 
-// A literal on the trail, with its cause and its decision level.
+// A literal on the trail, with its cause, its decision level, the number less 1 of its variable's scope, and the number of
+// the scope of the last decision up to it, or 1.
 #[derive(Debug, Drop)]
 struct Entry {
     lit: Lit,
     why: Why,
     level: usize,
+    scope: usize,
+    floor: usize,
 }
 
 // Where a variable stands: its value, and its place among the entries.
@@ -46,6 +51,8 @@ pub struct Trail {
     entries: Vec<Entry>,
     // Where each variable stands, at its number less 1.
     spots: Vec<Option<Spot>>,
+    // How many entries are of each scope, at its number less 1; scopes of greater numbers than its length aren't counted.
+    tallies: Vec<usize>,
     assigned: u64,
     allowed: Allowed,
 }
@@ -56,11 +63,11 @@ impl Model for Trail {
 
     ghost Value = { TrailState };
 
-    ghost use Rattle.trail.specs.Table.{trail_of, IsTable};
+    ghost use Rattle.trail.specs.Table.{trail_of, depths_of, IsTable, IsTallied};
 
-    ghost view = { λ t. record { placed = trail_of t.entries.items; assigned = t.assigned; room = length t.spots.items; allowed = t.allowed } };
+    ghost view = { λ t. record { placed = trail_of t.entries.items; depths = depths_of t.entries.items; assigned = t.assigned; room = length t.spots.items; allowed = t.allowed } };
 
-    ghost invariant = { λ t. IsTable t.entries.items t.spots.items (vec_capacity t.entries) };
+    ghost invariant = { λ t. IsTable t.entries.items t.spots.items (vec_capacity t.entries) × IsTallied t.entries.items t.tallies.items };
 }
 
 /// What is told of a search that stopped because its budget was spent. `Trail::stop` alone makes one, and it is never
@@ -117,6 +124,7 @@ impl Trail {
         Self {
             entries: Vec::new(alloc),
             spots: Vec::new(alloc),
+            tallies: Vec::new(alloc),
             assigned: 0,
             allowed: Allowed::Anything,
         }
@@ -129,6 +137,7 @@ impl Trail {
     {
         if self.spots.len() < vars {
             self.entries.reserve(vars - self.entries.len())?;
+            widen(&mut self.tallies, &self.entries, vars)?;
             self.spots.resize(vars, None)?;
         }
         Ok(())
@@ -143,7 +152,8 @@ impl Trail {
 
     /// The place of a variable on the trail, from 0; none exactly where it is unassigned.
     pub fn place(&self, v: Var) -> Option<usize>
-        ensures { result ≡ option_map (λ b. place_on self.now.placed v) (value_on self.now.placed v) }
+        ensures value { result ≡ option_map (λ b. place_on self.now.placed v) (value_on self.now.placed v) }
+        ensures within { IfSome result (λ n. n < length self.now.placed) }
     {
         Some(self.spot(v)?.place)
     }
@@ -222,7 +232,7 @@ impl Trail {
         requires room { lit.variable ≤ self.old.room }
         requires order { MayStand prefix.now self.old.placed lit.variable (cause_of why) }
         requires allowed { MayFollow self.old.allowed (cause_of why) }
-        ensures ok { OnOk result (self.new ≡ with_literal self.old lit (cause_of why)) }
+        ensures ok { OnOk result (self.new ≡ with_literal prefix.now self.old lit (cause_of why)) }
         ensures err { OnErr result (self.new ≡ self.old) }
         ensures spent { IsErr result ↔ (steps.old.spent ≡ steps.old.budget) }
         ensures counted { OnOk result (steps.new ≡ after steps.old 1) }
@@ -234,7 +244,7 @@ impl Trail {
         ensures raised { OnOk result ((n : ℕ) → trail_weight n (decisions_on self.old.placed) < trail_weight n (decisions_on self.new.placed)) }
     {
         steps.tick()?;
-        self.push(lit, why);
+        self.push(lit, why, depth(prefix, lit.var()) - 1);
         Ok(())
     }
 
@@ -255,7 +265,7 @@ impl Trail {
         requires different { AreDistinct (variables_in lits.now) }
         requires room { All (λ l. l.variable ≤ self.old.room) lits.now }
         requires allowed { MayFollow self.old.allowed assumed_cause }
-        ensures ok { OnOk result (self.new ≡ with_assumed self.old lits.now) }
+        ensures ok { OnOk result (self.new ≡ with_assumed prefix.now self.old lits.now) }
         ensures err { OnErr result (self.new ≡ given_up self.old (left steps.old)) }
         ensures spent { IsErr result ↔ (left steps.old < length lits.now) }
         ensures counted { OnOk result (steps.new ≡ after steps.old (length lits.now)) }
@@ -312,6 +322,68 @@ impl Trail {
         stopped
     }
 
+    // How many variables of a scope are assigned. This takes constant time, but for a scope without a place in the table.
+    fn assigned_in(&self, prefix: &Prefix, scope: usize) -> usize
+        requires prefix { IsTrailFor prefix.now self.now }
+        requires valid { IsPrefix prefix.now }
+        requires first { 1 ≤ scope }
+        requires last { scope ≤ length prefix.now }
+        ensures { result ≡ count_by (is_assigned self.now.placed) (variables_at prefix.now scope) }
+    {
+        if scope <= self.tallies.len() {
+            self.tallies[scope - 1]
+        } else {
+            self.count_assigned(prefix.vars_of(scope))
+        }
+    }
+
+    // How many of some variables are assigned.
+    fn count_assigned(&self, vars: &[Var]) -> usize
+        ensures { result ≡ count_by (is_assigned self.now.placed) vars.now }
+    {
+        let mut count = 0;
+        for v in vars {
+            if self.value(*v).is_some() {
+                count += 1;
+            }
+        }
+        count
+    }
+
+    /// The first scope with an unassigned variable, for the prefix of the calls since the last `clear` or `stop`; none
+    /// exactly where every variable is assigned. This looks at the scopes from that of the last decision on.
+    pub fn first_open(&self, prefix: &Prefix) -> Option<usize>
+        requires prefix { IsTrailFor prefix.now self.now }
+        ensures none { IsNone result ↔ AreAssigned prefix.now self.now.placed }
+        ensures some { IfSome result (IsFirstOpen prefix.now self.now.placed) }
+    {
+        for scope in self.floor()..prefix.scopes() + 1 {
+            if self.assigned_in(prefix, scope) < prefix.vars_of(scope).len() {
+                return Some(scope);
+            }
+        }
+        None
+    }
+
+    // A scope that no unassigned variable is of an earlier one than.
+    fn floor(&self) -> usize
+        ensures positive { 1 ≤ result }
+        ensures earlier { (scopes : List Scope) → IsTrailFor scopes self.now → AreAssignedBefore scopes self.now.placed result }
+    {
+        last_floor(&self.entries)
+    }
+
+    /// How many literals `undo_to` keeps of this decision level and those before it.
+    pub fn len_to(&self, level: usize) -> usize
+        ensures { result ≡ length (cut_trail level self.now.placed) }
+    {
+        let mut len = self.entries.len();
+        while len > 0 && self.entries[len - 1].level > level {
+            len -= 1;
+        }
+        len
+    }
+
     // Where a variable stands, if it is assigned.
     fn spot(&self, v: Var) -> Option<Spot>
         ensures { result ≡ spot_on self.now.placed v }
@@ -319,18 +391,20 @@ impl Trail {
         *self.spots.get(index(v))?
     }
 
-    // Puts a literal on the trail.
-    fn push(&mut self, lit: Lit, why: Why)
+    // Puts a literal on the trail, with the number less 1 of its scope.
+    fn push(&mut self, lit: Lit, why: Why, scope: usize)
         requires unassigned { value_on self.old.placed lit.variable ≡ None }
         requires room { lit.variable ≤ self.old.room }
-        ensures { self.new ≡ with_literal self.old lit (cause_of why) }
+        requires small { scope < 2 ^ 63 }
+        ensures { self.new ≡ record { placed = self.old.placed ++ record { literal = lit; cause = cause_of why } ∷ []; depths = self.old.depths ++ (scope + 1) ∷ []; assigned = counted self.old.assigned 1; room = self.old.room; allowed = Anything } }
     {
-        let level = self.level();
         let place = self.entries.len();
         let entry = Entry {
             lit,
             why,
-            level: why.level_after(level),
+            level: why.level_after(self.level()),
+            scope,
+            floor: why.floor_after(last_floor(&self.entries), scope),
         };
         let spot = Spot {
             value: lit.is_positive(),
@@ -338,6 +412,7 @@ impl Trail {
         };
         let _ = self.entries.push(entry);
         self.spots[index(lit.var())] = Some(spot);
+        count_up(&mut self.tallies, scope);
         self.assigned = self.assigned.saturating_add(1);
         self.allowed = Allowed::Anything;
     }
@@ -349,6 +424,7 @@ impl Trail {
     {
         if let Some(entry) = self.entries.pop() {
             self.spots[index(entry.lit.var())] = None;
+            count_down(&mut self.tallies, entry.scope);
             self.allowed = Allowed::NoDecision;
         }
     }
@@ -356,10 +432,11 @@ impl Trail {
     // Takes all literals off.
     fn undo_all(&mut self)
         ensures placed { self.new.placed ≡ [] }
+        ensures depths { self.new.depths ≡ [] }
         ensures assigned { self.new.assigned ≡ self.old.assigned }
         ensures room { self.new.room ≡ self.old.room }
     {
-        while !self.is_empty() {
+        while !self.entries.is_empty() {
             self.pop();
         }
     }
@@ -372,8 +449,8 @@ impl Trail {
         requires different { AreDistinct (variables_in lits.now) }
         requires room { All (λ l. l.variable ≤ self.old.room) lits.now }
         requires allowed { MayFollow self.old.allowed assumed_cause }
-        ensures ok { OnOk result ((self.new ≡ with_assumed self.old lits.now) × (steps.new ≡ after steps.old (length lits.now)) × (length lits.now ≤ left steps.old)) }
-        ensures err { OnErr result ((self.new ≡ with_assumed self.old (take (left steps.old) lits.now)) × (steps.new ≡ after steps.old (left steps.old)) × (left steps.old < length lits.now)) }
+        ensures ok { OnOk result ((self.new ≡ with_assumed prefix.now self.old lits.now) × (steps.new ≡ after steps.old (length lits.now)) × (length lits.now ≤ left steps.old)) }
+        ensures err { OnErr result ((self.new ≡ with_assumed prefix.now self.old (take (left steps.old) lits.now)) × (steps.new ≡ after steps.old (left steps.old)) × (left steps.old < length lits.now)) }
         ensures kept { IsTrailFor prefix.now self.new }
     {
         for &lit in lits {
@@ -389,4 +466,55 @@ fn index(v: Var) -> usize
     ensures bound { result < 1048576 }
 {
     v.number() as usize - 1
+}
+
+// The number of a variable's scope, or one that is past the last.
+fn depth(prefix: &Prefix, v: Var) -> usize
+    ensures value { result ≡ depth_of prefix.now v }
+    ensures positive { 1 ≤ result }
+    ensures small { result ≤ 65537 }
+{
+    prefix.level(v).unwrap_or(prefix.scopes() + 1)
+}
+
+// The number of the scope of the last decision, or 1.
+fn last_floor(entries: &[Entry]) -> usize
+    requires { AreFloored 1 entries.now }
+    ensures { result ≡ floor_from 1 entries.now }
+{
+    match entries.last() {
+        None => 1,
+        Some(entry) => entry.floor,
+    }
+}
+
+// Makes places for scopes of greater numbers, where no entry stands.
+fn widen(tallies: &mut Vec<usize>, entries: &[Entry], scopes: usize) -> Result<(), AllocError>
+    requires { IsTallied entries.now tallies.old.items }
+    ensures { IsTallied entries.now tallies.new.items }
+{
+    if entries.is_empty() {
+        tallies.resize(scopes, 0)?;
+    }
+    Ok(())
+}
+
+// Counts one more of a scope that has a place in the table.
+fn count_up(tallies: &mut Vec<usize>, scope: usize)
+    requires { slice_index tallies.old.items scope < 2 ^ 63 }
+    ensures { tallies.new.items ≡ slice_set tallies.old.items scope (slice_index tallies.old.items scope + 1) }
+{
+    if scope < tallies.len() {
+        tallies[scope] += 1;
+    }
+}
+
+// Counts one less of a scope that has a place in the table.
+fn count_down(tallies: &mut Vec<usize>, scope: usize)
+    requires { scope < length tallies.old.items → 1 ≤ slice_index tallies.old.items scope }
+    ensures { tallies.new.items ≡ slice_set tallies.old.items scope (slice_index tallies.old.items scope - 1) }
+{
+    if scope < tallies.len() {
+        tallies[scope] -= 1;
+    }
 }

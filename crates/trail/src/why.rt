@@ -1,5 +1,5 @@
 //! Why a literal stands on the trail.
-ghost use Rattle.std.specs.Prelude.{◌≡◌, suc, ◌^◌, ◌<◌, if◌then◌else◌};
+ghost use Rattle.std.specs.Prelude.{◌≡◌, suc, ◌+◌, ◌^◌, ◌<◌, if◌then◌else◌};
 ghost use Rattle.calculus.specs.Search.{is_decision};
 ghost use Rattle.trail.specs.Causes.{cause_of};
 
@@ -22,6 +22,18 @@ impl Why {
             level + 1
         } else {
             level
+        }
+    }
+
+    // The number of the scope of the last decision, with the one before a literal of the scope with this number less 1.
+    pub(crate) fn floor_after(self, floor: usize, scope: usize) -> usize
+        requires { scope < 2 ^ 63 }
+        ensures { result ≡ (if is_decision (cause_of self) then scope + 1 else floor) }
+    {
+        if matches!(self, Self::Decided) {
+            scope + 1
+        } else {
+            floor
         }
     }
 }

@@ -14,7 +14,7 @@ use Rattle.trail.proofs.trail.Trail.assume_each.Goals as goal
 
 pub loop-lit-init : goal.loop-lit-init
 loop-lit-init c = record {
-  trail = assumed_none c.args.self.now c.requires.empty;
+  trail = assumed_none c.args.prefix.now c.args.self.now c.requires.prefix c.requires.empty;
   steps = after_none c.args.steps.now;
   few = omega arith;
   kept = c.requires.prefix;
@@ -49,8 +49,8 @@ pub loop-lit-preserved : goal.loop-lit-preserved
 loop-lit-preserved c = record {
   trail =
       c.in_ok-assign.ensures.ok
-      ∙ (ap (λ (t : TrailState). with_literal t c.lit-item.result Assumed) c.loop-lit.invariant.trail
-      ∙ assumed_next c.args.self.now c.args.lits.now c.loop-lit.lit-index c.lit-item.result c.loop-lit-test.true c.lit-item.is);
+      ∙ (ap (λ (t : TrailState). with_literal c.args.prefix.now t c.lit-item.result Assumed) c.loop-lit.invariant.trail
+      ∙ assumed_next c.args.prefix.now c.args.self.now c.args.lits.now c.loop-lit.lit-index c.lit-item.result c.loop-lit-test.true c.lit-item.is);
   steps = c.in_ok-assign.ensures.counted ∙ (ap (λ (s : Counter). after s 1) c.loop-lit.invariant.steps ∙ after_next c.args.steps.now c.loop-lit.lit-index);
   few = few_next c.args.steps.now c.loop-lit.steps c.loop-lit.lit-index c.loop-lit.invariant.steps c.assign.ensures.within (λ e. false≢true (c.in_ok-assign.ensures.spent.1 e));
   kept = c.assign.ensures.kept;
@@ -61,7 +61,7 @@ returns-in_err-assign-clause-err c =
     let err = err_from_is_err_and c.from_residual.result c.from_residual.ensures.1 in
     let all : c.loop-lit.lit-index ≡ left c.args.steps.now = all_left c.args.steps.now c.loop-lit.steps c.loop-lit.lit-index c.loop-lit.invariant.steps (c.in_err-assign.ensures.spent.0 refl) in
     rw err.1 (
-      c.in_err-assign.ensures.err ∙ (c.loop-lit.invariant.trail ∙ ap (λ n. with_assumed c.args.self.now (take n c.args.lits.now)) all),
+      c.in_err-assign.ensures.err ∙ (c.loop-lit.invariant.trail ∙ ap (λ n. with_assumed c.args.prefix.now c.args.self.now (take n c.args.lits.now)) all),
       c.in_err-assign.ensures.uncounted ∙ (c.loop-lit.invariant.steps ∙ ap (after c.args.steps.now) all),
       rw (← all) c.loop-lit-test.true,
     )
@@ -69,7 +69,7 @@ returns-in_err-assign-clause-err c =
 pub returns-clause-ok : goal.returns-clause-ok
 returns-clause-ok c =
     let end : c.loop-lit.lit-index ≡ length c.args.lits.now = (let below = c.loop-lit.auto.lit-index-end in let past = c.loop-lit-test.false in omega arith) in (
-      c.loop-lit.invariant.trail ∙ ap (with_assumed c.args.self.now) (take_all c.loop-lit.lit-index c.args.lits.now c.loop-lit-test.false),
+      c.loop-lit.invariant.trail ∙ ap (with_assumed c.args.prefix.now c.args.self.now) (take_all c.loop-lit.lit-index c.args.lits.now c.loop-lit-test.false),
       c.loop-lit.invariant.steps ∙ ap (after c.args.steps.now) end,
       rw (← end) c.loop-lit.invariant.few,
     )

@@ -22,7 +22,7 @@ pub returns : goal.returns
 returns c =
     let items = c.self.inside.entries.items in
     let d = c.index.result.now in
-    let entry = entry_at 0 items c.args.v d c.self.invariant.leveled (known c.before) in
+    let entry = entry_at 0 items c.args.v d c.self.invariant.0.leveled (known c.before) in
     let read : d ≡ get_or items (place_on (trail_of items) c.args.v) d = c.index.ensures ∙ ap (λ n. get_or items n d) (place c.before) in
     some_map (value_on c.args.self.now.placed c.args.v) d.level (decision_level_on c.args.self.now.placed c.args.v) (ap (λ (t : Trail). is_some (value_on t c.args.v)) (sym (same c.before)) ∙ known c.before)
     (ap (λ (e : Entry). e.level) read ∙ (entry.level ∙ ap (λ (t : Trail). decision_level_on t c.args.v) (same c.before)))

@@ -29,6 +29,6 @@ pub returns : goal.returns
 returns c =
     let items = c.self.inside.entries.items in
     let d = c.index.result.now in
-    let entry = entry_at 0 items c.args.v d c.self.invariant.leveled (known c.before.before) in
+    let entry = entry_at 0 items c.args.v d c.self.invariant.0.leveled (known c.before.before) in
     let read : d ≡ get_or items (place_on (trail_of items) c.args.v) d = c.index.ensures ∙ ap (λ n. get_or items n d) (place c.before.before) in
     ap (λ (e : Entry). Some (cause_of e.why)) read ∙ (sym entry.cause ∙ ap (λ (t : Trail). cause_on t c.args.v) (same c.before.before))
