@@ -1,12 +1,12 @@
 -- Assumptions, one after the other.
-use Rattle.std.proofs.Common.{◌≡◌, ◌≢◌, ℕ, zero, suc, ◌+◌, ◌-◌, ◌<◌, ◌≤◌, ◌||◌, Bool, true, false, List, [], ◌∷◌, ◌++◌, length, map, take, get_or, min, Contains, Option, Some, None, refl, sym, ap, ◌∙◌, inl, inr, ⊎_elim, arith, nat_eq}
-use Rattle.std.proofs.lemmas.Bool.{cases_Bool, eq-eqb, eqb-true, ne_eqb, or_left, or_right, false≢true, true≢false}
-use Rattle.std.proofs.lemmas.List.{take_more, length-map, length_push, length-take, map-append}
+use Rattle.std.proofs.Common.{◌≡◌, ◌≢◌, ℕ, zero, suc, ◌+◌, ◌<◌, ◌≤◌, true, List, [], ◌∷◌, ◌++◌, length, map, take, get_or, Contains, None, refl, sym, ap, ◌∙◌, ⊎_elim, arith, nat_eq}
+use Rattle.std.proofs.lemmas.Bool.{eq-eqb, ne_eqb, or_left, or_right, true≢false}
+use Rattle.std.proofs.lemmas.List.{take_more, length_push, map-append}
 use Rattle.prefix.specs.Literal.{Literal}
 use Rattle.prefix.specs.Scopes.{Scope, is_among, AreDistinct}
 use Rattle.steps.specs.Counter.{Counter, after, left}
 use Rattle.calculus.specs.Rows.{depth_of, variables_in}
-use Rattle.calculus.specs.Search.{Cause, Placed, Trail, value_on}
+use Rattle.calculus.specs.Search.{Placed, value_on}
 use Rattle.calculus.specs.Search.Cause.{Assumed}
 use Rattle.calculus.proofs.Lists.{contains_cons, contains_nil}
 use Rattle.calculus.proofs.Trails.{value_past}

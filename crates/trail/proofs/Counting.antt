@@ -1,12 +1,12 @@
 -- How many variables of a scope are assigned.
-use Rattle.std.proofs.Common.{◌≡◌, ◌≢◌, ℕ, zero, suc, ◌+◌, ◌-◌, ◌<◌, ◌≤◌, Bool, true, false, cond, List, [], ◌∷◌, ◌++◌, length, map, Contains, Option, Some, None, is_some, unwrap_or, option_map, refl, sym, ap, ◌∙◌, inl, inr, ⊎_elim, arith, nat_eq, append_assoc, append-nil}
+use Rattle.std.proofs.Common.{◌≡◌, ℕ, zero, suc, ◌+◌, ◌-◌, ◌<◌, ◌≤◌, Bool, true, false, cond, List, [], ◌∷◌, ◌++◌, length, map, Contains, None, is_some, unwrap_or, option_map, refl, sym, ap, ◌∙◌, ⊎_elim, arith, nat_eq, append_assoc, append-nil}
 use Rattle.std.specs.Prelude.{count_by, slice_get}
-use Rattle.std.proofs.lemmas.Bool.{cases_Bool, cases_eq, cases_lt, cond-true, cond-false, eqb-true, eq-eqb, ne_eqb, false≢true, true≢false}
+use Rattle.std.proofs.lemmas.Bool.{cases_Bool, cases_eq, cond-true, cond-false, eq-eqb, ne_eqb, true≢false}
 use Rattle.std.proofs.lemmas.List.Elements.{Contains-append_left, Contains-append_right, Contains-append_cases}
 use Rattle.std.proofs.lemmas.List.Sums.{sum_by-cons, count_by-le-length}
 use Rattle.prefix.specs.Scopes.{Scope, all_variables, variables_at, is_among, AreDistinct}
 use Rattle.calculus.specs.Rows.{depth_of}
-use Rattle.calculus.specs.Search.{Cause, Placed, Trail, IsOrderedAfter, IsOrderedTrail, value_on}
+use Rattle.calculus.specs.Search.{Placed, Trail, IsOrderedAfter, IsOrderedTrail, value_on}
 use Rattle.calculus.proofs.Levels.{IsDistinct, distinct_from, level_from, level_at_least, depth_counted}
 use Rattle.calculus.proofs.Lists.{among_at, among_from, contains_cons, contains_nil, contains_head, contains_tail}
 use Rattle.calculus.proofs.TrailMoves.{value_new}

@@ -1,9 +1,8 @@
 -- A trail that is cut to a decision level, literal by literal.
-use Rattle.std.proofs.Common.{◌≡◌, ℕ, zero, suc, ◌+◌, ◌-◌, ◌<◌, ◌≤◌, Bool, true, false, List, [], ◌∷◌, ◌++◌, length, take, refl, sym, ap, ◌∙◌, inl, inr, ⊎_elim, arith, nat_le}
+use Rattle.std.proofs.Common.{◌≡◌, ℕ, zero, suc, ◌+◌, ◌-◌, ◌<◌, ◌≤◌, true, List, [], ◌∷◌, ◌++◌, length, take, refl, sym, ap, ◌∙◌, ⊎_elim, arith, nat_le}
 use Rattle.std.proofs.lemmas.Bool.{cond_both, cond-true, cond-false, cases_lt, le-leb, lt-leb, cases_Bool}
 use Rattle.std.proofs.lemmas.List.{length_push}
 use Rattle.calculus.specs.Search.{Placed, Trail, cut_from, cut_trail, is_decision, last_level, last_level_from, level_after}
-use Rattle.trail.specs.declared.allowed.Allowed.{Allowed}
 use Rattle.trail.specs.declared.allowed.Allowed.TheVariants.{NoDecision}
 use Rattle.trail.specs.State.{TrailState, undone_to, without_last}
 

@@ -1,10 +1,10 @@
 -- What a trail keeps for its prefix: its order, and a count of assignments within its weight.
-use Rattle.std.proofs.Common.{◌≡◌, ℕ, zero, suc, ◌+◌, ◌-◌, ◌^◌, ◌<◌, ◌≤◌, Bool, true, false, List, [], ◌∷◌, ◌++◌, length, map, take, min, Contains, Option, Some, None, IsFalse, refl, sym, ap, ◌∙◌, inl, inr, ⊎_elim, arith, add-one, append_assoc, length-append}
+use Rattle.std.proofs.Common.{◌≡◌, ℕ, suc, ◌+◌, ◌^◌, ◌<◌, ◌≤◌, true, false, List, [], ◌∷◌, ◌++◌, length, map, take, Contains, None, refl, sym, ap, ◌∙◌, ⊎_elim, arith, append_assoc, length-append}
 use Rattle.std.proofs.lemmas.Bool.{cases_lt}
 use Rattle.std.proofs.lemmas.List.{length-map, map-append, length_push}
 use Rattle.prefix.specs.Literal.{Literal}
 use Rattle.prefix.specs.Scopes.{Scope, all_variables}
-use Rattle.calculus.specs.Search.{Cause, Placed, Trail, MayStand, IsOrderedTrail, cut_trail, decisions_on, is_decision, last_level, value_on}
+use Rattle.calculus.specs.Search.{Cause, Placed, Trail, MayStand, cut_trail, decisions_on, is_decision, last_level, value_on}
 use Rattle.std.proofs.Math.Seq.{take-append_seam}
 use Rattle.calculus.specs.Rows.{depth_of}
 use Rattle.calculus.specs.Weights.{trail_weight}

@@ -1,19 +1,17 @@
 -- The first scope with an unassigned variable.
-use Rattle.std.proofs.Common.{◌≡◌, ℕ, zero, suc, ◌+◌, ◌-◌, ◌<◌, ◌≤◌, Bool, true, false, List, [], ◌∷◌, ◌++◌, length, map, Contains, Option, Some, None, is_some, refl, sym, ap, ◌∙◌, inl, inr, ⊎_elim, arith, nat_eq, append_assoc, append-nil}
+use Rattle.std.proofs.Common.{◌≡◌, ℕ, suc, ◌+◌, ◌-◌, ◌<◌, ◌≤◌, Bool, true, false, List, [], ◌∷◌, ◌++◌, length, Contains, Option, Some, None, is_some, refl, sym, ap, ◌∙◌, ⊎_elim, arith, nat_eq, append_assoc, append-nil}
 use Rattle.std.specs.Prelude.{count_by}
-use Rattle.std.proofs.lemmas.Bool.{cases_Bool, cases_lt, false≢true, true≢false, cond-true, cond-false}
+use Rattle.std.proofs.lemmas.Bool.{cases_lt, true≢false, cond-true, cond-false}
 use Rattle.prefix.specs.Scopes.{Scope, all_variables, variables_at, AreDistinct}
 use Rattle.calculus.specs.Rows.{depth_of}
-use Rattle.calculus.specs.Search.{Cause, Placed, Trail, IsOrderedAfter, IsOrderedTrail, MayStand, is_decision, value_on}
+use Rattle.calculus.specs.Search.{Cause, Trail, IsOrderedAfter, IsOrderedTrail, MayStand, is_decision, value_on}
 use Rattle.calculus.specs.Search.Cause.{Assumed, Decided, Propagated}
 use Rattle.calculus.proofs.TrailMoves.{value_front}
 use Rattle.calculus.proofs.Levels.{depth_at_least, distinct_from}
 use Rattle.trail.specs.declared.trail.Entry.{Entry}
-use Rattle.trail.specs.declared.why.Why.{Why}
-use Rattle.trail.specs.declared.why.Why.TheVariants.{Assumed as why_assumed, Decided as why_decided, Propagated as why_propagated}
 use Rattle.trail.specs.Causes.{cause_of}
 use Rattle.trail.specs.Open.{is_assigned, AreAssigned, AreAssignedBefore, IsFirstOpen}
-use Rattle.trail.specs.Table.{AreFloored, IsTallied, floor_after, floor_from, placed_of, scopes_in, trail_of}
+use Rattle.trail.specs.Table.{IsTallied, floor_after, floor_from, placed_of, scopes_in, trail_of}
 use Rattle.trail.proofs.Counting.{AreNumbered, all_pass, count_scope, depth_at, depth_most, depth_stands, one_fails, variables_before, variables_in, variables_within}
 
 -- the floor

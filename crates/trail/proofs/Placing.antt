@@ -1,13 +1,13 @@
 -- Values and places on a trail with one more literal, and on one without its last.
-use Rattle.std.proofs.Common.{◌≡◌, ℕ, zero, suc, ◌+◌, ◌-◌, ◌<◌, ◌≤◌, ◌⊎◌, Bool, true, false, List, [], ◌∷◌, ◌++◌, length, map, Option, Some, None, is_some, refl, sym, ap, ◌∙◌, inl, inr, ⊎_elim, arith, nat_eq, append-nil}
+use Rattle.std.proofs.Common.{◌≡◌, ℕ, zero, suc, ◌<◌, ◌≤◌, ◌⊎◌, Bool, true, List, [], ◌∷◌, ◌++◌, length, Option, Some, None, is_some, refl, sym, ap, ◌∙◌, inl, inr, ⊎_elim, arith, nat_eq, append-nil}
 use Rattle.std.specs.Prelude.{slice_get}
 use Rattle.std.specs.Option.{option_map}
-use Rattle.std.proofs.lemmas.Bool.{cases_Bool, cases_eq, cases_lt, eqb-true, eq-eqb, ne_eqb, false≢true, true≢false}
+use Rattle.std.proofs.lemmas.Bool.{cases_Bool, cases_lt, ne_eqb}
 use Rattle.std.proofs.lemmas.Option.{slice_get_within}
 use Rattle.std.proofs.lemmas.List.{length_push}
 use Rattle.calculus.specs.Search.{Placed, Trail, place_on, value_on}
-use Rattle.calculus.proofs.Trails.{value_here, value_past, place_here, place_past}
-use Rattle.calculus.proofs.TrailMoves.{value_front, place_front, front_has, value_new}
+use Rattle.calculus.proofs.Trails.{value_here, value_past}
+use Rattle.calculus.proofs.TrailMoves.{place_front, front_has, value_new}
 use Rattle.trail.specs.declared.trail.Spot.{Spot}
 use Rattle.trail.specs.Table.{spot_on}
 

@@ -1,20 +1,19 @@
 -- The table of a trail stays one.
-use Rattle.std.proofs.Common.{◌≡◌, ℕ, zero, suc, ◌+◌, ◌-◌, ◌<◌, ◌≤◌, Bool, true, false, cond, List, [], ◌∷◌, ◌++◌, length, map, take, set, get_or, Option, Some, None, is_some, refl, sym, ap, ◌∙◌, inl, inr, ⊎_elim, arith, nat_eq, append-nil}
+use Rattle.std.proofs.Common.{◌≡◌, ℕ, zero, suc, ◌+◌, ◌-◌, ◌<◌, ◌≤◌, Bool, true, cond, List, [], ◌∷◌, ◌++◌, length, take, set, get_or, Option, Some, None, is_some, refl, sym, ap, ◌∙◌, ⊎_elim, arith, nat_eq}
 use Rattle.std.specs.Prelude.{slice_get, count_by}
 use Rattle.std.specs.Option.{option_map}
-use Rattle.std.proofs.lemmas.Bool.{cond_both, cases_Bool, cases_eq, cases_lt, eqb-true, eq-eqb, ne_eqb, false≢true, true≢false}
+use Rattle.std.proofs.lemmas.Bool.{cond_both, cases_Bool, cases_eq, cases_lt, false≢true}
 use Rattle.std.proofs.lemmas.List.{length_push, length-map, length-set, length-take-le, map-append, get_or-set_same, get_or-set_other, get_or_past}
 use Rattle.std.proofs.lemmas.List.Sums.{sum_by-set, count_by-le-length}
-use Rattle.std.proofs.lemmas.Option.{slice_get-map}
 use Rattle.std.proofs.Math.Seq.{take-length, take-suc}
-use Rattle.calculus.specs.Search.{Cause, Placed, Trail, cut_trail, cause_on, is_decision, last_level, last_level_from, literals_on, level_after, level_from_start, place_on, value_on}
+use Rattle.calculus.specs.Search.{Trail, cut_trail, cause_on, is_decision, last_level, last_level_from, literals_on, level_after, level_from_start, place_on, value_on}
 use Rattle.calculus.proofs.Trails.{value_here, value_past, place_here, place_past, cause_here, cause_past, level_here, level_past}
 use Rattle.trail.specs.declared.trail.Entry.{Entry}
 use Rattle.trail.specs.declared.trail.Spot.{Spot}
 use Rattle.trail.specs.Causes.{cause_of}
 use Rattle.trail.specs.Table.{placed_of, trail_of, AreLeveled, spot_at, spot_on, IsTable}
 use Rattle.trail.proofs.Cutting.{cut_all, cut_more}
-use Rattle.trail.proofs.Placing.{slice_get_before, slice_get_last, spot_other, spot_last, spot_none, IsOnce, once_more, once_less, last_new}
+use Rattle.trail.proofs.Placing.{spot_other, spot_last, spot_none, IsOnce, once_more, once_less, last_new}
 
 -- levels
 

@@ -1,13 +1,11 @@
 -- The counts of scopes, and the scope of the last decision, stay right.
-use Rattle.std.proofs.Common.{◌≡◌, ℕ, zero, suc, ◌+◌, ◌-◌, ◌<◌, ◌≤◌, Bool, true, false, cond, List, [], ◌∷◌, ◌++◌, length, map, take, set, get_or, replicate, Option, Some, None, refl, sym, ap, ◌∙◌, inl, inr, ⊎_elim, arith, nat_eq}
+use Rattle.std.proofs.Common.{◌≡◌, ℕ, zero, suc, ◌+◌, ◌-◌, ◌<◌, ◌≤◌, cond, List, [], ◌∷◌, ◌++◌, length, take, set, get_or, replicate, Some, None, refl, sym, ap, ◌∙◌, ⊎_elim, arith, nat_eq}
 use Rattle.std.specs.Prelude.{count_by, slice_get}
-use Rattle.std.proofs.lemmas.Bool.{cases_Bool, cases_eq, cases_lt, eqb-true, eq-eqb, ne_eqb, false≢true, true≢false}
-use Rattle.std.proofs.lemmas.List.{length_push, length-map, length-set, map-append, get_or-set_same, get_or-set_other, get_or_past}
+use Rattle.std.proofs.lemmas.Bool.{cases_eq, cases_lt, eq-eqb, ne_eqb}
+use Rattle.std.proofs.lemmas.List.{length-map, length-set, map-append, get_or-set_same, get_or-set_other, get_or_past}
 use Rattle.std.proofs.lemmas.List.Sums.{sum_by_push, count_by-le-length}
 use Rattle.trail.specs.declared.trail.Entry.{Entry}
-use Rattle.trail.specs.Causes.{cause_of}
 use Rattle.trail.specs.Table.{AreFloored, IsTallied, floor_after, floor_from, scopes_in}
-use Rattle.calculus.specs.Search.{is_decision}
 
 -- the scope of the last decision
 

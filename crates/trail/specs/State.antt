@@ -1,5 +1,5 @@
 -- An assignment trail, as contracts see it.
-use Rattle.std.specs.Prelude.{◌≡◌, ℕ, zero, suc, ◌+◌, ◌-◌, ◌^◌, ◌<◌, ◌≤◌, ⊤, Bool, false, if◌then◌else◌, nat_le, min, max, map, take, length, IsFalse, List, [], ◌∷◌, ◌++◌}
+use Rattle.std.specs.Prelude.{◌≡◌, ℕ, zero, suc, ◌+◌, ◌-◌, ◌^◌, ◌<◌, ◌≤◌, ⊤, false, if◌then◌else◌, nat_le, min, max, map, take, length, IsFalse, List, [], ◌∷◌, ◌++◌}
 use Rattle.trail.specs.declared.allowed.Allowed.{Allowed}
 use Rattle.trail.specs.declared.allowed.Allowed.TheVariants.{Anything, NoDecision, Nothing}
 use Rattle.prefix.specs.Literal.{Literal}

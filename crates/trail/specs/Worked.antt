@@ -3,7 +3,7 @@ use Rattle.std.specs.Prelude.{◌≡◌, ℕ, true, false, List, [], ◌∷◌, 
 use Rattle.prefix.specs.Literal.{Literal}
 use Rattle.prefix.specs.Scopes.{Scope}
 use Rattle.prefix.specs.declared.quant.Quant.TheVariants.{Exists}
-use Rattle.calculus.specs.Search.{Trail, cause_on, decision_level_on, decisions_on, last_level, place_on, value_on}
+use Rattle.calculus.specs.Search.{cause_on, decision_level_on, decisions_on, place_on, value_on}
 use Rattle.calculus.specs.Search.Cause.{Decided, Propagated}
 use Rattle.calculus.specs.Weights.{trail_weight}
 use Rattle.trail.specs.State.{TrailState, new_trail, undone_to, with_literal}

@@ -134,6 +134,7 @@ impl Trail {
     pub fn reserve(&mut self, vars: usize) -> Result<(), NoMemory>
         ensures ok { OnOk result (self.new ≡ with_room self.old vars) }
         ensures err { OnErr result (self.new ≡ self.old) }
+        ensures kept { (scopes : List Scope) → IsTrailFor scopes self.old → IsTrailFor scopes self.new }
     {
         if self.spots.len() < vars {
             self.entries.reserve(vars - self.entries.len())?;

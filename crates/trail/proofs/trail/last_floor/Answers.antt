@@ -1,5 +1,4 @@
-use Rattle.std.proofs.Common.{◌≡◌, ◌-◌, sym, length, Some}
-use Rattle.std.specs.Prelude.{slice_get}
+use Rattle.std.proofs.Common.{sym}
 use Rattle.trail.proofs.Tallies.{last_floor_at}
 use Rattle.trail.proofs.trail.last_floor.Goals as goal
 

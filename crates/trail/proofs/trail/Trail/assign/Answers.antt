@@ -2,7 +2,7 @@ use Rattle.std.proofs.Common.{◌≡◌, ◌+◌, ◌-◌, ap, ◌∙◌, arith,
 use Rattle.calculus.specs.Rows.{depth_of}
 use Rattle.trail.specs.declared.allowed.Allowed.TheVariants.{Anything}
 use Rattle.trail.specs.Causes.{cause_of}
-use Rattle.trail.specs.State.{TrailState, counted, with_literal}
+use Rattle.trail.specs.State.{counted, with_literal}
 use Rattle.trail.proofs.Keeping.{kept_more, raised_more}
 use Rattle.trail.proofs.trail.Trail.assign.Goals as goal
 

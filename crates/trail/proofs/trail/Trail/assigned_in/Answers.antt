@@ -1,10 +1,9 @@
-use Rattle.std.proofs.Common.{◌≡◌, ◌-◌, ◌<◌, suc, length, get_or, sym, ap, ◌∙◌, arith}
+use Rattle.std.proofs.Common.{◌≡◌, ◌-◌, ◌<◌, suc, length, get_or, ap, ◌∙◌, arith}
 use Rattle.std.specs.Prelude.{count_by}
 use Rattle.std.proofs.lemmas.Grind.{get_or_default_zero}
 use Rattle.prefix.specs.Scopes.{variables_at}
 use Rattle.trail.specs.Open.{is_assigned}
-use Rattle.trail.specs.State.{TrailState, IsTrailFor}
-use Rattle.trail.specs.Table.{trail_of, depths_of}
+use Rattle.trail.specs.State.{TrailState}
 use Rattle.trail.proofs.Counting.{kept_inside}
 use Rattle.trail.proofs.Opening.{tally_is}
 use Rattle.trail.proofs.trail.Trail.assigned_in.Goals as goal

@@ -1,4 +1,4 @@
-use Rattle.std.proofs.Common.{◌≡◌, ap, ◌∙◌}
+use Rattle.std.proofs.Common.{ap, ◌∙◌}
 use Rattle.trail.specs.State.{TrailState}
 use Rattle.trail.specs.Table.{depths_of, trail_of}
 use Rattle.std.specs.Prelude.{length}

@@ -1,5 +1,4 @@
-use Rattle.std.proofs.Common.{◌≡◌, ◌+◌, ◌-◌, ◌<◌, ◌≤◌, length, take, get_or, Some, refl, sym, ap, ◌∙◌, arith}
-use Rattle.std.specs.Result.{OnErr}
+use Rattle.std.proofs.Common.{◌≡◌, length, take, Some, refl, sym, ap, ◌∙◌, arith}
 use Rattle.std.proofs.lemmas.Bool.{false≢true}
 use Rattle.std.proofs.lemmas.List.{take_all}
 use Rattle.std.proofs.lemmas.Result.{err_from_is_err_and}
@@ -8,8 +7,8 @@ use Rattle.prefix.specs.Scopes.{level_of}
 use Rattle.calculus.specs.Search.{value_on}
 use Rattle.calculus.specs.Search.Cause.{Assumed}
 use Rattle.calculus.proofs.Levels.{level_in_prefix}
-use Rattle.trail.specs.State.{TrailState, IsTrailFor, with_assumed, with_literal, allowed_after}
-use Rattle.trail.proofs.Assuming.{HasAssumed, assumed_new, all_assumed, may_assume, assumed_next, assumed_none, after_none, after_next, few_next, all_left}
+use Rattle.trail.specs.State.{TrailState, with_assumed, with_literal}
+use Rattle.trail.proofs.Assuming.{assumed_new, all_assumed, may_assume, assumed_next, assumed_none, after_none, after_next, few_next, all_left}
 use Rattle.trail.proofs.trail.Trail.assume_each.Goals as goal
 
 pub loop-lit-init : goal.loop-lit-init

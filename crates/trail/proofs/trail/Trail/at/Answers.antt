@@ -1,9 +1,9 @@
-use Rattle.std.proofs.Common.{◌≡◌, ◌<◌, ◌∙◌, sym, ap, length, arith}
+use Rattle.std.proofs.Common.{◌<◌, ◌∙◌, sym, ap, length}
 use Rattle.std.specs.Prelude.{slice_get}
 use Rattle.std.proofs.lemmas.List.{length-map}
 use Rattle.calculus.specs.Search.{literals_on}
 use Rattle.trail.specs.State.{TrailState}
-use Rattle.trail.specs.Table.{placed_of, trail_of}
+use Rattle.trail.specs.Table.{placed_of}
 use Rattle.trail.proofs.Tables.{literal_at}
 use Rattle.trail.proofs.trail.Trail.at.Goals as goal
 

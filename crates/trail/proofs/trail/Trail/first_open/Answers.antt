@@ -1,7 +1,7 @@
-use Rattle.std.proofs.Common.{◌≡◌, ◌+◌, ◌<◌, ◌≤◌, length, refl, sym, ap, arith, true, false}
+use Rattle.std.proofs.Common.{◌≡◌, ◌<◌, ◌≤◌, length, refl, ap, arith}
 use Rattle.std.specs.Prelude.{count_by}
 use Rattle.prefix.specs.Scopes.{variables_at}
-use Rattle.trail.specs.Open.{is_assigned, AreAssigned, IsFirstOpen}
+use Rattle.trail.specs.Open.{is_assigned, IsFirstOpen}
 use Rattle.trail.proofs.Opening.{assigned_all, assigned_through, open_here, open_not_all}
 use Rattle.trail.proofs.trail.Trail.first_open.Goals as goal
 

@@ -1,7 +1,6 @@
-use Rattle.std.proofs.Common.{◌≡◌, ◌≤◌, ◌<◌, ◌∙◌, sym, ap}
-use Rattle.calculus.specs.Search.{Trail}
+use Rattle.std.proofs.Common.{◌≡◌, ◌∙◌, ap}
 use Rattle.trail.specs.Open.{AreAssignedBefore}
-use Rattle.trail.specs.State.{TrailState, IsTrailFor}
+use Rattle.trail.specs.State.{TrailState}
 use Rattle.trail.specs.Table.{floor_from, trail_of}
 use Rattle.trail.proofs.Counting.{kept_inside}
 use Rattle.trail.proofs.Opening.{floor_earlier, floor_positive}

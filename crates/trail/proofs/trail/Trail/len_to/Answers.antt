@@ -1,4 +1,4 @@
-use Rattle.std.proofs.Common.{◌≡◌, ◌-◌, suc, length, sym, ap, ◌∙◌, arith}
+use Rattle.std.proofs.Common.{◌≡◌, ◌-◌, suc, length, ap, ◌∙◌, arith}
 use Rattle.calculus.specs.Search.{cut_trail}
 use Rattle.trail.specs.State.{TrailState}
 use Rattle.trail.proofs.Tables.{cut_length_first, cut_length_less, cut_length_found, cut_length_none}

@@ -1,4 +1,3 @@
-use Rattle.trail.specs.Table.{IsTable}
 use Rattle.trail.proofs.Tables.{IsCutLength}
 use Rattle.trail.proofs.trail.Trail.len_to.Given as goal
 

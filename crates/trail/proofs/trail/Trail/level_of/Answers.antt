@@ -1,4 +1,4 @@
-use Rattle.std.proofs.Common.{◌≡◌, ◌<◌, ◌∙◌, sym, ap, length, true, is_some, get_or}
+use Rattle.std.proofs.Common.{◌≡◌, ◌∙◌, sym, ap, true, is_some, get_or}
 use Rattle.calculus.specs.Search.{place_on, value_on, decision_level_on, Trail}
 use Rattle.trail.specs.State.{TrailState}
 use Rattle.trail.specs.declared.trail.Entry.{Entry}

@@ -1,4 +1,4 @@
-use Rattle.std.proofs.Common.{◌≡◌, suc, ◌+◌, ◌-◌, ◌<◌, ◌≤◌, length, set, get_or, None, vec_capacity, sym, ◌∙◌, arith}
+use Rattle.std.proofs.Common.{◌≡◌, suc, ◌-◌, ◌<◌, ◌≤◌, length, set, get_or, None, vec_capacity, sym, ◌∙◌, arith}
 use Rattle.trail.specs.Table.{IsTable, IsTallied}
 use Rattle.trail.proofs.Tables.{table_popped}
 use Rattle.trail.proofs.Tallies.{tallied_less}

@@ -1,11 +1,10 @@
-use Rattle.std.proofs.Common.{◌≡◌, suc, ◌+◌, ◌<◌, ◌≤◌, ◌++◌, ◌∷◌, [], length, map, set, get_or, Some, None, min, vec_capacity, vec_len, is_ok, sym, ap, ◌∙◌, arith}
+use Rattle.std.proofs.Common.{◌≡◌, suc, ◌+◌, ◌<◌, ◌≤◌, ◌++◌, ◌∷◌, [], length, set, get_or, Some, None, vec_capacity, is_ok, sym, ap, ◌∙◌, arith}
 use Rattle.std.proofs.lemmas.Bool.{cond-true}
 use Rattle.std.proofs.lemmas.List.{length-map, length-set, map-append}
-use Rattle.calculus.specs.Search.{last_level, level_after, value_on, Trail}
+use Rattle.calculus.specs.Search.{last_level, level_after, value_on}
 use Rattle.trail.specs.declared.trail.Entry.{Entry}
 use Rattle.trail.specs.declared.trail.Spot.{Spot}
 use Rattle.trail.specs.declared.allowed.Allowed.TheVariants.{Anything}
-use Rattle.trail.specs.Causes.{cause_of}
 use Rattle.trail.specs.State.{TrailState}
 use Rattle.trail.specs.Table.{IsTable, IsTallied, depths_of, floor_after, floor_from, placed_of, trail_of, spot_at}
 use Rattle.trail.proofs.Placing.{spot_none}

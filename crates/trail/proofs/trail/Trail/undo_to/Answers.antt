@@ -1,4 +1,4 @@
-use Rattle.std.proofs.Common.{◌≡◌, ◌<◌, ◌≤◌, sym, ap, ◌∙◌, arith}
+use Rattle.std.proofs.Common.{◌≡◌, ◌<◌, ◌≤◌, sym, ap, ◌∙◌}
 use Rattle.calculus.specs.Search.{last_level}
 use Rattle.trail.specs.State.{undone_to}
 use Rattle.trail.proofs.Cutting.{undone_less, undone_low, undone_high}

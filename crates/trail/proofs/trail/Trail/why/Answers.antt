@@ -1,4 +1,4 @@
-use Rattle.std.proofs.Common.{◌≡◌, ◌<◌, ◌∙◌, sym, ap, length, true, is_some, get_or, Some}
+use Rattle.std.proofs.Common.{◌≡◌, ◌∙◌, sym, ap, true, is_some, get_or, Some}
 use Rattle.std.specs.Option.{option_map}
 use Rattle.calculus.specs.Search.{place_on, value_on, cause_on, Trail}
 use Rattle.trail.specs.declared.trail.Entry.{Entry}
