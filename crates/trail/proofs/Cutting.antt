@@ -1,0 +1,131 @@
+-- A trail that is cut to a decision level, literal by literal.
+use Rattle.std.proofs.Common.{◌≡◌, ℕ, zero, suc, ◌+◌, ◌-◌, ◌<◌, ◌≤◌, true, List, [], ◌∷◌, ◌++◌, length, take, refl, sym, ap, ◌∙◌, ⊎_elim, arith, nat_le}
+use Rattle.std.proofs.lemmas.Bool.{cond_both, cond-true, cond-false, cases_lt, le-leb, lt-leb, cases_Bool}
+use Rattle.std.proofs.lemmas.List.{length_push}
+use Rattle.calculus.specs.Search.{Placed, Trail, cut_from, cut_trail, is_decision, last_level, last_level_from, level_after}
+use Rattle.trail.specs.declared.allowed.Allowed.TheVariants.{NoDecision}
+use Rattle.trail.specs.State.{TrailState, undone_to, without_last}
+
+-- levels don't fall
+pub after_least : (before : ℕ) (p : Placed) → before ≤ level_after before p
+after_least before p = cond_both (is_decision p.cause) (suc before) before (λ n. before ≤ n) (λ t. omega arith) (λ f. omega arith)
+
+pub level_least : (before : ℕ) (trail : Trail) → before ≤ last_level_from before trail
+level_least before [] = omega arith
+level_least before (p ∷ trail) =
+    let now = level_after before p in
+    let first : before ≤ now = after_least before p in
+    let later : now ≤ last_level_from now trail = level_least now trail in
+    omega arith
+
+module _ (before b : ℕ) (p : Placed) (trail : Trail) where
+  -- the first literal stays, or all go
+  cut_here : level_after before p ≤ b → cut_from before b (p ∷ trail) ≡ p ∷ cut_from (level_after before p) b trail
+  cut_here low = cond-true (nat_le (level_after before p) b) (p ∷ cut_from (level_after before p) b trail) [] (le-leb (level_after before p) b low)
+
+  cut_none : b < level_after before p → cut_from before b (p ∷ trail) ≡ []
+  cut_none high = cond-false (nat_le (level_after before p) b) (p ∷ cut_from (level_after before p) b trail) [] (lt-leb (level_after before p) b high)
+
+-- a cut at no lower level changes nothing
+pub cut_all : (before b : ℕ) (trail : Trail) → last_level_from before trail ≤ b → cut_from before b trail ≡ trail
+cut_all before b [] low = refl
+cut_all before b (p ∷ trail) low =
+    let now = level_after before p in
+    let later : now ≤ last_level_from now trail = level_least now trail in
+    let rest : last_level_from now trail ≤ b = low in
+    cut_here before b p trail (omega arith) ∙ ap (λ t. p ∷ t) (cut_all now b trail rest)
+
+-- a last literal above the level goes
+pub cut_more : (before b : ℕ) (trail : Trail) (p : Placed) → b < last_level_from before (trail ++ p ∷ []) → cut_from before b (trail ++ p ∷ []) ≡ cut_from before b trail
+cut_more before b [] p high = cut_none before b p [] high
+cut_more before b (q ∷ trail) p high =
+    let now = level_after before q in
+    ⊎_elim
+    (λ (above : b < now). cut_none before b q (trail ++ p ∷ []) above ∙ sym (cut_none before b q trail above))
+    (λ (low : now ≤ b). cut_here before b q (trail ++ p ∷ []) low ∙ (ap (λ t. q ∷ t) (cut_more now b trail p high) ∙ sym (cut_here before b q trail low)))
+    (cases_lt b now)
+
+-- a cut that takes literals off takes a decision off first
+pub record IsCutAt (b : ℕ) (front : Trail) (trail : Trail) : Type 0 where
+  pub decision : Placed
+  pub back : Trail
+  pub is_decision : is_decision decision.cause ≡ true
+  pub parts : trail ≡ front ++ decision ∷ back
+
+pub cut_at : (before b : ℕ) (trail : Trail) → before ≤ b → b < last_level_from before trail → IsCutAt b (cut_from before b trail) trail
+cut_at before b [] least high = absurd (let h : b < before = high in omega arith)
+cut_at before b (p ∷ trail) least high =
+    let now = level_after before p in
+    ⊎_elim
+    (λ (above : b < now). record {
+      decision = p;
+      back = trail;
+      is_decision = ⊎_elim (λ t. t) (λ f. absurd (let same : now ≡ before = cond-false (is_decision p.cause) (suc before) before f in omega arith)) (cases_Bool (is_decision p.cause));
+      parts = ap (λ t. t ++ p ∷ trail) (sym (cut_none before b p trail above));
+    })
+    (λ (low : now ≤ b).
+    let later = cut_at now b trail low high in
+    record {
+      decision = later.decision;
+      back = later.back;
+      is_decision = later.is_decision;
+      parts = ap (λ t. p ∷ t) later.parts ∙ ap (λ t. t ++ later.decision ∷ later.back) (sym (cut_here before b p trail low));
+    })
+    (cases_lt b now)
+
+-- the last literal of a list
+pub last_split : {X : Type 0} (xs : List X) → 0 < length xs → (x : X) × (xs ≡ take (length xs - 1) xs ++ x ∷ [])
+last_split [] h = absurd (omega arith)
+last_split (x ∷ []) h = (x, refl)
+last_split (x ∷ y ∷ xs) h =
+    let later = last_split (y ∷ xs) (omega arith) in
+    let long : length (x ∷ y ∷ xs) - 1 ≡ suc (length (y ∷ xs) - 1) = omega arith in
+    (later.0, ap (λ t. x ∷ t) later.1 ∙ ap (λ n. take n (x ∷ y ∷ xs) ++ later.0 ∷ []) (sym long))
+
+-- a trail with a level isn't empty
+pub level_long : (b : ℕ) (trail : Trail) → b < last_level trail → 0 < length trail
+level_long b [] high = absurd (let h : b < 0 = high in omega arith)
+level_long b (p ∷ trail) high = omega arith
+
+pub undone_low : (b : ℕ) (t : TrailState) → last_level t.placed ≤ b → undone_to b t ≡ t
+undone_low b t low = cond-true (nat_le (last_level t.placed) b) t (record { placed = cut_trail b t.placed; depths = take (length (cut_trail b t.placed)) t.depths; assigned = t.assigned; room = t.room; allowed = NoDecision }) (le-leb (last_level t.placed) b low)
+
+pub undone_high : (b : ℕ) (t : TrailState) → b < last_level t.placed → undone_to b t ≡ record { placed = cut_trail b t.placed; depths = take (length (cut_trail b t.placed)) t.depths; assigned = t.assigned; room = t.room; allowed = NoDecision }
+undone_high b t high = cond-false (nat_le (last_level t.placed) b) t (record { placed = cut_trail b t.placed; depths = take (length (cut_trail b t.placed)) t.depths; assigned = t.assigned; room = t.room; allowed = NoDecision }) (lt-leb (last_level t.placed) b high)
+
+-- a front of a front
+pub take_take : {X : Type 0} (m n : ℕ) (xs : List X) → m ≤ n → take m (take n xs) ≡ take m xs
+take_take zero n xs h = refl
+take_take (suc m) zero xs h = absurd (omega arith)
+take_take (suc m) (suc n) [] h = refl
+take_take (suc m) (suc n) (x ∷ xs) h = ap (λ t. x ∷ t) (take_take m n xs (omega arith))
+
+pub cut_short : (before b : ℕ) (trail : Trail) → length (cut_from before b trail) ≤ length trail
+cut_short before b [] = omega arith
+cut_short before b (p ∷ trail) =
+    let now = level_after before p in
+    let later : length (cut_from now b trail) ≤ length trail = cut_short now b trail in
+    cond_both (nat_le now b) (p ∷ cut_from now b trail) [] (λ t. length t ≤ length (p ∷ trail)) (λ t. omega arith) (λ f. omega arith)
+
+-- to cut may begin with the last literal
+pub undone_less : (b : ℕ) (t : TrailState) → b < last_level t.placed → undone_to b (without_last t) ≡ undone_to b t
+undone_less b t high =
+    let front = take (length t.placed - 1) t.placed in
+    let last = last_split t.placed (level_long b t.placed high) in
+    let top : b < last_level (front ++ last.0 ∷ []) = rw (← last.1) high in
+    let same : cut_trail b t.placed ≡ cut_trail b front = ap (cut_trail b) last.1 ∙ cut_more 0 b front last.0 top in
+    let cut : Trail → List ℕ → TrailState = λ trail depths. record { placed = trail; depths = depths; assigned = t.assigned; room = t.room; allowed = NoDecision } in
+    let long : length t.placed ≡ length front + 1 = ap length last.1 ∙ length_push front last.0 in
+    ⊎_elim
+    (λ (above : b < last_level front).
+    let short : length (cut_trail b front) ≤ length front = cut_short 0 b front in
+    undone_high b (without_last t) above
+    ∙ (ap (cut (cut_trail b front)) (take_take (length (cut_trail b front)) (length t.placed - 1) t.depths (omega arith))
+    ∙ (ap (λ trail. cut trail (take (length trail) t.depths)) (sym same) ∙ sym (undone_high b t high))))
+    (λ (low : last_level front ≤ b).
+    let all : cut_trail b t.placed ≡ front = same ∙ cut_all 0 b front low in
+    let number : length t.placed - 1 ≡ length (cut_trail b t.placed) = (let h : length (cut_trail b t.placed) ≡ length front = ap length all in omega arith) in
+    undone_low b (without_last t) low
+    ∙ (ap (λ n. cut front (take n t.depths)) number
+    ∙ (ap (λ trail. cut trail (take (length (cut_trail b t.placed)) t.depths)) (sym all) ∙ sym (undone_high b t high))))
+    (cases_lt b (last_level front))

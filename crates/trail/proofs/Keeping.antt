@@ -1,0 +1,143 @@
+-- What a trail keeps for its prefix: its order, and a count of assignments within its weight.
+use Rattle.std.proofs.Common.{◌≡◌, ℕ, suc, ◌+◌, ◌^◌, ◌<◌, ◌≤◌, true, false, List, [], ◌∷◌, ◌++◌, length, map, take, Contains, None, refl, sym, ap, ◌∙◌, ⊎_elim, arith, append_assoc, length-append}
+use Rattle.std.proofs.lemmas.Bool.{cases_lt}
+use Rattle.std.proofs.lemmas.List.{length-map, map-append, length_push}
+use Rattle.prefix.specs.Literal.{Literal}
+use Rattle.prefix.specs.Scopes.{Scope, all_variables}
+use Rattle.calculus.specs.Search.{Cause, Placed, Trail, MayStand, cut_trail, decisions_on, is_decision, last_level, value_on}
+use Rattle.std.proofs.Math.Seq.{take-append_seam}
+use Rattle.calculus.specs.Rows.{depth_of}
+use Rattle.calculus.specs.Weights.{trail_weight}
+use Rattle.calculus.proofs.Weighing.{weight_below, weight_rises, weight_turns}
+use Rattle.calculus.proofs.Sizes.{trail_length}
+use Rattle.calculus.proofs.TrailMoves.{ordered_more}
+use Rattle.calculus.proofs.TrailLaws.{cut_ordered}
+use Rattle.trail.specs.declared.allowed.Allowed.{Allowed}
+use Rattle.trail.specs.declared.allowed.Allowed.TheVariants.{Anything, NoDecision, Nothing}
+use Rattle.trail.specs.State.{TrailState, MayFollow, IsWeighed, IsTrailFor, counted, with_literal, undone_to, cleared}
+use Rattle.trail.proofs.Cutting.{IsCutAt, cut_at, undone_low, undone_high}
+
+decisions_length : (trail : Trail) → length (decisions_on trail) ≡ length trail
+decisions_length trail = length-map trail (λ (p : Placed). is_decision p.cause)
+
+decisions_append : (front back : Trail) → decisions_on (front ++ back) ≡ decisions_on front ++ decisions_on back
+decisions_append front back = map-append (λ (p : Placed). is_decision p.cause) front back
+
+-- assignments are few
+few_by : (n : ℕ) (allowed : Allowed) (trail : Trail) (assigned : ℕ) → length trail ≤ n → IsWeighed n allowed trail assigned → assigned + 1 < 2 ^ (n + 1)
+few_by n Anything trail assigned fits h =
+    let e : n + 1 ≡ suc n = omega arith in
+    let long = decisions_length trail in
+    let most : trail_weight n (decisions_on trail) + 2 ≤ 2 ^ suc n = weight_below n (decisions_on trail) (omega arith) in
+    let below : assigned ≤ trail_weight n (decisions_on trail) = h in
+    rw e (omega arith)
+few_by n NoDecision trail assigned fits h =
+    let e : n + 1 ≡ suc n = omega arith in
+    let long = decisions_length trail in
+    let longer : length (decisions_on trail ++ false ∷ []) ≡ length (decisions_on trail) + 1 = length_push (decisions_on trail) false in
+    let short : length trail < n = h.0 in
+    let most : trail_weight n (decisions_on trail ++ false ∷ []) + 2 ≤ 2 ^ suc n = weight_below n (decisions_on trail ++ false ∷ []) (omega arith) in
+    let below : assigned < trail_weight n (decisions_on trail ++ false ∷ []) = h.1 in
+    rw e (omega arith)
+few_by n Nothing trail assigned fits h = h.1
+
+pub assigned_few : (scopes : List Scope) (t : TrailState) → IsTrailFor scopes t → t.assigned + 1 < 2 ^ (length (all_variables scopes) + 1)
+assigned_few scopes t kept = few_by (length (all_variables scopes)) t.allowed t.placed t.assigned (trail_length scopes t.placed kept.ordered) kept.weighed
+
+-- an assignment
+weighed_more : (n : ℕ) (allowed : Allowed) (trail : Trail) (assigned : ℕ) (p : Placed) → IsWeighed n allowed trail assigned → MayFollow allowed p.cause → counted assigned 1 ≤ trail_weight n (decisions_on (trail ++ p ∷ []))
+weighed_more n Anything trail assigned p h may =
+    let rises : trail_weight n (decisions_on trail) < trail_weight n (decisions_on trail ++ is_decision p.cause ∷ []) = weight_rises n (decisions_on trail) (is_decision p.cause) in
+    let below : assigned ≤ trail_weight n (decisions_on trail) = h in
+    rw (decisions_append trail (p ∷ [])) (omega arith)
+weighed_more n NoDecision trail assigned p h may =
+    let below : assigned < trail_weight n (decisions_on trail ++ false ∷ []) = h.1 in
+    let same : is_decision p.cause ≡ false = may in
+    rw (decisions_append trail (p ∷ []), same) (omega arith)
+weighed_more n Nothing trail assigned p h may = absurd may
+
+pub raised_more : (n : ℕ) (trail : Trail) (p : Placed) → trail_weight n (decisions_on trail) < trail_weight n (decisions_on (trail ++ p ∷ []))
+raised_more n trail p = rw (decisions_append trail (p ∷ [])) (weight_rises n (decisions_on trail) (is_decision p.cause))
+
+pub kept_more : (scopes : List Scope) (t : TrailState) (l : Literal) (cause : Cause) → IsTrailFor scopes t → Contains (all_variables scopes) l.variable → value_on t.placed l.variable ≡ None → MayStand scopes t.placed l.variable cause → MayFollow t.allowed cause → IsTrailFor scopes (with_literal scopes t l cause)
+kept_more scopes t l cause kept known fresh order may =
+    let p : Placed = record { literal = l; cause = cause } in
+    record {
+      ordered = ordered_more scopes [] t.placed p kept.ordered known fresh order;
+      numbered = ap (λ (ds : List ℕ). ds ++ depth_of scopes l.variable ∷ []) kept.numbered ∙ sym (map-append (λ (q : Placed). depth_of scopes q.literal.variable) t.placed (p ∷ []));
+      weighed = weighed_more (length (all_variables scopes)) t.allowed t.placed t.assigned p kept.weighed may;
+    }
+
+-- a cut
+decisions_cut : (b : ℕ) (front trail : Trail) (at : IsCutAt b front trail) → decisions_on trail ≡ decisions_on front ++ true ∷ decisions_on at.back
+decisions_cut b front trail at =
+    ap decisions_on at.parts ∙ (decisions_append front (at.decision ∷ at.back) ∙ ap (λ d. decisions_on front ++ d ∷ decisions_on at.back) at.is_decision)
+
+length_cut : (b : ℕ) (front trail : Trail) → IsCutAt b front trail → length front < length trail
+length_cut b front trail at =
+    let parts : length trail ≡ length (front ++ at.decision ∷ at.back) = ap length at.parts in
+    let long : length (front ++ at.decision ∷ at.back) ≡ length front + length (at.decision ∷ at.back) = length-append front (at.decision ∷ at.back) in
+    let more : length (at.decision ∷ at.back) ≡ suc (length at.back) = refl in
+    omega arith
+
+pub raised_cut : (n b : ℕ) (trail : Trail) → length trail ≤ n → b < last_level trail → trail_weight n (decisions_on trail) < trail_weight n (decisions_on (cut_trail b trail) ++ false ∷ [])
+raised_cut n b trail fits high =
+    let at = cut_at 0 b trail (omega arith) high in
+    let parts = decisions_cut b (cut_trail b trail) trail at in
+    let long = decisions_length trail in
+    let short : length (decisions_on (cut_trail b trail) ++ true ∷ decisions_on at.back) ≤ n = rw (← parts) (omega arith) in
+    rw parts (weight_turns n (decisions_on (cut_trail b trail)) (decisions_on at.back) short)
+
+weighed_cut : (n b : ℕ) (allowed : Allowed) (trail : Trail) (assigned : ℕ) → length trail ≤ n → b < last_level trail → IsWeighed n allowed trail assigned → IsWeighed n NoDecision (cut_trail b trail) assigned
+weighed_cut n b Anything trail assigned fits high h =
+    let at = cut_at 0 b trail (omega arith) high in
+    let shorter = length_cut b (cut_trail b trail) trail at in
+    let below : assigned ≤ trail_weight n (decisions_on trail) = h in
+    let turned = raised_cut n b trail fits high in
+    (omega arith, omega arith)
+weighed_cut n b NoDecision trail assigned fits high h =
+    let front = decisions_on (cut_trail b trail) in
+    let at = cut_at 0 b trail (omega arith) high in
+    let shorter = length_cut b (cut_trail b trail) trail at in
+    let parts : decisions_on trail ++ false ∷ [] ≡ front ++ true ∷ (decisions_on at.back ++ false ∷ []) = ap (λ d. d ++ false ∷ []) (decisions_cut b (cut_trail b trail) trail at) ∙ append_assoc front (true ∷ decisions_on at.back) (false ∷ []) in
+    let short : length trail < n = h.0 in
+    let long = decisions_length trail in
+    let longer : length (decisions_on trail ++ false ∷ []) ≡ length (decisions_on trail) + 1 = length_push (decisions_on trail) false in
+    let within : length (front ++ true ∷ (decisions_on at.back ++ false ∷ [])) ≤ n = rw (← parts) (omega arith) in
+    let turned : trail_weight n (decisions_on trail ++ false ∷ []) < trail_weight n (front ++ false ∷ []) = rw parts (weight_turns n front (decisions_on at.back ++ false ∷ []) within) in
+    let below : assigned < trail_weight n (decisions_on trail ++ false ∷ []) = h.1 in
+    (omega arith, omega arith)
+weighed_cut n b Nothing trail assigned fits high h = absurd (let top : b < 0 = rw h.0 at high in omega arith)
+
+numbered_cut : (scopes : List Scope) (b : ℕ) (t : TrailState) → b < last_level t.placed → IsTrailFor scopes t → take (length (cut_trail b t.placed)) t.depths ≡ map (λ (p : Placed). depth_of scopes p.literal.variable) (cut_trail b t.placed)
+numbered_cut scopes b t high kept =
+    let depth : Placed → ℕ = λ (p : Placed). depth_of scopes p.literal.variable in
+    let front = cut_trail b t.placed in
+    let at = cut_at 0 b t.placed (omega arith) high in
+    let back : List Placed = at.decision ∷ at.back in
+    let parts : t.depths ≡ map depth front ++ map depth back = kept.numbered ∙ (ap (map depth) at.parts ∙ map-append depth front back) in
+    let long : length (map depth front) ≡ length front = length-map front depth in
+    ap (take (length front)) parts ∙ (ap (λ n. take n (map depth front ++ map depth back)) (sym long) ∙ take-append_seam (map depth front) (map depth back))
+
+pub kept_cut : (scopes : List Scope) (b : ℕ) (t : TrailState) → IsTrailFor scopes t → IsTrailFor scopes (undone_to b t)
+kept_cut scopes b t kept =
+    ⊎_elim
+    (λ (high : b < last_level t.placed). rw (undone_high b t high) (record {
+      ordered = cut_ordered scopes [] 0 b t.placed kept.ordered;
+      numbered = numbered_cut scopes b t high kept;
+      weighed = weighed_cut (length (all_variables scopes)) b t.allowed t.placed t.assigned (trail_length scopes t.placed kept.ordered) high kept.weighed;
+    }))
+    (λ (low : last_level t.placed ≤ b). rw (undone_low b t low) kept)
+    (cases_lt b (last_level t.placed))
+
+pub kept_cleared : (scopes : List Scope) (t : TrailState) → IsTrailFor scopes (cleared t)
+kept_cleared scopes t = record { ordered = tt; numbered = refl; weighed = omega arith }
+
+-- assumptions that are given up
+pub kept_given_up : (scopes : List Scope) (t : TrailState) (placed : Trail) (depths : List ℕ) (assigned room : ℕ) → IsTrailFor scopes t → placed ≡ [] → depths ≡ [] → assigned ≡ t.assigned → IsTrailFor scopes (record { placed = placed; depths = depths; assigned = assigned; room = room; allowed = Nothing })
+kept_given_up scopes t placed depths assigned room kept empty none same =
+    record {
+      ordered = rw empty tt;
+      numbered = none ∙ ap (map (λ (p : Placed). depth_of scopes p.literal.variable)) (sym empty);
+      weighed = (empty, rw same (assigned_few scopes t kept));
+    }

@@ -1,0 +1,8 @@
+use Rattle.std.proofs.Common.{◌≡◌, length}
+use Rattle.trail.proofs.trail.Trail.undo_all.Given as goal
+
+abbrev pub invariant-loop-self : goal.invariant-loop-self
+invariant-loop-self l = (l.self.assigned ≡ l.fn.self.assigned) × (l.self.room ≡ l.fn.self.room)
+
+abbrev pub decreases-loop-self : goal.decreases-loop-self
+decreases-loop-self l = length l.self.placed

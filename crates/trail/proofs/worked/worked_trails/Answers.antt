@@ -1,0 +1,19 @@
+use Rattle.std.proofs.Common.{refl}
+use Rattle.calculus.specs.Weights.{trail_weight}
+use Rattle.trail.proofs.worked.worked_trails.Goals as goal
+
+pub returns : goal.returns
+unfolding trail_weight
+returns c =
+    record {
+      value = refl;
+      place = refl;
+      level = refl;
+      cause = refl;
+      unassigned = refl;
+      decision_counts_one = refl;
+      undone = refl;
+      turn_weighs_more = refl;
+      undone_ones_count = refl;
+      propagated_thrice = refl;
+    }

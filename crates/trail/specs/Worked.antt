@@ -1,0 +1,49 @@
+-- Worked values: trails over three variables.
+use Rattle.std.specs.Prelude.{◌≡◌, ℕ, true, false, List, [], ◌∷◌, Some, None}
+use Rattle.prefix.specs.Literal.{Literal}
+use Rattle.prefix.specs.Scopes.{Scope}
+use Rattle.prefix.specs.declared.quant.Quant.TheVariants.{Exists}
+use Rattle.calculus.specs.Search.{cause_on, decision_level_on, decisions_on, place_on, value_on}
+use Rattle.calculus.specs.Search.Cause.{Decided, Propagated}
+use Rattle.calculus.specs.Weights.{trail_weight}
+use Rattle.trail.specs.State.{TrailState, new_trail, undone_to, with_literal}
+
+-- a variable as a literal
+abbrev pub plus : ℕ → Literal
+plus x = record { variable = x; positive = true }
+
+-- its negation
+abbrev pub minus : ℕ → Literal
+minus x = record { variable = x; positive = false }
+
+-- e 1 2 3
+abbrev pub three_variables : List Scope
+three_variables = record { quantifier = Exists; variables = 1 ∷ 2 ∷ 3 ∷ [] } ∷ []
+
+-- 1 is decided, and -2 propagated from step 7
+abbrev pub decided_first : TrailState
+decided_first = with_literal three_variables (with_literal three_variables new_trail (plus 1) Decided) (minus 2) (Propagated 7)
+
+-- both are undone, and -1 is propagated from step 8
+abbrev pub turned : TrailState
+turned = with_literal three_variables (undone_to 0 decided_first) (minus 1) (Propagated 8)
+
+-- all three variables are propagated
+abbrev pub propagated : TrailState
+propagated = with_literal three_variables (with_literal three_variables (with_literal three_variables new_trail (plus 1) (Propagated 0)) (plus 2) (Propagated 1)) (plus 3) (Propagated 2)
+
+-- the weight of a trail over three variables
+abbrev pub weight_of : TrailState → ℕ
+weight_of t = trail_weight 3 (decisions_on t.placed)
+
+pub record WorkedTrails : Type 0 where
+  pub value : value_on decided_first.placed 2 ≡ Some false
+  pub place : place_on decided_first.placed 2 ≡ 1
+  pub level : decision_level_on decided_first.placed 2 ≡ 1
+  pub cause : cause_on decided_first.placed 2 ≡ Some (Propagated 7)
+  pub unassigned : value_on decided_first.placed 3 ≡ None
+  pub decision_counts_one : weight_of decided_first ≡ 5
+  pub undone : (undone_to 0 decided_first).placed ≡ []
+  pub turn_weighs_more : weight_of turned ≡ 8
+  pub undone_ones_count : turned.assigned ≡ 3
+  pub propagated_thrice : weight_of propagated ≡ 14

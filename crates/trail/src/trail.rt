@@ -1,0 +1,521 @@
+//! The trail.
+ghost use Rattle.std.specs.Prelude.{◌≡◌, ◌↔◌, ℕ, [], ◌∷◌, ◌++◌, ◌+◌, ◌-◌, ◌^◌, ◌<◌, ◌≤◌, length, map, take, slice_get, slice_index, slice_set, is_some, count_by, false, All, IfSome, IsNone, IsTrue, IsErr, OnOk, OnErr, List, Contains, Some, None, vec_len, vec_capacity};
+ghost use Rattle.std.specs.Option.{option_map};
+ghost use Rattle.prefix.specs.Literal.{Literal};
+ghost use Rattle.prefix.specs.Scopes.{Scope, all_variables, variables_at, AreDistinct, IsPrefix};
+ghost use Rattle.steps.specs.Counter.{after, left};
+ghost use Rattle.calculus.specs.Search.{MayStand, value_on, place_on, cause_on, cut_trail, decision_level_on, decisions_on, last_level, literals_on};
+ghost use Rattle.calculus.specs.Search.Cause.{Assumed as assumed_cause};
+ghost use Rattle.calculus.specs.Rows.{depth_of, variables_in};
+ghost use Rattle.calculus.specs.Weights.{trail_weight};
+ghost use Rattle.calculus.specs.Verdicts.{AreOuter};
+ghost use Rattle.trail.specs.declared.allowed.Allowed.TheVariants.{Anything};
+ghost use Rattle.trail.specs.Causes.{cause_of};
+ghost use Rattle.trail.specs.Open.{is_assigned, AreAssigned, AreAssignedBefore, IsFirstOpen};
+ghost use Rattle.trail.specs.Table.{spot_on, AreFloored, IsTallied, floor_from};
+ghost use Rattle.trail.specs.State.{new_trail, without_last, with_room, with_literal, with_assumed, given_up, undone_to, cleared, counted, MayFollow, IsTrailFor};
+
+use super::Why;
+use super::allowed::Allowed;
+use prefix::{Lit, Prefix, Var};
+use std::alloc::{AllocError, Global};
+use std::marker::Model;
+use steps::{NoMemory, Spent, Steps};
+
+// A literal on the trail, with its cause, its decision level, the number less 1 of its variable's scope, and the number of
+// the scope of the last decision up to it, or 1.
+#[derive(Debug, Drop)]
+struct Entry {
+    lit: Lit,
+    why: Why,
+    level: usize,
+    scope: usize,
+    floor: usize,
+}
+
+// Where a variable stands: its value, and its place among the entries.
+#[derive(Clone, Copy, Debug)]
+struct Spot {
+    value: bool,
+    place: usize,
+}
+
+/// An assignment trail: the assigned literals, oldest first, each with its cause. Contracts see it as that list, with the
+/// number of assignments, the room, and what may be assigned next.
+///
+/// Level 0 has the assumed literals and what is propagated before the first decision; each decision opens a level. Every
+/// look-up takes constant time, and to undo costs what is undone. The trail keeps its order for the prefix that its calls
+/// were given since the last `clear` or `stop`.
+#[derive(Debug, Drop)]
+pub struct Trail {
+    entries: Vec<Entry>,
+    // Where each variable stands, at its number less 1.
+    spots: Vec<Option<Spot>>,
+    // How many entries are of each scope, at its number less 1; scopes of greater numbers than its length aren't counted.
+    tallies: Vec<usize>,
+    assigned: u64,
+    allowed: Allowed,
+}
+
+impl Model for Trail {
+    ghost use Rattle.std.specs.Prelude.{length, vec_capacity};
+    ghost use Rattle.trail.specs.State.{TrailState};
+
+    ghost Value = { TrailState };
+
+    ghost use Rattle.trail.specs.Table.{trail_of, depths_of, IsTable, IsTallied};
+
+    ghost view = { λ t. record { placed = trail_of t.entries.items; depths = depths_of t.entries.items; assigned = t.assigned; room = length t.spots.items; allowed = t.allowed } };
+
+    ghost invariant = { λ t. IsTable t.entries.items t.spots.items (vec_capacity t.entries) × IsTallied t.entries.items t.tallies.items };
+}
+
+/// What is told of a search that stopped because its budget was spent. `Trail::stop` alone makes one, and it is never
+/// copied.
+#[derive(Debug, Drop)]
+pub struct Stopped {
+    budget: u64,
+    vars: usize,
+    assigned: u64,
+}
+
+impl Model for Stopped {
+    ghost use Rattle.std.specs.Prelude.{◌+◌, ◌^◌, ◌<◌};
+    ghost use Rattle.trail.specs.State.{Account};
+
+    ghost Value = { Account };
+
+    ghost view = { λ s. record { budget = s.budget; vars = s.vars; assigned = s.assigned } };
+
+    ghost invariant = { λ s. s.assigned + 1 < 2 ^ (s.vars + 1) };
+}
+
+impl Stopped {
+    /// The budget that was spent.
+    pub fn budget(&self) -> u64
+        ensures { result ≡ self.now.budget }
+    {
+        self.budget
+    }
+
+    /// The number of the prefix's variables.
+    pub fn vars(&self) -> usize
+        ensures { result ≡ self.now.vars }
+    {
+        self.vars
+    }
+
+    /// How many literals were assigned, undone ones too; at 2^64 - 1 the count stays. Each assignment raised the weight of
+    /// the trail, so they are few.
+    pub fn assigned(&self) -> u64
+        ensures value { result ≡ self.now.assigned }
+        ensures few { self.now.assigned + 1 < 2 ^ (self.now.vars + 1) }
+    {
+        self.assigned
+    }
+}
+
+impl Trail {
+    /// An empty trail without room for variables. This takes no memory.
+    pub fn new(alloc: Global) -> Self
+        ensures value { result ≡ new_trail }
+        ensures kept { (scopes : List Scope) → IsTrailFor scopes result }
+    {
+        Self {
+            entries: Vec::new(alloc),
+            spots: Vec::new(alloc),
+            tallies: Vec::new(alloc),
+            assigned: 0,
+            allowed: Allowed::Anything,
+        }
+    }
+
+    /// Makes room for the variables of numbers up to `vars`. With no memory the trail stays as it was.
+    pub fn reserve(&mut self, vars: usize) -> Result<(), NoMemory>
+        ensures ok { OnOk result (self.new ≡ with_room self.old vars) }
+        ensures err { OnErr result (self.new ≡ self.old) }
+        ensures kept { (scopes : List Scope) → IsTrailFor scopes self.old → IsTrailFor scopes self.new }
+    {
+        if self.spots.len() < vars {
+            self.entries.reserve(vars - self.entries.len())?;
+            widen(&mut self.tallies, &self.entries, vars)?;
+            self.spots.resize(vars, None)?;
+        }
+        Ok(())
+    }
+
+    /// The value of a variable; none exactly where it is unassigned.
+    pub fn value(&self, v: Var) -> Option<bool>
+        ensures { result ≡ value_on self.now.placed v }
+    {
+        Some(self.spot(v)?.value)
+    }
+
+    /// The place of a variable on the trail, from 0; none exactly where it is unassigned.
+    pub fn place(&self, v: Var) -> Option<usize>
+        ensures value { result ≡ option_map (λ b. place_on self.now.placed v) (value_on self.now.placed v) }
+        ensures within { IfSome result (λ n. n < length self.now.placed) }
+    {
+        Some(self.spot(v)?.place)
+    }
+
+    /// The decision level of a variable; none exactly where it is unassigned.
+    pub fn level_of(&self, v: Var) -> Option<usize>
+        ensures { result ≡ option_map (λ b. decision_level_on self.now.placed v) (value_on self.now.placed v) }
+    {
+        Some(self.entries[self.place(v)?].level)
+    }
+
+    /// Why a variable is assigned; none exactly where it is unassigned.
+    pub fn why(&self, v: Var) -> Option<Why>
+        ensures { option_map cause_of result ≡ cause_on self.now.placed v }
+    {
+        Some(self.entries[self.place(v)?].why)
+    }
+
+    /// The literal at a place, from 0.
+    pub fn at(&self, place: usize) -> Lit
+        requires { place < length self.now.placed }
+        ensures { slice_get (literals_on self.now.placed) place ≡ Some result }
+    {
+        self.entries[place].lit
+    }
+
+    /// How many literals are assigned.
+    pub fn len(&self) -> usize
+        ensures { result ≡ length self.now.placed }
+    {
+        self.entries.len()
+    }
+
+    /// Whether nothing is assigned.
+    pub fn is_empty(&self) -> bool
+        ensures { IsTrue result ↔ (self.now.placed ≡ []) }
+    {
+        self.entries.is_empty()
+    }
+
+    /// How many decisions stand on the trail.
+    pub fn level(&self) -> usize
+        ensures { result ≡ last_level self.now.placed }
+    {
+        match self.entries.last() {
+            None => 0,
+            Some(entry) => entry.level,
+        }
+    }
+
+    /// How many literals were assigned since the last `clear` or `stop`, undone ones too; at 2^64 - 1 the count stays. Each
+    /// assignment raised the weight of the trail, so they are few.
+    pub fn assigned(&self) -> u64
+        ensures value { result ≡ self.now.assigned }
+        ensures few { (scopes : List Scope) → IsTrailFor scopes self.now → self.now.assigned + 1 < 2 ^ (length (all_variables scopes) + 1) }
+    {
+        self.assigned
+    }
+
+    /// Assigns a literal, which counts a step. The prefix is that of the calls since the last `clear` or `stop`; the
+    /// variable is one of it, unassigned, and there is room for it. `Assumed` is for literals of the first scope while
+    /// all others are assumed, `Decided` for variables of the first scope that isn't all assigned, and not for the first
+    /// assignment after a cut that took literals off.
+    ///
+    /// Spent comes exactly where the budget is spent, and changes nothing. This takes no memory.
+    pub fn assign(
+        &mut self,
+        prefix: &Prefix,
+        lit: Lit,
+        why: Why,
+        steps: &mut Steps,
+    ) -> Result<(), Spent>
+        requires prefix { IsTrailFor prefix.now self.old }
+        requires known { Contains (all_variables prefix.now) lit.variable }
+        requires unassigned { value_on self.old.placed lit.variable ≡ None }
+        requires room { lit.variable ≤ self.old.room }
+        requires order { MayStand prefix.now self.old.placed lit.variable (cause_of why) }
+        requires allowed { MayFollow self.old.allowed (cause_of why) }
+        ensures ok { OnOk result (self.new ≡ with_literal prefix.now self.old lit (cause_of why)) }
+        ensures err { OnErr result (self.new ≡ self.old) }
+        ensures spent { IsErr result ↔ (steps.old.spent ≡ steps.old.budget) }
+        ensures counted { OnOk result (steps.new ≡ after steps.old 1) }
+        ensures uncounted { OnErr result (steps.new ≡ steps.old) }
+        ensures within { steps.old.spent ≤ steps.old.budget }
+        ensures kept { IsTrailFor prefix.now self.new }
+
+        // Each assignment raises the weight.
+        ensures raised { OnOk result ((n : ℕ) → trail_weight n (decisions_on self.old.placed) < trail_weight n (decisions_on self.new.placed)) }
+    {
+        steps.tick()?;
+        self.push(lit, why, depth(prefix, lit.var()) - 1);
+        Ok(())
+    }
+
+    /// Assumes literals of the first scope over different variables, on an empty trail. The conditions are those of
+    /// `assign` for each.
+    ///
+    /// Spent comes exactly where fewer steps are left than there are literals. What was assigned before it came is undone
+    /// then, and nothing is assigned before a `clear` or `stop`. This takes no memory.
+    pub fn assume_all(
+        &mut self,
+        prefix: &Prefix,
+        lits: &[Lit],
+        steps: &mut Steps,
+    ) -> Result<(), Spent>
+        requires prefix { IsTrailFor prefix.now self.old }
+        requires empty { self.old.placed ≡ [] }
+        requires outer { AreOuter prefix.now lits.now }
+        requires different { AreDistinct (variables_in lits.now) }
+        requires room { All (λ l. l.variable ≤ self.old.room) lits.now }
+        requires allowed { MayFollow self.old.allowed assumed_cause }
+        ensures ok { OnOk result (self.new ≡ with_assumed prefix.now self.old lits.now) }
+        ensures err { OnErr result (self.new ≡ given_up self.old (left steps.old)) }
+        ensures spent { IsErr result ↔ (left steps.old < length lits.now) }
+        ensures counted { OnOk result (steps.new ≡ after steps.old (length lits.now)) }
+        ensures uncounted { OnErr result (steps.new ≡ after steps.old (left steps.old)) }
+        ensures kept { IsTrailFor prefix.now self.new }
+    {
+        let assumed = self.assume_each(prefix, lits, steps);
+        if assumed.is_err() {
+            self.undo_all();
+            self.allowed = Allowed::Nothing;
+        }
+        assumed
+    }
+
+    /// Cuts the trail to a decision level: what was assigned later goes. A level that isn't below that of the trail changes
+    /// nothing; after any other one the first assignment is no decision. This takes no memory.
+    pub fn undo_to(&mut self, level: usize)
+        ensures cut { self.new ≡ undone_to level self.old }
+        ensures kept { (scopes : List Scope) → IsTrailFor scopes self.old → IsTrailFor scopes self.new }
+
+        // What is assigned after a cut raises the weight over that of the whole trail before it.
+        ensures raised { (n : ℕ) → length self.old.placed ≤ n → level < last_level self.old.placed → trail_weight n (decisions_on self.old.placed) < trail_weight n (decisions_on self.new.placed ++ false ∷ []) }
+    {
+        while self.level() > level {
+            self.pop();
+        }
+    }
+
+    /// Empties the trail, level 0 too, and begins the count anew. This takes no memory.
+    pub fn clear(&mut self)
+        ensures cleared { self.new ≡ cleared self.old }
+        ensures kept { (scopes : List Scope) → IsTrailFor scopes self.new }
+    {
+        self.undo_all();
+        self.assigned = 0;
+        self.allowed = Allowed::Anything;
+    }
+
+    /// Empties the trail as `clear` does, where the budget is spent, and tells the counter's budget, the number of the
+    /// prefix's variables and how many literals were assigned. This takes no memory.
+    pub fn stop(&mut self, prefix: &Prefix, steps: &Steps) -> Stopped
+        requires prefix { IsTrailFor prefix.now self.old }
+        requires spent { steps.now.spent ≡ steps.now.budget }
+        ensures stopped { result ≡ record { budget = steps.now.budget; vars = length (all_variables prefix.now); assigned = self.old.assigned } }
+        ensures cleared { self.new ≡ cleared self.old }
+        ensures kept { (scopes : List Scope) → IsTrailFor scopes self.new }
+    {
+        let stopped = Stopped {
+            budget: steps.budget(),
+            vars: prefix.len(),
+            assigned: self.assigned(),
+        };
+        self.clear();
+        stopped
+    }
+
+    // How many variables of a scope are assigned. This takes constant time, but for a scope without a place in the table.
+    fn assigned_in(&self, prefix: &Prefix, scope: usize) -> usize
+        requires prefix { IsTrailFor prefix.now self.now }
+        requires valid { IsPrefix prefix.now }
+        requires first { 1 ≤ scope }
+        requires last { scope ≤ length prefix.now }
+        ensures { result ≡ count_by (is_assigned self.now.placed) (variables_at prefix.now scope) }
+    {
+        if scope <= self.tallies.len() {
+            self.tallies[scope - 1]
+        } else {
+            self.count_assigned(prefix.vars_of(scope))
+        }
+    }
+
+    // How many of some variables are assigned.
+    fn count_assigned(&self, vars: &[Var]) -> usize
+        ensures { result ≡ count_by (is_assigned self.now.placed) vars.now }
+    {
+        let mut count = 0;
+        for v in vars {
+            if self.value(*v).is_some() {
+                count += 1;
+            }
+        }
+        count
+    }
+
+    /// The first scope with an unassigned variable, for the prefix of the calls since the last `clear` or `stop`; none
+    /// exactly where every variable is assigned. This looks at the scopes from that of the last decision on.
+    pub fn first_open(&self, prefix: &Prefix) -> Option<usize>
+        requires prefix { IsTrailFor prefix.now self.now }
+        ensures none { IsNone result ↔ AreAssigned prefix.now self.now.placed }
+        ensures some { IfSome result (IsFirstOpen prefix.now self.now.placed) }
+    {
+        for scope in self.floor()..prefix.scopes() + 1 {
+            if self.assigned_in(prefix, scope) < prefix.vars_of(scope).len() {
+                return Some(scope);
+            }
+        }
+        None
+    }
+
+    // A scope that no unassigned variable is of an earlier one than.
+    fn floor(&self) -> usize
+        ensures positive { 1 ≤ result }
+        ensures earlier { (scopes : List Scope) → IsTrailFor scopes self.now → AreAssignedBefore scopes self.now.placed result }
+    {
+        last_floor(&self.entries)
+    }
+
+    /// How many literals `undo_to` keeps of this decision level and those before it.
+    pub fn len_to(&self, level: usize) -> usize
+        ensures { result ≡ length (cut_trail level self.now.placed) }
+    {
+        let mut len = self.entries.len();
+        while len > 0 && self.entries[len - 1].level > level {
+            len -= 1;
+        }
+        len
+    }
+
+    // Where a variable stands, if it is assigned.
+    fn spot(&self, v: Var) -> Option<Spot>
+        ensures { result ≡ spot_on self.now.placed v }
+    {
+        *self.spots.get(index(v))?
+    }
+
+    // Puts a literal on the trail, with the number less 1 of its scope.
+    fn push(&mut self, lit: Lit, why: Why, scope: usize)
+        requires unassigned { value_on self.old.placed lit.variable ≡ None }
+        requires room { lit.variable ≤ self.old.room }
+        requires small { scope < 2 ^ 63 }
+        ensures { self.new ≡ record { placed = self.old.placed ++ record { literal = lit; cause = cause_of why } ∷ []; depths = self.old.depths ++ (scope + 1) ∷ []; assigned = counted self.old.assigned 1; room = self.old.room; allowed = Anything } }
+    {
+        let place = self.entries.len();
+        let entry = Entry {
+            lit,
+            why,
+            level: why.level_after(self.level()),
+            scope,
+            floor: why.floor_after(last_floor(&self.entries), scope),
+        };
+        let spot = Spot {
+            value: lit.is_positive(),
+            place,
+        };
+        let _ = self.entries.push(entry);
+        self.spots[index(lit.var())] = Some(spot);
+        count_up(&mut self.tallies, scope);
+        self.assigned = self.assigned.saturating_add(1);
+        self.allowed = Allowed::Anything;
+    }
+
+    // Takes the last literal off.
+    fn pop(&mut self)
+        requires { 0 < length self.old.placed }
+        ensures { self.new ≡ without_last self.old }
+    {
+        if let Some(entry) = self.entries.pop() {
+            self.spots[index(entry.lit.var())] = None;
+            count_down(&mut self.tallies, entry.scope);
+            self.allowed = Allowed::NoDecision;
+        }
+    }
+
+    // Takes all literals off.
+    fn undo_all(&mut self)
+        ensures placed { self.new.placed ≡ [] }
+        ensures depths { self.new.depths ≡ [] }
+        ensures assigned { self.new.assigned ≡ self.old.assigned }
+        ensures room { self.new.room ≡ self.old.room }
+    {
+        while !self.entries.is_empty() {
+            self.pop();
+        }
+    }
+
+    // Assumes literals up to the first one for which no step is left.
+    fn assume_each(&mut self, prefix: &Prefix, lits: &[Lit], steps: &mut Steps) -> Result<(), Spent>
+        requires prefix { IsTrailFor prefix.now self.old }
+        requires empty { self.old.placed ≡ [] }
+        requires outer { AreOuter prefix.now lits.now }
+        requires different { AreDistinct (variables_in lits.now) }
+        requires room { All (λ l. l.variable ≤ self.old.room) lits.now }
+        requires allowed { MayFollow self.old.allowed assumed_cause }
+        ensures ok { OnOk result ((self.new ≡ with_assumed prefix.now self.old lits.now) × (steps.new ≡ after steps.old (length lits.now)) × (length lits.now ≤ left steps.old)) }
+        ensures err { OnErr result ((self.new ≡ with_assumed prefix.now self.old (take (left steps.old) lits.now)) × (steps.new ≡ after steps.old (left steps.old)) × (left steps.old < length lits.now)) }
+        ensures kept { IsTrailFor prefix.now self.new }
+    {
+        for &lit in lits {
+            self.assign(prefix, lit, Why::Assumed, steps)?;
+        }
+        Ok(())
+    }
+}
+
+// The place of a variable in the table.
+fn index(v: Var) -> usize
+    ensures place { result + 1 ≡ v }
+    ensures bound { result < 1048576 }
+{
+    v.number() as usize - 1
+}
+
+// The number of a variable's scope, or one that is past the last.
+fn depth(prefix: &Prefix, v: Var) -> usize
+    ensures value { result ≡ depth_of prefix.now v }
+    ensures positive { 1 ≤ result }
+    ensures small { result ≤ 65537 }
+{
+    prefix.level(v).unwrap_or(prefix.scopes() + 1)
+}
+
+// The number of the scope of the last decision, or 1.
+fn last_floor(entries: &[Entry]) -> usize
+    requires { AreFloored 1 entries.now }
+    ensures { result ≡ floor_from 1 entries.now }
+{
+    match entries.last() {
+        None => 1,
+        Some(entry) => entry.floor,
+    }
+}
+
+// Makes places for scopes of greater numbers, where no entry stands.
+fn widen(tallies: &mut Vec<usize>, entries: &[Entry], scopes: usize) -> Result<(), AllocError>
+    requires { IsTallied entries.now tallies.old.items }
+    ensures { IsTallied entries.now tallies.new.items }
+{
+    if entries.is_empty() {
+        tallies.resize(scopes, 0)?;
+    }
+    Ok(())
+}
+
+// Counts one more of a scope that has a place in the table.
+fn count_up(tallies: &mut Vec<usize>, scope: usize)
+    requires { slice_index tallies.old.items scope < 2 ^ 63 }
+    ensures { tallies.new.items ≡ slice_set tallies.old.items scope (slice_index tallies.old.items scope + 1) }
+{
+    if scope < tallies.len() {
+        tallies[scope] += 1;
+    }
+}
+
+// Counts one less of a scope that has a place in the table.
+fn count_down(tallies: &mut Vec<usize>, scope: usize)
+    requires { scope < length tallies.old.items → 1 ≤ slice_index tallies.old.items scope }
+    ensures { tallies.new.items ≡ slice_set tallies.old.items scope (slice_index tallies.old.items scope - 1) }
+{
+    if scope < tallies.len() {
+        tallies[scope] -= 1;
+    }
+}

@@ -1,0 +1,7 @@
+//! Worked values of the definitions, each proved.
+ghost use Rattle.trail.specs.Worked.{WorkedTrails};
+
+/// Trails over three variables, with their weights and counts.
+pub fn worked_trails()
+    ensures { WorkedTrails }
+{}
