@@ -5,13 +5,13 @@ use Rattle.std.proofs.lemmas.List.{take_all, take_more}
 use Rattle.std.proofs.lemmas.List.Elements.{Contains-append_cases}
 use Rattle.std.specs.Option.{option_eq}
 use Rattle.std.specs.Prelude.{IfSome, IsTrue}
-use Rattle.prefix.specs.Scopes.{Scope, all_variables, variables_at, is_among, level_of}
+use Rattle.prefix.specs.Scopes.{Scope, variables_at, is_among, level_of}
 use Rattle.calculus.specs.Rows.{depth_of}
 use Rattle.calculus.specs.Search.{Trail, value_on}
 use Rattle.calculus.proofs.Levels.{depth_counted, level_from, level_in_prefix}
 use Rattle.calculus.proofs.Lists.{among_from, contains_cons, contains_nil}
 use Rattle.std.proofs.lemmas.Bool.{cond-true, cond-false}
-use Rattle.trail.specs.Open.{AreAssignedBefore, IsFirstOpen}
+use Rattle.trail.specs.Open.{IsFirstOpen}
 use Rattle.trail.proofs.Counting.{variables_before, variables_in, variables_within}
 use Rattle.decide.specs.Decision.{IsDecision, IsOpenIn}
 

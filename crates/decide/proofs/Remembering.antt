@@ -1,7 +1,7 @@
 -- What the slots remember.
-use Rattle.std.proofs.Common.{◌≡◌, ℕ, zero, suc, ◌+◌, ◌-◌, ◌<◌, ◌≤◌, Bool, List, [], ◌∷◌, ◌++◌, length, map, take, drop, set, get_or, replicate, Option, Some, None, refl, sym, ap, ◌∙◌, arith}
+use Rattle.std.proofs.Common.{◌≡◌, ℕ, zero, suc, ◌+◌, ◌-◌, ◌<◌, ◌≤◌, List, [], ◌∷◌, ◌++◌, length, take, drop, set, get_or, replicate, Some, None, refl, sym, ap, ◌∙◌, arith}
 use Rattle.std.specs.Prelude.{slice_get}
-use Rattle.std.proofs.lemmas.List.{map-set, set_past, take_all, length-map}
+use Rattle.std.proofs.lemmas.List.{map-set, set_past, take_all}
 use Rattle.prefix.specs.Literal.{Literal}
 use Rattle.decide.specs.declared.decider.Slot.{Slot}
 use Rattle.decide.specs.Memory.{Memory, phase_of, saved, with_phase}

@@ -44,6 +44,26 @@ fn decide(
     }
 }
 
+// Decides four times, the second time with the other sign where `turned` is so.
+fn decide_four(
+    decider: &mut Decider,
+    trail: &mut Trail,
+    prefix: &Prefix,
+    turned: bool,
+    steps: &mut Steps,
+) -> Result<[i32; 4], Fail>
+    requires kept { IsTrailFor prefix.now trail.old }
+    requires allowed { trail.old.allowed ≡ Anything }
+    ensures kept { IsTrailFor prefix.now trail.new }
+    ensures ok { OnOk result (trail.new.allowed ≡ Anything) }
+{
+    let first = decide(decider, trail, prefix, false, steps)?;
+    let second = decide(decider, trail, prefix, turned, steps)?;
+    let third = decide(decider, trail, prefix, false, steps)?;
+    let fourth = decide(decider, trail, prefix, false, steps)?;
+    Ok([first, second, third, fourth])
+}
+
 #[test]
 fn decisions_go_from_scope_to_scope(rt: HostRuntime) -> Result<(), Fail> {
     let prefix = two_scopes(rt.alloc())?;
@@ -52,16 +72,12 @@ fn decisions_go_from_scope_to_scope(rt: HostRuntime) -> Result<(), Fail> {
     let mut decider = Decider::new(rt.alloc());
     decider.reserve(3)?;
     decider.bump(Var::new(2).ok_or("range")?);
-    for (turned, want) in [(false, -2), (true, 1), (false, 3), (false, 0)] {
-        let number = decide(&mut decider, &mut trail, &prefix, turned, &mut steps)?;
-        assert_eq!(rt; number, want);
-    }
+    let numbers = decide_four(&mut decider, &mut trail, &prefix, true, &mut steps)?;
+    assert_eq!(rt; numbers, [-2, 1, 3, 0]);
     decider.undoing(&trail, &prefix, 0);
     trail.clear();
-    for want in [-2, 1, 3, 0] {
-        let number = decide(&mut decider, &mut trail, &prefix, false, &mut steps)?;
-        assert_eq!(rt; number, want);
-    }
+    let numbers = decide_four(&mut decider, &mut trail, &prefix, false, &mut steps)?;
+    assert_eq!(rt; numbers, [-2, 1, 3, 0], "with the saved signs");
     Ok(())
 }
 
@@ -71,14 +87,22 @@ fn what_was_not_told_is_found_all_the_same(rt: HostRuntime) -> Result<(), Fail> 
     let mut steps = Steps::new(100);
     let mut trail = Trail::new(rt.alloc());
     let mut decider = Decider::new(rt.alloc());
-    for _ in 0..3 {
-        for _ in 0..3 {
-            let number = decide(&mut decider, &mut trail, &prefix, false, &mut steps)?;
-            assert_ne!(rt; number, 0);
-        }
-        let number = decide(&mut decider, &mut trail, &prefix, false, &mut steps)?;
-        assert_eq!(rt; (number, trail.len()), (0, 3));
-        trail.clear();
-    }
+    let numbers = decide_four(&mut decider, &mut trail, &prefix, true, &mut steps)?;
+    assert_eq!(rt;
+        (numbers[2], numbers[3], trail.len()),
+        (3, 0, 3),
+        "without room"
+    );
+    trail.clear();
+    decider.reserve(3)?;
+    let numbers = decide_four(&mut decider, &mut trail, &prefix, false, &mut steps)?;
+    assert_eq!(rt;
+        (numbers[2], numbers[3], trail.len()),
+        (3, 0, 3),
+        "with room"
+    );
+    trail.clear();
+    let numbers = decide_four(&mut decider, &mut trail, &prefix, false, &mut steps)?;
+    assert_eq!(rt; (numbers[2], numbers[3], trail.len()), (3, 0, 3), "again");
     Ok(())
 }

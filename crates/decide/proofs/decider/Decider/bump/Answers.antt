@@ -1,4 +1,4 @@
-use Rattle.std.proofs.Common.{◌≡◌, ◌∙◌, refl}
+use Rattle.std.proofs.Common.{◌∙◌, refl}
 use Rattle.decide.specs.declared.decider.Slot.{Slot}
 use Rattle.decide.proofs.Remembering.{phases_same}
 use Rattle.decide.proofs.decider.Decider.bump.Goals as goal

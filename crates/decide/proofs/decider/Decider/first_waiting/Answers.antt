@@ -1,4 +1,4 @@
-use Rattle.std.proofs.Common.{sym, ap, ◌∙◌, is_some}
+use Rattle.std.proofs.Common.{sym, ◌∙◌}
 use Rattle.decide.proofs.Choosing.{level_is, level_open, none_from}
 use Rattle.decide.proofs.decider.Decider.first_waiting.Goals as goal
 

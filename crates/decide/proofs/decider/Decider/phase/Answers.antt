@@ -1,4 +1,4 @@
-use Rattle.std.proofs.Common.{◌≡◌, ◌<◌, length, get_or, sym, ap, ◌∙◌}
+use Rattle.std.proofs.Common.{◌≡◌, ◌<◌, length, get_or, sym}
 use Rattle.std.proofs.lemmas.Bool.{ltb-true}
 use Rattle.decide.proofs.Remembering.{phase_at}
 use Rattle.decide.proofs.decider.Decider.phase.Goals as goal

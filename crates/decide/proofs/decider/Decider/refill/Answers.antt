@@ -1,4 +1,4 @@
-use Rattle.std.proofs.Common.{◌≡◌, ◌<◌, length, Contains, sym, ap, ◌∙◌}
+use Rattle.std.proofs.Common.{Contains, sym, ◌∙◌}
 use Rattle.prefix.specs.Scopes.{variables_at}
 use Rattle.decide.proofs.Choosing.{none_from, one_at_end, one_found, open_in}
 use Rattle.decide.proofs.decider.Decider.refill.Goals as goal

@@ -1,4 +1,4 @@
-use Rattle.std.proofs.Common.{◌≡◌, ◌≤◌, ◌-◌, vec_len, length, None, refl, ap, ◌∙◌, arith}
+use Rattle.std.proofs.Common.{◌≤◌, ◌-◌, vec_len, length, None, refl, ap, ◌∙◌, arith}
 use Rattle.decide.specs.declared.decider.Slot.{Slot}
 use Rattle.decide.specs.Memory.{phase_of}
 use Rattle.decide.proofs.Remembering.{phases_resized}

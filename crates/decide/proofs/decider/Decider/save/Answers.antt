@@ -1,4 +1,4 @@
-use Rattle.std.proofs.Common.{◌≡◌, ◌+◌, Some, sym, ap, ◌∙◌}
+use Rattle.std.proofs.Common.{◌≡◌, ◌+◌, Some, ap, ◌∙◌}
 use Rattle.decide.specs.declared.decider.Slot.{Slot}
 use Rattle.decide.proofs.Remembering.{phases_saved}
 use Rattle.decide.proofs.decider.Decider.save.Goals as goal

@@ -1,4 +1,4 @@
-use Rattle.std.proofs.Common.{◌≡◌, ◌+◌, drop, sym, ap, ◌∙◌}
+use Rattle.std.proofs.Common.{◌+◌, drop, sym, ap, ◌∙◌}
 use Rattle.calculus.specs.Search.{literals_on}
 use Rattle.decide.specs.Memory.{saved}
 use Rattle.decide.proofs.Remembering.{saved_next}
