@@ -323,6 +323,32 @@ impl Trail {
         stopped
     }
 
+    /// The first scope with an unassigned variable, for the prefix of the calls since the last `clear` or `stop`; none
+    /// exactly where every variable is assigned. This looks at the scopes from that of the last decision on.
+    pub fn first_open(&self, prefix: &Prefix) -> Option<usize>
+        requires prefix { IsTrailFor prefix.now self.now }
+        ensures none { IsNone result ↔ AreAssigned prefix.now self.now.placed }
+        ensures some { IfSome result (IsFirstOpen prefix.now self.now.placed) }
+    {
+        for scope in self.floor()..prefix.scopes() + 1 {
+            if self.assigned_in(prefix, scope) < prefix.vars_of(scope).len() {
+                return Some(scope);
+            }
+        }
+        None
+    }
+
+    /// How many literals `undo_to` keeps of this decision level and those before it.
+    pub fn len_to(&self, level: usize) -> usize
+        ensures { result ≡ length (cut_trail level self.now.placed) }
+    {
+        let mut len = self.entries.len();
+        while len > 0 && self.entries[len - 1].level > level {
+            len -= 1;
+        }
+        len
+    }
+
     // How many variables of a scope are assigned. This takes constant time, but for a scope without a place in the table.
     fn assigned_in(&self, prefix: &Prefix, scope: usize) -> usize
         requires prefix { IsTrailFor prefix.now self.now }
@@ -351,38 +377,12 @@ impl Trail {
         count
     }
 
-    /// The first scope with an unassigned variable, for the prefix of the calls since the last `clear` or `stop`; none
-    /// exactly where every variable is assigned. This looks at the scopes from that of the last decision on.
-    pub fn first_open(&self, prefix: &Prefix) -> Option<usize>
-        requires prefix { IsTrailFor prefix.now self.now }
-        ensures none { IsNone result ↔ AreAssigned prefix.now self.now.placed }
-        ensures some { IfSome result (IsFirstOpen prefix.now self.now.placed) }
-    {
-        for scope in self.floor()..prefix.scopes() + 1 {
-            if self.assigned_in(prefix, scope) < prefix.vars_of(scope).len() {
-                return Some(scope);
-            }
-        }
-        None
-    }
-
-    // A scope that no unassigned variable is of an earlier one than.
+    // The number of a scope before which every variable is assigned: that of the last decision, or the first.
     fn floor(&self) -> usize
         ensures positive { 1 ≤ result }
         ensures earlier { (scopes : List Scope) → IsTrailFor scopes self.now → AreAssignedBefore scopes self.now.placed result }
     {
         last_floor(&self.entries)
-    }
-
-    /// How many literals `undo_to` keeps of this decision level and those before it.
-    pub fn len_to(&self, level: usize) -> usize
-        ensures { result ≡ length (cut_trail level self.now.placed) }
-    {
-        let mut len = self.entries.len();
-        while len > 0 && self.entries[len - 1].level > level {
-            len -= 1;
-        }
-        len
     }
 
     // Where a variable stands, if it is assigned.
@@ -411,6 +411,7 @@ impl Trail {
             value: lit.is_positive(),
             place,
         };
+        // There is room for it.
         let _ = self.entries.push(entry);
         self.spots[index(lit.var())] = Some(spot);
         count_up(&mut self.tallies, scope);
