@@ -2,13 +2,19 @@
 use Rattle.std.specs.Prelude.{◌≡◌, ◌<◌, ◌≤◌, ℕ, nat_lt, if◌then◌else◌, IsTrue, List, Contains, None}
 use Rattle.prefix.specs.Scopes.{Scope}
 use Rattle.calculus.specs.Rows.{Row}
-use Rattle.calculus.specs.Derivations.{Extends, IsDerivation}
-use Rattle.derive.specs.State.{State, SameStep, next_id, is_live, note_at, steps_of, clauses_of, open_clauses, IsLegalFor}
+use Rattle.calculus.specs.Derivations.{Step, Extends, IsDerivation}
+use Rattle.derive.specs.State.{State, SameStep, next_id, is_live, is_step, note_at, side_at, row_of, why_at, steps_of, clauses_of, open_clauses, IsLegalFor}
 use Rattle.derive.specs.Dropping.{Drops, is_from}
 
 -- Each live step but a finish stays legal when the prefix gets scopes and variables.
 abbrev pub PrefixesMayGrow : Type 0
 PrefixesMayGrow = (old new : List Scope) (d : State) → Extends old new → IsLegalFor old d → IsLegalFor new d
+
+-- The listed steps are those under the ids that `is_step` holds of, with the side, the row and the reason that are told there.
+pub record StepsAreListed : Type 0 where
+  pub listed : (d : State) (id : ℕ) → IsTrue (is_step d id) → Contains (steps_of d) (record { id = id; side = side_at d id; row = row_of d id; why = why_at d id })
+  pub stands : (d : State) (s : Step) → Contains (steps_of d) s → IsTrue (is_step d s.id)
+  pub told : (d : State) (s : Step) → Contains (steps_of d) s → s ≡ record { id = s.id; side = side_at d s.id; row = row_of d s.id; why = why_at d s.id }
 
 -- After steps were added, a cut to the id that came next before gives the same steps and open clauses again.
 abbrev pub CutsRestore : Type 0
