@@ -1,13 +1,13 @@
 //! Derivations.
-ghost use Rattle.std.specs.Prelude.{◌≡◌, ◌≢◌, ◌<◌, ◌⊎◌, ℕ, Bool, true, false, IsTrue, IsFalse, IsSome, IsNone, Some, None, IfOk, OnOk, OnErr, List, [], ◌∷◌, ◌++◌, filter, max, not, nat_lt, ◌==◌, if◌then◌else◌, length};
+ghost use Rattle.std.specs.Prelude.{◌≡◌, ◌<◌, ℕ, false, IsTrue, IsFalse, Some, None, IfOk, OnOk, OnErr, List, [], ◌∷◌, ◌++◌, filter, max, not, nat_lt, ◌==◌, if◌then◌else◌, length};
 ghost use Rattle.prefix.specs.Scopes.{Scope};
 ghost use Rattle.prefix.specs.declared.quant.Quant.TheVariants.{Exists as exists, Forall as forall};
-ghost use Rattle.rows.specs.Arena.{Arena, literals_at};
+ghost use Rattle.rows.specs.Arena.{literals_at};
 ghost use Rattle.calculus.specs.Rows.{IsRow, reduce as reduction, resolve as resolvent};
 ghost use Rattle.calculus.specs.Derivations.{Hits, RestsOn};
 ghost use Rattle.calculus.specs.Derivations.Why.{ReducedFrom, ResolvedFrom, FinishedFrom};
 ghost use Rattle.calculus.specs.Verdicts.{finished, IsEndRow, IsFinish};
-ghost use Rattle.derive.specs.State.{State, IsStepOf, SameStep, OpenClause, next_id, is_live, is_step, has_rows, arena_of, row_of, side_at, why_at, tag_at, note_at, steps_of, clauses_of, open_clauses, IsLegalFor, Note as Kept};
+ghost use Rattle.derive.specs.State.{State, IsStepOf, SameStep, OpenClause, next_id, is_live, is_step, has_rows, row_of, side_at, why_at, tag_at, note_at, steps_of, clauses_of, open_clauses, IsLegalFor, Note as Kept};
 ghost use Rattle.derive.specs.Antecedents.{Fits, IsAntecedentIn, AreSupported, IsSupportedAt, IsGreatestFrame};
 ghost use Rattle.derive.specs.Adding.{Adds, AddsBoth, AddsClause, AreResolvable, InputsClause, IsOver, Removes, cube_note};
 ghost use Rattle.derive.specs.Dropping.{Drops, has_tag, is_initial_cube, finishes, is_from, is_root, unless_finish};

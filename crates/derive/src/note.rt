@@ -22,7 +22,7 @@ impl Model for Note {
 
     ghost Value = { Kept };
 
-    ghost use Rattle.std.specs.Prelude.{◌≡◌, is_none};
+    ghost use Rattle.std.specs.Prelude.{◌≡◌};
     ghost use Rattle.derive.specs.Told.{told, why_of};
 
     ghost view = { λ n. record { side = n.side; why = why_of n.step; tag = n.tag } };
