@@ -12,7 +12,7 @@ use Rattle.calculus.specs.Rows.{Row}
 use Rattle.calculus.specs.Derivations.{Why, RestsOn}
 use Rattle.calculus.specs.Derivations.Why.{Given, ReducedFrom, ResolvedFrom, FinishedFrom}
 use Rattle.derive.specs.State.{Note, Notes, State, SameStep, note_in, note_at, is_live, has_rows, row_of, side_in, tag_in, step_from, clause_from, with_step}
-use Rattle.derive.specs.Grounds.{IsGrounded, IsGroundedAt, HasTag, Fits}
+use Rattle.derive.specs.Antecedents.{AreSupported, IsSupportedAt, HasTag, Fits}
 use Rattle.derive.specs.Kept.{AreFrom, IsKept}
 use Rattle.derive.specs.Dropping.{StepTest}
 use Rattle.derive.specs.Adding.{Adds, AddsBoth, Removes, clause_note, note_over}
@@ -83,31 +83,31 @@ tag_same old new side tag (ReducedFrom a) same has = has ∙ ap tag_in (sym (sam
 tag_same old new side tag (ResolvedFrom a b x) same has = has ∙ ap₂ (λ o p. max (tag_in o) (tag_in p)) (sym (same a (inl refl))) (sym (same b (inr refl)))
 tag_same old new side tag (FinishedFrom a) same has = has ∙ ap tag_in (sym (same a refl))
 
--- a note stands on the same ground where what it rests on stays
-pub grounded_same : (old new : Notes) (id : ℕ) (note : Note) → IsGroundedAt old id note → ((on : ℕ) → RestsOn note.why on → note_in new on ≡ note_in old on) → IsGroundedAt new id note
-grounded_same old new id note g same =
+-- a note stands on the same support where what it rests on stays
+pub supported_same : (old new : Notes) (id : ℕ) (note : Note) → IsSupportedAt old id note → ((on : ℕ) → RestsOn note.why on → note_in new on ≡ note_in old on) → IsSupportedAt new id note
+supported_same old new id note g same =
     record {
-      grounds = λ on r. let h = g.grounds on r in record { under = h.under; there = same on r ∙ h.there; earlier = h.earlier; one_side = h.one_side; no_finish = h.no_finish };
+      antecedents = λ on r. let h = g.antecedents on r in record { under = h.under; there = same on r ∙ h.there; earlier = h.earlier; one_side = h.one_side; no_finish = h.no_finish };
       tag = tag_same old new note.side note.tag note.why same g.tag;
     }
 
-pub grounded_more : (notes : Notes) (last : Option Note) (id : ℕ) (note : Note) → id ≤ length notes → IsGroundedAt notes id note → IsGroundedAt (notes ++ last ∷ []) id note
-grounded_more notes last id note within g = grounded_same notes (notes ++ last ∷ []) id note g (λ on r. let e = (g.grounds on r).earlier in pushed_old notes last None on (omega arith))
+pub supported_more : (notes : Notes) (last : Option Note) (id : ℕ) (note : Note) → id ≤ length notes → IsSupportedAt notes id note → IsSupportedAt (notes ++ last ∷ []) id note
+supported_more notes last id note within g = supported_same notes (notes ++ last ∷ []) id note g (λ on r. let e = (g.antecedents on r).earlier in pushed_old notes last None on (omega arith))
 
 -- where an id stands against the end of a list
 ends : (k n : ℕ) → (k < n) ⊎ ((k ≡ n) ⊎ (n < k))
 ends k n = elim (cases_lt k n) [ inl h ↦ inl h | inr h ↦ elim (cases_eq k n) [ inl e ↦ inr (inl e) | inr ne ↦ inr (inr (grind arith)) ] ]
 
-module _ (notes : Notes) (arena : Arena) (note : Note) (row : Row) (fits : Fits notes arena) (ground : IsGroundedAt notes (length notes) note) where
-  all_grounded : IsGrounded notes → IsGrounded (notes ++ Some note ∷ [])
-  all_grounded grounded id n there =
+module _ (notes : Notes) (arena : Arena) (note : Note) (row : Row) (fits : Fits notes arena) (support : IsSupportedAt notes (length notes) note) where
+  all_supported : AreSupported notes → AreSupported (notes ++ Some note ∷ [])
+  all_supported supported id n there =
       elim (ends id (length notes)) [
-        | inl h ↦ grounded_more notes (Some note) id n (omega arith) (grounded id n (sym (pushed_old notes (Some note) None id h) ∙ there))
+        | inl h ↦ supported_more notes (Some note) id n (omega arith) (supported id n (sym (pushed_old notes (Some note) None id h) ∙ there))
         | inr e ↦ elim e [
           | inl s ↦
               let f : Some note ≡ Some n = sym (pushed_new notes (Some note) None id s) ∙ there in
               let is : note ≡ n = cc in
-              rw (s, ← is) (grounded_more notes (Some note) (length notes) note (omega arith) ground)
+              rw (s, ← is) (supported_more notes (Some note) (length notes) note (omega arith) support)
           | inr h ↦ absurd (none_some (note_in (notes ++ Some note ∷ []) id) n (pushed_past notes (Some note) None id h) there)
         ]
       ]
@@ -144,7 +144,7 @@ module _ (notes : Notes) (arena : Arena) (note : Note) (row : Row) (fits : Fits 
   pub kept_more : (cubes finishes : ℕ) → IsKept notes (Some arena) cubes finishes → IsKept (notes ++ Some note ∷ []) (Some (with_row arena row)) cubes finishes
   kept_more cubes finishes kept =
       record {
-        grounded = all_grounded kept.grounded;
+        supported = all_supported kept.supported;
         fits = λ a e. let f : Some (with_row arena row) ≡ Some a = e in let is : with_row arena row ≡ a = cc in rw (← is) fits_more;
         cubes = from_more _ cubes kept.cubes;
         finishing = from_more _ finishes kept.finishing;
@@ -155,9 +155,9 @@ module _ (notes : Notes) (arena : Arena) (note : Note) (row : Row) (fits : Fits 
 some_same : (a b : Arena) → ◌≡◌ {A = Option Arena} (Some a) (Some b) → a ≡ b
 some_same a b e = cc
 
-pub kept_add : (notes after : Notes) (rows : Option Arena) (arena new_arena : Arena) (note : Note) (row : Row) (cubes finishes : ℕ) → rows ≡ Some arena → after ≡ notes ++ Some note ∷ [] → new_arena ≡ with_row arena row → IsGroundedAt notes (length notes) note → IsKept notes rows cubes finishes → IsKept after (Some new_arena) cubes finishes
-kept_add notes after rows arena new_arena note row cubes finishes has is_after is_arena ground kept =
-    rw (is_after, is_arena) (kept_more notes arena note row (kept.fits arena has) ground cubes finishes (rw has at kept))
+pub kept_add : (notes after : Notes) (rows : Option Arena) (arena new_arena : Arena) (note : Note) (row : Row) (cubes finishes : ℕ) → rows ≡ Some arena → after ≡ notes ++ Some note ∷ [] → new_arena ≡ with_row arena row → IsSupportedAt notes (length notes) note → IsKept notes rows cubes finishes → IsKept after (Some new_arena) cubes finishes
+kept_add notes after rows arena new_arena note row cubes finishes has is_after is_arena support kept =
+    rw (is_after, is_arena) (kept_more notes arena note row (kept.fits arena has) support cubes finishes (rw has at kept))
 
 pub adds_of : (d : State) (notes after : Notes) (rows : Option Arena) (arena new_arena : Arena) (note : Note) (row : Row) (id cubes finishes : ℕ) → record { notes = notes; rows = rows } ≡ d → rows ≡ Some arena → after ≡ notes ++ Some note ∷ [] → new_arena ≡ with_row arena row → id ≡ next_row arena → IsKept notes rows cubes finishes → Adds d (record { notes = after; rows = Some new_arena }) id note row
 adds_of d notes after rows arena new_arena note row id cubes finishes view has is_after is_arena is_id kept =
@@ -166,22 +166,22 @@ adds_of d notes after rows arena new_arena note row id cubes finishes view has i
 
 -- a clause with its reduction
 
-clause_grounded : (notes : Notes) (frame : ℕ) → IsGroundedAt notes (length notes) (clause_note frame)
-clause_grounded notes frame = record { grounds = λ on r. absurd r; tag = λ e. absurd (cc) }
+clause_supported : (notes : Notes) (frame : ℕ) → IsSupportedAt notes (length notes) (clause_note frame)
+clause_supported notes frame = record { antecedents = λ on r. absurd r; tag = λ e. absurd (cc) }
 
-over_clause : (notes : Notes) (frame : ℕ) → IsGroundedAt (notes ++ Some (clause_note frame) ∷ []) (length (notes ++ Some (clause_note frame) ∷ [])) (record { side = Exists; why = ReducedFrom (length notes); tag = frame })
+over_clause : (notes : Notes) (frame : ℕ) → IsSupportedAt (notes ++ Some (clause_note frame) ∷ []) (length (notes ++ Some (clause_note frame) ∷ [])) (record { side = Exists; why = ReducedFrom (length notes); tag = frame })
 over_clause notes frame =
     let there : note_in (notes ++ Some (clause_note frame) ∷ []) (length notes) ≡ Some (clause_note frame) = pushed_new notes (Some (clause_note frame)) None (length notes) refl in
     let longer = pushed_length notes (Some (clause_note frame)) in
     record {
-      grounds = λ on r. record { under = clause_note frame; there = ap (note_in (notes ++ Some (clause_note frame) ∷ [])) (sym r) ∙ there; earlier = rw (← r) (omega arith); one_side = refl; no_finish = refl };
+      antecedents = λ on r. record { under = clause_note frame; there = ap (note_in (notes ++ Some (clause_note frame) ∷ [])) (sym r) ∙ there; earlier = rw (← r) (omega arith); one_side = refl; no_finish = refl };
       tag = sym (ap tag_in there);
     }
 
 pub kept_both : (notes after : Notes) (rows : Option Arena) (arena new_arena : Arena) (frame : ℕ) (row reduced : Row) (cubes finishes : ℕ) → rows ≡ Some arena → after ≡ (notes ++ Some (clause_note frame) ∷ []) ++ Some (record { side = Exists; why = ReducedFrom (length notes); tag = frame }) ∷ [] → new_arena ≡ with_row (with_row arena row) reduced → IsKept notes rows cubes finishes → IsKept after (Some new_arena) cubes finishes
 kept_both notes after rows arena new_arena frame row reduced cubes finishes has is_after is_arena kept =
     kept_add (notes ++ Some (clause_note frame) ∷ []) after (Some (with_row arena row)) (with_row arena row) new_arena (record { side = Exists; why = ReducedFrom (length notes); tag = frame }) reduced cubes finishes refl is_after is_arena (over_clause notes frame)
-    (kept_add notes (notes ++ Some (clause_note frame) ∷ []) rows arena (with_row arena row) (clause_note frame) row cubes finishes has refl refl (clause_grounded notes frame) kept)
+    (kept_add notes (notes ++ Some (clause_note frame) ∷ []) rows arena (with_row arena row) (clause_note frame) row cubes finishes has refl refl (clause_supported notes frame) kept)
 
 pub adds_both : (d : State) (notes after : Notes) (rows : Option Arena) (arena new_arena : Arena) (frame : ℕ) (row reduced : Row) (first second cubes finishes : ℕ) → record { notes = notes; rows = rows } ≡ d → rows ≡ Some arena → after ≡ (notes ++ Some (clause_note frame) ∷ []) ++ Some (record { side = Exists; why = ReducedFrom (length notes); tag = frame }) ∷ [] → new_arena ≡ with_row (with_row arena row) reduced → first ≡ next_row arena → second ≡ next_row arena + 1 → IsKept notes rows cubes finishes → AddsBoth d (record { notes = after; rows = Some new_arena }) first second frame row reduced
 adds_both d notes after rows arena new_arena frame row reduced first second cubes finishes view has is_after is_arena is_first is_second kept =
@@ -189,7 +189,7 @@ adds_both d notes after rows arena new_arena frame row reduced first second cube
     let middle : State = record { notes = notes ++ Some (clause_note frame) ∷ []; rows = Some (with_row arena row) } in
     let there : note_at middle (length notes) ≡ Some (clause_note frame) = pushed_new notes (Some (clause_note frame)) None (length notes) refl in
     let first_is : first ≡ length notes = is_first ∙ same in
-    let kept_first = kept_add notes (notes ++ Some (clause_note frame) ∷ []) rows arena (with_row arena row) (clause_note frame) row cubes finishes has refl refl (clause_grounded notes frame) kept in
+    let kept_first = kept_add notes (notes ++ Some (clause_note frame) ∷ []) rows arena (with_row arena row) (clause_note frame) row cubes finishes has refl refl (clause_supported notes frame) kept in
     let note_is : record { side = Exists; why = ReducedFrom (length notes); tag = frame } ≡ note_over middle first (ReducedFrom first) = rw (first_is, there) refl in
     record {
       with_input = middle;

@@ -16,13 +16,13 @@ use Rattle.calculus.proofs.StepLemmas.{kept_derivation}
 use Rattle.calculus.proofs.Levels.{contains_map_of}
 use Rattle.calculus.proofs.Changes.{changed_derivation, extends_itself}
 use Rattle.derive.specs.State.{Note, Notes, State, SameStep, OpenClause, note_in, note_at, next_id, row_of, is_finish, is_live, step_from, steps_of, clause_at, clause_from, clause_with, clauses_of, open_clauses, arena_of, has_rows, IsLegalFor}
-use Rattle.derive.specs.Grounds.{IsGrounded, Fits}
+use Rattle.derive.specs.Antecedents.{AreSupported, Fits}
 use Rattle.derive.specs.Kept.{AreFrom, IsKept}
 use Rattle.derive.specs.Dropping.{StepTest, Falls, DropsFrom, Drops, is_cube, is_initial_cube, finishes, is_from, unless_finish}
 use Rattle.derive.specs.Dropping.Falls.{root, rests}
 use Rattle.derive.proofs.Ids.{listed_at, listed_from, listed_filter, listed_same, listed_push, kept_if}
 use Rattle.derive.proofs.Falling.{none_some, some_is}
-use Rattle.derive.proofs.Additions.{grounded_same}
+use Rattle.derive.proofs.Additions.{supported_same}
 use Rattle.derive.proofs.Legality.{stands_at, step_with_is, given_input}
 
 module _ (is_root : StepTest) (old new : Notes) (old_rows new_rows : Arena) (drops : DropsFrom is_root old new old_rows new_rows) where
@@ -34,10 +34,10 @@ module _ (is_root : StepTest) (old new : Notes) (old_rows new_rows : Arena) (dro
   pub stays_live : (id : ℕ) → (Falls is_root old id → ⊥) → note_in new id ≡ note_in old id
   stays_live id no_fall = ⊎_elim (λ f. absurd (no_fall f.0)) (λ k. k.1) (drops.steps id)
 
-  grounded_left : IsGrounded old → IsGrounded new
-  grounded_left grounded id note there =
+  supported_left : AreSupported old → AreSupported new
+  supported_left supported id note there =
       let p = live_before id note there in
-      grounded_same old new id note (grounded id note p.1) (λ on r. stays_live on (λ f. p.0 (rests id on note p.1 r f)))
+      supported_same old new id note (supported id note p.1) (λ on r. stays_live on (λ f. p.0 (rests id on note p.1 r f)))
 
   from_left : (sort : StepTest) (from : ℕ) → AreFrom sort old from → AreFrom sort new from
   from_left sort from are = record { above = λ id note there is. are.above id note (live_before id note there).1 is; within = let h = are.within in let e = drops.same_next in omega arith }
@@ -62,7 +62,7 @@ module _ (is_root : StepTest) (old new : Notes) (old_rows new_rows : Arena) (dro
   pub kept_left : (cubes finishing : ℕ) → IsKept old (Some old_rows) cubes finishing → IsKept new (Some new_rows) cubes finishing
   kept_left cubes finishing kept =
       record {
-        grounded = grounded_left kept.grounded;
+        supported = supported_left kept.supported;
         fits = λ a e. let f : Some new_rows ≡ Some a = e in let is : new_rows ≡ a = cc in rw (← is) (fits_left (kept.fits old_rows refl));
         cubes = from_left _ cubes kept.cubes;
         finishing = from_left _ finishing kept.finishing;
@@ -255,39 +255,39 @@ left_none is_root old new drops notes rows len view is =
     rw (is, same) (from_none is_root old.notes new.notes (arena_of old) (arena_of new) drops.exactly is_root (λ id note r. r))
 
 pub kept_cubes : (old new : State) (notes : Notes) (rows : Option Arena) (cubes finishing len : ℕ) → Drops is_initial_cube old new → record { notes = notes; rows = rows } ≡ new → len ≡ length notes → IsKept notes rows cubes finishing → IsKept notes rows len finishing
-kept_cubes old new notes rows cubes finishing len drops view is kept = record { grounded = kept.grounded; fits = kept.fits; cubes = left_none is_initial_cube old new drops notes rows len view is; finishing = kept.finishing }
+kept_cubes old new notes rows cubes finishing len drops view is kept = record { supported = kept.supported; fits = kept.fits; cubes = left_none is_initial_cube old new drops notes rows len view is; finishing = kept.finishing }
 
 pub kept_finishes : (old new : State) (notes : Notes) (rows : Option Arena) (cubes finishing len : ℕ) → Drops finishes old new → record { notes = notes; rows = rows } ≡ new → len ≡ length notes → IsKept notes rows cubes finishing → IsKept notes rows cubes len
-kept_finishes old new notes rows cubes finishing len drops view is kept = record { grounded = kept.grounded; fits = kept.fits; cubes = kept.cubes; finishing = left_none finishes old new drops notes rows len view is }
+kept_finishes old new notes rows cubes finishing len drops view is kept = record { supported = kept.supported; fits = kept.fits; cubes = kept.cubes; finishing = left_none finishes old new drops notes rows len view is }
 
 -- with the finishes go finishes alone
-finish_falls : (notes : Notes) → IsGrounded notes → (id : ℕ) → Falls finishes notes id → (note : Note) → note_in notes id ≡ Some note → is_finish note.why ≡ true
-finish_falls notes grounded id (root j n at r) note there = let e : Some n ≡ Some note = sym at ∙ there in let is : n ≡ note = cc in rw (← is) r
-finish_falls notes grounded id (rests j on n at r falls) note there =
-    let g = (grounded id n at).grounds on r in
-    absurd (false≢true (sym g.no_finish ∙ finish_falls notes grounded on falls g.under g.there))
+finish_falls : (notes : Notes) → AreSupported notes → (id : ℕ) → Falls finishes notes id → (note : Note) → note_in notes id ≡ Some note → is_finish note.why ≡ true
+finish_falls notes supported id (root j n at r) note there = let e : Some n ≡ Some note = sym at ∙ there in let is : n ≡ note = cc in rw (← is) r
+finish_falls notes supported id (rests j on n at r falls) note there =
+    let g = (supported id n at).antecedents on r in
+    absurd (false≢true (sym g.no_finish ∙ finish_falls notes supported on falls g.under g.there))
 
-pub steps_same : (old new : State) → IsGrounded old.notes → Drops finishes old new → steps_of new ≡ steps_of old
-steps_same old new grounded drops =
+pub steps_same : (old new : State) → AreSupported old.notes → Drops finishes old new → steps_of new ≡ steps_of old
+steps_same old new supported drops =
     drops.left
     ∙ filter_all (λ (s : Step). is_live new s.id) (steps_of old)
     (λ s i.
     let st = stands_at old s i in
-    ⊎_elim (λ p. absurd (false≢true (sym st.no_finish ∙ finish_falls old.notes grounded s.id p.0 st.note st.there))) (λ p. ap is_some (p.1 ∙ st.there)) (drops.exactly.steps s.id))
+    ⊎_elim (λ p. absurd (false≢true (sym st.no_finish ∙ finish_falls old.notes supported s.id p.0 st.note st.there))) (λ p. ap is_some (p.1 ∙ st.there)) (drops.exactly.steps s.id))
 
 -- with the steps from an id on go these alone
-from_falls : (notes : Notes) (first : ℕ) → IsGrounded notes → (id : ℕ) → Falls (is_from first) notes id → first ≤ id
-from_falls notes first grounded id (root j n at r) = leb-true first id r
-from_falls notes first grounded id (rests j on n at r falls) =
-    let below = ((grounded id n at).grounds on r).earlier in
-    let before = from_falls notes first grounded on falls in
+from_falls : (notes : Notes) (first : ℕ) → AreSupported notes → (id : ℕ) → Falls (is_from first) notes id → first ≤ id
+from_falls notes first supported id (root j n at r) = leb-true first id r
+from_falls notes first supported id (rests j on n at r falls) =
+    let below = ((supported id n at).antecedents on r).earlier in
+    let before = from_falls notes first supported on falls in
     omega arith
 
-pub front_stays : (old new : State) (first : ℕ) → IsGrounded old.notes → Drops (is_from first) old new → (id : ℕ) → note_at new id ≡ cond (nat_lt id first) (note_at old id) None
-front_stays old new first grounded drops id =
+pub front_stays : (old new : State) (first : ℕ) → AreSupported old.notes → Drops (is_from first) old new → (id : ℕ) → note_at new id ≡ cond (nat_lt id first) (note_at old id) None
+front_stays old new first supported drops id =
     elim (cases_lt id first) [
       | inl h ↦
-          ⊎_elim (λ p. absurd (let below = from_falls old.notes first grounded id p.0 in omega arith)) (λ p. p.1) (drops.exactly.steps id)
+          ⊎_elim (λ p. absurd (let below = from_falls old.notes first supported id p.0 in omega arith)) (λ p. p.1) (drops.exactly.steps id)
           ∙ sym (cond-true (nat_lt id first) (note_at old id) None (lt-ltb id first h))
       | inr h ↦
           ⊎_elim (λ p. p.1) (λ p. gone (note_at old id) refl h p) (drops.exactly.steps id)
@@ -306,15 +306,15 @@ not_from k first =
     ]
 
 -- exactly the finishes go
-pub finishes_go : (old new : State) → IsGrounded old.notes → Drops finishes old new → (id : ℕ) → note_at new id ≡ unless_finish (note_at old id)
-finishes_go old new grounded drops id = go (note_at old id) refl
+pub finishes_go : (old new : State) → AreSupported old.notes → Drops finishes old new → (id : ℕ) → note_at new id ≡ unless_finish (note_at old id)
+finishes_go old new supported drops id = go (note_at old id) refl
   where
     go : (o : Option Note) → note_at old id ≡ o → note_at new id ≡ unless_finish (note_at old id)
     go None there =
         ⊎_elim (λ p. p.1 ∙ ap unless_finish (sym there)) (λ p. p.1 ∙ there ∙ ap unless_finish (sym there)) (drops.exactly.steps id)
     go (Some note) there =
         ⊎_elim
-        (λ p. p.1 ∙ sym (ap unless_finish there ∙ cond-true (is_finish note.why) None (Some note) (finish_falls old.notes grounded id p.0 note there)))
+        (λ p. p.1 ∙ sym (ap unless_finish there ∙ cond-true (is_finish note.why) None (Some note) (finish_falls old.notes supported id p.0 note there)))
         (λ p. p.1 ∙ there ∙ sym (ap unless_finish there ∙ cond-false (is_finish note.why) None (Some note) (⊎_elim (λ t. absurd (p.0 (root id note there t))) (λ f. f) (cases_Bool (is_finish note.why)))))
         (drops.exactly.steps id)
 
@@ -322,20 +322,20 @@ finishes_go old new grounded drops id = go (note_at old id) refl
 no_clause_cube : (side : Quant) (why : Why) → side ≡ Exists → is_cube side why ≡ false
 no_clause_cube side why e = rw e refl
 
-cube_falls : (notes : Notes) → IsGrounded notes → (id : ℕ) → Falls is_initial_cube notes id → (note : Note) → note_in notes id ≡ Some note → note.side ≡ Exists → ⊥
-cube_falls notes grounded id (root j n at r) note there side =
+cube_falls : (notes : Notes) → AreSupported notes → (id : ℕ) → Falls is_initial_cube notes id → (note : Note) → note_in notes id ≡ Some note → note.side ≡ Exists → ⊥
+cube_falls notes supported id (root j n at r) note there side =
     let e : Some n ≡ Some note = sym at ∙ there in
     let is : n ≡ note = cc in
     false≢true (sym (no_clause_cube n.side n.why (ap (λ (m : Note). m.side) is ∙ side)) ∙ r)
-cube_falls notes grounded id (rests j on n at r falls) note there side =
+cube_falls notes supported id (rests j on n at r falls) note there side =
     let e : Some n ≡ Some note = sym at ∙ there in
     let is : n ≡ note = cc in
-    let g = (grounded id n at).grounds on r in
-    cube_falls notes grounded on falls g.under g.there (g.one_side ∙ ap (λ (m : Note). m.side) is ∙ side)
+    let g = (supported id n at).antecedents on r in
+    cube_falls notes supported on falls g.under g.there (g.one_side ∙ ap (λ (m : Note). m.side) is ∙ side)
 
-pub clause_side_stays : (old new : State) → IsGrounded old.notes → Drops is_initial_cube old new → (id : ℕ) (note : Note) → note_at old id ≡ Some note → note.side ≡ Exists → note_at new id ≡ Some note
-clause_side_stays old new grounded drops id note there side =
-    ⊎_elim (λ p. absurd (cube_falls old.notes grounded id p.0 note there side)) (λ p. p.1 ∙ there) (drops.exactly.steps id)
+pub clause_side_stays : (old new : State) → AreSupported old.notes → Drops is_initial_cube old new → (id : ℕ) (note : Note) → note_at old id ≡ Some note → note.side ≡ Exists → note_at new id ≡ Some note
+clause_side_stays old new supported drops id note there side =
+    ⊎_elim (λ p. absurd (cube_falls old.notes supported id p.0 note there side)) (λ p. p.1 ∙ there) (drops.exactly.steps id)
 
 none_from_live : {A : Type 0} (o : Option A) → is_some o ≡ false → o ≡ None
 none_from_live None e = refl

@@ -6,10 +6,10 @@ use Rattle.rows.specs.Arena.{Arena, StoredRow, row_at as stored_at, next_id as n
 use Rattle.calculus.specs.Derivations.{Why, RestsOn}
 use Rattle.calculus.specs.Derivations.Why.{Given, ReducedFrom, ResolvedFrom, FinishedFrom}
 use Rattle.derive.specs.State.{Note, Notes, note_in}
-use Rattle.derive.specs.Grounds.{IsGrounded, Fits}
+use Rattle.derive.specs.Antecedents.{AreSupported, Fits}
 use Rattle.derive.specs.Dropping.{StepTest, Falls, DropsFrom}
 use Rattle.derive.specs.Dropping.Falls.{root, rests}
-use Rattle.derive.specs.Missing.{misses_ground, falls_now, falls_with}
+use Rattle.derive.specs.Missing.{misses_antecedent, falls_now, falls_with}
 
 -- options
 
@@ -26,13 +26,13 @@ none_some o x n s = let g : None ≡ Some x = sym n ∙ s in cc
 
 -- what a step misses
 
-pub misses_at : (notes : Notes) (why : Why) → misses_ground notes why ≡ true → (on : ℕ) × RestsOn why on × (note_in notes on ≡ None)
+pub misses_at : (notes : Notes) (why : Why) → misses_antecedent notes why ≡ true → (on : ℕ) × RestsOn why on × (note_in notes on ≡ None)
 misses_at notes Given e = absurd (false≢true e)
 misses_at notes (ReducedFrom a) e = (a, refl, none_is (note_in notes a) e)
 misses_at notes (ResolvedFrom a b x) e = ⊎_elim (λ f. (a, inl refl, none_is (note_in notes a) f)) (λ f. (b, inr refl, none_is (note_in notes b) f)) (or_cases (is_none (note_in notes a)) (is_none (note_in notes b)) e)
 misses_at notes (FinishedFrom a) e = (a, refl, none_is (note_in notes a) e)
 
-pub misses_from : (notes : Notes) (why : Why) (on : ℕ) → RestsOn why on → note_in notes on ≡ None → misses_ground notes why ≡ true
+pub misses_from : (notes : Notes) (why : Why) (on : ℕ) → RestsOn why on → note_in notes on ≡ None → misses_antecedent notes why ≡ true
 misses_from notes Given on r e = absurd r
 misses_from notes (ReducedFrom a) on r e = ap is_none (ap (note_in notes) r ∙ e)
 misses_from notes (ResolvedFrom a b x) on r e = ⊎_elim (λ s. or_left (is_none (note_in notes a)) (is_none (note_in notes b)) (ap is_none (ap (note_in notes) s ∙ e))) (λ s. or_right (is_none (note_in notes a)) (is_none (note_in notes b)) (ap is_none (ap (note_in notes) s ∙ e))) r
@@ -47,12 +47,12 @@ pub record Passed (is_root : StepTest) (old notes : Notes) (old_rows rows : Aren
   pub rows_follow : (id : ℕ) → stored_at rows id ≡ cond (is_some (note_in notes id)) (stored_at old_rows id) None
 
 -- nothing falls below the first root
-pub none_below : (is_root : StepTest) (old : Notes) (from : ℕ) → IsGrounded old → ((id : ℕ) (note : Note) → note_in old id ≡ Some note → id < from → is_root id note ≡ false) → (id : ℕ) → id < from → Falls is_root old id → ⊥
-none_below is_root old from grounded below id h (root j note there r) = true≢false (sym r ∙ below id note there h)
-none_below is_root old from grounded below id h (rests j on note there r falls) =
-    let g = (grounded id note there).grounds on r in
+pub none_below : (is_root : StepTest) (old : Notes) (from : ℕ) → AreSupported old → ((id : ℕ) (note : Note) → note_in old id ≡ Some note → id < from → is_root id note ≡ false) → (id : ℕ) → id < from → Falls is_root old id → ⊥
+none_below is_root old from supported below id h (root j note there r) = true≢false (sym r ∙ below id note there h)
+none_below is_root old from supported below id h (rests j on note there r falls) =
+    let g = (supported id note there).antecedents on r in
     let e : on < id = g.earlier in
-    none_below is_root old from grounded below on (omega arith) falls
+    none_below is_root old from supported below on (omega arith) falls
 
 stored_same : (old : Notes) (rows : Arena) → Fits old rows → (id : ℕ) → stored_at rows id ≡ cond (is_some (note_in old id)) (stored_at rows id) None
 stored_same old rows fits id = ⊎_elim (λ t. sym (cond-true (is_some (note_in old id)) (stored_at rows id) None t))
@@ -63,18 +63,18 @@ stored_same old rows fits id = ⊎_elim (λ t. sym (cond-true (is_some (note_in 
     stored_none None e = refl
     stored_none (Some x) e = absurd (true≢false e)
 
-pub passed_none : (is_root : StepTest) (old : Notes) (rows : Arena) (from : ℕ) → IsGrounded old → Fits old rows → ((id : ℕ) (note : Note) → note_in old id ≡ Some note → id < from → is_root id note ≡ false) → Passed is_root old old rows rows from
-passed_none is_root old rows from grounded fits below =
+pub passed_none : (is_root : StepTest) (old : Notes) (rows : Arena) (from : ℕ) → AreSupported old → Fits old rows → ((id : ℕ) (note : Note) → note_in old id ≡ Some note → id < from → is_root id note ≡ false) → Passed is_root old old rows rows from
+passed_none is_root old rows from supported fits below =
     record {
       same_next = refl;
-      done = λ id h. inr (none_below is_root old from grounded below id h, refl);
+      done = λ id h. inr (none_below is_root old from supported below id h, refl);
       rest = λ id h. refl;
       same_next_row = refl;
       rows_follow = stored_same old rows fits;
     }
 
 -- a live step falls exactly where the pass finds it so
-module _ (is_root : StepTest) (old notes : Notes) (old_rows rows : Arena) (to : ℕ) (grounded : IsGrounded old) (passed : Passed is_root old notes old_rows rows to) where
+module _ (is_root : StepTest) (old notes : Notes) (old_rows rows : Arena) (to : ℕ) (supported : AreSupported old) (passed : Passed is_root old notes old_rows rows to) where
   gone_below : (on : ℕ) → on < to → note_in notes on ≡ None → (under : Note) → note_in old on ≡ Some under → Falls is_root old on
   gone_below on h gone under there = ⊎_elim (λ f. f.0) (λ k. absurd (none_some (note_in notes on) under gone (k.1 ∙ there))) (passed.done on h)
 
@@ -82,9 +82,9 @@ module _ (is_root : StepTest) (old notes : Notes) (old_rows rows : Arena) (to : 
   falls_found None there e = absurd (false≢true e)
   falls_found (Some note) there e = ⊎_elim (λ r. root to note there r)
       (λ m. let p = misses_at notes note.why m in
-      let g = (grounded to note there).grounds p.0 p.1 in
+      let g = (supported to note there).antecedents p.0 p.1 in
       rests to p.0 note there p.1 (gone_below p.0 g.earlier p.2 g.under g.there))
-      (or_cases (is_root to note) (misses_ground notes note.why) e)
+      (or_cases (is_root to note) (misses_antecedent notes note.why) e)
 
   pub falls_not : (found : Option Note) → note_in old to ≡ found → falls_with is_root notes to found ≡ false → (id : ℕ) → id ≡ to → Falls is_root old id → ⊥
   falls_not None there e id same (root j note at r) = none_some (note_in old id) note (ap (note_in old) same ∙ there) at
@@ -92,21 +92,21 @@ module _ (is_root : StepTest) (old notes : Notes) (old_rows rows : Arena) (to : 
   falls_not (Some found) there e id same (root j note at r) =
       let is : Some found ≡ Some note = sym there ∙ sym (ap (note_in old) same) ∙ at in
       let found_is : found ≡ note = cc in
-      true≢false (sym (or_left (is_root to found) (misses_ground notes found.why) (rw (found_is, ← same) r)) ∙ e)
+      true≢false (sym (or_left (is_root to found) (misses_antecedent notes found.why) (rw (found_is, ← same) r)) ∙ e)
   falls_not (Some found) there e id same (rests j on note at r falls) =
       let is : Some found ≡ Some note = sym there ∙ sym (ap (note_in old) same) ∙ at in
       let found_is : found ≡ note = cc in
-      let g = (grounded id note at).grounds on r in
+      let g = (supported id note at).antecedents on r in
       let h : on < to = rw (← same) g.earlier in
       let gone : note_in notes on ≡ None = ⊎_elim (λ f. f.1) (λ k. absurd (k.0 falls)) (passed.done on h) in
-      true≢false (sym (or_right (is_root to found) (misses_ground notes found.why) (misses_from notes found.why on (rw found_is r) gone)) ∙ e)
+      true≢false (sym (or_right (is_root to found) (misses_antecedent notes found.why) (misses_from notes found.why on (rw found_is r) gone)) ∙ e)
 
 -- one id further
-module _ (is_root : StepTest) (old notes : Notes) (old_rows rows : Arena) (to : ℕ) (grounded : IsGrounded old) (passed : Passed is_root old notes old_rows rows to) where
+module _ (is_root : StepTest) (old notes : Notes) (old_rows rows : Arena) (to : ℕ) (supported : AreSupported old) (passed : Passed is_root old notes old_rows rows to) where
   kept_done : falls_now is_root notes to ≡ false → (id : ℕ) → id < to + 1 → (Falls is_root old id × (note_in notes id ≡ None)) ⊎ ((Falls is_root old id → ⊥) × (note_in notes id ≡ note_in old id))
   kept_done e id h =
       elim (cases_eq id to) [
-        | inl same ↦ inr (falls_not is_root old notes old_rows rows to grounded passed (note_in notes to) (sym (passed.rest to (omega arith))) e id same, ap (note_in notes) same ∙ passed.rest to (omega arith) ∙ ap (note_in old) (sym same))
+        | inl same ↦ inr (falls_not is_root old notes old_rows rows to supported passed (note_in notes to) (sym (passed.rest to (omega arith))) e id same, ap (note_in notes) same ∙ passed.rest to (omega arith) ∙ ap (note_in old) (sym same))
         | inr differs ↦ passed.done id (omega arith)
       ]
 
@@ -116,7 +116,7 @@ module _ (is_root : StepTest) (old notes : Notes) (old_rows rows : Arena) (to : 
   dropped_done : to < length notes → falls_now is_root notes to ≡ true → (id : ℕ) → id < to + 1 → (Falls is_root old id × (note_in (set notes to None) id ≡ None)) ⊎ ((Falls is_root old id → ⊥) × (note_in (set notes to None) id ≡ note_in old id))
   dropped_done within e id h =
       elim (cases_eq id to) [
-        | inl same ↦ inl (rw same (falls_found is_root old notes old_rows rows to grounded passed (note_in notes to) (sym (passed.rest to (omega arith))) e), ap (note_in (set notes to None)) same ∙ get_or-set_same notes to None None within)
+        | inl same ↦ inl (rw same (falls_found is_root old notes old_rows rows to supported passed (note_in notes to) (sym (passed.rest to (omega arith))) e), ap (note_in (set notes to None)) same ∙ get_or-set_same notes to None None within)
         | inr differs ↦
             let other : note_in (set notes to None) id ≡ note_in notes id = get_or-set_other notes to id None None differs in
             ⊎_elim (λ f. inl (f.0, other ∙ f.1)) (λ k. inr (k.0, other ∙ k.1)) (passed.done id (omega arith))

@@ -15,7 +15,7 @@ use Rattle.calculus.proofs.Lists.{filter_at}
 use Rattle.calculus.proofs.StepLemmas.{kept_derivation, one_more_step}
 use Rattle.calculus.proofs.Changes.{changed_derivation, extends_itself}
 use Rattle.calculus.proofs.RowLaws.{reduce_row}
-use Rattle.derive.specs.State.{Note, Notes, State, SameStep, IsStepOf, OpenClause, note_in, note_at, next_id, row_of, side_in, tag_in, side_at, is_live, may_bear, is_step, steps_of, clause_with, clauses_of, open_clauses, IsLegalFor}
+use Rattle.derive.specs.State.{Note, Notes, State, SameStep, IsStepOf, OpenClause, note_in, note_at, next_id, row_of, side_in, tag_in, side_at, is_live, may_be_antecedent, is_step, steps_of, clause_with, clauses_of, open_clauses, IsLegalFor}
 use Rattle.derive.specs.Adding.{Adds, AddsClause, InputsClause, note_over, clause_note}
 use Rattle.derive.specs.Dropping.{Falls, Drops, is_cube, is_initial_cube}
 use Rattle.derive.specs.Dropping.Falls.{root, rests}
@@ -123,7 +123,7 @@ module _ (scopes : List Scope) (old new : State) (first second frame : ℕ) (row
       ∙ adds.input.has_row
 
   input_stands : IsStepOf new first Exists row frame
-  input_stands = record { step = ap may_bear first_stays.1; has_side = ap side_in first_stays.1; has_row = row_first; has_tag = ap tag_in first_stays.1 }
+  input_stands = record { step = ap may_be_antecedent first_stays.1; has_side = ap side_in first_stays.1; has_row = row_first; has_tag = ap tag_in first_stays.1 }
 
   second_stays : SameStep added new second
   second_stays =
@@ -137,14 +137,14 @@ module _ (scopes : List Scope) (old new : State) (first second frame : ℕ) (row
       adds.reduction.cases in
       cubes.others second live
 
-  second_bears : is_step added second ≡ true
-  second_bears =
-      ⊎_elim (λ same. ap (is_step added) same.1 ∙ ap may_bear note_first) (λ more. ap may_bear more.1.there) adds.reduction.cases
+  second_is_step : is_step added second ≡ true
+  second_is_step =
+      ⊎_elim (λ same. ap (is_step added) same.1 ∙ ap may_be_antecedent note_first) (λ more. ap may_be_antecedent more.1.there) adds.reduction.cases
 
   reduction_stands : IsStepOf new second Exists (reduce Exists scopes row) frame
   reduction_stands =
       record {
-        step = ap may_bear second_stays.note ∙ second_bears;
+        step = ap may_be_antecedent second_stays.note ∙ second_is_step;
         has_side = ap side_in second_stays.note ∙ adds.reduction.has_side ∙ ap side_in input_there;
         has_row = ap literals_of second_stays.row ∙ adds.reduction.has_row;
         has_tag = ap tag_in second_stays.note ∙ adds.reduction.has_tag ∙ ap tag_in input_there;

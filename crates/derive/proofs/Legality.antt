@@ -15,10 +15,10 @@ use Rattle.calculus.proofs.Lists.{contains_nil, contains_head, contains_tail, pa
 use Rattle.calculus.proofs.StepLemmas.{one_more_step}
 use Rattle.calculus.proofs.Changes.{changed_derivation, extends_itself}
 use Rattle.calculus.proofs.RowLaws.{reduce_row, resolve_row}
-use Rattle.derive.specs.State.{Note, Notes, State, OpenClause, note_in, note_at, next_id, row_of, side_in, side_at, tag_at, is_finish, may_bear, is_step, step_at, step_from, step_with, steps_of, clause_at, clause_from, clause_with, clauses_of, open_clauses, IsLegalFor}
+use Rattle.derive.specs.State.{Note, Notes, State, OpenClause, note_in, note_at, next_id, row_of, side_in, side_at, why_in, why_at, tag_at, is_finish, may_be_antecedent, is_step, step_at, step_from, step_with, steps_of, clause_at, clause_from, clause_with, clauses_of, open_clauses, IsLegalFor}
 use Rattle.derive.specs.Adding.{Adds, Removes, AreResolvable, note_over, cube_note}
 use Rattle.derive.proofs.Ids.{listed_at, listed_from, listed_same}
-use Rattle.derive.specs.Grounds.{IsGround, IsGroundedAt}
+use Rattle.derive.specs.Antecedents.{IsAntecedentIn, IsSupportedAt}
 use Rattle.derive.proofs.Falling.{none_some}
 use Rattle.derive.proofs.Additions.{live_below}
 use Rattle.std.specs.Prelude.{max}
@@ -85,27 +85,27 @@ listed_step d k note there no_finish within =
     (ap (option_and_then (step_from k (row_of d k))) there ∙ step_with_from k note.side (row_of d k) note.why no_finish)
 
 -- a step that others may rest on
-pub record Bears (d : State) (k : ℕ) : Type 0 where
+pub record MayRestOn (d : State) (k : ℕ) : Type 0 where
   pub note : Note
   pub there : note_at d k ≡ Some note
   pub no_finish : is_finish note.why ≡ false
   pub given : k < next_id d
 
-bears_with : (d : State) (k : ℕ) (o : Option Note) → note_at d k ≡ o → may_bear o ≡ true → Bears d k
-bears_with d k None there is = absurd (false≢true is)
-bears_with d k (Some note) there is = record { note = note; there = there; no_finish = false_from_not (is_finish note.why) is; given = live_below d.notes k (ap is_some there) }
+may_rest_with : (d : State) (k : ℕ) (o : Option Note) → note_at d k ≡ o → may_be_antecedent o ≡ true → MayRestOn d k
+may_rest_with d k None there is = absurd (false≢true is)
+may_rest_with d k (Some note) there is = record { note = note; there = there; no_finish = false_from_not (is_finish note.why) is; given = live_below d.notes k (ap is_some there) }
   where
     false_from_not : (b : Bool) → not b ≡ true → b ≡ false
     false_from_not true e = sym e
     false_from_not false e = refl
 
-pub bears : (d : State) (k : ℕ) → IsTrue (is_step d k) → Bears d k
-bears d k is = bears_with d k (note_at d k) refl is
+pub may_rest_on : (d : State) (k : ℕ) → IsTrue (is_step d k) → MayRestOn d k
+may_rest_on d k is = may_rest_with d k (note_at d k) refl is
 
 -- the step under an id that `is_step` holds of
 pub step_found : (d : State) (k : ℕ) → IsTrue (is_step d k) → (s : Step) × (s.id ≡ k) × (s.side ≡ side_at d k) × (s.row ≡ row_of d k) × Contains (steps_of d) s
 step_found d k is =
-    let b = bears d k is in
+    let b = may_rest_on d k is in
     (record { id = k; side = b.note.side; row = row_of d k; why = b.note.why }, refl, ap side_in (sym b.there), refl, listed_step d k b.note b.there b.no_finish b.given)
 
 -- one more step
@@ -209,16 +209,16 @@ same_legal scopes before after notes rows legal =
         ap (λ n. filter_map (clause_at after) (range_with_len 0 n)) (ap (λ (ns : Notes). length ns) (sym notes))
         ∙ listed_same (clause_at after) (clause_at before) 0 (next_id before) (λ k low high. ap₂ (λ r o. option_and_then (clause_from k r) o) (sym (rows k)) (ap (λ (ns : Notes). note_in ns k) (sym notes)))
 
-pub ground_of : (d : State) (k : ℕ) (side : Quant) → IsTrue (is_step d k) → side_at d k ≡ side → IsGround d.notes (next_id d) side k
-ground_of d k side is same =
-    let b = bears d k is in
+pub antecedent_of : (d : State) (k : ℕ) (side : Quant) → IsTrue (is_step d k) → side_at d k ≡ side → IsAntecedentIn d.notes (next_id d) side k
+antecedent_of d k side is same =
+    let b = may_rest_on d k is in
     record { under = b.note; there = b.there; earlier = b.given; one_side = sym (ap side_in b.there) ∙ same; no_finish = b.no_finish }
 
 -- a resolvent stands on its antecedents
-pub grounded_resolvent : (d : State) (a b x : ℕ) (note : Note) → note ≡ record { side = side_at d a; why = ResolvedFrom a b x; tag = max (tag_at d a) (tag_at d b) } → IsTrue (is_step d a) → IsTrue (is_step d b) → side_at d a ≡ side_at d b → IsGroundedAt d.notes (next_id d) note
-grounded_resolvent d a b x note is is_a is_b one =
+pub supported_resolvent : (d : State) (a b x : ℕ) (note : Note) → note ≡ record { side = side_at d a; why = ResolvedFrom a b x; tag = max (tag_at d a) (tag_at d b) } → IsTrue (is_step d a) → IsTrue (is_step d b) → side_at d a ≡ side_at d b → IsSupportedAt d.notes (next_id d) note
+supported_resolvent d a b x note is is_a is_b one =
     rw is (record {
-      grounds = λ on r. ⊎_elim (λ e. rw (← e) (ground_of d a (side_at d a) is_a refl)) (λ e. rw (← e) (ground_of d b (side_at d a) is_b (sym one))) r;
+      antecedents = λ on r. ⊎_elim (λ e. rw (← e) (antecedent_of d a (side_at d a) is_a refl)) (λ e. rw (← e) (antecedent_of d b (side_at d a) is_b (sym one))) r;
       tag = refl;
     })
 
@@ -247,3 +247,22 @@ grown old new d extends legal = changed old new d (open_clauses d) extends (λ r
 
 pub served : (scopes : List Scope) (d : State) (clauses : List Row) → ((row : Row) → Contains (open_clauses d) row → Contains clauses row) → ((row : Row) → Contains clauses row → Contains (open_clauses d) row) → IsLegalFor scopes d → IsDerivation scopes clauses (steps_of d)
 served scopes d clauses to from legal = changed scopes scopes d clauses (extends_itself scopes) to from legal
+
+-- what is listed, by the readers' words
+
+pub listed_told : (d : State) (k : ℕ) → IsTrue (is_step d k) → Contains (steps_of d) (record { id = k; side = side_at d k; row = row_of d k; why = why_at d k })
+listed_told d k is =
+    let b = may_rest_on d k is in
+    rw b.there (listed_step d k b.note b.there b.no_finish b.given)
+
+pub listed_is_step : (d : State) (s : Step) → Contains (steps_of d) s → IsTrue (is_step d s.id)
+listed_is_step d s i =
+    let st = stands_at d s i in
+    ap may_be_antecedent st.there ∙ ap not st.no_finish
+
+pub listed_as_told : (d : State) (s : Step) → Contains (steps_of d) s → s ≡ record { id = s.id; side = side_at d s.id; row = row_of d s.id; why = why_at d s.id }
+listed_as_told d s i =
+    let st = stands_at d s i in
+    let side : s.side ≡ side_at d s.id = st.side ∙ ap side_in (sym st.there) in
+    let why : s.why ≡ why_at d s.id = st.why ∙ ap why_in (sym st.there) in
+    λ i. record { id = s.id; side = side i; row = st.row i; why = why i }

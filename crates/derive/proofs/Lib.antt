@@ -1,6 +1,7 @@
 pub mod Additions
 pub mod Drops
 pub mod Falling
+pub mod Growth
 pub mod Ids
 pub mod Inputs
 pub mod Legality

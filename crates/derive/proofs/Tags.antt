@@ -5,8 +5,8 @@ use Rattle.prefix.specs.declared.quant.Quant.TheVariants.{Forall}
 use Rattle.calculus.specs.Derivations.{Why, RestsOn}
 use Rattle.calculus.specs.Derivations.Why.{Given, ReducedFrom, ResolvedFrom, FinishedFrom}
 use Rattle.derive.specs.State.{Note, Notes, note_in, tag_in}
-use Rattle.derive.specs.Grounds.{IsGrounded, HasTag, Supports, IsGreatestFrame}
-use Rattle.derive.specs.Grounds.Supports.{itself, through}
+use Rattle.derive.specs.Antecedents.{AreSupported, HasTag, Supports, IsGreatestFrame}
+use Rattle.derive.specs.Antecedents.Supports.{itself, through}
 
 module _ (notes : Notes) where
   -- two notes under an id are one
@@ -60,18 +60,18 @@ module _ (notes : Notes) where
             (cases_lt (tag_in (note_in notes a)) (tag_in (note_in notes b)));
       }
 
-  greatest_below : IsGrounded notes → (bound id : ℕ) → id < bound → (note : Note) → note_in notes id ≡ Some note → IsGreatestFrame notes id note.tag
-  greatest_below grounded zero id h note there = absurd (omega arith)
-  greatest_below grounded (suc bound) id h note there =
-      let g = grounded id note there in
+  greatest_below : AreSupported notes → (bound id : ℕ) → id < bound → (note : Note) → note_in notes id ≡ Some note → IsGreatestFrame notes id note.tag
+  greatest_below supported zero id h note there = absurd (omega arith)
+  greatest_below supported (suc bound) id h note there =
+      let g = supported id note there in
       greatest_with id note note.why there refl g.tag
       (λ on r.
-      let u = g.grounds on r in
+      let u = g.antecedents on r in
       let e = u.earlier in
-      rw (u.there) (greatest_below grounded bound on (omega arith) u.under u.there))
+      rw (u.there) (greatest_below supported bound on (omega arith) u.under u.there))
 
-  pub greatest : IsGrounded notes → (id : ℕ) (note : Note) (tag : ℕ) → note_in notes id ≡ Some note → tag ≡ note.tag → IsGreatestFrame notes id tag
-  greatest grounded id note tag there is = rw is (greatest_below grounded (suc id) id (omega arith) note there)
+  pub greatest : AreSupported notes → (id : ℕ) (note : Note) (tag : ℕ) → note_in notes id ≡ Some note → tag ≡ note.tag → IsGreatestFrame notes id tag
+  greatest supported id note tag there is = rw is (greatest_below supported (suc id) id (omega arith) note there)
 
 -- what is read under a live id is the note there
 pub note_found : (notes : Notes) (id : ℕ) (found : Option Note) → found ≡ get_or notes id found → is_some (note_in notes id) ≡ true → note_in notes id ≡ found
@@ -80,17 +80,17 @@ note_found (first ∷ notes) zero found is live = sym is
 note_found (first ∷ notes) (suc id) found is live = note_found notes id found is live
 
 -- what supports a cube is a cube, and has tag 0
-cube_support : (notes : Notes) → IsGrounded notes → (id input : ℕ) → Supports notes id input → (note : Note) → note_in notes id ≡ Some note → note.side ≡ Forall → tag_in (note_in notes input) ≡ 0
-cube_support notes grounded id input (itself j n at given) note there side =
+cube_support : (notes : Notes) → AreSupported notes → (id input : ℕ) → Supports notes id input → (note : Note) → note_in notes id ≡ Some note → note.side ≡ Forall → tag_in (note_in notes input) ≡ 0
+cube_support notes supported id input (itself j n at given) note there side =
     let same = one_note notes id n note at there in
-    let zero_tag : n.tag ≡ 0 = (let has = (grounded id n at).tag in let h : HasTag notes n.side n.tag Given = rw given at has in h (ap (λ (m : Note). m.side) same ∙ side)) in
+    let zero_tag : n.tag ≡ 0 = (let has = (supported id n at).tag in let h : HasTag notes n.side n.tag Given = rw given at has in h (ap (λ (m : Note). m.side) same ∙ side)) in
     ap tag_in at ∙ zero_tag
-cube_support notes grounded id input (through j on i n at r s) note there side =
+cube_support notes supported id input (through j on i n at r s) note there side =
     let same = one_note notes id n note at there in
-    let g = (grounded id n at).grounds on r in
-    cube_support notes grounded on input s g.under g.there (g.one_side ∙ ap (λ (m : Note). m.side) same ∙ side)
+    let g = (supported id n at).antecedents on r in
+    cube_support notes supported on input s g.under g.there (g.one_side ∙ ap (λ (m : Note). m.side) same ∙ side)
 
-pub cube_tag : (notes : Notes) → IsGrounded notes → (id : ℕ) (note : Note) (tag : ℕ) → note_in notes id ≡ Some note → tag ≡ note.tag → note.side ≡ Forall → tag ≡ 0
-cube_tag notes grounded id note tag there is side =
-    let g = greatest notes grounded id note tag there is in
-    sym g.reached.2 ∙ cube_support notes grounded id g.reached.0 g.reached.1 note there side
+pub cube_tag : (notes : Notes) → AreSupported notes → (id : ℕ) (note : Note) (tag : ℕ) → note_in notes id ≡ Some note → tag ≡ note.tag → note.side ≡ Forall → tag ≡ 0
+cube_tag notes supported id note tag there is side =
+    let g = greatest notes supported id note tag there is in
+    sym g.reached.2 ∙ cube_support notes supported id g.reached.0 g.reached.1 note there side

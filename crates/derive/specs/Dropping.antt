@@ -17,7 +17,7 @@ StepTest = ℕ → Note → Bool
 abbrev pub has_tag : ℕ → StepTest
 has_tag frame id note = note.tag == frame
 
--- whether a step is an initial cube
+-- whether a step of this side is an initial cube
 abbrev pub is_cube : Quant → Why → Bool
 is_cube Exists why = false
 is_cube Forall Given = true
@@ -25,6 +25,7 @@ is_cube Forall (ReducedFrom a) = false
 is_cube Forall (ResolvedFrom a b x) = false
 is_cube Forall (FinishedFrom a) = false
 
+-- the same by the note
 abbrev pub is_initial_cube : StepTest
 is_initial_cube id note = is_cube note.side note.why
 

@@ -2,7 +2,7 @@
 use Rattle.std.specs.Prelude.{◌≡◌, ℕ, ◌≤◌, true, length, Option, Some}
 use Rattle.rows.specs.Arena.{Arena}
 use Rattle.derive.specs.State.{Note, Notes, note_in}
-use Rattle.derive.specs.Grounds.{IsGrounded, Fits}
+use Rattle.derive.specs.Antecedents.{AreSupported, Fits}
 use Rattle.derive.specs.Dropping.{StepTest, is_initial_cube, finishes}
 
 -- steps of a sort are live under this id and later ones alone
@@ -12,7 +12,7 @@ pub record AreFrom (sort : StepTest) (notes : Notes) (from : ℕ) : Type 0 where
 
 -- each live step rests on live ones, the rows stand under the ids of the live steps, and the marks are right
 pub record IsKept (notes : Notes) (rows : Option Arena) (cubes_from finishes_from : ℕ) : Type 0 where
-  pub grounded : IsGrounded notes
+  pub supported : AreSupported notes
   pub fits : (arena : Arena) → rows ≡ Some arena → Fits notes arena
   pub cubes : AreFrom is_initial_cube notes cubes_from
   pub finishing : AreFrom finishes notes finishes_from

@@ -1,6 +1,6 @@
 pub mod Adding
 pub mod Dropping
-pub mod Grounds
+pub mod Antecedents
 pub mod Kept
 pub mod Missing
 pub mod State

@@ -29,6 +29,7 @@ pub record State : Type 0 where
 abbrev pub note_in : Notes → ℕ → Option Note
 note_in notes id = slice_index_or notes id None
 
+-- the same of a derivation
 abbrev pub note_at : State → ℕ → Option Note
 note_at d id = note_in d.notes id
 
@@ -52,26 +53,30 @@ arena_of d = unwrap_or d.rows []
 abbrev pub row_of : State → ℕ → Row
 row_of d id = literals_at (arena_of d) id
 
--- the parts of a note, with a value for none
+-- the side of a step, clauses for none
 abbrev pub side_in : Option Note → Quant
 side_in None = Exists
 side_in (Some note) = note.side
 
+-- why a step stands, as an input for none
 abbrev pub why_in : Option Note → Why
 why_in None = Given
 why_in (Some note) = note.why
 
+-- the tag of a step, 0 for none
 abbrev pub tag_in : Option Note → ℕ
 tag_in None = 0
 tag_in (Some note) = note.tag
 
--- the side of the step under an id, why it stands, and its tag
+-- the side of the step under an id
 abbrev pub side_at : State → ℕ → Quant
 side_at d id = side_in (note_at d id)
 
+-- why the step under an id stands
 abbrev pub why_at : State → ℕ → Why
 why_at d id = why_in (note_at d id)
 
+-- the tag of the step under an id
 abbrev pub tag_at : State → ℕ → ℕ
 tag_at d id = tag_in (note_at d id)
 
@@ -89,6 +94,7 @@ step_with id side row (ReducedFrom a) = Some (record { id = id; side = side; row
 step_with id side row (ResolvedFrom a b x) = Some (record { id = id; side = side; row = row; why = ResolvedFrom a b x })
 step_with id side row (FinishedFrom a) = None
 
+-- the same by the note
 abbrev pub step_from : ℕ → Row → Note → Option Step
 step_from id row note = step_with id note.side row note.why
 
@@ -104,14 +110,14 @@ ids_of d = range_with_len 0 (next_id d)
 abbrev pub steps_of : State → List Step
 steps_of d = filter_map (step_at d) (ids_of d)
 
--- whether there is a step that others may rest on: any but a finish
-abbrev pub may_bear : Option Note → Bool
-may_bear None = false
-may_bear (Some note) = not (is_finish note.why)
+-- whether there is a step that may be an antecedent: any but a finish
+abbrev pub may_be_antecedent : Option Note → Bool
+may_be_antecedent None = false
+may_be_antecedent (Some note) = not (is_finish note.why)
 
 -- whether a live step stands under an id that is no finish
 abbrev pub is_step : State → ℕ → Bool
-is_step d id = may_bear (note_at d id)
+is_step d id = may_be_antecedent (note_at d id)
 
 -- a live step that is no finish, with this side, these literals and this tag
 pub record IsStepOf (d : State) (id : ℕ) (side : Quant) (row : Row) (tag : ℕ) : Type 0 where
@@ -126,6 +132,7 @@ pub record OpenClause : Type 0 where
   pub frame : ℕ
   pub row : Row
 
+-- the open clause with this note and row, none for another step
 abbrev pub clause_with : ℕ → Row → ℕ → Quant → Why → Option OpenClause
 clause_with id row tag Exists Given = Some (record { id = id; frame = tag; row = row })
 clause_with id row tag Exists (ReducedFrom a) = None
@@ -133,9 +140,11 @@ clause_with id row tag Exists (ResolvedFrom a b x) = None
 clause_with id row tag Exists (FinishedFrom a) = None
 clause_with id row tag Forall why = None
 
+-- the same by the note
 abbrev pub clause_from : ℕ → Row → Note → Option OpenClause
 clause_from id row note = clause_with id row note.tag note.side note.why
 
+-- the open clause under an id, if there is one
 abbrev pub clause_at : State → ℕ → Option OpenClause
 clause_at d id = option_and_then (clause_from id (row_of d id)) (note_at d id)
 

@@ -1,14 +1,14 @@
 //! Derivations.
-ghost use Rattle.std.specs.Prelude.{◌≡◌, ◌≢◌, ◌<◌, ◌⊎◌, ℕ, Bool, true, false, IsTrue, IsFalse, IsSome, IsNone, Some, None, IfOk, OnOk, OnErr, List, [], ◌∷◌, ◌++◌, filter, max, not, nat_lt, ◌==◌, if◌then◌else◌, length};
+ghost use Rattle.std.specs.Prelude.{◌≡◌, ◌<◌, ℕ, false, IsTrue, IsFalse, Some, None, IfOk, OnOk, OnErr, List, [], ◌∷◌, ◌++◌, filter, max, not, nat_lt, ◌==◌, if◌then◌else◌, length};
 ghost use Rattle.prefix.specs.Scopes.{Scope};
 ghost use Rattle.prefix.specs.declared.quant.Quant.TheVariants.{Exists as exists, Forall as forall};
-ghost use Rattle.rows.specs.Arena.{Arena, literals_at};
+ghost use Rattle.rows.specs.Arena.{literals_at};
 ghost use Rattle.calculus.specs.Rows.{IsRow, reduce as reduction, resolve as resolvent};
 ghost use Rattle.calculus.specs.Derivations.{Hits, RestsOn};
 ghost use Rattle.calculus.specs.Derivations.Why.{ReducedFrom, ResolvedFrom, FinishedFrom};
 ghost use Rattle.calculus.specs.Verdicts.{finished, IsEndRow, IsFinish};
-ghost use Rattle.derive.specs.State.{State, IsStepOf, SameStep, OpenClause, next_id, is_live, is_step, has_rows, arena_of, row_of, side_at, why_at, tag_at, note_at, steps_of, clauses_of, open_clauses, IsLegalFor, Note as Kept};
-ghost use Rattle.derive.specs.Grounds.{Fits, IsGround, IsGrounded, IsGroundedAt, IsGreatestFrame};
+ghost use Rattle.derive.specs.State.{State, IsStepOf, SameStep, OpenClause, next_id, is_live, is_step, has_rows, row_of, side_at, why_at, tag_at, note_at, steps_of, clauses_of, open_clauses, IsLegalFor, Note as Kept};
+ghost use Rattle.derive.specs.Antecedents.{Fits, IsAntecedentIn, AreSupported, IsSupportedAt, IsGreatestFrame};
 ghost use Rattle.derive.specs.Adding.{Adds, AddsBoth, AddsClause, AreResolvable, InputsClause, IsOver, Removes, cube_note};
 ghost use Rattle.derive.specs.Dropping.{Drops, has_tag, is_initial_cube, finishes, is_from, is_root, unless_finish};
 ghost use Rattle.derive.specs.Told.{told, why_of};
@@ -87,7 +87,7 @@ impl Derivation {
     pub fn step(&self, id: StepId) -> Step
         requires { IsTrue (is_live self.now id) }
         ensures value { result ≡ told (side_at self.now id) (why_at self.now id) }
-        ensures grounds { (on : ℕ) → RestsOn (why_at self.now id) on → IsGround self.now.notes id (side_at self.now id) on }
+        ensures antecedents { (on : ℕ) → RestsOn (why_at self.now id) on → IsAntecedentIn self.now.notes id (side_at self.now id) on }
     {
         match &self.notes[id] {
             Some(note) => note.step(),
@@ -305,7 +305,7 @@ impl Derivation {
     // Adds a step with its row.
     fn add(&mut self, note: Note, lits: &[Lit]) -> Result<StepId, NoMemory>
         requires rows { IsTrue (has_rows self.old) }
-        requires ground { IsGroundedAt self.old.notes (next_id self.old) note }
+        requires support { IsSupportedAt self.old.notes (next_id self.old) note }
         ensures ok { IfOk result (λ id. Adds self.old self.new id note lits.now) }
         ensures err { OnErr result (self.new ≡ self.old) }
     {
@@ -384,7 +384,7 @@ impl Derivation {
         requires rows { IsTrue (has_rows self.old) }
         requires below { (id : ℕ) (note : Kept) → note_at self.old id ≡ Some note → id < from → is_root roots id note ≡ false }
         ensures drops { Drops (is_root roots) self.old self.new }
-        ensures grounded { IsGrounded self.old.notes }
+        ensures supported { AreSupported self.old.notes }
     {
         match &mut self.rows {
             Some(rows) => drop_roots(&mut self.notes, rows, from, &roots),

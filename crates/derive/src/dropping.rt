@@ -1,7 +1,7 @@
 //! Dropping steps with all that rests on them.
 ghost use Rattle.std.specs.Prelude.{◌≡◌, ◌<◌, ℕ, Some, false, length};
 ghost use Rattle.derive.specs.State.{Note as Kept, note_in};
-ghost use Rattle.derive.specs.Grounds.{IsGrounded, Fits};
+ghost use Rattle.derive.specs.Antecedents.{AreSupported, Fits};
 ghost use Rattle.derive.specs.Dropping.{DropsFrom, is_root};
 ghost use Rattle.derive.specs.Missing.{falls_now};
 
@@ -42,7 +42,7 @@ pub(crate) fn drop_roots(
     from: StepId,
     roots: &Roots,
 )
-    requires grounded { IsGrounded notes.old.items }
+    requires supported { AreSupported notes.old.items }
     requires fits { Fits notes.old.items rows.old }
     requires below { (id : ℕ) (note : Kept) → note_in notes.old.items id ≡ Some note → id < from → is_root roots.now id note ≡ false }
     ensures { DropsFrom (is_root roots.now) notes.old.items notes.new.items rows.old rows.new }
@@ -61,7 +61,7 @@ fn falls(notes: &Vec<Option<Note>>, id: StepId, roots: &Roots) -> bool
     ensures { result ≡ falls_now (is_root roots.now) notes.now.items id }
 {
     match &notes[id] {
-        Some(note) => roots.contains(id, note) || note.misses_ground(notes),
+        Some(note) => roots.contains(id, note) || note.misses_antecedent(notes),
         None => false,
     }
 }

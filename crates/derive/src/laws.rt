@@ -1,5 +1,5 @@
 //! Laws of derivations.
-ghost use Rattle.derive.specs.Theorems.{CutsRestore, PrefixesMayGrow, SameClausesServe};
+ghost use Rattle.derive.specs.Theorems.{GrowthLaws, PrefixesMayGrow, SameClausesServe, StepsAreListed};
 
 /// Each live step but a finish stays legal when the prefix gets scopes and variables.
 pub fn prefixes_may_grow()
@@ -11,7 +11,13 @@ pub fn same_clauses_serve()
     ensures { SameClausesServe }
 {}
 
-/// After steps were added, a cut to the id that came next before gives the same steps and open clauses again.
-pub fn cuts_restore()
-    ensures { CutsRestore }
+/// A derivation grows by added steps, and a cut to the id that came next before gives its steps and its open clauses
+/// again.
+pub fn growth_laws()
+    ensures { GrowthLaws }
+{}
+
+/// The steps that contracts list are those under the ids of the live steps but finishes, as the readers tell them.
+pub fn steps_are_listed()
+    ensures { StepsAreListed }
 {}

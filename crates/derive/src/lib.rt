@@ -9,7 +9,7 @@ mod removal;
 mod step;
 
 pub use derivation::Derivation;
-pub use laws::{cuts_restore, prefixes_may_grow, same_clauses_serve};
+pub use laws::{growth_laws, prefixes_may_grow, same_clauses_serve, steps_are_listed};
 pub use step::{Step, StepId};
 
 #[cfg(test)]

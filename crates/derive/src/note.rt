@@ -3,7 +3,7 @@ ghost use Rattle.std.specs.Prelude.{◌≡◌, is_none};
 ghost use Rattle.derive.specs.State.{is_finish as finish, note_in};
 ghost use Rattle.derive.specs.Dropping.{is_cube};
 ghost use Rattle.derive.specs.Told.{told, why_of};
-ghost use Rattle.derive.specs.Missing.{misses_ground};
+ghost use Rattle.derive.specs.Missing.{misses_antecedent};
 
 use super::{Step, StepId};
 use prefix::Quant;
@@ -22,7 +22,7 @@ impl Model for Note {
 
     ghost Value = { Kept };
 
-    ghost use Rattle.std.specs.Prelude.{◌≡◌, is_none};
+    ghost use Rattle.std.specs.Prelude.{◌≡◌};
     ghost use Rattle.derive.specs.Told.{told, why_of};
 
     ghost view = { λ n. record { side = n.side; why = why_of n.step; tag = n.tag } };
@@ -70,8 +70,8 @@ impl Note {
     }
 
     // Whether no step is live any more under an id that it rests on.
-    pub(crate) fn misses_ground(&self, notes: &Vec<Option<Note>>) -> bool
-        ensures { result ≡ misses_ground notes.now.items self.now.why }
+    pub(crate) fn misses_antecedent(&self, notes: &Vec<Option<Note>>) -> bool
+        ensures { result ≡ misses_antecedent notes.now.items self.now.why }
     {
         match self.step {
             Step::InputClause | Step::InputCube => false,

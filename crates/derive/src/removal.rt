@@ -1,5 +1,5 @@
 //! Rows with literals removed from them.
-ghost use Rattle.std.specs.Prelude.{◌≡◌, ℕ, false, ◌==◌, ◌||◌, [], ◌++◌, filter, is_some, slice_index_or, IfOk, OnOk};
+ghost use Rattle.std.specs.Prelude.{◌≡◌, ℕ, false, ◌==◌, ◌||◌, ◌++◌, filter, is_some, slice_index_or, IfOk, OnOk};
 ghost use Rattle.truth.specs.Truth.{assumed_value};
 ghost use Rattle.calculus.specs.Rows.{reduce as reduction};
 ghost use Rattle.calculus.specs.Verdicts.{finished};

@@ -4,7 +4,7 @@ use Rattle.derive.proofs.dropping.drop_roots.Goals as goal
 use Rattle.derive.proofs.dropping.drop_roots.Goals.{then-falls, else-falls}
 
 pub loop-id-init : goal.loop-id-init
-loop-id-init c = passed_none _ _ _ _ c.requires.grounded c.requires.fits c.requires.below
+loop-id-init c = passed_none _ _ _ _ c.requires.supported c.requires.fits c.requires.below
 
 within : (c : goal.Joined-falls) → c.loop-id.id < length c.loop-id.notes.items
 within c =
@@ -17,8 +17,8 @@ within c =
 pub loop-id-preserved : goal.loop-id-preserved
 loop-id-preserved c =
     elim c.if-falls.branch [
-      | then-falls w ↦ rw (w.notes-is, w.rows-is) (passed_drop _ _ _ _ _ _ c.requires.grounded c.loop-id.invariant _ _ (within c) (sym w.if-falls.ensures) refl w.free.ensures.rest w.free.ensures.next)
-      | else-falls w ↦ rw (w.notes-is, w.rows-is) (passed_keep _ _ _ _ _ _ c.requires.grounded c.loop-id.invariant (sym w.if-falls.ensures))
+      | then-falls w ↦ rw (w.notes-is, w.rows-is) (passed_drop _ _ _ _ _ _ c.requires.supported c.loop-id.invariant _ _ (within c) (sym w.if-falls.ensures) refl w.free.ensures.rest w.free.ensures.next)
+      | else-falls w ↦ rw (w.notes-is, w.rows-is) (passed_keep _ _ _ _ _ _ c.requires.supported c.loop-id.invariant (sym w.if-falls.ensures))
     ]
 
 pub returns : goal.returns

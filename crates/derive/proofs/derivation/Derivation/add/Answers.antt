@@ -11,7 +11,7 @@ pushed c =
     c.push.ensures.items ∙ cond-true _ _ _ (c.push.ensures.succeeds has) ∙ ap (λ notes. notes ++ Some c.args.note ∷ []) c.reserve.ensures.items
 
 pub invariant_of-self-2 : goal.invariant_of-self-2
-invariant_of-self-2 c = kept_add c.self.inside.notes.items _ _ _ _ c.args.note c.args.lits.now _ _ c.in-Some.is (pushed c) c.in_ok-id-in-Some.ensures.arena.1 (rw (← c.self.view_is) at c.requires.ground) c.self.invariant
+invariant_of-self-2 c = kept_add c.self.inside.notes.items _ _ _ _ c.args.note c.args.lits.now _ _ c.in-Some.is (pushed c) c.in_ok-id-in-Some.ensures.arena.1 (rw (← c.self.view_is) at c.requires.support) c.self.invariant
 
 pub returns-clause-ok : goal.returns-clause-ok
 returns-clause-ok c = adds_of _ _ _ _ _ _ c.args.note c.args.lits.now _ _ _ c.self.view_is c.in-Some.is (pushed c) c.in_ok-id-in-Some.ensures.arena.1 c.in_ok-id-in-Some.ensures.arena.0 c.self.invariant

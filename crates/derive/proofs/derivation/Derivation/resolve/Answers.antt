@@ -4,14 +4,14 @@ use Rattle.calculus.specs.Derivations.Why.{ResolvedFrom}
 use Rattle.std.proofs.lemmas.Result.{IfOk-weaker}
 use Rattle.calculus.specs.Rows.{Row, resolve}
 use Rattle.derive.specs.State.{row_of, side_at, tag_at}
-use Rattle.derive.proofs.Legality.{legal_resolvent, grounded_resolvent}
+use Rattle.derive.proofs.Legality.{legal_resolvent, supported_resolvent}
 use Rattle.derive.proofs.derivation.Derivation.resolve.Goals as goal
 
 note_is : (c : goal.After-as_slice) → c.new-note.result ≡ record { side = side_at c.args.self.now c.args.a; why = ResolvedFrom c.args.a c.args.b c.args.pivot; tag = max (tag_at c.args.self.now c.args.a) (tag_at c.args.self.now c.args.b) }
 note_is c = c.new-note.ensures ∙ ap₂ (λ side tag. record { side = side; why = ResolvedFrom c.args.a c.args.b c.args.pivot; tag = tag }) c.side.ensures (c.max-tag.ensures ∙ ap₂ max c.tag.ensures.value c.tag-2.ensures.value)
 
-pub add-requires-clause-ground : goal.add-requires-clause-ground
-add-requires-clause-ground c = grounded_resolvent c.args.self.now c.args.a c.args.b c.args.pivot c.new-note.result (note_is c) c.requires.positive c.requires.negative c.requires.one_side
+pub add-requires-clause-support : goal.add-requires-clause-support
+add-requires-clause-support c = supported_resolvent c.args.self.now c.args.a c.args.b c.args.pivot c.new-note.result (note_is c) c.requires.positive c.requires.negative c.requires.one_side
 
 pub returns-clause-legal : goal.returns-clause-legal
 returns-clause-legal c =

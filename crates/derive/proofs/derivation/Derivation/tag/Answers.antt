@@ -10,9 +10,9 @@ there c =
     note_found c.self.inside.notes.items c.args.id c.index.result.now c.index.ensures live ∙ c.in-Some.is
 
 pub returns-clause-greatest : goal.returns-clause-greatest
-returns-clause-greatest c = rw (← c.self.view_is) (greatest c.self.inside.notes.items c.self.invariant.grounded c.args.id c.in-Some.note c.tag.result (there c) c.tag.ensures)
+returns-clause-greatest c = rw (← c.self.view_is) (greatest c.self.inside.notes.items c.self.invariant.supported c.args.id c.in-Some.note c.tag.result (there c) c.tag.ensures)
 
 pub returns-clause-cubes : goal.returns-clause-cubes
 returns-clause-cubes c side =
     let is : side_in (note_in c.self.inside.notes.items c.args.id) ≡ Forall = ap (λ (d : State). side_at d c.args.id) c.self.view_is ∙ side in
-    cube_tag c.self.inside.notes.items c.self.invariant.grounded c.args.id c.in-Some.note c.tag.result (there c) c.tag.ensures (ap side_in (sym (there c)) ∙ is)
+    cube_tag c.self.inside.notes.items c.self.invariant.supported c.args.id c.in-Some.note c.tag.result (there c) c.tag.ensures (ap side_in (sym (there c)) ∙ is)

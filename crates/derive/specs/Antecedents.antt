@@ -7,8 +7,8 @@ use Rattle.calculus.specs.Derivations.{Why, RestsOn}
 use Rattle.calculus.specs.Derivations.Why.{Given, ReducedFrom, ResolvedFrom, FinishedFrom}
 use Rattle.derive.specs.State.{Note, Notes, note_in, tag_in, is_finish}
 
--- what a step may rest on: an earlier live step of its side that is no finish
-pub record IsGround (notes : Notes) (id : ℕ) (side : Quant) (on : ℕ) : Type 0 where
+-- an antecedent of a step of this side under this id: an earlier live step of the same side that is no finish
+pub record IsAntecedentIn (notes : Notes) (id : ℕ) (side : Quant) (on : ℕ) : Type 0 where
   pub under : Note
   pub there : note_in notes on ≡ Some under
   pub earlier : on < id
@@ -22,14 +22,14 @@ HasTag notes side tag (ReducedFrom a) = tag ≡ tag_in (note_in notes a)
 HasTag notes side tag (ResolvedFrom a b x) = tag ≡ max (tag_in (note_in notes a)) (tag_in (note_in notes b))
 HasTag notes side tag (FinishedFrom a) = tag ≡ tag_in (note_in notes a)
 
--- a note that may stand under an id
-pub record IsGroundedAt (notes : Notes) (id : ℕ) (note : Note) : Type 0 where
-  pub grounds : (on : ℕ) → RestsOn note.why on → IsGround notes id note.side on
+-- a step that may stand under an id: with live antecedents, and the tag that they give it
+pub record IsSupportedAt (notes : Notes) (id : ℕ) (note : Note) : Type 0 where
+  pub antecedents : (on : ℕ) → RestsOn note.why on → IsAntecedentIn notes id note.side on
   pub tag : HasTag notes note.side note.tag note.why
 
--- each live step rests on live ones, and has the tag that they give it
-abbrev pub IsGrounded : Notes → Type 0
-IsGrounded notes = (id : ℕ) (note : Note) → note_in notes id ≡ Some note → IsGroundedAt notes id note
+-- each live step has live antecedents, and the tag that they give it
+abbrev pub AreSupported : Notes → Type 0
+AreSupported notes = (id : ℕ) (note : Note) → note_in notes id ≡ Some note → IsSupportedAt notes id note
 
 -- rows stand under the ids of the live steps
 pub record Fits (notes : Notes) (arena : Arena) : Type 0 where
