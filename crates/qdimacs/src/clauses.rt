@@ -7,7 +7,7 @@ ghost use Rattle.qdimacs.specs.Formula.{as_row, is_tautology};
 ghost use Rattle.prefix.specs.Literal.{Literal};
 ghost use Rattle.std.specs.Prelude.{List, ℤ, map, All};
 
-use crate::refusal::{Quantity, ReadRefusal};
+use crate::refusal::{Quantity, ReadRefusal, VARIABLE_RANGE};
 use prefix::{Lit, LitList, Var};
 use std::alloc::{AllocError, Global};
 
@@ -48,7 +48,10 @@ impl Clauses {
         ensures { Checks result (first_of (literal_rules_kept vars self.now.amount n line)) }
     {
         if n.unsigned_abs() > vars {
-            return Err(ReadRefusal::Refused { number: 12, line });
+            return Err(ReadRefusal::Refused {
+                number: VARIABLE_RANGE,
+                line,
+            });
         }
         if self.amount >= MAX_LITERALS {
             return Err(ReadRefusal::Limit {

@@ -10,7 +10,7 @@ ghost use Rattle.qdimacs.specs.Step.{refusal_for};
 ghost use Rattle.qdimacs.specs.Represents.{Represents};
 
 use crate::reader::Reader;
-use crate::refusal::{Quantity, ReadRefusal};
+use crate::refusal::{BAD_BYTE, NUMBER_RANGE, Quantity, ReadRefusal};
 use lexer::{Comments, LexRefusal, Lexer};
 use ports::Desk;
 use std::alloc::Global;
@@ -26,8 +26,14 @@ fn refusal_of(e: LexRefusal) -> ReadRefusal
             quantity: Quantity::Bytes,
             line,
         },
-        LexRefusal::BadByte { line } => ReadRefusal::Refused { number: 7, line },
-        LexRefusal::NumberRange { line } => ReadRefusal::Refused { number: 8, line },
+        LexRefusal::BadByte { line } => ReadRefusal::Refused {
+            number: BAD_BYTE,
+            line,
+        },
+        LexRefusal::NumberRange { line } => ReadRefusal::Refused {
+            number: NUMBER_RANGE,
+            line,
+        },
     }
 }
 

@@ -8,10 +8,13 @@ ghost use Rattle.qdimacs.specs.Step.{Is};
 ghost use Rattle.qdimacs.specs.Represents.{Steps, Represents, Passes, Closing, TakesNumber, TakesVariable, IsMarked, Stood, IsFresh};
 
 use crate::clauses::Clauses;
-use crate::refusal::{Quantity, ReadRefusal};
+use crate::refusal::{
+    BAD_HEADER, BAD_WORD, MISSING_ZERO, NO_HEADER, Quantity, ReadRefusal, SET_AFTER_CLAUSE,
+    TOO_FEW_CLAUSES, TOO_MANY_CLAUSES,
+};
 use crate::sets::Sets;
 use lexer::{Token, Word};
-use prefix::{Quant, Var};
+use prefix::{Prefix, Quant, Var};
 use std::alloc::{AllocError, Global};
 use truth::{ClauseList, Formula};
 
@@ -71,7 +74,10 @@ impl Reader {
             Stage::Vars => self.take_count(&token.word, line),
             Stage::Headed => {
                 if line == self.line {
-                    return Err(ReadRefusal::Refused { number: 11, line });
+                    return Err(ReadRefusal::Refused {
+                        number: BAD_HEADER,
+                        line,
+                    });
                 }
                 self.begin_body()?;
                 self.take_between(&token.word, line)
@@ -88,7 +94,10 @@ impl Reader {
         ensures { Steps result self.old self.new word.now line }
     {
         if !is_text(word, b"p".as_slice()) {
-            return Err(ReadRefusal::Refused { number: 10, line });
+            return Err(ReadRefusal::Refused {
+                number: NO_HEADER,
+                line,
+            });
         }
         self.line = line;
         self.stage = Stage::Problem;
@@ -101,16 +110,10 @@ impl Reader {
         ensures { Steps result self.old self.new word.now line }
     {
         if line != self.line {
-            return Err(ReadRefusal::Refused {
-                number: 11,
-                line: self.line,
-            });
+            return Err(self.bad_header());
         }
         if !is_text(word, b"cnf".as_slice()) {
-            return Err(ReadRefusal::Refused {
-                number: 11,
-                line: self.line,
-            });
+            return Err(self.bad_header());
         }
         self.stage = Stage::Format;
         Ok(())
@@ -123,16 +126,10 @@ impl Reader {
     {
         let natural = natural_of(word);
         let Some(n) = natural else {
-            return Err(ReadRefusal::Refused {
-                number: 11,
-                line: self.line,
-            });
+            return Err(self.bad_header());
         };
         if line != self.line {
-            return Err(ReadRefusal::Refused {
-                number: 11,
-                line: self.line,
-            });
+            return Err(self.bad_header());
         }
         self.vars = n;
         self.stage = Stage::Vars;
@@ -146,16 +143,10 @@ impl Reader {
     {
         let natural = natural_of(word);
         let Some(n) = natural else {
-            return Err(ReadRefusal::Refused {
-                number: 11,
-                line: self.line,
-            });
+            return Err(self.bad_header());
         };
         if line != self.line {
-            return Err(ReadRefusal::Refused {
-                number: 11,
-                line: self.line,
-            });
+            return Err(self.bad_header());
         }
         self.count = n;
         self.stage = Stage::Headed;
@@ -198,21 +189,33 @@ impl Reader {
         match word {
             Word::Num(n) => {
                 if self.clauses.ended == self.count {
-                    return Err(ReadRefusal::Refused { number: 17, line });
+                    return Err(ReadRefusal::Refused {
+                        number: TOO_MANY_CLAUSES,
+                        line,
+                    });
                 }
                 self.take_literal(*n, line)
             }
             Word::Text(text) => {
                 let Some(quant) = quant_of(text.as_slice()) else {
-                    return Err(ReadRefusal::Refused { number: 18, line });
+                    return Err(ReadRefusal::Refused {
+                        number: BAD_WORD,
+                        line,
+                    });
                 };
                 if self.clauses.ended > 0 {
-                    return Err(ReadRefusal::Refused { number: 14, line });
+                    return Err(ReadRefusal::Refused {
+                        number: SET_AFTER_CLAUSE,
+                        line,
+                    });
                 }
                 self.stage = Stage::InSet(quant);
                 Ok(())
             }
-            Word::Other => Err(ReadRefusal::Refused { number: 18, line }),
+            Word::Other => Err(ReadRefusal::Refused {
+                number: BAD_WORD,
+                line,
+            }),
         }
     }
 
@@ -243,7 +246,10 @@ impl Reader {
         match word {
             Word::Num(n) => self.take_literal(*n, line),
             Word::Text(text) => Err(stray(text.as_slice(), line)),
-            Word::Other => Err(ReadRefusal::Refused { number: 18, line }),
+            Word::Other => Err(ReadRefusal::Refused {
+                number: BAD_WORD,
+                line,
+            }),
         }
     }
 
@@ -262,7 +268,10 @@ impl Reader {
                 self.take_variable(quant, *n, line)
             }
             Word::Text(text) => Err(stray(text.as_slice(), line)),
-            Word::Other => Err(ReadRefusal::Refused { number: 18, line }),
+            Word::Other => Err(ReadRefusal::Refused {
+                number: BAD_WORD,
+                line,
+            }),
         }
     }
 
@@ -279,23 +288,36 @@ impl Reader {
         Ok(())
     }
 
+    // Why the header is refused, with its line.
+    fn bad_header(&self) -> ReadRefusal
+        ensures { result ≡ ReadRefusal.Refused 11 self.now.line }
+    {
+        ReadRefusal::Refused {
+            number: BAD_HEADER,
+            line: self.line,
+        }
+    }
+
     // The formula, where the text ends on this line.
     pub(crate) fn close(&mut self, line: u32) -> Result<Formula, ReadRefusal>
         requires { Stood self.old }
         ensures { Closing result self.old line }
     {
         match self.stage {
-            Stage::Nothing => Err(ReadRefusal::Refused { number: 10, line }),
-            Stage::Problem | Stage::Format | Stage::Vars => Err(ReadRefusal::Refused {
-                number: 11,
-                line: self.line,
+            Stage::Nothing => Err(ReadRefusal::Refused {
+                number: NO_HEADER,
+                line,
             }),
+            Stage::Problem | Stage::Format | Stage::Vars => Err(self.bad_header()),
             Stage::Headed => {
                 self.begin_body()?;
                 self.finish(line)
             }
             Stage::Between => self.finish(line),
-            Stage::InSet(_) | Stage::InClause => Err(ReadRefusal::Refused { number: 15, line }),
+            Stage::InSet(_) | Stage::InClause => Err(ReadRefusal::Refused {
+                number: MISSING_ZERO,
+                line,
+            }),
         }
     }
 
@@ -307,12 +329,15 @@ impl Reader {
         ensures { Closing result self.old line }
     {
         if self.clauses.ended < self.count {
-            return Err(ReadRefusal::Refused { number: 16, line });
+            return Err(ReadRefusal::Refused {
+                number: TOO_FEW_CLAUSES,
+                line,
+            });
         }
         let alloc = *self.clauses.rows.allocator();
         let free = free_of(alloc, &self.clauses.marks, &self.sets.marks)?;
         self.sets.put_in_front(free)?;
-        if self.sets.rows.len() > 65_536 {
+        if self.sets.rows.len() > Prefix::MAX_SCOPES {
             return Err(ReadRefusal::Limit {
                 quantity: Quantity::Scopes,
                 line,
@@ -393,6 +418,10 @@ fn quant_of(text: &[u8]) -> Option<Quant>
 fn stray(text: &[u8], line: u32) -> ReadRefusal
     ensures { Is result (first_of (inside_rules (quant_of_word (Text text.now)) line)) }
 {
-    let number = if quant_of(text).is_some() { 15 } else { 18 };
+    let number = if quant_of(text).is_some() {
+        MISSING_ZERO
+    } else {
+        BAD_WORD
+    };
     ReadRefusal::Refused { number, line }
 }

@@ -20,6 +20,29 @@ pub enum Quantity {
     Bytes,
 }
 
+// The numbers of refusals.
+pub(crate) const BAD_BYTE: u8 = 7;
+
+pub(crate) const NUMBER_RANGE: u8 = 8;
+
+pub(crate) const NO_HEADER: u8 = 10;
+
+pub(crate) const BAD_HEADER: u8 = 11;
+
+pub(crate) const VARIABLE_RANGE: u8 = 12;
+
+pub(crate) const VARIABLE_TWICE: u8 = 13;
+
+pub(crate) const SET_AFTER_CLAUSE: u8 = 14;
+
+pub(crate) const MISSING_ZERO: u8 = 15;
+
+pub(crate) const TOO_FEW_CLAUSES: u8 = 16;
+
+pub(crate) const TOO_MANY_CLAUSES: u8 = 17;
+
+pub(crate) const BAD_WORD: u8 = 18;
+
 /// Why a text is no formula. Lines are numbered from 1; that of the end is 1 plus the number of all line ends.
 #[derive(Clone, Copy, Debug, PartialEq, Eq, Error)]
 pub enum ReadRefusal {

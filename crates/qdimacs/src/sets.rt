@@ -5,7 +5,7 @@ ghost use Rattle.qdimacs.specs.Rules.{first_of};
 ghost use Rattle.qdimacs.specs.Formula.{in_order, same_quant};
 ghost use Rattle.std.specs.Prelude.{map};
 
-use crate::refusal::{Quantity, ReadRefusal};
+use crate::refusal::{Quantity, ReadRefusal, VARIABLE_RANGE, VARIABLE_TWICE};
 use prefix::{Prefix, PrefixRefusal, Quant};
 use std::alloc::{AllocError, Global};
 
@@ -57,10 +57,16 @@ impl Sets {
         ensures { Checks result (first_of (variable_rules_kept vars self.now.marks.items (sets_of self.now.rows.items) quant n line)) }
     {
         if n < 0 || n as u64 > vars {
-            return Err(ReadRefusal::Refused { number: 12, line });
+            return Err(ReadRefusal::Refused {
+                number: VARIABLE_RANGE,
+                line,
+            });
         }
         if self.marks[n as usize] {
-            return Err(ReadRefusal::Refused { number: 13, line });
+            return Err(ReadRefusal::Refused {
+                number: VARIABLE_TWICE,
+                line,
+            });
         }
         if self.begins_scope(quant) && self.rows.len() >= Prefix::MAX_SCOPES {
             return Err(ReadRefusal::Limit {
@@ -162,14 +168,5 @@ fn add_scope(prefix: &mut Prefix, quant: Quant, vars: &[u32]) -> Result<(), Pref
 fn same(a: Quant, b: Quant) -> bool
     ensures { result ≡ same_quant a b }
 {
-    match a {
-        Quant::Exists => match b {
-            Quant::Exists => true,
-            Quant::Forall => false,
-        },
-        Quant::Forall => match b {
-            Quant::Exists => false,
-            Quant::Forall => true,
-        },
-    }
+    a == b
 }
