@@ -5,8 +5,10 @@ use Rattle.std.specs.List.{list_any, list_all}
 use Rattle.prefix.specs.declared.quant.Quant.{Quant}
 use Rattle.prefix.specs.declared.quant.Quant.TheVariants.{Exists, Forall}
 use Rattle.prefix.specs.Literal.{Literal}
-use Rattle.prefix.specs.Scopes.{Scope, level_of, quantifier_of, all_variables, IsAscending}
+use Rattle.prefix.specs.Scopes.{Scope, all_variables, IsAscending}
 use Rattle.prefix.specs.Sides.{bad_of}
+pub use Rattle.prefix.specs.Scopes.{depth_of}
+pub use Rattle.prefix.specs.Sides.{same_quantifier, is_of, is_pivot}
 use Rattle.truth.specs.Matrix.{same}
 
 -- a row: the literals of a clause or of a cube
@@ -16,22 +18,6 @@ Row = List Literal
 -- a total assignment: a value for each variable
 abbrev pub Assignment : Type 0
 Assignment = ℕ → Bool
-
--- the depth of a variable: the number of its scope; a variable without one lies past the last scope
-abbrev pub depth_of : List Scope → ℕ → ℕ
-depth_of scopes x = unwrap_or (level_of scopes x) (length scopes + 1)
-
--- whether two quantifiers are the same
-abbrev pub same_quantifier : Quant → Quant → Bool
-same_quantifier Exists Exists = true
-same_quantifier Exists Forall = false
-same_quantifier Forall Exists = false
-same_quantifier Forall Forall = true
-
--- whether a variable with this quantifier, if any, is of the side
-abbrev pub is_of : Option Quant → Quant → Bool
-is_of None pivot = false
-is_of (Some q) pivot = same_quantifier q pivot
 
 -- whether a literal is bad where its variable has the value b: false for a clause, true for a cube
 abbrev pub is_bad_at : Quant → Bool → Literal → Bool
@@ -66,10 +52,6 @@ AreOverPrefix scopes clauses = (clause : Row) (literal : Literal) → Contains c
 abbrev pub literal_over : Row → ℕ → Option Literal
 literal_over [] x = None
 literal_over (literal ∷ literals) x = if literal.variable == x then Some literal else literal_over literals x
-
--- whether a literal is pivot-type: existential in a clause, universal in a cube
-abbrev pub is_pivot : Quant → List Scope → Literal → Bool
-is_pivot pivot scopes literal = is_of (quantifier_of scopes literal.variable) pivot
 
 -- whether the row has a pivot-type literal of a later scope
 abbrev pub is_blocked : Quant → List Scope → Row → Literal → Bool

@@ -19,6 +19,10 @@ abbrev pub level_of : List Scope → ℕ → Option ℕ
 level_of [] v = None
 level_of (s ∷ ss) v = if is_among v s.variables then Some 1 else option_map (λ n. n + 1) (level_of ss v)
 
+-- the depth of a variable: the number of its scope; a variable without one lies past the last scope
+abbrev pub depth_of : List Scope → ℕ → ℕ
+depth_of ss v = unwrap_or (level_of ss v) (length ss + 1)
+
 -- all variables, in prefix order
 abbrev pub all_variables : List Scope → List ℕ
 all_variables ss = flat_map (λ s. s.variables) ss
