@@ -1,21 +1,21 @@
 -- One more step.
-use Rattle.std.proofs.Common.{◌≡◌, ◌≢◌, ℕ, zero, suc, ◌+◌, ◌<◌, ◌≤◌, ◌⊎◌, true, List, [], ◌∷◌, ◌++◌, length, get_or, Option, Some, None, is_some, IsTrue, sym, refl, ap, ap₂, ◌∙◌, inl, inr, arith}
+use Rattle.std.proofs.Common.{◌≡◌, ◌≢◌, ℕ, zero, suc, ◌+◌, ◌<◌, ◌≤◌, ◌⊎◌, true, List, [], ◌∷◌, ◌++◌, length, get_or, Option, Some, None, is_some, IsTrue, sym, refl, ap, ap₂, subst, ◌∙◌, inl, inr, ⊎_elim, arith}
 use Rattle.std.specs.List.{filter_map, range_with_len, cons_option}
 use Rattle.std.specs.Prelude.{max}
 use Rattle.std.specs.Option.{option_and_then}
-use Rattle.std.proofs.lemmas.Bool.{cases_eq, cases_lt, false≢true}
-use Rattle.std.proofs.lemmas.List.{get_or_append_left, get_or_push, get_or_past, length_push}
+use Rattle.std.proofs.lemmas.Bool.{cases_eq, cases_lt, eqb-true, false≢true, not-true}
+use Rattle.std.proofs.lemmas.List.{get_or_append_left, get_or_default, get_or_push, get_or_past, length_push}
 use Rattle.prefix.specs.declared.quant.Quant.{Quant}
 use Rattle.prefix.specs.declared.quant.Quant.TheVariants.{Exists}
 use Rattle.rows.specs.Arena.{Arena, next_id as next_row, literals_at, literals_of, new_row, with_row}
 use Rattle.calculus.specs.Rows.{Row}
 use Rattle.calculus.specs.Derivations.{Why, RestsOn}
 use Rattle.calculus.specs.Derivations.Why.{Given, ReducedFrom, ResolvedFrom, FinishedFrom}
-use Rattle.derive.specs.State.{Note, Notes, State, SameStep, note_in, note_at, is_live, has_rows, row_of, side_in, tag_in, step_from, clause_from, with_step}
-use Rattle.derive.specs.Antecedents.{AreSupported, IsSupportedAt, HasTag, Fits}
+use Rattle.derive.specs.State.{Note, Notes, State, SameStep, note_in, note_at, is_live, is_step, is_finish, may_be_antecedent, next_id, has_rows, row_of, side_at, side_in, tag_at, why_in, tag_in, step_from, clause_from, with_step}
+use Rattle.derive.specs.Antecedents.{AreSupported, IsAntecedentIn, IsSupportedAt, HasTag, Fits}
 use Rattle.derive.specs.Kept.{AreFrom, IsKept}
-use Rattle.derive.specs.Dropping.{StepTest}
-use Rattle.derive.specs.Adding.{Adds, AddsBoth, Removes, clause_note, note_over}
+use Rattle.derive.specs.Dropping.{StepTest, has_tag}
+use Rattle.derive.specs.Adding.{Adds, AddsBoth, IsOver, Removes, clause_note, note_over}
 use Rattle.derive.proofs.Ids.{listed_push}
 use Rattle.derive.proofs.Falling.{none_some}
 
@@ -69,6 +69,7 @@ module _ (notes : Notes) (arena : Arena) (same : next_row arena ≡ length notes
         has_rows = refl;
         there = pushed_new notes (Some note) None (length notes) refl;
         has_row = row_last;
+        fresh = pushed_new arena (Some (new_row row)) None (length notes) (sym same);
         others = others_stay;
         given = λ other h. ap is_some (pushed_old notes (Some note) None other h);
         steps = listed_more step_from;
@@ -141,26 +142,70 @@ module _ (notes : Notes) (arena : Arena) (note : Note) (row : Row) (fits : Fits 
         within = let within = are.within in let e = pushed_length notes (Some note) in omega arith;
       }
 
-  pub kept_more : (cubes finishes : ℕ) → IsKept notes (Some arena) cubes finishes → IsKept (notes ++ Some note ∷ []) (Some (with_row arena row)) cubes finishes
-  kept_more cubes finishes kept =
+  -- steps of a frame stand where they stood, and the new one at the end
+  frames_more : (frames : List ℕ) → note.tag < length frames → ((frame : ℕ) → AreFrom (has_tag frame) notes (get_or frames frame (length notes))) → (frame : ℕ) → AreFrom (has_tag frame) (notes ++ Some note ∷ []) (get_or frames frame (length (notes ++ Some note ∷ [])))
+  frames_more frames within are frame =
+      let longer = pushed_length notes (Some note) in
+      ⊎_elim
+      (λ (h : frame < length frames).
+      rw (get_or_default frames frame (length (notes ++ Some note ∷ [])) (length notes) h) (from_more (has_tag frame) (get_or frames frame (length notes)) (are frame)))
+      (λ (h : length frames ≤ frame).
+      let old : get_or frames frame (length notes) ≡ length notes = get_or_past frames frame (length notes) h in
+      rw (get_or_past frames frame (length (notes ++ Some note ∷ [])) h)
+      (record {
+        above = λ id n there is. absurd (none_of frame h old id n there is);
+        within = omega arith;
+      }))
+      (cases_lt frame (length frames))
+    where
+      none_of : (f : ℕ) → length frames ≤ f → get_or frames f (length notes) ≡ length notes → (id : ℕ) (n : Note) → note_in (notes ++ Some note ∷ []) id ≡ Some n → has_tag f id n ≡ true → ⊥
+      none_of f h old id n there is =
+          let tag : n.tag ≡ f = eqb-true n.tag f is in
+          elim (ends id (length notes)) [
+            | inl below ↦
+                let above : get_or frames f (length notes) ≤ id = (are f).above id n (sym (pushed_old notes (Some note) None id below) ∙ there) is in
+                omega arith
+            | inr e ↦ elim e [
+              | inl s ↦
+                  let g : Some note ≡ Some n = sym (pushed_new notes (Some note) None id s) ∙ there in
+                  let same : note.tag ≡ n.tag = cc in
+                  omega arith
+              | inr past ↦ none_some (note_in (notes ++ Some note ∷ []) id) n (pushed_past notes (Some note) None id past) there
+            ]
+          ]
+
+  pub kept_more : (frames : List ℕ) (cubes finishes : ℕ) → note.tag < length frames → IsKept notes (Some arena) frames cubes finishes → IsKept (notes ++ Some note ∷ []) (Some (with_row arena row)) frames cubes finishes
+  kept_more frames cubes finishes within kept =
       record {
         supported = all_supported kept.supported;
         fits = λ a e. let f : Some (with_row arena row) ≡ Some a = e in let is : with_row arena row ≡ a = cc in rw (← is) fits_more;
+        frames = frames_more frames within kept.frames;
         cubes = from_more _ cubes kept.cubes;
         finishing = from_more _ finishes kept.finishing;
       }
+
+-- the same with other places for frames that tell the same
+pub kept_widened : (notes : Notes) (rows : Option Arena) (frames wider : List ℕ) (cubes finishes : ℕ) → ((frame : ℕ) → get_or wider frame (length notes) ≡ get_or frames frame (length notes)) → IsKept notes rows frames cubes finishes → IsKept notes rows wider cubes finishes
+kept_widened notes rows frames wider cubes finishes same kept =
+    record {
+      supported = kept.supported;
+      fits = kept.fits;
+      frames = λ frame. rw (same frame) (kept.frames frame);
+      cubes = kept.cubes;
+      finishing = kept.finishing;
+    }
 
 -- the same where the parts are told by equations
 
 some_same : (a b : Arena) → ◌≡◌ {A = Option Arena} (Some a) (Some b) → a ≡ b
 some_same a b e = cc
 
-pub kept_add : (notes after : Notes) (rows : Option Arena) (arena new_arena : Arena) (note : Note) (row : Row) (cubes finishes : ℕ) → rows ≡ Some arena → after ≡ notes ++ Some note ∷ [] → new_arena ≡ with_row arena row → IsSupportedAt notes (length notes) note → IsKept notes rows cubes finishes → IsKept after (Some new_arena) cubes finishes
-kept_add notes after rows arena new_arena note row cubes finishes has is_after is_arena support kept =
-    rw (is_after, is_arena) (kept_more notes arena note row (kept.fits arena has) support cubes finishes (rw has at kept))
+pub kept_add : (notes after : Notes) (rows : Option Arena) (arena new_arena : Arena) (note : Note) (row : Row) (frames : List ℕ) (cubes finishes : ℕ) → note.tag < length frames → rows ≡ Some arena → after ≡ notes ++ Some note ∷ [] → new_arena ≡ with_row arena row → IsSupportedAt notes (length notes) note → IsKept notes rows frames cubes finishes → IsKept after (Some new_arena) frames cubes finishes
+kept_add notes after rows arena new_arena note row frames cubes finishes within has is_after is_arena support kept =
+    rw (is_after, is_arena) (kept_more notes arena note row (kept.fits arena has) support frames cubes finishes within (rw has at kept))
 
-pub adds_of : (d : State) (notes after : Notes) (rows : Option Arena) (arena new_arena : Arena) (note : Note) (row : Row) (id cubes finishes : ℕ) → record { notes = notes; rows = rows } ≡ d → rows ≡ Some arena → after ≡ notes ++ Some note ∷ [] → new_arena ≡ with_row arena row → id ≡ next_row arena → IsKept notes rows cubes finishes → Adds d (record { notes = after; rows = Some new_arena }) id note row
-adds_of d notes after rows arena new_arena note row id cubes finishes view has is_after is_arena is_id kept =
+pub adds_of : (d : State) (notes after : Notes) (rows : Option Arena) (arena new_arena : Arena) (note : Note) (row : Row) (id : ℕ) (frames : List ℕ) (cubes finishes : ℕ) → record { notes = notes; rows = rows } ≡ d → rows ≡ Some arena → after ≡ notes ++ Some note ∷ [] → new_arena ≡ with_row arena row → id ≡ next_row arena → IsKept notes rows frames cubes finishes → Adds d (record { notes = after; rows = Some new_arena }) id note row
+adds_of d notes after rows arena new_arena note row id frames cubes finishes view has is_after is_arena is_id kept =
     let same = (kept.fits arena has).same_next in
     rw (← view, has, is_after, is_arena, is_id ∙ same) (adds notes arena same note row)
 
@@ -178,26 +223,49 @@ over_clause notes frame =
       tag = sym (ap tag_in there);
     }
 
-pub kept_both : (notes after : Notes) (rows : Option Arena) (arena new_arena : Arena) (frame : ℕ) (row reduced : Row) (cubes finishes : ℕ) → rows ≡ Some arena → after ≡ (notes ++ Some (clause_note frame) ∷ []) ++ Some (record { side = Exists; why = ReducedFrom (length notes); tag = frame }) ∷ [] → new_arena ≡ with_row (with_row arena row) reduced → IsKept notes rows cubes finishes → IsKept after (Some new_arena) cubes finishes
-kept_both notes after rows arena new_arena frame row reduced cubes finishes has is_after is_arena kept =
-    kept_add (notes ++ Some (clause_note frame) ∷ []) after (Some (with_row arena row)) (with_row arena row) new_arena (record { side = Exists; why = ReducedFrom (length notes); tag = frame }) reduced cubes finishes refl is_after is_arena (over_clause notes frame)
-    (kept_add notes (notes ++ Some (clause_note frame) ∷ []) rows arena (with_row arena row) (clause_note frame) row cubes finishes has refl refl (clause_supported notes frame) kept)
+pub kept_both : (notes after : Notes) (rows : Option Arena) (arena new_arena : Arena) (frame : ℕ) (row reduced : Row) (frames : List ℕ) (cubes finishes : ℕ) → frame < length frames → rows ≡ Some arena → after ≡ (notes ++ Some (clause_note frame) ∷ []) ++ Some (record { side = Exists; why = ReducedFrom (length notes); tag = frame }) ∷ [] → new_arena ≡ with_row (with_row arena row) reduced → IsKept notes rows frames cubes finishes → IsKept after (Some new_arena) frames cubes finishes
+kept_both notes after rows arena new_arena frame row reduced frames cubes finishes within has is_after is_arena kept =
+    kept_add (notes ++ Some (clause_note frame) ∷ []) after (Some (with_row arena row)) (with_row arena row) new_arena (record { side = Exists; why = ReducedFrom (length notes); tag = frame }) reduced frames cubes finishes within refl is_after is_arena (over_clause notes frame)
+    (kept_add notes (notes ++ Some (clause_note frame) ∷ []) rows arena (with_row arena row) (clause_note frame) row frames cubes finishes within has refl refl (clause_supported notes frame) kept)
 
-pub adds_both : (d : State) (notes after : Notes) (rows : Option Arena) (arena new_arena : Arena) (frame : ℕ) (row reduced : Row) (first second cubes finishes : ℕ) → record { notes = notes; rows = rows } ≡ d → rows ≡ Some arena → after ≡ (notes ++ Some (clause_note frame) ∷ []) ++ Some (record { side = Exists; why = ReducedFrom (length notes); tag = frame }) ∷ [] → new_arena ≡ with_row (with_row arena row) reduced → first ≡ next_row arena → second ≡ next_row arena + 1 → IsKept notes rows cubes finishes → AddsBoth d (record { notes = after; rows = Some new_arena }) first second frame row reduced
-adds_both d notes after rows arena new_arena frame row reduced first second cubes finishes view has is_after is_arena is_first is_second kept =
+pub adds_both : (d : State) (notes after : Notes) (rows : Option Arena) (arena new_arena : Arena) (frame : ℕ) (row reduced : Row) (first second : ℕ) (frames : List ℕ) (cubes finishes : ℕ) → frame < length frames → record { notes = notes; rows = rows } ≡ d → rows ≡ Some arena → after ≡ (notes ++ Some (clause_note frame) ∷ []) ++ Some (record { side = Exists; why = ReducedFrom (length notes); tag = frame }) ∷ [] → new_arena ≡ with_row (with_row arena row) reduced → first ≡ next_row arena → second ≡ next_row arena + 1 → IsKept notes rows frames cubes finishes → AddsBoth d (record { notes = after; rows = Some new_arena }) first second frame row reduced
+adds_both d notes after rows arena new_arena frame row reduced first second frames cubes finishes within view has is_after is_arena is_first is_second kept =
     let same = (kept.fits arena has).same_next in
     let middle : State = record { notes = notes ++ Some (clause_note frame) ∷ []; rows = Some (with_row arena row) } in
     let there : note_at middle (length notes) ≡ Some (clause_note frame) = pushed_new notes (Some (clause_note frame)) None (length notes) refl in
     let first_is : first ≡ length notes = is_first ∙ same in
-    let kept_first = kept_add notes (notes ++ Some (clause_note frame) ∷ []) rows arena (with_row arena row) (clause_note frame) row cubes finishes has refl refl (clause_supported notes frame) kept in
+    let kept_first = kept_add notes (notes ++ Some (clause_note frame) ∷ []) rows arena (with_row arena row) (clause_note frame) row frames cubes finishes within has refl refl (clause_supported notes frame) kept in
     let note_is : record { side = Exists; why = ReducedFrom (length notes); tag = frame } ≡ note_over middle first (ReducedFrom first) = rw (first_is, there) refl in
     record {
       with_input = middle;
-      input = adds_of d notes (notes ++ Some (clause_note frame) ∷ []) rows arena (with_row arena row) (clause_note frame) row first cubes finishes view has refl refl is_first kept;
+      input = adds_of d notes (notes ++ Some (clause_note frame) ∷ []) rows arena (with_row arena row) (clause_note frame) row first frames cubes finishes view has refl refl is_first kept;
       reduction =
-          adds_of middle (notes ++ Some (clause_note frame) ∷ []) after (Some (with_row arena row)) (with_row arena row) new_arena (note_over middle first (ReducedFrom first)) reduced second cubes finishes refl refl
+          adds_of middle (notes ++ Some (clause_note frame) ∷ []) after (Some (with_row arena row)) (with_row arena row) new_arena (note_over middle first (ReducedFrom first)) reduced second frames cubes finishes refl refl
           (is_after ∙ ap (λ n. (notes ++ Some (clause_note frame) ∷ []) ++ Some n ∷ []) note_is) is_arena (is_second ∙ sym (length_push arena (Some (new_row row)))) kept_first;
     }
+
+-- a step that rests on one other, with its side and tag
+pub over_supported : (d : State) (on : ℕ) (why : Why) (note : Note) → IsOver why on → is_step d on ≡ true → on < next_id d → note ≡ note_over d on why → IsSupportedAt d.notes (next_id d) note
+over_supported d on why note over step below is = rw is (record { antecedents = rest_on why over; tag = tag_of why over })
+  where
+    antecedent : IsAntecedentIn d.notes (next_id d) (side_at d on) on
+    antecedent = under (note_at d on) refl
+      where
+        under : (o : Option Note) → note_at d on ≡ o → IsAntecedentIn d.notes (next_id d) (side_at d on) on
+        under None e = absurd (false≢true (ap may_be_antecedent (sym e) ∙ step))
+        under (Some n) e = record { under = n; there = e; earlier = below; one_side = ap side_in (sym e); no_finish = not-true (is_finish n.why) (ap may_be_antecedent (sym e) ∙ step) }
+
+    rest_on : (w : Why) → IsOver w on → (k : ℕ) → RestsOn w k → IsAntecedentIn d.notes (next_id d) (side_at d on) k
+    rest_on Given o k r = absurd r
+    rest_on (ReducedFrom a) o k r = subst (IsAntecedentIn d.notes (next_id d) (side_at d on)) (sym o ∙ r) antecedent
+    rest_on (ResolvedFrom a b x) o k r = absurd o
+    rest_on (FinishedFrom a) o k r = subst (IsAntecedentIn d.notes (next_id d) (side_at d on)) (sym o ∙ r) antecedent
+
+    tag_of : (w : Why) → IsOver w on → HasTag d.notes (side_at d on) (tag_at d on) w
+    tag_of Given o = absurd o
+    tag_of (ReducedFrom a) o = ap (λ k. tag_in (note_in d.notes k)) (sym o)
+    tag_of (ResolvedFrom a b x) o = absurd o
+    tag_of (FinishedFrom a) o = ap (λ k. tag_in (note_in d.notes k)) (sym o)
 
 -- removals
 
@@ -210,6 +278,7 @@ removes_none d on why row has live is =
       has_side = refl;
       has_row = sym is;
       has_tag = refl;
+      rests = inl refl;
       others = λ other l. record { note = refl; row = refl };
       given = λ other h. refl;
     }
@@ -223,6 +292,7 @@ removes_more old new id on why row differs adds =
       has_side = ap side_in adds.there;
       has_row = adds.has_row;
       has_tag = ap tag_in adds.there;
+      rests = inr (ap why_in adds.there);
       others = adds.others;
       given = adds.given;
     }

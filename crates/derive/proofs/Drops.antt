@@ -1,9 +1,9 @@
 -- What stays where steps are dropped.
-use Rattle.std.proofs.Common.{◌≡◌, ℕ, zero, suc, ◌+◌, ◌-◌, ◌<◌, ◌≤◌, Bool, true, false, not, cond, nat_le, nat_lt, List, [], ◌∷◌, length, map, filter, Contains, Option, Some, None, is_some, IsTrue, sym, refl, ap, ap₂, ◌∙◌, inl, inr, ⊎_elim, arith}
+use Rattle.std.proofs.Common.{◌≡◌, ◌≢◌, ℕ, zero, suc, ◌+◌, ◌-◌, ◌<◌, ◌≤◌, Bool, true, false, not, cond, nat_le, nat_lt, List, [], ◌∷◌, length, map, filter, Contains, Option, Some, None, is_some, IsTrue, get_or, set, sym, refl, ap, ap₂, subst, ◌∙◌, inl, inr, ⊎_elim, arith}
 use Rattle.std.specs.List.{filter_map, range_with_len}
 use Rattle.std.specs.Option.{option_and_then}
-use Rattle.std.proofs.lemmas.Bool.{true≢false, false≢true, cond-true, cond-false, cases_Bool, cases_lt, leb-true, le-leb, lt-ltb, le-ltb, lt-leb}
-use Rattle.std.proofs.lemmas.List.{append-nil}
+use Rattle.std.proofs.lemmas.Bool.{true≢false, false≢true, cond-true, cond-false, cases_Bool, cases_eq, cases_lt, leb-true, le-leb, lt-ltb, le-ltb, lt-leb}
+use Rattle.std.proofs.lemmas.List.{append-nil, get_or-set_same, get_or-set_other, set_past}
 use Rattle.prefix.specs.declared.quant.Quant.{Quant}
 use Rattle.prefix.specs.declared.quant.Quant.TheVariants.{Exists, Forall}
 use Rattle.prefix.specs.Scopes.{Scope}
@@ -18,7 +18,7 @@ use Rattle.calculus.proofs.Changes.{changed_derivation, extends_itself}
 use Rattle.derive.specs.State.{Note, Notes, State, SameStep, OpenClause, note_in, note_at, next_id, row_of, is_finish, is_live, step_from, steps_of, clause_at, clause_from, clause_with, clauses_of, open_clauses, arena_of, has_rows, IsLegalFor}
 use Rattle.derive.specs.Antecedents.{AreSupported, Fits}
 use Rattle.derive.specs.Kept.{AreFrom, IsKept}
-use Rattle.derive.specs.Dropping.{StepTest, Falls, DropsFrom, Drops, is_cube, is_initial_cube, finishes, is_from, unless_finish}
+use Rattle.derive.specs.Dropping.{StepTest, has_tag, Falls, DropsFrom, Drops, is_cube, is_initial_cube, finishes, is_from, unless_finish}
 use Rattle.derive.specs.Dropping.Falls.{root, rests}
 use Rattle.derive.proofs.Ids.{listed_at, listed_from, listed_filter, listed_same, listed_push, kept_if}
 use Rattle.derive.proofs.Falling.{none_some, some_is}
@@ -59,11 +59,15 @@ module _ (is_root : StepTest) (old new : Notes) (old_rows new_rows : Arena) (dro
           let p = live_before id note e in
           rw e (fits.same_live id ∙ ap is_some p.1)
 
-  pub kept_left : (cubes finishing : ℕ) → IsKept old (Some old_rows) cubes finishing → IsKept new (Some new_rows) cubes finishing
-  kept_left cubes finishing kept =
+  frames_left : (frames : List ℕ) → ((frame : ℕ) → AreFrom (has_tag frame) old (get_or frames frame (length old))) → (frame : ℕ) → AreFrom (has_tag frame) new (get_or frames frame (length new))
+  frames_left frames are frame = rw drops.same_next (from_left (has_tag frame) (get_or frames frame (length old)) (are frame))
+
+  pub kept_left : (frames : List ℕ) (cubes finishing : ℕ) → IsKept old (Some old_rows) frames cubes finishing → IsKept new (Some new_rows) frames cubes finishing
+  kept_left frames cubes finishing kept =
       record {
         supported = supported_left kept.supported;
         fits = λ a e. let f : Some new_rows ≡ Some a = e in let is : new_rows ≡ a = cc in rw (← is) (fits_left (kept.fits old_rows refl));
+        frames = frames_left frames kept.frames;
         cubes = from_left _ cubes kept.cubes;
         finishing = from_left _ finishing kept.finishing;
       }
@@ -232,8 +236,8 @@ module _ (is_root : StepTest) (old new : State) (has : has_rows new ≡ true) (d
 
 -- the same where the parts are told by equations
 
-pub kept_drop : (is_root : StepTest) (old new : Notes) (rows : Option Arena) (old_rows new_rows : Arena) (cubes finishing : ℕ) → rows ≡ Some old_rows → DropsFrom is_root old new old_rows new_rows → IsKept old rows cubes finishing → IsKept new (Some new_rows) cubes finishing
-kept_drop is_root old new rows old_rows new_rows cubes finishing has drops kept = kept_left is_root old new old_rows new_rows drops cubes finishing (rw has at kept)
+pub kept_drop : (is_root : StepTest) (old new : Notes) (rows : Option Arena) (old_rows new_rows : Arena) (frames : List ℕ) (cubes finishing : ℕ) → rows ≡ Some old_rows → DropsFrom is_root old new old_rows new_rows → IsKept old rows frames cubes finishing → IsKept new (Some new_rows) frames cubes finishing
+kept_drop is_root old new rows old_rows new_rows frames cubes finishing has drops kept = kept_left is_root old new old_rows new_rows drops frames cubes finishing (rw has at kept)
 
 pub drops_of : (is_root : StepTest) (d : State) (old new : Notes) (rows : Option Arena) (old_rows new_rows : Arena) → record { notes = old; rows = rows } ≡ d → rows ≡ Some old_rows → DropsFrom is_root old new old_rows new_rows → Drops is_root d (record { notes = new; rows = Some new_rows })
 drops_of is_root d old new rows old_rows new_rows view has drops = rw (← view, has) (dropped is_root (record { notes = old; rows = Some old_rows }) (record { notes = new; rows = Some new_rows }) refl drops)
@@ -254,11 +258,29 @@ left_none is_root old new drops notes rows len view is =
     let same : notes ≡ new.notes = ap (λ (d : State). d.notes) view in
     rw (is, same) (from_none is_root old.notes new.notes (arena_of old) (arena_of new) drops.exactly is_root (λ id note r. r))
 
-pub kept_cubes : (old new : State) (notes : Notes) (rows : Option Arena) (cubes finishing len : ℕ) → Drops is_initial_cube old new → record { notes = notes; rows = rows } ≡ new → len ≡ length notes → IsKept notes rows cubes finishing → IsKept notes rows len finishing
-kept_cubes old new notes rows cubes finishing len drops view is kept = record { supported = kept.supported; fits = kept.fits; cubes = left_none is_initial_cube old new drops notes rows len view is; finishing = kept.finishing }
+pub kept_cubes : (old new : State) (notes : Notes) (rows : Option Arena) (frames : List ℕ) (cubes finishing len : ℕ) → Drops is_initial_cube old new → record { notes = notes; rows = rows } ≡ new → len ≡ length notes → IsKept notes rows frames cubes finishing → IsKept notes rows frames len finishing
+kept_cubes old new notes rows frames cubes finishing len drops view is kept = record { supported = kept.supported; fits = kept.fits; frames = kept.frames; cubes = left_none is_initial_cube old new drops notes rows len view is; finishing = kept.finishing }
 
-pub kept_finishes : (old new : State) (notes : Notes) (rows : Option Arena) (cubes finishing len : ℕ) → Drops finishes old new → record { notes = notes; rows = rows } ≡ new → len ≡ length notes → IsKept notes rows cubes finishing → IsKept notes rows cubes len
-kept_finishes old new notes rows cubes finishing len drops view is kept = record { supported = kept.supported; fits = kept.fits; cubes = kept.cubes; finishing = left_none finishes old new drops notes rows len view is }
+pub kept_finishes : (old new : State) (notes : Notes) (rows : Option Arena) (frames : List ℕ) (cubes finishing len : ℕ) → Drops finishes old new → record { notes = notes; rows = rows } ≡ new → len ≡ length notes → IsKept notes rows frames cubes finishing → IsKept notes rows frames cubes len
+kept_finishes old new notes rows frames cubes finishing len drops view is kept = record { supported = kept.supported; fits = kept.fits; frames = kept.frames; cubes = kept.cubes; finishing = left_none finishes old new drops notes rows len view is }
+
+pub kept_frame : (old new : State) (notes : Notes) (rows : Option Arena) (frames : List ℕ) (frame cubes finishing len : ℕ) → Drops (has_tag frame) old new → record { notes = notes; rows = rows } ≡ new → len ≡ length notes → IsKept notes rows frames cubes finishing → IsKept notes rows (set frames frame len) cubes finishing
+kept_frame old new notes rows frames frame cubes finishing len drops view is kept =
+    record {
+      supported = kept.supported;
+      fits = kept.fits;
+      frames = λ other. ⊎_elim
+          (λ (same : other ≡ frame).
+          subst (λ f. AreFrom (has_tag f) notes (get_or (set frames frame len) f (length notes))) (sym same)
+          (⊎_elim
+          (λ (within : frame < length frames). rw (get_or-set_same frames frame len (length notes) within) (left_none (has_tag frame) old new drops notes rows len view is))
+          (λ (past : length frames ≤ frame). rw (set_past frames frame len past) (kept.frames frame))
+          (cases_lt frame (length frames))))
+          (λ (apart : other ≢ frame). rw (get_or-set_other frames frame other len (length notes) apart) (kept.frames other))
+          (cases_eq other frame);
+      cubes = kept.cubes;
+      finishing = kept.finishing;
+    }
 
 -- with the finishes go finishes alone
 finish_falls : (notes : Notes) → AreSupported notes → (id : ℕ) → Falls finishes notes id → (note : Note) → note_in notes id ≡ Some note → is_finish note.why ≡ true

@@ -1,9 +1,11 @@
 pub mod Additions
+pub mod Assumed
 pub mod Drops
 pub mod Falling
 pub mod Growth
 pub mod Ids
 pub mod Inputs
 pub mod Legality
+pub mod Listing
 pub mod Removals
 pub mod Tags

@@ -39,7 +39,8 @@ pub record Fits (notes : Notes) (arena : Arena) : Type 0 where
 -- an input step in the support of a step: the step itself, or one in the support of what it rests on
 pub data Supports (notes : Notes) : ℕ → ℕ → Type 0 where
   itself : (id : ℕ) (note : Note) → note_in notes id ≡ Some note → note.why ≡ Given → Supports notes id id
-  through : (id on input : ℕ) (note : Note) → note_in notes id ≡ Some note → RestsOn note.why on → Supports notes on input → Supports notes id input
+  through : (id on input : ℕ) (note : Note) → note_in notes id ≡ Some note → RestsOn note.why on →
+      Supports notes on input → Supports notes id input
 
 -- the greatest frame in the support of a step: an input step's frame is its tag
 pub record IsGreatestFrame (notes : Notes) (id tag : ℕ) : Type 0 where

@@ -45,12 +45,15 @@ is_from first id note = nat_le first id
 -- a step that goes with the roots: a root itself, or a step that rests on one that goes
 pub data Falls (is_root : StepTest) (notes : Notes) : ℕ → Type 0 where
   root : (id : ℕ) (note : Note) → note_in notes id ≡ Some note → is_root id note ≡ true → Falls is_root notes id
-  rests : (id on : ℕ) (note : Note) → note_in notes id ≡ Some note → RestsOn note.why on → Falls is_root notes on → Falls is_root notes id
+  rests : (id on : ℕ) (note : Note) → note_in notes id ≡ Some note → RestsOn note.why on → Falls is_root notes on →
+      Falls is_root notes id
 
--- the roots go, with all that rests on them, and their rows; every other step stays as it was, with its row and the links of that row
+-- the roots go, with all that rests on them, and their rows; every other step stays as it was, with its row and the
+-- links of that row
 pub record DropsFrom (is_root : StepTest) (old new : Notes) (old_rows new_rows : Arena) : Type 0 where
   pub same_next : length new ≡ length old
-  pub steps : (id : ℕ) → (Falls is_root old id × (note_in new id ≡ None)) ⊎ ((Falls is_root old id → ⊥) × (note_in new id ≡ note_in old id))
+  pub steps : (id : ℕ) → (Falls is_root old id × (note_in new id ≡ None))
+      ⊎ ((Falls is_root old id → ⊥) × (note_in new id ≡ note_in old id))
   pub same_next_row : next_row new_rows ≡ next_row old_rows
   pub rows : (id : ℕ) → stored_at new_rows id ≡ (if is_some (note_in new id) then stored_at old_rows id else None)
 

@@ -1,6 +1,7 @@
 pub mod Adding
 pub mod Dropping
 pub mod Antecedents
+pub mod Growing
 pub mod Kept
 pub mod Missing
 pub mod State

@@ -16,7 +16,8 @@ pub record Note : Type 0 where
   pub why : Why
   pub tag : ℕ
 
--- the notes: for each id given so far, in ascending order from 0, that of the step that is live under it, or none once it was dropped
+-- the notes: for each id given so far, in ascending order from 0, that of the step that is live under it, or none
+-- once it was dropped
 abbrev pub Notes : Type 0
 Notes = List (Option Note)
 

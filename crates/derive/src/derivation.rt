@@ -1,15 +1,16 @@
 //! Derivations.
-ghost use Rattle.std.specs.Prelude.{◌≡◌, ◌<◌, ℕ, false, IsTrue, IsFalse, Some, None, IfOk, OnOk, OnErr, List, [], ◌∷◌, ◌++◌, filter, max, not, nat_lt, ◌==◌, if◌then◌else◌, length};
-ghost use Rattle.prefix.specs.Scopes.{Scope};
+ghost use Rattle.std.specs.Prelude.{◌≡◌, ◌<◌, ◌⊎◌, ℕ, false, IsTrue, IsFalse, Some, None, IfOk, OnOk, OnErr, List, [], ◌∷◌, ◌++◌, filter, max, not, nat_lt, ◌==◌, if◌then◌else◌, length, slice_index_or, slice_set};
+ghost use Rattle.prefix.specs.Scopes.{Scope, IsAscending};
 ghost use Rattle.prefix.specs.declared.quant.Quant.TheVariants.{Exists as exists, Forall as forall};
-ghost use Rattle.rows.specs.Arena.{literals_at};
-ghost use Rattle.calculus.specs.Rows.{IsRow, reduce as reduction, resolve as resolvent};
+ghost use Rattle.rows.specs.Arena.{Arena, literals_at};
+ghost use Rattle.calculus.specs.Rows.{IsRow, variables_in, reduce as reduction, resolve as resolvent};
 ghost use Rattle.calculus.specs.Derivations.{Hits, RestsOn};
 ghost use Rattle.calculus.specs.Derivations.Why.{ReducedFrom, ResolvedFrom, FinishedFrom};
 ghost use Rattle.calculus.specs.Verdicts.{finished, IsEndRow, IsFinish};
 ghost use Rattle.derive.specs.State.{State, IsStepOf, SameStep, OpenClause, next_id, is_live, is_step, has_rows, row_of, side_at, why_at, tag_at, note_at, steps_of, clauses_of, open_clauses, IsLegalFor, Note as Kept};
 ghost use Rattle.derive.specs.Antecedents.{Fits, IsAntecedentIn, AreSupported, IsSupportedAt, IsGreatestFrame};
-ghost use Rattle.derive.specs.Adding.{Adds, AddsBoth, AddsClause, AreResolvable, InputsClause, IsOver, Removes, cube_note};
+ghost use Rattle.derive.specs.Adding.{Adds, AddsBoth, AddsClause, AreResolvable, InputsClause, IsOver, IsReductionOf, Removes, cube_note, finish_at, reduction_at, resolvent_at, resolvent_note};
+ghost use Rattle.derive.specs.Growing.{AreUnlinked, GainsSteps};
 ghost use Rattle.derive.specs.Dropping.{Drops, has_tag, is_initial_cube, finishes, is_from, is_root, unless_finish};
 ghost use Rattle.derive.specs.Told.{told, why_of};
 
@@ -36,6 +37,8 @@ pub struct Derivation {
     // What is kept of the step of each id, if it is live.
     notes: Vec<Option<Note>>,
     rows: Option<Rows>,
+    // No step with a tag is live under an id before that of its frame here, nor with a tag that has no place here.
+    frames_from: Vec<StepId>,
     // No initial cube is live under an id before this one.
     cubes_from: StepId,
     // No finish is live under an id before this one.
@@ -51,7 +54,7 @@ impl Model for Derivation {
 
     ghost view = { λ d. record { notes = d.notes.items; rows = d.rows } };
 
-    ghost invariant = { λ d. IsKept d.notes.items d.rows d.cubes_from d.finishes_from };
+    ghost invariant = { λ d. IsKept d.notes.items d.rows d.frames_from.items d.cubes_from d.finishes_from };
 }
 
 impl Derivation {
@@ -63,6 +66,7 @@ impl Derivation {
         Self {
             notes: Vec::new(alloc),
             rows: Some(Rows::new(alloc)),
+            frames_from: Vec::new(alloc),
             cubes_from: 0,
             finishes_from: 0,
         }
@@ -72,6 +76,7 @@ impl Derivation {
     pub fn next_id(&self) -> StepId
         ensures value { result ≡ next_id self.now }
         ensures above { (id : ℕ) → IsTrue (is_live self.now id) → id < result }
+        ensures fits { (arena : Arena) → self.now.rows ≡ Some arena → Fits self.now.notes arena }
     {
         self.notes.len()
     }
@@ -87,12 +92,18 @@ impl Derivation {
     pub fn step(&self, id: StepId) -> Step
         requires { IsTrue (is_live self.now id) }
         ensures value { result ≡ told (side_at self.now id) (why_at self.now id) }
-        ensures antecedents { (on : ℕ) → RestsOn (why_at self.now id) on → IsAntecedentIn self.now.notes id (side_at self.now id) on }
+        ensures antecedents { (on : ℕ) → RestsOn (why_at self.now id) on →
+            IsAntecedentIn self.now.notes id (side_at self.now id) on }
     {
-        match &self.notes[id] {
-            Some(note) => note.step(),
-            None => unreachable!(),
-        }
+        self.note(id).step()
+    }
+
+    /// The side of a live step, by its pivot quantifier: exists for a clause, forall for a cube.
+    pub fn side(&self, id: StepId) -> Quant
+        requires { IsTrue (is_live self.now id) }
+        ensures { result ≡ side_at self.now id }
+    {
+        self.note(id).side()
     }
 
     /// The greatest frame in the support of a live step, 0 for a cube.
@@ -102,10 +113,7 @@ impl Derivation {
         ensures greatest { IsGreatestFrame self.now.notes id result }
         ensures cubes { side_at self.now id ≡ forall → result ≡ 0 }
     {
-        match &self.notes[id] {
-            Some(note) => note.tag(),
-            None => unreachable!(),
-        }
+        self.note(id).tag()
     }
 
     /// The literals of a live step, while the rows are here.
@@ -114,10 +122,7 @@ impl Derivation {
         requires rows { IsTrue (has_rows self.now) }
         ensures { result.now ≡ row_of self.now id }
     {
-        match &self.rows {
-            Some(rows) => rows.lits(id),
-            None => unreachable!(),
-        }
+        self.rows().lits(id)
     }
 
     /// Puts in a clause of the formula, of a frame, with its reduction. The answer has the id of the input step and
@@ -131,10 +136,18 @@ impl Derivation {
     ) -> Result<(StepId, StepId), NoMemory>
         requires { IsTrue (has_rows self.old) }
         ensures ok { IfOk result (λ ids. InputsClause prefix.now self.old self.new ids.0 ids.1 frame lits.now) }
-        ensures kept { OnOk result ((id : ℕ) (note : Kept) → note_at self.old id ≡ Some note → note.side ≡ exists → SameStep self.old self.new id) }
-        ensures clauses { IfOk result (λ ids. clauses_of self.new ≡ clauses_of self.old ++ (record { id = ids.0; frame = frame; row = lits.now }) ∷ []) }
+        ensures reduction { IfOk result (λ ids. IsReductionOf prefix.now self.new
+            (record { id = ids.0; frame = frame; row = lits.now }) ids.1) }
+        ensures kept { OnOk result ((id : ℕ) (note : Kept) → note_at self.old id ≡ Some note → note.side ≡ exists →
+            SameStep self.old self.new id) }
+        ensures others { OnOk result ((id : ℕ) → IsTrue (is_live self.old id) → IsTrue (is_live self.new id) →
+            SameStep self.old self.new id) }
+        ensures unlinked { OnOk result (AreUnlinked self.old self.new) }
+        ensures clauses { IfOk result (λ ids. clauses_of self.new ≡ clauses_of self.old
+            ++ (record { id = ids.0; frame = frame; row = lits.now }) ∷ []) }
         ensures rows { IsTrue (has_rows self.new) }
-        ensures legal { OnOk result (IsRow prefix.now lits.now → IsLegalFor prefix.now self.old → IsLegalFor prefix.now self.new) }
+        ensures legal { OnOk result (IsRow prefix.now lits.now → IsLegalFor prefix.now self.old →
+            IsLegalFor prefix.now self.new) }
         ensures err { OnErr result (self.new ≡ self.old) }
     {
         let ids = self.add_clause(prefix, lits, frame)?;
@@ -147,8 +160,10 @@ impl Derivation {
         requires { IsTrue (has_rows self.old) }
         ensures ok { IfOk result (λ id. Adds self.old self.new id cube_note lits.now) }
         ensures step { IfOk result (λ id. IsStepOf self.new id forall lits.now 0) }
+        ensures gains { OnOk result (GainsSteps self.old self.new) }
         ensures rows { IsTrue (has_rows self.new) }
-        ensures legal { OnOk result ((scopes : List Scope) → IsRow scopes lits.now → Hits lits.now (open_clauses self.old) → IsLegalFor scopes self.old → IsLegalFor scopes self.new) }
+        ensures legal { OnOk result ((scopes : List Scope) → IsRow scopes lits.now →
+            Hits lits.now (open_clauses self.old) → IsLegalFor scopes self.old → IsLegalFor scopes self.new) }
         ensures err { OnErr result (self.new ≡ self.old) }
     {
         let note = Note::new(Quant::Forall, Step::InputCube, 0);
@@ -168,10 +183,14 @@ impl Derivation {
         requires positive { IsTrue (is_step self.old a) }
         requires negative { IsTrue (is_step self.old b) }
         requires one_side { side_at self.old a ≡ side_at self.old b }
-        ensures ok { IfOk result (λ id. Adds self.old self.new id (record { side = side_at self.old a; why = ResolvedFrom a b pivot; tag = max (tag_at self.old a) (tag_at self.old b) }) (resolvent (row_of self.old a) (row_of self.old b) pivot)) }
-        ensures step { IfOk result (λ id. IsStepOf self.new id (side_at self.old a) (resolvent (row_of self.old a) (row_of self.old b) pivot) (max (tag_at self.old a) (tag_at self.old b))) }
+        ensures ok { IfOk result (λ id. Adds self.old self.new id (resolvent_note self.old a b pivot)
+            (resolvent_at self.old a b pivot)) }
+        ensures step { IfOk result (λ id. IsStepOf self.new id (side_at self.old a) (resolvent_at self.old a b pivot)
+            (max (tag_at self.old a) (tag_at self.old b))) }
+        ensures gains { OnOk result (GainsSteps self.old self.new) }
         ensures rows { IsTrue (has_rows self.new) }
-        ensures legal { OnOk result (AreResolvable prefix.now self.old a b pivot → IsLegalFor prefix.now self.old → IsLegalFor prefix.now self.new) }
+        ensures legal { OnOk result (AreResolvable prefix.now self.old a b pivot → IsLegalFor prefix.now self.old →
+            IsLegalFor prefix.now self.new) }
         ensures err { OnErr result (self.new ≡ self.old) }
     {
         let mut row = Row::new(*self.notes.allocator());
@@ -186,8 +205,11 @@ impl Derivation {
     pub fn reduce(&mut self, prefix: &Prefix, a: StepId) -> Result<StepId, NoMemory>
         requires rows { IsTrue (has_rows self.old) }
         requires step { IsTrue (is_step self.old a) }
-        ensures ok { IfOk result (λ id. Removes self.old self.new id a (ReducedFrom a) (reduction (side_at self.old a) prefix.now (row_of self.old a))) }
-        ensures step { IfOk result (λ id. IsStepOf self.new id (side_at self.old a) (reduction (side_at self.old a) prefix.now (row_of self.old a)) (tag_at self.old a)) }
+        ensures ok { IfOk result (λ id. Removes self.old self.new id a (ReducedFrom a)
+            (reduction_at prefix.now self.old a)) }
+        ensures step { IfOk result (λ id. IsStepOf self.new id (side_at self.old a)
+            (reduction_at prefix.now self.old a) (tag_at self.old a)) }
+        ensures gains { OnOk result (GainsSteps self.old self.new) }
         ensures rows { IsTrue (has_rows self.new) }
         ensures legal { OnOk result (IsLegalFor prefix.now self.old → IsLegalFor prefix.now self.new) }
         ensures err { OnErr result (self.new ≡ self.old) }
@@ -198,7 +220,8 @@ impl Derivation {
     }
 
     /// Puts in the finish of an end row, which keeps the literals over assumed variables, and answers its id; where
-    /// nothing goes, that of the end row itself. With no memory the derivation stays as it was.
+    /// nothing goes, that of the end row itself. The assumptions ascend by variable, as rows do. With no memory the
+    /// derivation stays as it was.
     pub fn finish(
         &mut self,
         prefix: &Prefix,
@@ -207,8 +230,14 @@ impl Derivation {
     ) -> Result<StepId, NoMemory>
         requires rows { IsTrue (has_rows self.old) }
         requires step { IsTrue (is_step self.old row) }
-        ensures ok { IfOk result (λ id. Removes self.old self.new id row (FinishedFrom row) (finished assumptions.now (row_of self.old row))) }
-        ensures finish { IfOk result (λ id. IsEndRow (side_at self.old row) prefix.now assumptions.now (row_of self.old row) → IsFinish (side_at self.old row) prefix.now assumptions.now (row_of self.old row) (row_of self.new id)) }
+        requires ascending { IsAscending (variables_in assumptions.now) }
+        ensures ok { IfOk result (λ id. Removes self.old self.new id row (FinishedFrom row)
+            (finish_at assumptions.now self.old row)) }
+        ensures finish { IfOk result (λ id. IsEndRow (side_at self.old row) prefix.now assumptions.now
+            (row_of self.old row) → IsFinish (side_at self.old row) prefix.now assumptions.now (row_of self.old row)
+            (row_of self.new id)) }
+        ensures rests { IfOk result (λ id. (id ≡ row) ⊎ (why_at self.new id ≡ FinishedFrom row)) }
+        ensures gains { OnOk result (GainsSteps self.old self.new) }
         ensures rows { IsTrue (has_rows self.new) }
         ensures legal { OnOk result ((scopes : List Scope) → IsLegalFor scopes self.old → IsLegalFor scopes self.new) }
         ensures err { OnErr result (self.new ≡ self.old) }
@@ -222,10 +251,12 @@ impl Derivation {
     pub fn drop_frame(&mut self, frame: usize)
         requires { IsTrue (has_rows self.old) }
         ensures drops { Drops (has_tag frame) self.old self.new }
-        ensures clauses { clauses_of self.new ≡ filter (λ (c : OpenClause). not (c.frame == frame)) (clauses_of self.old) }
+        ensures clauses { clauses_of self.new ≡ filter (λ (c : OpenClause). not (c.frame == frame))
+            (clauses_of self.old) }
         ensures legal { (scopes : List Scope) → IsLegalFor scopes self.old → IsLegalFor scopes self.new }
     {
-        self.drop_all(0, Roots::Frame(frame));
+        self.drop_all(self.frame_from(frame), Roots::Frame(frame));
+        put_from(&mut self.frames_from, frame, self.notes.len());
     }
 
     /// Drops the initial cubes that may miss a clause, which here is every one, with all that rests on them. This
@@ -233,7 +264,8 @@ impl Derivation {
     pub fn drop_cubes_missing(&mut self, clause: &[Lit])
         requires { IsTrue (has_rows self.old) }
         ensures drops { Drops is_initial_cube self.old self.new }
-        ensures kept { (id : ℕ) (note : Kept) → note_at self.old id ≡ Some note → note.side ≡ exists → note_at self.new id ≡ Some note }
+        ensures kept { (id : ℕ) (note : Kept) → note_at self.old id ≡ Some note → note.side ≡ exists →
+            note_at self.new id ≡ Some note }
         ensures clauses { clauses_of self.new ≡ clauses_of self.old }
         ensures legal { (scopes : List Scope) → IsLegalFor scopes self.old → IsLegalFor scopes self.new }
     {
@@ -273,10 +305,7 @@ impl Derivation {
         ensures state { self.new ≡ record { notes = self.old.notes; rows = None } }
         ensures fits { Fits self.old.notes result }
     {
-        match self.rows.take() {
-            Some(rows) => rows,
-            None => unreachable!(),
-        }
+        self.rows.take().unwrap()
     }
 
     /// Takes the rows back, under the ids that they were taken with. Their links are those of these rows. This takes
@@ -285,21 +314,32 @@ impl Derivation {
         requires taken { IsFalse (has_rows self.old) }
         requires fits { Fits self.old.notes rows }
         ensures state { self.new ≡ record { notes = self.old.notes; rows = Some rows } }
-        ensures same { (before : State) → before.notes ≡ self.old.notes → ((id : ℕ) → row_of before id ≡ literals_at rows id) → (steps_of self.new ≡ steps_of before) × (clauses_of self.new ≡ clauses_of before) }
-        ensures legal { (before : State) (scopes : List Scope) → before.notes ≡ self.old.notes → ((id : ℕ) → row_of before id ≡ literals_at rows id) → IsLegalFor scopes before → IsLegalFor scopes self.new }
+        ensures same { (before : State) → before.notes ≡ self.old.notes →
+            ((id : ℕ) → row_of before id ≡ literals_at rows id) →
+            (steps_of self.new ≡ steps_of before) × (clauses_of self.new ≡ clauses_of before) }
+        ensures legal { (before : State) (scopes : List Scope) → before.notes ≡ self.old.notes →
+            ((id : ℕ) → row_of before id ≡ literals_at rows id) → IsLegalFor scopes before →
+            IsLegalFor scopes self.new }
     {
         self.rows = Some(rows);
     }
 
-    // The side of a live step.
-    fn side(&self, id: StepId) -> Quant
+    // What is kept of a live step.
+    fn note(&self, id: StepId) -> &Note
         requires { IsTrue (is_live self.now id) }
-        ensures { result ≡ side_at self.now id }
+        ensures value { note_at self.now id ≡ Some result.now }
+        ensures supported { AreSupported self.now.notes }
     {
-        match &self.notes[id] {
-            Some(note) => note.side(),
-            None => unreachable!(),
-        }
+        self.notes[id].as_ref().unwrap()
+    }
+
+    // The rows, while they are here.
+    fn rows(&self) -> &Rows
+        requires { IsTrue (has_rows self.now) }
+        ensures value { self.now.rows ≡ Some result.now }
+        ensures fits { Fits self.now.notes result.now }
+    {
+        self.rows.as_ref().unwrap()
     }
 
     // Adds a step with its row.
@@ -307,15 +347,25 @@ impl Derivation {
         requires rows { IsTrue (has_rows self.old) }
         requires support { IsSupportedAt self.old.notes (next_id self.old) note }
         ensures ok { IfOk result (λ id. Adds self.old self.new id note lits.now) }
+        ensures unlinked { OnOk result (AreUnlinked self.old self.new) }
         ensures err { OnErr result (self.new ≡ self.old) }
     {
         self.notes.reserve(1)?;
-        let id = match &mut self.rows {
-            Some(rows) => rows.add(lits)?,
-            None => unreachable!(),
-        };
+        widen(&mut self.frames_from, note.tag(), self.notes.len())?;
+        let id = self.rows.as_mut().unwrap().add(lits)?;
         let _ = self.notes.push(Some(note));
         Ok(id)
+    }
+
+    // The id from which on steps of a frame can stand.
+    fn frame_from(&self, frame: usize) -> StepId
+        ensures { (id : ℕ) (note : Kept) → note_at self.now id ≡ Some note → id < result →
+            has_tag frame id note ≡ false }
+    {
+        self.frames_from
+            .get(frame)
+            .copied()
+            .unwrap_or(self.notes.len())
     }
 
     // Adds a step whose row is that of another one without some literals, if there are any.
@@ -326,9 +376,10 @@ impl Derivation {
         requires told { step ≡ told (side_at self.old on) (why_of step) }
         requires part { length row.now ≡ length (row_of self.old on) → row.now ≡ row_of self.old on }
         ensures ok { IfOk result (λ id. Removes self.old self.new id on (why_of step) row.now) }
+        ensures gains { OnOk result (GainsSteps self.old self.new) }
         ensures err { OnErr result (self.new ≡ self.old) }
     {
-        if row.len() == self.lits(on).len() {
+        if row.len() == self.rows().lits(on).len() {
             return Ok(on);
         }
         let note = Note::new(self.side(on), step, self.tag(on));
@@ -344,6 +395,7 @@ impl Derivation {
     ) -> Result<(StepId, StepId), NoMemory>
         requires { IsTrue (has_rows self.old) }
         ensures ok { IfOk result (λ ids. AddsClause prefix.now self.old self.new ids.0 ids.1 frame lits.now) }
+        ensures unlinked { OnOk result (AreUnlinked self.old self.new) }
         ensures err { OnErr result (self.new ≡ self.old) }
     {
         let mut row = Row::new(*self.notes.allocator());
@@ -365,13 +417,12 @@ impl Derivation {
     ) -> Result<(StepId, StepId), NoMemory>
         requires { IsTrue (has_rows self.old) }
         ensures ok { IfOk result (λ ids. AddsBoth self.old self.new ids.0 ids.1 frame lits.now row.now) }
+        ensures unlinked { OnOk result (AreUnlinked self.old self.new) }
         ensures err { OnErr result (self.new ≡ self.old) }
     {
         self.notes.reserve(2)?;
-        let (first, second) = match &mut self.rows {
-            Some(rows) => rows.add_pair(lits, row)?,
-            None => unreachable!(),
-        };
+        widen(&mut self.frames_from, frame, self.notes.len())?;
+        let (first, second) = self.rows.as_mut().unwrap().add_pair(lits, row)?;
         let input = Note::new(Quant::Exists, Step::InputClause, frame);
         let reduction = Note::new(Quant::Exists, Step::Reduced(first), frame);
         let _ = self.notes.push(Some(input));
@@ -382,13 +433,31 @@ impl Derivation {
     // Drops the roots, which have no id below `from`, with all that rests on them.
     fn drop_all(&mut self, from: StepId, roots: Roots)
         requires rows { IsTrue (has_rows self.old) }
-        requires below { (id : ℕ) (note : Kept) → note_at self.old id ≡ Some note → id < from → is_root roots id note ≡ false }
+        requires below { (id : ℕ) (note : Kept) → note_at self.old id ≡ Some note → id < from →
+            is_root roots id note ≡ false }
         ensures drops { Drops (is_root roots) self.old self.new }
         ensures supported { AreSupported self.old.notes }
     {
-        match &mut self.rows {
-            Some(rows) => drop_roots(&mut self.notes, rows, from, &roots),
-            None => unreachable!(),
-        }
+        drop_roots(&mut self.notes, self.rows.as_mut().unwrap(), from, &roots);
     }
+}
+
+// Puts in the id from which on steps of a frame can stand, where the frame has a place.
+fn put_from(frames_from: &mut Vec<StepId>, frame: usize, next: StepId)
+    ensures { frames_from.new.items ≡ slice_set frames_from.old.items frame next }
+{
+    if frame < frames_from.len() {
+        frames_from[frame] = next;
+    }
+}
+
+// Makes places for the frames up to one, whose steps come from the next id on.
+fn widen(frames_from: &mut Vec<StepId>, frame: usize, next: StepId) -> Result<(), NoMemory>
+    ensures same { (f : ℕ) → slice_index_or frames_from.new.items f next ≡ slice_index_or frames_from.old.items f next }
+    ensures ok { OnOk result (frame < length frames_from.new.items) }
+{
+    if frames_from.len() <= frame {
+        frames_from.resize(frame.saturating_add(1), next)?;
+    }
+    Ok(())
 }

@@ -44,7 +44,8 @@ pub(crate) fn drop_roots(
 )
     requires supported { AreSupported notes.old.items }
     requires fits { Fits notes.old.items rows.old }
-    requires below { (id : ℕ) (note : Kept) → note_in notes.old.items id ≡ Some note → id < from → is_root roots.now id note ≡ false }
+    requires below { (id : ℕ) (note : Kept) → note_in notes.old.items id ≡ Some note → id < from →
+        is_root roots.now id note ≡ false }
     ensures { DropsFrom (is_root roots.now) notes.old.items notes.new.items rows.old rows.new }
 {
     for id in from..notes.len() {

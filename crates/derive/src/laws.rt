@@ -1,5 +1,5 @@
 //! Laws of derivations.
-ghost use Rattle.derive.specs.Theorems.{GrowthLaws, PrefixesMayGrow, SameClausesServe, StepsAreListed};
+ghost use Rattle.derive.specs.Theorems.{ClausesAreListed, GrowthLaws, PrefixesMayGrow, SameClausesServe, StepsAreListed};
 
 /// Each live step but a finish stays legal when the prefix gets scopes and variables.
 pub fn prefixes_may_grow()
@@ -20,4 +20,9 @@ pub fn growth_laws()
 /// The steps that contracts list are those under the ids of the live steps but finishes, as the readers tell them.
 pub fn steps_are_listed()
     ensures { StepsAreListed }
+{}
+
+/// The open clauses that contracts list are the input steps of the side of clauses, each of its frame and with its row.
+pub fn clauses_are_listed()
+    ensures { ClausesAreListed }
 {}

@@ -1,4 +1,5 @@
-//! Derivations of clauses and cubes: input steps, reductions, resolvents and finishes, with their rows and their frames.
+//! Derivations of clauses and cubes: input steps, reductions, resolvents and finishes, with their rows and their
+//! frames.
 #![tactic(auto)]
 
 mod derivation;
@@ -9,7 +10,9 @@ mod removal;
 mod step;
 
 pub use derivation::Derivation;
-pub use laws::{growth_laws, prefixes_may_grow, same_clauses_serve, steps_are_listed};
+pub use laws::{
+    clauses_are_listed, growth_laws, prefixes_may_grow, same_clauses_serve, steps_are_listed,
+};
 pub use step::{Step, StepId};
 
 #[cfg(test)]

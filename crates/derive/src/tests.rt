@@ -49,6 +49,7 @@ fn a_frame_takes_what_rests_on_it(rt: HostRuntime) -> Result<(), Fail> {
     assert_eq!(rt; derivation.resolve(&prefix, 0, 1, var(1)?)?, 2);
     assert_eq!(rt; derivation.lits(2).len(), 0);
     for (id, tag) in [(0, 0), (1, 1), (2, 1)] {
+        assert!(rt; derivation.is_live(id), "step {id}");
         assert_eq!(rt; derivation.tag(id), tag, "step {id}");
     }
     let resolved = Step::Resolved {
@@ -62,6 +63,39 @@ fn a_frame_takes_what_rests_on_it(rt: HostRuntime) -> Result<(), Fail> {
         assert_eq!(rt; derivation.is_live(id), live, "step {id}");
     }
     assert_eq!(rt; derivation.next_id(), 3);
+    Ok(())
+}
+
+// Puts in the clause of variable 1 alone.
+fn put_clause(
+    alloc: Global,
+    derivation: &mut Derivation,
+    prefix: &Prefix,
+    frame: usize,
+) -> Result<usize, Fail>
+    requires rows { IsTrue (has_rows derivation.old) }
+    ensures rows { IsTrue (has_rows derivation.new) }
+{
+    let clause = row(alloc, &[1])?;
+    Ok(derivation.input_clause(prefix, &clause, frame)?.0)
+}
+
+// Frames may be opened in any order, dropped and opened again.
+#[test]
+fn frames_begin_at_their_first_clause(rt: HostRuntime) -> Result<(), Fail> {
+    let alloc = rt.alloc();
+    let prefix = one_then_two(alloc, Quant::Exists, Quant::Forall)?;
+    let mut derivation = Derivation::new(alloc);
+    assert_eq!(rt; put_clause(alloc, &mut derivation, &prefix, 0)?, 0);
+    assert_eq!(rt; put_clause(alloc, &mut derivation, &prefix, 3)?, 1);
+    assert_eq!(rt; put_clause(alloc, &mut derivation, &prefix, 1)?, 2);
+    derivation.drop_frame(3);
+    assert_eq!(rt; put_clause(alloc, &mut derivation, &prefix, 3)?, 3);
+    derivation.drop_frame(1);
+    derivation.drop_frame(9);
+    for (id, live) in [(0, true), (1, false), (2, false), (3, true)] {
+        assert_eq!(rt; derivation.is_live(id), live, "step {id}");
+    }
     Ok(())
 }
 
@@ -166,10 +200,14 @@ fn finished(
     requires rows { IsTrue (has_rows derivation.old) }
     requires step { IsTrue (is_step derivation.old end) }
 {
-    let both = row(alloc, &[-1, -2])?;
-    assert_eq!(rt; derivation.finish(prefix, end, &both)?, end);
-    let assumptions = row(alloc, &[7, -1])?;
-    let finish = derivation.finish(prefix, end, &assumptions)?;
+    let one = literal(-1)?;
+    let two = literal(-2)?;
+    let seven = literal(7)?;
+    if one.var() >= two.var() || one.var() >= seven.var() {
+        return Err("not ascending")?;
+    }
+    assert_eq!(rt; derivation.finish(prefix, end, &[one, two])?, end);
+    let finish = derivation.finish(prefix, end, &[one, seven])?;
     assert_eq!(rt; derivation.step(finish), Step::Finished(end));
     assert_eq!(rt; derivation.lits(finish), row(alloc, &[1])?.as_slice());
     derivation.drop_finish();

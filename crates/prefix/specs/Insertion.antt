@@ -15,5 +15,6 @@ levels_compared ss v w = option_and_then (λ m. option_map (nat_cmp m) (level_of
 
 -- the variables that a prefix had compare as before, and each is under its quantifier
 pub record KeepsOrder (old new : List Scope) : Type 0 where
-  pub order : (v w : ℕ) → IsSome (level_of old v) → IsSome (level_of old w) → levels_compared new v w ≡ levels_compared old v w
+  pub order : (v w : ℕ) → IsSome (level_of old v) → IsSome (level_of old w) →
+      levels_compared new v w ≡ levels_compared old v w
   pub quantifiers : (v : ℕ) → IsSome (level_of old v) → quantifier_of new v ≡ quantifier_of old v

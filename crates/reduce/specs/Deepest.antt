@@ -15,8 +15,10 @@ is_before (Some deepest) depth = nat_lt depth deepest
 -- blocked exactly where its own depth is smaller
 pub record IsDeepest (pivot : Quant) (scopes : List Scope) (row : Row) (deepest : Option ℕ) : Type 0 where
   pub found : is_some deepest ≡ list_any (is_pivot pivot scopes) row
-  pub blocks : (literal : Literal) → is_blocked pivot scopes row literal ≡ is_before deepest (depth_of scopes literal.variable)
+  pub blocks : (literal : Literal) → is_blocked pivot scopes row literal
+      ≡ is_before deepest (depth_of scopes literal.variable)
 
 -- whether a literal is pivot-type or of a smaller depth
 abbrev pub stays_before : Quant → List Scope → Option ℕ → Literal → Bool
-stays_before pivot scopes deepest literal = is_pivot pivot scopes literal || is_before deepest (depth_of scopes literal.variable)
+stays_before pivot scopes deepest literal = is_pivot pivot scopes literal || is_before deepest
+    (depth_of scopes literal.variable)

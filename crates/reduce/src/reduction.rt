@@ -1,11 +1,11 @@
 //! Universal reduction of clauses and existential reduction of cubes.
 ghost use Rattle.std.specs.Prelude.{◌≡◌, [], ◌++◌, filter, OnOk, OnErr};
 ghost use Rattle.prefix.specs.Scopes.{IsAscending};
-ghost use Rattle.calculus.specs.Rows.{depth_of, is_pivot as is_pivot_type, reduce as reduction, variables_in};
+ghost use Rattle.calculus.specs.Rows.{reduce as reduction, variables_in};
 ghost use Rattle.reduce.specs.Deepest.{IsDeepest, is_before as before, stays_before};
 
 use super::Row;
-use prefix::{Lit, Prefix, Quant, Side, Var};
+use prefix::{Lit, Prefix, Side};
 use steps::NoMemory;
 
 /// Makes `out` the reduction of `lits`: each literal goes that is neither pivot-type nor of a smaller depth than some
@@ -36,24 +36,6 @@ fn push_reduction<S: Side>(prefix: &Prefix, lits: &[Lit], out: &mut Row) -> Resu
     }
 }
 
-// The depth of a variable.
-fn depth(prefix: &Prefix, v: Var) -> usize
-    ensures { result ≡ depth_of prefix.now v }
-{
-    prefix.level(v).unwrap_or(prefix.scopes() + 1)
-}
-
-// Whether a literal is pivot-type.
-fn is_pivot<S: Side>(prefix: &Prefix, lit: Lit) -> bool
-    ensures { result ≡ is_pivot_type S.PIVOT prefix.now lit }
-{
-    match (prefix.quant(lit.var()), S::PIVOT) {
-        (Some(Quant::Exists), Quant::Exists) => true,
-        (Some(Quant::Forall), Quant::Forall) => true,
-        _ => false,
-    }
-}
-
 // Whether a depth is smaller than that one, if there is one.
 fn is_before(deepest: Option<usize>, depth: usize) -> bool
     ensures { result ≡ before deepest depth }
@@ -70,8 +52,8 @@ fn deepest_pivot<S: Side>(prefix: &Prefix, lits: &[Lit]) -> Option<usize>
 {
     let mut deepest = None;
     for lit in lits {
-        let depth = depth(prefix, lit.var());
-        if is_pivot::<S>(prefix, *lit) && !is_before(deepest, depth) {
+        let depth = prefix.depth(lit.var());
+        if prefix.is_pivot::<S>(*lit) && !is_before(deepest, depth) {
             deepest = Some(depth);
         }
     }
@@ -82,7 +64,7 @@ fn deepest_pivot<S: Side>(prefix: &Prefix, lits: &[Lit]) -> Option<usize>
 fn stays<S: Side>(prefix: &Prefix, deepest: Option<usize>, lit: Lit) -> bool
     ensures { result ≡ stays_before S.PIVOT prefix.now deepest lit }
 {
-    is_pivot::<S>(prefix, lit) || is_before(deepest, depth(prefix, lit.var()))
+    prefix.is_pivot::<S>(lit) || is_before(deepest, prefix.depth(lit.var()))
 }
 
 // Appends the literals that are pivot-type or of a smaller depth.

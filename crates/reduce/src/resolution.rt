@@ -39,7 +39,8 @@ pub fn clashes(a: &[Lit], b: &[Lit], pivot: Var) -> bool
 /// where both rows do and don't clash. After want of memory `out` is empty.
 pub fn resolve(a: &[Lit], b: &[Lit], pivot: Var, out: &mut Row) -> Result<(), NoMemory>
     ensures ok { OnOk result (out.new.items ≡ resolvent a.now b.now pivot) }
-    ensures ascending { OnOk result (IsAscending (variables_in a.now) → IsAscending (variables_in b.now) → IsFalse (clash a.now b.now pivot) → IsAscending (variables_in out.new.items)) }
+    ensures ascending { OnOk result (IsAscending (variables_in a.now) → IsAscending (variables_in b.now) →
+        IsFalse (clash a.now b.now pivot) → IsAscending (variables_in out.new.items)) }
     ensures err { OnErr result (out.new.items ≡ []) }
 {
     out.clear();

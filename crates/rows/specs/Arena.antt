@@ -8,7 +8,8 @@ pub record StoredRow : Type 0 where
   pub literals : List Literal
   pub links : List (Option ℕ)
 
--- an arena: for each id given so far, in ascending order from 0, the row that is live under it, or none once it was freed
+-- an arena: for each id given so far, in ascending order from 0, the row that is live under it, or none once it was
+-- freed
 abbrev pub Arena : Type 0
 Arena = List (Option StoredRow)
 

@@ -92,10 +92,7 @@ impl Rows {
         requires { IsTrue (is_live self.now id) }
         ensures { result.now ≡ literals_at self.now id }
     {
-        match &self.rows[id] {
-            Some(row) => &row.lits,
-            None => unreachable!(),
-        }
+        &self.row(id).lits
     }
 
     /// A link field of a live row.
@@ -104,10 +101,7 @@ impl Rows {
         requires field { k < 8 }
         ensures { result ≡ link_at self.now id k }
     {
-        match &self.rows[id] {
-            Some(row) => row.links[k],
-            None => unreachable!(),
-        }
+        self.row(id).links[k]
     }
 
     /// Writes a link field of a live row, and changes nothing else.
@@ -118,10 +112,7 @@ impl Rows {
         ensures rest { ChangesLink self.old self.new id k value }
         ensures next { next_id self.new ≡ next_id self.old }
     {
-        match &mut self.rows[id] {
-            Some(row) => row.set_link(k, value),
-            None => unreachable!(),
-        }
+        self.rows[id].as_mut().unwrap().set_link(k, value);
     }
 
     /// Puts in a row with a copy of these literals and no links, under the id that comes next. With no memory the
@@ -169,5 +160,13 @@ impl Rows {
         ensures { self.new ≡ self.old }
     {
         // Each row owns its literals, so nothing has to move.
+    }
+
+    // The row that is live under an id.
+    fn row(&self, id: RowId) -> &Row
+        requires { IsTrue (is_live self.now id) }
+        ensures { row_at self.now id ≡ Some (stored result.now) }
+    {
+        self.rows[id].as_ref().unwrap()
     }
 }

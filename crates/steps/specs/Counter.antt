@@ -14,6 +14,7 @@ after c n = record { spent = c.spent + n; budget = c.budget }
 abbrev pub left : Counter → ℕ
 left c = c.budget - c.spent
 
--- A number of steps that suffices with n variables. Each assignment of a search with learning raises a weight that stays below 2 ^ (n + 1), and with each go at most 4 n + 3 resolutions; the plain recursion needs fewer.
+-- A number of steps that suffices with n variables. Each assignment of a search with learning raises a weight that
+-- stays below 2 ^ (n + 1), and with each go at most 4 n + 3 resolutions; the plain recursion needs fewer.
 abbrev pub step_limit : ℕ → ℕ
 step_limit n = (4 * n + 4) * 2 ^ (n + 1)

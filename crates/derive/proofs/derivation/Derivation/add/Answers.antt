@@ -1,7 +1,11 @@
-use Rattle.std.proofs.Common.{◌≡◌, ◌<◌, ◌++◌, ◌∷◌, [], ◌∙◌, ap, Some, arith}
+use Rattle.std.proofs.Common.{◌≡◌, ◌<◌, ◌++◌, ◌∷◌, [], ◌∙◌, ap, sym, subst, Some, length, get_or, arith}
+use Rattle.std.specs.Option.{option_copied_mut}
 use Rattle.std.specs.Prelude.{vec_len, vec_capacity}
 use Rattle.std.proofs.lemmas.Bool.{cond-true}
-use Rattle.derive.proofs.Additions.{kept_add, adds_of}
+use Rattle.derive.specs.State.{Notes}
+use Rattle.derive.specs.Kept.{IsKept}
+use Rattle.derive.proofs.Additions.{kept_add, kept_widened, adds_of}
+use Rattle.derive.proofs.Growth.{adds_unlinked}
 use Rattle.derive.proofs.derivation.Derivation.add.Goals as goal
 
 pushed : (c : goal.After-push) → c.push.new.self.items ≡ c.self.inside.notes.items ++ Some c.args.note ∷ []
@@ -10,8 +14,20 @@ pushed c =
     let has : vec_len c.reserve.new.self < vec_capacity c.reserve.new.self = omega arith in
     c.push.ensures.items ∙ cond-true _ _ _ (c.push.ensures.succeeds has) ∙ ap (λ notes. notes ++ Some c.args.note ∷ []) c.reserve.ensures.items
 
+here : (c : goal.After-push) → c.self.inside.rows ≡ Some c.unwrap.result.now
+here c = sym c.as_mut.ensures.value ∙ ap option_copied_mut c.unwrap.ensures
+
+-- a frame without a place has one now
+wide : (c : goal.After-push) → IsKept c.self.inside.notes.items c.self.inside.rows c.widen.new.frames_from.items c.self.inside.cubes_from c.self.inside.finishes_from
+wide c =
+    let len : c.len.result ≡ length c.self.inside.notes.items = c.len.ensures ∙ c.reserve.new.self.ok.0 ∙ ap (λ (ns : Notes). length ns) c.reserve.ensures.items in
+    kept_widened _ _ _ _ _ _ (λ f. subst (λ n. get_or c.widen.new.frames_from.items f n ≡ get_or c.self.inside.frames_from.items f n) len (c.widen.ensures.same f)) c.self.invariant
+
 pub invariant_of-self-2 : goal.invariant_of-self-2
-invariant_of-self-2 c = kept_add c.self.inside.notes.items _ _ _ _ c.args.note c.args.lits.now _ _ c.in-Some.is (pushed c) c.in_ok-id-in-Some.ensures.arena.1 (rw (← c.self.view_is) at c.requires.support) c.self.invariant
+invariant_of-self-2 c = kept_add c.self.inside.notes.items _ _ _ _ c.args.note c.args.lits.now _ _ _ (rw c.tag.ensures at c.in_ok-widen.ensures.ok) (here c) (pushed c) c.in_ok-id.ensures.arena.1 (rw (← c.self.view_is) at c.requires.support) (wide c)
 
 pub returns-clause-ok : goal.returns-clause-ok
-returns-clause-ok c = adds_of _ _ _ _ _ _ c.args.note c.args.lits.now _ _ _ c.self.view_is c.in-Some.is (pushed c) c.in_ok-id-in-Some.ensures.arena.1 c.in_ok-id-in-Some.ensures.arena.0 c.self.invariant
+returns-clause-ok c = adds_of _ _ _ _ _ _ c.args.note c.args.lits.now _ _ _ _ c.self.view_is (here c) (pushed c) c.in_ok-id.ensures.arena.1 c.in_ok-id.ensures.arena.0 c.self.invariant
+
+pub returns-clause-unlinked : goal.returns-clause-unlinked
+returns-clause-unlinked c = adds_unlinked _ c.self.inside.notes.items c.push.new.self.items c.self.inside.rows _ _ c.args.lits.now c.self.view_is (here c) c.in_ok-id.ensures.arena.1 (c.self.invariant.fits c.unwrap.result.now (here c))

@@ -1,11 +1,14 @@
-use Rattle.std.proofs.Common.{◌≡◌, ◌<◌, ◌++◌, ◌∷◌, [], ◌∙◌, ap, ap₂, Some, length, arith}
+use Rattle.std.proofs.Common.{◌≡◌, ◌<◌, ◌++◌, ◌∷◌, [], ◌∙◌, ap, ap₂, sym, subst, Some, length, get_or, arith}
+use Rattle.std.specs.Option.{option_copied_mut}
 use Rattle.std.specs.Prelude.{vec_len, vec_capacity, IsOk}
 use Rattle.std.proofs.lemmas.Bool.{cond-true}
 use Rattle.prefix.specs.declared.quant.Quant.TheVariants.{Exists}
 use Rattle.calculus.specs.Derivations.Why.{ReducedFrom}
 use Rattle.derive.specs.State.{Note, Notes}
 use Rattle.derive.specs.Adding.{clause_note}
-use Rattle.derive.proofs.Additions.{kept_both, adds_both}
+use Rattle.derive.specs.Kept.{IsKept}
+use Rattle.derive.proofs.Additions.{kept_both, kept_widened, adds_both}
+use Rattle.derive.proofs.Growth.{pair_unlinked}
 use Rattle.derive.proofs.derivation.Derivation.add_both.Goals as goal
 
 first_fits : (c : goal.After-push-2) → IsOk c.push.result
@@ -22,8 +25,17 @@ second_fits c =
     let has : vec_len c.push.new.self < vec_capacity c.push.new.self = omega arith in
     c.push-2.ensures.succeeds has
 
-first_is : (c : goal.After-push-2) → c.in_ok-first-in-Some.first ≡ length c.self.inside.notes.items
-first_is c = c.in_ok-first-in-Some.ensures.ids.0 ∙ (c.self.invariant.fits c.in-Some.rows c.in-Some.is).same_next
+here : (c : goal.After-push-2) → c.self.inside.rows ≡ Some c.unwrap.result.now
+here c = sym c.as_mut.ensures.value ∙ ap option_copied_mut c.unwrap.ensures
+
+-- a frame without a place has one now
+wide : (c : goal.After-push-2) → IsKept c.self.inside.notes.items c.self.inside.rows c.widen.new.frames_from.items c.self.inside.cubes_from c.self.inside.finishes_from
+wide c =
+    let len : c.len.result ≡ length c.self.inside.notes.items = c.len.ensures ∙ c.reserve.new.self.ok.0 ∙ ap (λ (ns : Notes). length ns) c.reserve.ensures.items in
+    kept_widened _ _ _ _ _ _ (λ f. subst (λ n. get_or c.widen.new.frames_from.items f n ≡ get_or c.self.inside.frames_from.items f n) len (c.widen.ensures.same f)) c.self.invariant
+
+first_is : (c : goal.After-push-2) → c.in_ok-first.first ≡ length c.self.inside.notes.items
+first_is c = c.in_ok-first.ensures.ids.0 ∙ (c.self.invariant.fits c.unwrap.result.now (here c)).same_next
 
 pushed : (c : goal.After-push-2) → c.push-2.new.self.items ≡ (c.self.inside.notes.items ++ Some (clause_note c.args.frame) ∷ []) ++ Some (record { side = Exists; why = ReducedFrom (length c.self.inside.notes.items); tag = c.args.frame }) ∷ []
 pushed c =
@@ -33,7 +45,10 @@ pushed c =
     (c.new-reduction.ensures ∙ ap (λ k. record { side = Exists; why = ReducedFrom k; tag = c.args.frame }) (first_is c))
 
 pub invariant_of-self-2 : goal.invariant_of-self-2
-invariant_of-self-2 c = kept_both c.self.inside.notes.items _ _ _ _ c.args.frame c.args.lits.now c.args.row.now _ _ c.in-Some.is (pushed c) c.in_ok-first-in-Some.ensures.arena c.self.invariant
+invariant_of-self-2 c = kept_both c.self.inside.notes.items _ _ _ _ c.args.frame c.args.lits.now c.args.row.now _ _ _ c.in_ok-widen.ensures.ok (here c) (pushed c) c.in_ok-first.ensures.arena (wide c)
 
 pub returns-clause-ok : goal.returns-clause-ok
-returns-clause-ok c = adds_both _ _ _ _ _ _ c.args.frame c.args.lits.now c.args.row.now _ _ _ _ c.self.view_is c.in-Some.is (pushed c) c.in_ok-first-in-Some.ensures.arena c.in_ok-first-in-Some.ensures.ids.0 c.in_ok-first-in-Some.ensures.ids.1 c.self.invariant
+returns-clause-ok c = adds_both _ _ _ _ _ _ c.args.frame c.args.lits.now c.args.row.now _ _ _ _ _ c.in_ok-widen.ensures.ok c.self.view_is (here c) (pushed c) c.in_ok-first.ensures.arena c.in_ok-first.ensures.ids.0 c.in_ok-first.ensures.ids.1 (wide c)
+
+pub returns-clause-unlinked : goal.returns-clause-unlinked
+returns-clause-unlinked c = pair_unlinked _ c.self.inside.notes.items c.push-2.new.self.items c.self.inside.rows _ _ c.args.lits.now c.args.row.now c.self.view_is (here c) c.in_ok-first.ensures.arena (c.self.invariant.fits c.unwrap.result.now (here c))

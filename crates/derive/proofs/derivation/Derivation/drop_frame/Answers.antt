@@ -1,9 +1,15 @@
-use Rattle.std.proofs.Common.{refl}
-use Rattle.derive.proofs.Drops.{legal_drops, clauses_filtered}
+use Rattle.std.proofs.Common.{◌∙◌, refl, ap, subst, sym}
+use Rattle.derive.specs.State.{State, IsLegalFor, clauses_of}
+use Rattle.derive.proofs.Drops.{legal_drops, clauses_filtered, kept_frame}
 use Rattle.derive.proofs.derivation.Derivation.drop_frame.Goals as goal
 
 pub returns-clause-legal : goal.returns-clause-legal
-returns-clause-legal c = legal_drops _ _ _ c.drop_all.ensures.drops
+returns-clause-legal c scopes legal =
+    let P : State → Type 0 = IsLegalFor scopes in
+    subst P (sym c.self.view_is) (legal_drops _ _ _ c.drop_all.ensures.drops scopes legal)
 
 pub returns-clause-clauses : goal.returns-clause-clauses
-returns-clause-clauses c = clauses_filtered _ _ _ c.drop_all.ensures.drops _ (λ clause. refl)
+returns-clause-clauses c = ap clauses_of c.self.view_is ∙ clauses_filtered _ _ _ c.drop_all.ensures.drops _ (λ clause. refl)
+
+pub invariant_of-self : goal.invariant_of-self
+invariant_of-self c = rw c.put_from.ensures (kept_frame _ _ _ _ _ _ _ _ _ c.drop_all.ensures.drops c.self.view_is (c.len.ensures ∙ c.self.inside.notes.ok.0) c.self.invariant)
