@@ -201,7 +201,16 @@ abbrev pub before_on : Trail → ℕ → Trail
 before_on [] x = []
 before_on (p ∷ rest) x = if p.literal.variable == x then [] else p ∷ before_on rest x
 
--- the assumed places of a trail are the assumptions
+-- a literal as an assumption on the trail
+abbrev pub assumed : Literal → Placed
+assumed literal = record { literal = literal; cause = Assumed }
+
+-- the assumed places of a trail are the assumptions, and nothing but: what is assumed stands as assumed; the invariant, which assignments and cuts keep
+pub record AreTheAssumptions (trail : Trail) (assumptions : List Literal) : Type 0 where
+  pub entries : (x : ℕ) → cause_on trail x ≡ Some Assumed → IsTrue (is_some (assumed_value assumptions x))
+  pub stand : (x : ℕ) (b : Bool) → assumed_value assumptions x ≡ Some b → (value_on trail x ≡ Some b) × (cause_on trail x ≡ Some Assumed)
+
+-- each assumed place is an assumption, and each assumption has its value, from whatever cause; a premise alone, since an assumption that was decided is lost by a cut
 pub record HasAssumptions (trail : Trail) (assumptions : List Literal) : Type 0 where
   pub entries : (x : ℕ) → cause_on trail x ≡ Some Assumed → IsTrue (is_some (assumed_value assumptions x))
   pub values : (x : ℕ) (b : Bool) → assumed_value assumptions x ≡ Some b → value_on trail x ≡ Some b

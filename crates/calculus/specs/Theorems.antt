@@ -12,8 +12,8 @@ use Rattle.calculus.specs.Derivations.{Inference, Step, IsInput, IsLegal, IsDeri
 use Rattle.calculus.specs.Derivations.Why.{Given}
 use Rattle.calculus.specs.Verdicts.{AreOuter, IsEndRow, IsProof, finish_steps, relevant_of}
 use Rattle.calculus.specs.Plays.{first_forced, forced, Follows, IsAllowed, AgreeBefore, played, literals_of, total, Circuit, KeepsInputs, Wins, DependsOnEarlier, FollowsProof}
-use Rattle.calculus.specs.Weights.{Search, trail_weight}
-use Rattle.calculus.specs.Limits.{gate_weight, removals_of, removal_bound, weight_bound}
+use Rattle.calculus.specs.Weights.{Search, RestartedSearch, trail_weight}
+use Rattle.calculus.specs.Limits.{assignment_limit, restarted_step_limit, HasFewResolutions, gate_weight, removals_of, removal_bound, weight_bound}
 use Rattle.calculus.specs.Search.{Trail, Placed, value_on, place_on, decision_level_on, cause_on, cut_to, cut_trail, literals_on, before_on, is_open, is_bad_now, IsPending, IsClean, IsCleanBut, MakesUnitAt, IsOrderedTrail, HasUnitReasons, IsUnitReason, Blocks, IsLast, IsLastBlocker, HasAssumptions, Holds, IsQuiet, IsRefuted, clashes_with, resolved_with, MayStand, IsBadRow, decisions_on, IsUnitIn}
 use Rattle.calculus.specs.Search.Cause.{Assumed, Decided, Propagated}
 use Rattle.steps.specs.Counter.{step_limit}
@@ -201,14 +201,21 @@ pub record WeightLaws : Type 0 where
   pub turns : (n : ℕ) (front back : List Bool) → length (front ++ true ∷ back) ≤ n → trail_weight n (front ++ true ∷ back) < trail_weight n (front ++ false ∷ [])
   pub bounded : (n : ℕ) (trail : List Bool) → length trail ≤ n → trail_weight n trail + 2 ≤ 2 ^ suc n
 
--- A search over n variables makes fewer than 2 ^ (n + 1) assignments.
-abbrev pub SearchesEnd : Type 0
-SearchesEnd = (n : ℕ) (trail : List Bool) (assigned : ℕ) → Search n trail assigned → assigned + 1 < 2 ^ (n + 1)
+-- A search over n variables makes fewer assignments than the assignment limit, also where it begins anew.
+pub record SearchesEnd : Type 0 where
+  pub once : (n : ℕ) (trail : List Bool) (assigned : ℕ) → Search n trail assigned → assigned + 1 < assignment_limit 0 n
+  pub restarted : (restarts n assigned : ℕ) → RestartedSearch n restarts assigned → assigned + 1 < assignment_limit restarts n
 
 -- With at most n resolutions to clean each reason, and 2 n for each lesson, the steps are few.
 abbrev pub StepsAreFew : Type 0
-StepsAreFew = (n assigned cleaning lessons resolved : ℕ) → cleaning ≤ (assigned + 1) * n → lessons ≤ assigned + 1 → resolved ≤ lessons * (2 * n) → assigned + cleaning + resolved < (4 * n + 4) * (assigned + 1)
+StepsAreFew = (n assigned cleaning lessons resolved : ℕ) → HasFewResolutions n assigned cleaning lessons resolved
+    → assigned + cleaning + resolved < (4 * n + 4) * (assigned + 1)
 
--- So a search over n variables with few resolutions stays below the step limit.
-abbrev pub LimitsSuffice : Type 0
-LimitsSuffice = (n : ℕ) (trail : List Bool) (assigned cleaning lessons resolved : ℕ) → Search n trail assigned → cleaning ≤ (assigned + 1) * n → lessons ≤ assigned + 1 → resolved ≤ lessons * (2 * n) → assigned + cleaning + resolved < step_limit n
+-- So with few assignments the steps stay below the step limit of that many restarts, and without restarts below the step limit.
+pub record LimitsSuffice : Type 0 where
+  pub restarted : (restarts n assigned cleaning lessons resolved : ℕ) → assigned + 1 < assignment_limit restarts n
+      → HasFewResolutions n assigned cleaning lessons resolved → assigned + cleaning + resolved < restarted_step_limit restarts n
+  pub once : (n assigned cleaning lessons resolved : ℕ) → assigned + 1 < assignment_limit 0 n
+      → HasFewResolutions n assigned cleaning lessons resolved → assigned + cleaning + resolved < step_limit n
+  pub same_limit : (n : ℕ) → restarted_step_limit 0 n ≡ step_limit n
+  pub same_bound : (n : ℕ) → assignment_limit 0 n ≡ 2 ^ (n + 1)
