@@ -39,3 +39,4 @@ pub mod Verdict
 pub mod Weighing
 pub mod Winning
 pub mod Working
+pub mod WorkingSearch

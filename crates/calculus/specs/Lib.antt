@@ -13,3 +13,4 @@ pub mod Verdicts
 pub mod WeightTheorems
 pub mod Weights
 pub mod Worked
+pub mod WorkedSearch

@@ -50,6 +50,6 @@ pub use verdicts::{
 };
 pub use weights::{limits_suffice, searches_end, steps_are_few, weight_laws};
 pub use worked::{
-    worked_assumptions, worked_first, worked_model, worked_refutation, worked_rows, worked_truths,
-    worked_weights,
+    worked_assumptions, worked_clean_rows, worked_cores, worked_first, worked_limits, worked_model,
+    worked_refutation, worked_rows, worked_truths, worked_units, worked_unused, worked_weights,
 };
