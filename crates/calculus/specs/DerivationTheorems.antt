@@ -35,9 +35,11 @@ ChangesAreLegal = (old new : List Scope) (before after : List Row) (steps : List
 -- The prefix may change in any way on variables that stand in no step: they may leave it.
 abbrev pub RemovalsOfVariablesAreLegal : Type 0
 RemovalsOfVariablesAreLegal = (old new : List Scope) (before after : List Row) (steps : List Step)
-    → AgreeOn old new (StandsIn steps) → AreInputs after steps → IsDerivation old before steps → IsDerivation new after steps
+    → AgreeOn old new (StandsIn steps) → AreInputs after steps → IsDerivation old before steps
+    → IsDerivation new after steps
 
--- A prefix extends itself; one with one more scope, or one more variable, extends the old one; so does one that keeps the order of the old one's variables, as each insertion tells; and extensions follow on each other.
+-- A prefix extends itself; one with one more scope, or one more variable, extends the old one; so does one that keeps
+-- the order of the old one's variables, as each insertion tells; and extensions follow on each other.
 pub record PrefixesGrow : Type 0 where
   pub itself : (scopes : List Scope) → Extends scopes scopes
   pub scope : (scopes : List Scope) (q : Quant) (at : Option ℕ) → place_of scopes at ≤ length scopes
@@ -48,7 +50,8 @@ pub record PrefixesGrow : Type 0 where
   pub follows : (first middle last : List Scope) → Extends first middle → Extends middle last → Extends first last
 
 -- The steps of its side that a step needs are its core.
-pub record IsItsCore (scopes : List Scope) (clauses : List Row) (steps : List Step) (end : Step) (core : List Step) : Type 0 where
+pub record IsItsCore (scopes : List Scope) (clauses : List Row) (steps : List Step) (end : Step)
+    (core : List Step) : Type 0 where
   pub part : (s : Step) → Contains core s → Contains steps s × (s.side ≡ end.side)
   pub holds_end : Contains core end
   pub is_core : IsCoreOf end core

@@ -25,7 +25,8 @@ PlaysLookBack = (pivot : Quant) (scopes : List Scope) (clauses : List Row) (assu
     (steps : List Inference) (v w : Assignment) (x : ℕ) → AreOuter scopes assumptions
     → IsProof pivot scopes clauses assumptions steps
     → Follows pivot scopes assumptions steps v → Follows pivot scopes assumptions steps w
-    → Contains (all_variables scopes) x → quantifier_of scopes x ≢ Some pivot → AgreeBefore pivot scopes x v w → v x ≡ w x
+    → Contains (all_variables scopes) x → quantifier_of scopes x ≢ Some pivot → AgreeBefore pivot scopes x v w
+    → v x ≡ w x
 
 -- There are such values for each choice of the loser's.
 abbrev pub PlaysExist : Type 0
@@ -43,7 +44,8 @@ CircuitsWin = (pivot : Quant) (scopes : List Scope) (clauses : List Row) (assump
     → FollowsProof pivot scopes assumptions steps circuit
     → Wins pivot scopes clauses assumptions circuit × DependsOnEarlier pivot scopes circuit
 
--- A circuit that wins, and whose outputs depend on earlier inputs alone, decides the truth: such a circuit is a certificate.
+-- A circuit that wins, and whose outputs depend on earlier inputs alone, decides the truth: such a circuit is a
+-- certificate.
 abbrev pub WinningDecides : Type 0
 WinningDecides = (pivot : Quant) (scopes : List Scope) (clauses : List Row) (assumptions : List Literal)
     (circuit : Circuit) → AreDistinct (all_variables scopes) → AreOuter scopes assumptions

@@ -39,12 +39,15 @@ FirstValuesDecide = (pivot : Quant) (scopes : List Scope) (clauses : List Row) (
     → Follows pivot scopes assumptions steps values
     → truth_under (literals_of values (variables_at scopes 1)) scopes clauses ≡ bad_of pivot
 
--- An end row with its core, inputs first, and its finish where something goes, is a proof, whose last row is the finish, with its reason; each step with an end row has such a core in its derivation.
+-- An end row with its core, inputs first, and its finish where something goes, is a proof, whose last row is the
+-- finish, with its reason; each step with an end row has such a core in its derivation.
 pub record EndRowsGiveProofs : Type 0 where
   pub core : (pivot : Quant) (scopes : List Scope) (clauses : List Row) (assumptions : List Literal) (core : List Step)
       (end : Step) → IsDerivation scopes clauses core → ((s : Step) → Contains core s → s.side ≡ pivot)
       → Contains core end → IsCoreOf end core → IsEndRow pivot scopes assumptions end.row
-      → EndsInFinish pivot scopes clauses assumptions (core_proof core end assumptions) end.row (last_reason core end assumptions)
+      → EndsInFinish pivot scopes clauses assumptions (core_proof core end assumptions) end.row
+      (last_reason core end assumptions)
   pub step : (scopes : List Scope) (clauses : List Row) (assumptions : List Literal) (steps : List Step) (end : Step)
       → IsDerivation scopes clauses steps → Contains steps end → IsEndRow end.side scopes assumptions end.row
-      → EndsInFinish end.side scopes clauses assumptions (proof_of steps end assumptions) end.row (last_reason (side_core steps end) end assumptions)
+      → EndsInFinish end.side scopes clauses assumptions (proof_of steps end assumptions) end.row
+      (last_reason (side_core steps end) end assumptions)

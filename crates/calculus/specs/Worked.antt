@@ -58,7 +58,8 @@ pub record WorkedRows : Type 0 where
   pub absent_goes : reduce Exists universal_first (plus 2 ∷ plus 9 ∷ []) ≡ plus 2 ∷ []
   pub other_pair_clashes : clashes (plus 1 ∷ plus 2 ∷ []) (minus 1 ∷ minus 2 ∷ []) 2 ≡ true
   pub pivot_alone_does_not : clashes (plus 1 ∷ plus 2 ∷ []) (plus 1 ∷ minus 2 ∷ []) 2 ≡ false
-  pub resolvent : resolve (plus 1 ∷ plus 2 ∷ plus 5 ∷ []) (minus 2 ∷ plus 3 ∷ plus 5 ∷ []) 2 ≡ plus 1 ∷ plus 3 ∷ plus 5 ∷ []
+  pub resolvent : resolve (plus 1 ∷ plus 2 ∷ plus 5 ∷ []) (minus 2 ∷ plus 3 ∷ plus 5 ∷ []) 2
+      ≡ plus 1 ∷ plus 3 ∷ plus 5 ∷ []
 
 -- weights over three variables: a decision and another assignment; another assignment; three of them
 pub record WorkedWeights : Type 0 where
@@ -73,11 +74,16 @@ pub record WorkedTruths : Type 0 where
   pub existential_then_universal_is_false : truth existential_first differ ≡ false
   pub empty_formula_is_true : truth [] [] ≡ true
   pub empty_clause_is_false : truth [] ([] ∷ []) ≡ false
-  pub tautologies_are_no_matter : truth universal_first ((plus 1 ∷ minus 1 ∷ plus 2 ∷ []) ∷ (plus 2 ∷ plus 2 ∷ []) ∷ []) ≡ true
-  pub assumed_universal : truth_under (plus 1 ∷ []) universal_first ((plus 1 ∷ plus 2 ∷ []) ∷ (plus 1 ∷ minus 2 ∷ []) ∷ []) ≡ true
-  pub unassumed_universal : truth_under [] universal_first ((plus 1 ∷ plus 2 ∷ []) ∷ (plus 1 ∷ minus 2 ∷ []) ∷ []) ≡ false
-  pub assumed_against : truth_under (minus 1 ∷ []) universal_first ((plus 1 ∷ plus 2 ∷ []) ∷ (plus 1 ∷ minus 2 ∷ []) ∷ []) ≡ false
-  pub conjunction_gate : truth (universal (1 ∷ 2 ∷ []) ∷ existential (3 ∷ []) ∷ []) ((minus 3 ∷ plus 1 ∷ []) ∷ (minus 3 ∷ plus 2 ∷ []) ∷ (plus 3 ∷ minus 1 ∷ minus 2 ∷ []) ∷ []) ≡ true
+  pub tautologies_are_no_matter
+      : truth universal_first ((plus 1 ∷ minus 1 ∷ plus 2 ∷ []) ∷ (plus 2 ∷ plus 2 ∷ []) ∷ []) ≡ true
+  pub assumed_universal
+      : truth_under (plus 1 ∷ []) universal_first ((plus 1 ∷ plus 2 ∷ []) ∷ (plus 1 ∷ minus 2 ∷ []) ∷ []) ≡ true
+  pub unassumed_universal
+      : truth_under [] universal_first ((plus 1 ∷ plus 2 ∷ []) ∷ (plus 1 ∷ minus 2 ∷ []) ∷ []) ≡ false
+  pub assumed_against
+      : truth_under (minus 1 ∷ []) universal_first ((plus 1 ∷ plus 2 ∷ []) ∷ (plus 1 ∷ minus 2 ∷ []) ∷ []) ≡ false
+  pub conjunction_gate : truth (universal (1 ∷ 2 ∷ []) ∷ existential (3 ∷ []) ∷ [])
+      ((minus 3 ∷ plus 1 ∷ []) ∷ (minus 3 ∷ plus 2 ∷ []) ∷ (plus 3 ∷ minus 1 ∷ minus 2 ∷ []) ∷ []) ≡ true
   pub steps_tried : plain_steps universal_first differ ≡ 5
 
 -- a refutation under e 2, a 1: 1 2 and -1 -2 reduce to 2 and -2, whose resolvent is empty
@@ -113,9 +119,11 @@ pub record WorkedModel : Type 0 where
   pub decides : truth_under [] universal_first differ ≡ true
   pub opposes : (b : Bool) → played Forall universal_first [] model (λ x. b) 2 ≡ not b
 
--- under e 1 2 with -1 and 2 assumed the clause 1 is an end row, and its own proof: nothing is left to remove, and -1 alone is relevant
+-- under e 1 2 with -1 and 2 assumed the clause 1 is an end row, and its own proof: nothing is left to remove, and -1
+-- alone is relevant
 pub record WorkedAssumptions : Type 0 where
-  pub proof : IsProof Exists (existential (1 ∷ 2 ∷ []) ∷ []) ((plus 1 ∷ []) ∷ []) (minus 1 ∷ plus 2 ∷ []) (record { row = plus 1 ∷ []; reason = Input } ∷ [])
+  pub proof : IsProof Exists (existential (1 ∷ 2 ∷ []) ∷ []) ((plus 1 ∷ []) ∷ []) (minus 1 ∷ plus 2 ∷ [])
+      (record { row = plus 1 ∷ []; reason = Input } ∷ [])
   pub no_finish : finish_steps (minus 1 ∷ plus 2 ∷ []) (plus 1 ∷ []) ≡ []
   pub relevant : relevant_of (minus 1 ∷ plus 2 ∷ []) (plus 1 ∷ []) ≡ minus 1 ∷ []
 
@@ -139,7 +147,9 @@ chained_scopes = existential (1 ∷ 2 ∷ []) ∷ universal (3 ∷ []) ∷ []
 abbrev pub chained_clauses : List Row
 chained_clauses = (plus 1 ∷ plus 3 ∷ []) ∷ (minus 1 ∷ plus 2 ∷ minus 3 ∷ []) ∷ (minus 2 ∷ []) ∷ []
 
--- where 1 and 2 are false both reductions have a false result: the first makes 3 false, which falsifies 1 3; the last would make it true, which falsifies nothing; where 1 alone is true, the second one counts; where both are true nothing is forced, and 3 is false
+-- where 1 and 2 are false both reductions have a false result: the first makes 3 false, which falsifies 1 3; the last
+-- would make it true, which falsifies nothing; where 1 alone is true, the second one counts; where both are true
+-- nothing is forced, and 3 is false
 pub record WorkedFirst : Type 0 where
   pub proof : IsProof Exists chained_scopes chained_clauses [] chained
   pub first_counts : first_forced Exists (λ x. false) 3 chained ≡ Some false
@@ -160,10 +170,13 @@ with_unused =
 
 -- the list is legal, but no proof, since nothing rests on 2
 pub record WorkedUnused : Type 0 where
-  pub legal : IsLegal Exists (existential (1 ∷ 2 ∷ []) ∷ []) ((plus 1 ∷ []) ∷ (minus 1 ∷ []) ∷ (plus 2 ∷ []) ∷ []) with_unused
-  pub no_proof : IsProof Exists (existential (1 ∷ 2 ∷ []) ∷ []) ((plus 1 ∷ []) ∷ (minus 1 ∷ []) ∷ (plus 2 ∷ []) ∷ []) [] with_unused → ⊥
+  pub legal : IsLegal Exists (existential (1 ∷ 2 ∷ []) ∷ [])
+      ((plus 1 ∷ []) ∷ (minus 1 ∷ []) ∷ (plus 2 ∷ []) ∷ []) with_unused
+  pub no_proof : IsProof Exists (existential (1 ∷ 2 ∷ []) ∷ [])
+      ((plus 1 ∷ []) ∷ (minus 1 ∷ []) ∷ (plus 2 ∷ []) ∷ []) [] with_unused → ⊥
 
--- limits for up to four variables; the removals of 3 clauses and 2 solves over one variable, with a budget below its step limit and one above; and the gates of the first
+-- limits for up to four variables; the removals of 3 clauses and 2 solves over one variable, with a budget below its
+-- step limit and one above; and the gates of the first
 pub record WorkedLimits : Type 0 where
   pub one : step_limit 1 ≡ 32
   pub two : step_limit 2 ≡ 96

@@ -38,20 +38,25 @@ pub record WorkedUnits (pivot : Quant) : Type 0 where
   -- unit in 3 where 1 and 2 are bad, and in 1 where 3 is bad: 2 is open then, and of a later scope
   pub unit : IsUnitIn pivot (alternating pivot) (assumed_value (bad pivot 1 ∷ bad pivot 2 ∷ [])) three (plus 3)
   pub unit_with_later : IsUnitIn pivot (alternating pivot) (assumed_value (bad pivot 3 ∷ [])) three (plus 1)
-  -- not in 3 where 2 is open, since its scope is earlier; nor where 2 is good; nor where 3 is bad; nor in 2, which is no pivot-type literal; nor in a literal that doesn't stand there
+  -- not in 3 where 2 is open, since its scope is earlier; nor where 2 is good; nor where 3 is bad; nor in 2, which is
+  -- no pivot-type literal; nor in a literal that doesn't stand there
   pub earlier_open : IsUnitIn pivot (alternating pivot) (assumed_value (bad pivot 1 ∷ [])) three (plus 3) → ⊥
   pub one_good : IsUnitIn pivot (alternating pivot) (assumed_value (bad pivot 1 ∷ good pivot 2 ∷ [])) three (plus 3) → ⊥
-  pub none_open : IsUnitIn pivot (alternating pivot) (assumed_value (bad pivot 1 ∷ bad pivot 2 ∷ bad pivot 3 ∷ [])) three (plus 3) → ⊥
-  pub other_type : IsUnitIn pivot (alternating pivot) (assumed_value (bad pivot 1 ∷ bad pivot 3 ∷ [])) three (plus 2) → ⊥
+  pub none_open : IsUnitIn pivot (alternating pivot)
+      (assumed_value (bad pivot 1 ∷ bad pivot 2 ∷ bad pivot 3 ∷ [])) three (plus 3) → ⊥
+  pub other_type : IsUnitIn pivot (alternating pivot) (assumed_value (bad pivot 1 ∷ bad pivot 3 ∷ [])) three (plus 2)
+      → ⊥
   pub absent : IsUnitIn pivot (alternating pivot) (assumed_value (bad pivot 1 ∷ bad pivot 2 ∷ [])) three (minus 3) → ⊥
   -- bad where 1 and 3 are, also with 2 open; not where 3 is open, nor where 2 is good
   pub is_bad : IsBadRow pivot (alternating pivot) (assumed_value (bad pivot 1 ∷ bad pivot 3 ∷ [])) three
   pub pivot_open : IsBadRow pivot (alternating pivot) (assumed_value (bad pivot 1 ∷ bad pivot 2 ∷ [])) three → ⊥
-  pub good_row : IsBadRow pivot (alternating pivot) (assumed_value (bad pivot 1 ∷ good pivot 2 ∷ bad pivot 3 ∷ [])) three → ⊥
+  pub good_row : IsBadRow pivot (alternating pivot)
+      (assumed_value (bad pivot 1 ∷ good pivot 2 ∷ bad pivot 3 ∷ [])) three → ⊥
   -- quiet where 1 alone is bad; not where it is unit, or bad
   pub quiet : IsQuiet pivot (alternating pivot) (three ∷ []) (assumed_value (bad pivot 1 ∷ []))
   pub unit_not_quiet : IsQuiet pivot (alternating pivot) (three ∷ []) (assumed_value (bad pivot 3 ∷ [])) → ⊥
-  pub bad_not_quiet : IsQuiet pivot (alternating pivot) (three ∷ []) (assumed_value (bad pivot 1 ∷ bad pivot 3 ∷ [])) → ⊥
+  pub bad_not_quiet : IsQuiet pivot (alternating pivot) (three ∷ []) (assumed_value (bad pivot 1 ∷ bad pivot 3 ∷ []))
+      → ⊥
 
 -- 1 was decided bad, 2 was propagated bad, and then 3 was decided
 abbrev pub with_last : Quant → Literal → Trail
@@ -92,7 +97,8 @@ pub record WorkedCleanRows (pivot : Quant) : Type 0 where
   -- it makes 3 unit at level 1; not at level 0, nor at the trail's own level
   pub unit_at_one : MakesUnitAt pivot (alternating pivot) (with_last pivot (bad pivot 3)) three (plus 3) 1
   pub not_at_none : MakesUnitAt pivot (alternating pivot) (with_last pivot (bad pivot 3)) three (plus 3) 0 → ⊥
-  pub not_at_its_own : MakesUnitAt pivot (alternating pivot) (cut_trail 1 (with_last pivot (bad pivot 3))) three (plus 3) 1 → ⊥
+  pub not_at_its_own : MakesUnitAt pivot (alternating pivot)
+      (cut_trail 1 (with_last pivot (bad pivot 3))) three (plus 3) 1 → ⊥
 
 -- the derivation of a refutation under e 2, a 1, with a cube that it doesn't need
 abbrev pub with_others : List Step

@@ -21,7 +21,8 @@ pub fn removals_of_variables_are_legal()
     ensures { RemovalsOfVariablesAreLegal }
 {}
 
-/// A prefix extends itself; one with one more scope, or one more variable, extends the old one, as does any that keeps the order.
+/// A prefix extends itself; one with one more scope, or one more variable, extends the old one, as does any that
+/// keeps the order.
 pub fn prefixes_grow()
     ensures { PrefixesGrow }
 {}

@@ -38,7 +38,8 @@ pub fn gates_are_bounded()
     ensures { GatesAreBounded }
 {}
 
-/// A circuit that wins, and whose outputs depend on earlier inputs alone, decides the truth: such a circuit is a certificate.
+/// A circuit that wins, and whose outputs depend on earlier inputs alone, decides the truth: such a circuit is a
+/// certificate.
 pub fn winning_decides()
     ensures { WinningDecides }
 {}

@@ -1,12 +1,14 @@
 //! Rows.
 ghost use Rattle.calculus.specs.RowTheorems.{PrefixLaws, ReductionsKeepUnit, ReductionsStay, RowLaws, ValueLaws};
 
-/// Depths count from 1; variables of one depth have one quantifier; the variables of the prefix are those with a level, and have a quantifier.
+/// Depths count from 1; variables of one depth have one quantifier; the variables of the prefix are those with a
+/// level, and have a quantifier.
 pub fn prefix_laws()
     ensures { PrefixLaws }
 {}
 
-/// Rows with the same literals are one; reductions and resolvents are rows, of literals of the rows; a second reduction removes nothing.
+/// Rows with the same literals are one; reductions and resolvents are rows, of literals of the rows; a second
+/// reduction removes nothing.
 pub fn row_laws()
     ensures { RowLaws }
 {}

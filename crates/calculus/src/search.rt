@@ -6,17 +6,20 @@ pub fn blockers_were_propagated()
     ensures { BlockersWerePropagated }
 {}
 
-/// Cleaning: with the last blocker resolved with its reason there is no clash, the blockers left stood before it, and the literal to keep stays.
+/// Cleaning: with the last blocker resolved with its reason there is no clash, the blockers left stood before it, and
+/// the literal to keep stays.
 pub fn blockers_resolve()
     ensures { BlockersResolve }
 {}
 
-/// Without blockers the reduction of a bad row with a pivot-type literal is clean, and that of a unit row clean but for its literal.
+/// Without blockers the reduction of a bad row with a pivot-type literal is clean, and that of a unit row clean but
+/// for its literal.
 pub fn unblocked_are_clean()
     ensures { UnblockedAreClean }
 {}
 
-/// Analysis: a clean row whose last pivot-type literal is resolved with its reason gives no clash and a clean row, and its pivot-type literals stood before that one.
+/// Analysis: a clean row whose last pivot-type literal is resolved with its reason gives no clash and a clean row,
+/// and its pivot-type literals stood before that one.
 pub fn lasts_resolve()
     ensures { LastsResolve }
 {}
@@ -41,7 +44,8 @@ pub fn no_pivots_end()
     ensures { NoPivotsEnd }
 {}
 
-/// Where propagation refutes the clauses, no values that are quiet for their reductions hold its literals without decisions.
+/// Where propagation refutes the clauses, no values that are quiet for their reductions hold its literals without
+/// decisions.
 pub fn propagation_refutes()
     ensures { PropagationRefutes }
 {}

@@ -1,7 +1,8 @@
 //! Weights of trails and numbers of steps.
 ghost use Rattle.calculus.specs.WeightTheorems.{LimitsSuffice, SearchesEnd, StepsAreFew, WeightLaws};
 
-/// An assignment raises the weight, and so does a cut at a decision with an assignment that is none in its place; the weight is bounded.
+/// An assignment raises the weight, and so does a cut at a decision with an assignment that is none in its place; the
+/// weight is bounded.
 pub fn weight_laws()
     ensures { WeightLaws }
 {}

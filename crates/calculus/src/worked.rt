@@ -33,7 +33,8 @@ pub fn worked_assumptions()
     ensures { WorkedAssumptions }
 {}
 
-/// A play in which the first falsified reduction and the last force different values, and one in which nothing is forced.
+/// A play in which the first falsified reduction and the last force different values, and one in which nothing is
+/// forced.
 pub fn worked_first()
     ensures { WorkedFirst }
 {}
