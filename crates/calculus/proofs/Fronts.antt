@@ -69,15 +69,6 @@ before_open (p ∷ rest) x =
     (λ f. ap (λ r. value_on r x) (cond-false (nat_eq p.literal.variable x) [] (p ∷ before_on rest x) f) ∙ (value_past p (before_on rest x) x f ∙ before_open rest x))
     (cases_Bool (nat_eq p.literal.variable x))
 
--- before a variable of the front
-pub before_front : (front back : Trail) (x : ℕ) → is_some (value_on front x) ≡ true → before_on (front ++ back) x ≡ before_on front x
-before_front [] back x known = absurd (false≢true known)
-before_front (p ∷ front) back x known =
-    ⊎_elim
-    (λ t. cond-true (nat_eq p.literal.variable x) [] (p ∷ before_on (front ++ back) x) t ∙ sym (cond-true (nat_eq p.literal.variable x) [] (p ∷ before_on front x) t))
-    (λ f. cond-false (nat_eq p.literal.variable x) [] (p ∷ before_on (front ++ back) x) f ∙ (ap (λ (r : Trail). p ∷ r) (before_front front back x (ap is_some (sym (value_past p front x f)) ∙ known)) ∙ sym (cond-false (nat_eq p.literal.variable x) [] (p ∷ before_on front x) f)))
-    (cases_Bool (nat_eq p.literal.variable x))
-
 -- before a new one
 pub before_new : (earlier : Trail) (p : Placed) (rest : Trail) → value_on earlier p.literal.variable ≡ None → before_on (earlier ++ p ∷ rest) p.literal.variable ≡ earlier
 before_new [] p rest fresh = cond-true (nat_eq p.literal.variable p.literal.variable) [] (p ∷ before_on rest p.literal.variable) (eq-eqb p.literal.variable p.literal.variable refl)
