@@ -1,7 +1,8 @@
 -- A trail that is cut to a decision level, literal by literal.
-use Rattle.std.proofs.Common.{◌≡◌, ℕ, suc, ◌<◌, ◌≤◌, true, [], ◌∷◌, ◌++◌, length, take, refl, sym, ap, ◌∙◌, ⊎_elim, arith, nat_le}
+use Rattle.std.proofs.Common.{cond, Contains, false, ◌≡◌, ℕ, suc, ◌<◌, ◌≤◌, true, [], ◌∷◌, ◌++◌, length, take, refl, sym, ap, ◌∙◌, ⊎_elim, arith, nat_le}
 use Rattle.std.proofs.lemmas.Bool.{cond_both, cond-true, cond-false, cases_lt, le-leb, lt-leb, cases_Bool}
 use Rattle.calculus.specs.Search.{Placed, Trail, cut_from, cut_trail, is_decision, last_level, last_level_from, level_after}
+use Rattle.calculus.proofs.Lists.{contains_head, contains_tail}
 
 -- levels don't fall
 pub after_least : (before : ℕ) (p : Placed) → before ≤ level_after before p
@@ -106,3 +107,10 @@ cut_reached before b (p ∷ trail) least high =
     none ∙ same)
     (λ (low : now ≤ b). ap (last_level_from before) (cut_here before b p trail low) ∙ cut_reached now b trail low high)
     (cases_lt b now)
+
+-- a trail without decisions is at level 0
+pub level_none : (before : ℕ) (trail : Trail) → ((p : Placed) → Contains trail p → is_decision p.cause ≡ false) → last_level_from before trail ≡ before
+level_none before [] none = refl
+level_none before (p ∷ rest) none =
+    ap (λ b. last_level_from (cond b (suc before) before) rest) (none p (contains_head p rest))
+    ∙ level_none before rest (λ q i. none q (contains_tail p rest q i))

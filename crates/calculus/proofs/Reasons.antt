@@ -1,5 +1,5 @@
 -- Reasons on a trail that grows or is cut, and what they say against.
-use Rattle.std.proofs.Common.{◌≡◌, ℕ, true, List, [], ◌∷◌, ◌++◌, map, Contains, Some, None, is_some, sym, refl, ap, subst, ◌∙◌, append_assoc, append-nil}
+use Rattle.std.proofs.Common.{Bool, not, false, ◌≡◌, ℕ, true, List, [], ◌∷◌, ◌++◌, map, Contains, Some, None, is_some, sym, refl, ap, subst, ◌∙◌, append_assoc, append-nil}
 use Rattle.prefix.specs.declared.quant.Quant.{Quant}
 use Rattle.prefix.specs.declared.quant.Quant.TheVariants.{Exists, Forall}
 use Rattle.prefix.specs.Literal.{Literal, negation}
@@ -8,7 +8,7 @@ use Rattle.prefix.specs.Sides.{bad_of}
 use Rattle.truth.specs.Matrix.{same}
 use Rattle.calculus.specs.Rows.{is_bad_at, is_pivot}
 use Rattle.calculus.specs.Derivations.{Step}
-use Rattle.calculus.specs.Search.{Cause, Placed, Trail, value_on, cause_on, before_on, cut_trail, is_bad_if, is_bad_now, HasReason, HasUnitReasons, HaveReasonsAfter, HaveOpposites, IsOrderedAfter, IsUnitIn, IsUnitReason, Opposes, assumed}
+use Rattle.calculus.specs.Search.{Cause, Placed, Trail, value_on, cause_on, before_on, cut_trail, is_bad_if, is_bad_now, good_literal, HasReason, HasUnitReasons, HaveReasonsAfter, HaveOpposites, IsOrderedAfter, IsUnitIn, IsUnitReason, Opposes, assumed}
 use Rattle.calculus.specs.Search.Cause.{Assumed, Decided, Propagated}
 use Rattle.calculus.proofs.Cutting.{cut_front}
 use Rattle.calculus.proofs.Fronts.{before_new, cause_new}
@@ -110,3 +110,23 @@ module _ (scopes : List Scope) (steps : List Step) (whole : Trail) (clauses : Ha
     reason_by earlier p rest is ordered.0 ordered.1 p.cause refl,
     units_after (earlier ++ p ∷ []) rest (append_assoc earlier (p ∷ []) rest ∙ is) ordered.3,
   )
+
+-- the value that makes a literal good
+makes_good : (side : Quant) (literal : Literal) → is_bad_at side (good_literal side literal).positive literal ≡ false
+makes_good Exists literal = by_sign literal.positive
+  where
+    by_sign : (b : Bool) → same (same b b) false ≡ false
+    by_sign true = refl
+    by_sign false = refl
+makes_good Forall literal = by_sign literal.positive
+  where
+    by_sign : (b : Bool) → same (same (not b) b) true ≡ false
+    by_sign true = refl
+    by_sign false = refl
+
+is_over : (side : Quant) (literal : Literal) → literal.variable ≡ (good_literal side literal).variable
+is_over Exists literal = refl
+is_over Forall literal = refl
+
+pub unit_gives : (scopes : List Scope) (steps : List Step) (trail : Trail) (s : Step) (literal : Literal) → Contains steps s → IsUnitIn s.side scopes (value_on trail) s.row literal → IsUnitReason scopes steps trail (good_literal s.side literal) s.id
+unit_gives scopes steps trail s literal stands unit = record { step = s; stands = stands; is = refl; literal = literal; over = is_over s.side literal; good = makes_good s.side literal; unit = unit }

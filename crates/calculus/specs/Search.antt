@@ -1,7 +1,7 @@
 -- Rows under a partial assignment, trails, and what cleaning and analysis look for.
 use Rattle.std.specs.Prelude.{◌≡◌, ◌≢◌, ℕ, suc, ◌<◌, ◌≤◌, ◌⊎◌, ◌==◌, ⊤, Bool, true, false, is_some, is_none, if◌then◌else◌, nat_le, nat_lt, not, ◌&&◌, ◌||◌, map, IsTrue, IsFalse, List, [], ◌∷◌, ◌++◌, Option, Some, None, Contains}
 use Rattle.prefix.specs.declared.quant.Quant.{Quant}
-use Rattle.prefix.specs.declared.quant.Quant.TheVariants.{Exists}
+use Rattle.prefix.specs.declared.quant.Quant.TheVariants.{Exists, Forall}
 use Rattle.prefix.specs.Literal.{Literal, negation}
 use Rattle.prefix.specs.Scopes.{Scope, level_of, quantifier_of, all_variables}
 use Rattle.truth.specs.Matrix.{Values}
@@ -195,6 +195,11 @@ IsOrderedAfter scopes earlier (p ∷ rest) = Contains (all_variables scopes) p.l
 -- an ordered trail: each variable of the prefix at most once, in an order that it may stand in
 abbrev pub IsOrderedTrail : List Scope → Trail → Type 0
 IsOrderedTrail scopes trail = IsOrderedAfter scopes [] trail
+
+-- the literal whose value makes another one good: itself in a clause, its opposite in a cube
+abbrev pub good_literal : Quant → Literal → Literal
+good_literal Exists literal = literal
+good_literal Forall literal = negation literal
 
 -- the reason of a propagated literal: a live step whose row was unit, before the literal's place, in a literal over
 -- its variable that it makes good

@@ -1,13 +1,14 @@
 -- Theorems on trails, their assumptions and their reasons, as statements for contracts.
-use Rattle.std.specs.Prelude.{◌≡◌, ◌≢◌, ℕ, ◌+◌, ◌^◌, ◌<◌, ◌≤◌, Bool, List, [], ◌∷◌, ◌++◌, length, map, take, min, Contains, Some, None, is_some, IsTrue, if◌then◌else◌, nat_le}
+use Rattle.std.specs.Prelude.{◌≡◌, ◌≢◌, ℕ, ◌+◌, ◌^◌, ◌<◌, ◌≤◌, Bool, List, [], ◌∷◌, ◌++◌, length, map, take, min, Contains, Some, None, is_some, IsTrue, IsFalse, if◌then◌else◌, nat_le}
 use Rattle.prefix.specs.declared.quant.Quant.{Quant}
 use Rattle.prefix.specs.declared.quant.Quant.TheVariants.{Exists, Forall}
 use Rattle.prefix.specs.Literal.{Literal}
-use Rattle.prefix.specs.Scopes.{Scope, all_variables}
-use Rattle.calculus.specs.Rows.{Row, is_bad_at}
+use Rattle.prefix.specs.Scopes.{Scope, all_variables, AreDistinct}
+use Rattle.calculus.specs.Rows.{Row, is_bad_at, variables_in}
 use Rattle.calculus.specs.Derivations.{Step}
+use Rattle.calculus.specs.Verdicts.{AreOuter}
 use Rattle.calculus.specs.Weights.{trail_weight}
-use Rattle.calculus.specs.Search.{Trail, Placed, value_on, place_on, decision_level_on, last_level, cause_on, cut_to, cut_trail, literals_on, before_on, decisions_on, is_decision, MayStand, IsOrderedTrail, IsCleanBut, IsUnitReason, HasReason, HasUnitReasons, Opposes, HaveOpposites, assumed, AreTheAssumptions, HasAssumptions}
+use Rattle.calculus.specs.Search.{Trail, Placed, value_on, place_on, decision_level_on, last_level, cause_on, cut_to, cut_trail, literals_on, before_on, decisions_on, is_decision, MayStand, IsOrderedTrail, IsCleanBut, IsUnitIn, good_literal, IsUnitReason, HasReason, HasUnitReasons, Opposes, HaveOpposites, assumed, AreTheAssumptions, HasAssumptions}
 use Rattle.calculus.specs.Search.Cause.{Assumed, Propagated}
 
 -- The trail's list of literals gives the partial values: each literal on it has its value, and so a trail as
@@ -41,7 +42,7 @@ pub record TrailLaws : Type 0 where
       → MayStand scopes trail p.literal.variable p.cause → IsOrderedTrail scopes (trail ++ p ∷ [])
 
 -- A cut trail is the front of the trail as long as it is. Below the trail's level it ends at a decision, at the level
--- asked for; else it is the whole.
+-- asked for; else it is the whole. The trail's level is that of its decisions.
 pub record Cuts : Type 0 where
   pub front : (trail : Trail) (b : ℕ) → (back : Trail) × (trail ≡ cut_trail b trail ++ back)
   pub taken : (trail : Trail) (b : ℕ) → cut_trail b trail ≡ take (length (cut_trail b trail)) trail
@@ -51,6 +52,8 @@ pub record Cuts : Type 0 where
   pub reached : (trail : Trail) (b : ℕ) → b ≤ last_level trail → last_level (cut_trail b trail) ≡ b
   pub whole : (trail : Trail) (b : ℕ) → last_level trail ≤ b → cut_trail b trail ≡ trail
   pub level : (trail : Trail) (x : ℕ) → decision_level_on trail x ≤ last_level trail
+  pub undecided : (trail : Trail) → ((p : Placed) → Contains trail p → IsFalse (is_decision p.cause))
+      → last_level trail ≡ 0
 
 -- Places: an assigned variable stands below the trail's end, an unassigned one past it; what stands before a variable
 -- is the front as long as its place; a front has the places below its end.
@@ -76,8 +79,10 @@ pub record TrailsAreShort : Type 0 where
 -- they are what the end rows ask for.
 pub record AssumptionMoves : Type 0 where
   pub given : (literals : List Literal) → AreTheAssumptions (map assumed literals) literals
-  pub push : (trail : Trail) (assumptions : List Literal) (p : Placed) → value_on trail p.literal.variable ≡ None
-      → p.cause ≢ Assumed → AreTheAssumptions trail assumptions → AreTheAssumptions (trail ++ p ∷ []) assumptions
+  pub given_order : (scopes : List Scope) (literals : List Literal) → AreOuter scopes literals
+      → AreDistinct (variables_in literals) → IsOrderedTrail scopes (map assumed literals)
+  pub push : (trail : Trail) (assumptions : List Literal) (p : Placed) → p.cause ≢ Assumed
+      → AreTheAssumptions trail assumptions → AreTheAssumptions (trail ++ p ∷ []) assumptions
   pub cut : (scopes : List Scope) (trail : Trail) (assumptions : List Literal) (b : ℕ) → IsOrderedTrail scopes trail
       → AreTheAssumptions trail assumptions → AreTheAssumptions (cut_trail b trail) assumptions
   pub hold : (trail : Trail) (assumptions : List Literal) → AreTheAssumptions trail assumptions
@@ -90,11 +95,15 @@ abbrev pub CutsKeepHasAssumptions : Type 0
 CutsKeepHasAssumptions = (scopes : List Scope) (trail : Trail) (assumptions : List Literal) (b : ℕ)
     → IsOrderedTrail scopes trail → HasAssumptions trail assumptions → HasAssumptions (cut_trail b trail) assumptions
 
--- Reasons stay where a literal with its reason comes after them, on a front of the trail, on a cut one, and under
+-- A live step that is unit in a literal is the reason of the value that makes it good. Reasons stay where a literal
+-- with its reason comes after them, on a front of the trail, on a cut one, and under
 -- more steps.
 pub record ReasonMoves : Type 0 where
   pub none : (scopes : List Scope) (steps : List Step) (literals : List Literal)
       → HasUnitReasons scopes steps (map assumed literals)
+  pub unit : (scopes : List Scope) (steps : List Step) (trail : Trail) (s : Step) (literal : Literal)
+      → Contains steps s → IsUnitIn s.side scopes (value_on trail) s.row literal
+      → IsUnitReason scopes steps trail (good_literal s.side literal) s.id
   pub push : (scopes : List Scope) (steps : List Step) (trail : Trail) (p : Placed) → HasUnitReasons scopes steps trail
       → HasReason scopes steps trail p.literal p.cause → HasUnitReasons scopes steps (trail ++ p ∷ [])
   pub front : (scopes : List Scope) (steps : List Step) (front back : Trail)

@@ -1,5 +1,5 @@
 use Rattle.calculus.proofs.TrailLaws.{level_most}
-use Rattle.calculus.proofs.Cutting.{cut_all, cut_at, cut_front, cut_taken, cut_shorter, cut_reached}
+use Rattle.calculus.proofs.Cutting.{cut_all, cut_at, cut_front, cut_taken, cut_shorter, cut_reached, level_none}
 use Rattle.calculus.proofs.trail.cuts.Goals as goal
 use Rattle.std.proofs.Common.{arith}
 
@@ -12,4 +12,5 @@ returns c = record {
   reached = λ trail b high. cut_reached 0 b trail (omega arith) high;
   whole = λ trail b low. cut_all 0 b trail low;
   level = λ trail x. level_most 0 trail x;
+  undecided = λ trail none. level_none 0 trail none;
 }
