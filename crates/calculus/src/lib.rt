@@ -17,6 +17,17 @@
 //!   assumed; `worked_rows` fails at `lone_universal_stays` and `lone_existential_stays`.
 //! - The depth of an absent variable is 0: `prefix_laws` is false at `positive`, and `worked_rows` fails
 //!   at `absent_is_last` and `absent_goes`.
+//! - The reason of a propagated literal is unit in one over another variable, or in one that the value
+//!   makes bad, or isn't unit at all, or has another id: `reasons_oppose` is false.
+//! - Assumptions may stand with any cause (`AreTheAssumptions`): `assumption_moves` is false at `cut`, as
+//!   `cuts_lose_assumptions` shows.
+//! - Open literals of earlier scopes, or pivot-type ones, are allowed in a pending row, a bad row is a clean
+//!   one, unit rows are quiet, a kept literal's place doesn't matter, a row is unit at the trail's own level:
+//!   `worked_units` and `worked_clean_rows` fail, and most theorems of the search.
+//! - A cut leaves out the literals of its own level: `cuts` and `worked_clean_rows` fail.
+//! - Each step needs every earlier one (`needed`): `steps_have_cores` and `worked_cores` fail. Unused steps
+//!   may stand in a proof: `worked_unused` fails. Where nothing is forced the rule says false: `worked_first`.
+//! - Other limits: `worked_limits`, `limits_suffice`, `searches_end` and `gates_are_bounded`.
 #![tactic(auto)]
 
 mod derivations;
