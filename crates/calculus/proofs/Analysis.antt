@@ -5,7 +5,7 @@ use Rattle.prefix.specs.Literal.{Literal}
 use Rattle.prefix.specs.Scopes.{Scope, all_variables, quantifier_of}
 use Rattle.prefix.specs.declared.quant.Quant.{Quant}
 use Rattle.calculus.specs.Rows.{IsRow, Row, depth_of, is_pivot}
-use Rattle.calculus.specs.Search.{Cause, HasAssumptions, IsBadRow, IsClean, IsLast, IsOrderedTrail, IsUnitIn, Trail, cause_on, cut_to, decision_level_on, is_bad_if, place_on, value_on, MakesUnitAt, last_level, cut_trail}
+use Rattle.calculus.specs.Search.{Cause, HasAssumptions, IsBadRow, IsClean, IsLast, IsOrderedTrail, IsUnitIn, Trail, cause_on, values_up_to, decision_level_on, is_bad_if, place_on, value_on, MakesUnitAt, last_level, cut_trail}
 use Rattle.calculus.specs.Search.Cause.{Assumed, Decided, Propagated}
 use Rattle.calculus.specs.Verdicts.{IsEndRow}
 use Rattle.calculus.proofs.Ascending.{rises}
@@ -35,7 +35,7 @@ blocker_propagated scopes trail ordered f u assigned i open_ below =
 
 -- a clean row whose last pivot-type literal was decided is unit one level down
 pub decided_unit : (pivot : Quant) (scopes : List Scope) (trail : Trail) (row : Row) (e : Literal) → IsOrderedTrail scopes trail → IsRow scopes row → IsClean pivot (value_on trail) row → IsLast pivot scopes trail row e → cause_on trail e.variable ≡ Some Decided
-    → IsUnitIn pivot scopes (cut_to (value_on trail) (decision_level_on trail) (decision_level_on trail e.variable - 1)) row e
+    → IsUnitIn pivot scopes (values_up_to (value_on trail) (decision_level_on trail) (decision_level_on trail e.variable - 1)) row e
 decided_unit pivot scopes trail row e ordered is_row clean last decided =
     let above : 0 < decision_level_on trail e.variable = decision_level_least 0 trail e.variable decided in
     unit_at_level pivot scopes (value_on trail) (decision_level_on trail) row e (decision_level_on trail e.variable - 1) clean last.stands last.pivot_type (omega arith)
@@ -93,5 +93,5 @@ decided_makes_unit pivot scopes trail row e ordered is_row clean last decided =
     let b = decision_level_on trail e.variable - 1 in
     let above : 0 < decision_level_on trail e.variable = decision_level_least 0 trail e.variable decided in
     let most : decision_level_on trail e.variable ≤ last_level trail = level_most 0 trail e.variable in
-    let same : value_on (cut_trail b trail) ≡ cut_to (value_on trail) (decision_level_on trail) b = fun_ext (λ x. cut_value_from 0 b trail x) in
+    let same : value_on (cut_trail b trail) ≡ values_up_to (value_on trail) (decision_level_on trail) b = fun_ext (λ x. cut_value_from 0 b trail x) in
     record { below = omega arith; unit = rw same (decided_unit pivot scopes trail row e ordered is_row clean last decided) }

@@ -4,7 +4,7 @@ use Rattle.std.proofs.lemmas.Bool.{false≢true, true≢false, false_from_ne_tru
 use Rattle.prefix.specs.declared.quant.Quant.TheVariants.{Exists, Forall}
 use Rattle.prefix.specs.Literal.{Literal}
 use Rattle.truth.specs.Matrix.{Values, literal_true, clause_true, cube_true, is_true_of, same as same_bool}
-use Rattle.calculus.specs.Rows.{Row, Assignment, is_bad_row}
+use Rattle.calculus.specs.Rows.{Row, Assignment, is_bad_throughout}
 use Rattle.calculus.specs.Plays.{total}
 use Rattle.calculus.specs.Search.{IsClean, is_bad_if}
 use Rattle.calculus.proofs.Lists.{any_at, all_from}
@@ -32,11 +32,11 @@ not_either : (a b : Bool) → (not a && not b) ≡ not (a || b)
 not_either true b = refl
 not_either false b = refl
 
-pub bad_clause : (values : Assignment) (row : Row) → is_bad_row Exists values row ≡ not (clause_true (total values) row)
+pub bad_clause : (values : Assignment) (row : Row) → is_bad_throughout Exists values row ≡ not (clause_true (total values) row)
 bad_clause values [] = refl
 bad_clause values (l ∷ ls) = ap₂ (λ a b. a && b) (false_is_bad (values l.variable) l.positive) (bad_clause values ls) ∙ not_either (literal_true (total values) l) (clause_true (total values) ls)
 
-pub bad_cube : (values : Assignment) (row : Row) → is_bad_row Forall values row ≡ cube_true (total values) row
+pub bad_cube : (values : Assignment) (row : Row) → is_bad_throughout Forall values row ≡ cube_true (total values) row
 bad_cube values [] = refl
 bad_cube values (l ∷ ls) = ap₂ (λ a b. a && b) (true_is_bad (values l.variable) l.positive) (bad_cube values ls)
 

@@ -8,7 +8,7 @@ use Rattle.truth.specs.Truth.{assumed_value}
 use Rattle.calculus.specs.Derivations.{Inference, IsInference, IsLegalAfter, Reason}
 use Rattle.calculus.specs.Derivations.Reason.{Input, One, Two}
 use Rattle.calculus.specs.Plays.{first_forced, first_of_two, forced, forced_by}
-use Rattle.calculus.specs.Rows.{Assignment, Row, bad_choice, depth_of, is_bad_row, literal_over, reduce}
+use Rattle.calculus.specs.Rows.{Assignment, Row, bad_choice, depth_of, is_bad_throughout, literal_over, reduce}
 use Rattle.calculus.proofs.Sound.{IsSound}
 use Rattle.calculus.proofs.RowLemmas.{over_at, over_from, reduction_removes}
 use Rattle.calculus.proofs.Verdict.{option_cases}
@@ -29,9 +29,9 @@ module _ (pivot : Quant) (scopes : List Scope) (values : Assignment) (x : ℕ) (
   reduction_forces_none before after is =
       let removal = reduction_removes pivot scopes (record { variable = x; positive = true } ∷ []) before (probed_level scopes x first) in
       let found = option_map (bad_choice pivot) (literal_over before x) in
-      cond_both (is_some (literal_over after x)) None (cond (is_bad_row pivot values after) found None) (λ o. o ≡ None) (λ t. refl)
+      cond_both (is_some (literal_over after x)) None (cond (is_bad_throughout pivot values after) found None) (λ o. o ≡ None) (λ t. refl)
       (λ f. ⊎_elim
-      (λ n. let gone : found ≡ None = ap (option_map (bad_choice pivot)) n in cond_both (is_bad_row pivot values after) found None (λ o. o ≡ None) (λ t. gone) (λ g. refl))
+      (λ n. let gone : found ≡ None = ap (option_map (bad_choice pivot)) n in cond_both (is_bad_throughout pivot values after) found None (λ o. o ≡ None) (λ t. gone) (λ g. refl))
       (λ r.
       let at = over_at before x r.0 r.1 in
       let out : Contains (reduce pivot scopes before) r.0 → ⊥ = λ j. not_mentioned after x r.0 (rw is j) at.1 f in

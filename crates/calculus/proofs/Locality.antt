@@ -8,12 +8,12 @@ use Rattle.truth.specs.Truth.{assumed_value}
 use Rattle.calculus.specs.Derivations.{Inference, Reason}
 use Rattle.calculus.specs.Derivations.Reason.{Input, One, Two}
 use Rattle.calculus.specs.Plays.{first_forced, first_of_two, forced, forced_by}
-use Rattle.calculus.specs.Rows.{Assignment, IsRow, Row, bad_choice, depth_of, is_bad_at, is_bad_row, literal_over}
+use Rattle.calculus.specs.Rows.{Assignment, IsRow, Row, bad_choice, depth_of, is_bad_at, is_bad_throughout, literal_over}
 use Rattle.calculus.proofs.Sound.{AreSoundSteps, IsSoundStep}
 use Rattle.calculus.proofs.Lists.{contains_head, contains_tail}
 use Rattle.calculus.proofs.RowLemmas.{over_at, over_from, IsRemoval, step_removes}
 
-bad_row_same : (pivot : Quant) (v w : Assignment) (row : Row) → ((k : Literal) → Contains row k → v k.variable ≡ w k.variable) → is_bad_row pivot v row ≡ is_bad_row pivot w row
+bad_row_same : (pivot : Quant) (v w : Assignment) (row : Row) → ((k : Literal) → Contains row k → v k.variable ≡ w k.variable) → is_bad_throughout pivot v row ≡ is_bad_throughout pivot w row
 bad_row_same pivot v w [] same = refl
 bad_row_same pivot v w (l ∷ ls) same =
     ap₂ (λ a b. a && b) (ap (λ b. is_bad_at pivot b l) (same l (contains_head l ls))) (bad_row_same pivot v w ls (λ k i. same k (contains_tail l ls k i)))
@@ -22,16 +22,16 @@ module _ (pivot : Quant) (scopes : List Scope) (clauses : List Row) (assumptions
   forced_by_same : (before after : Row) → IsRow scopes after → IsRemoval pivot scopes assumptions before after → (o : Option Literal) → literal_over before x ≡ o → forced_by pivot v x before after ≡ forced_by pivot w x before after
   forced_by_same before after is_row removal None e =
       let empty : option_map (bad_choice pivot) (literal_over before x) ≡ None = ap (option_map (bad_choice pivot)) e in
-      ⊎_elim (λ t. cond-true (is_some (literal_over after x)) None (cond (is_bad_row pivot v after) (option_map (bad_choice pivot) (literal_over before x)) None) t ∙ sym (cond-true (is_some (literal_over after x)) None (cond (is_bad_row pivot w after) (option_map (bad_choice pivot) (literal_over before x)) None) t))
+      ⊎_elim (λ t. cond-true (is_some (literal_over after x)) None (cond (is_bad_throughout pivot v after) (option_map (bad_choice pivot) (literal_over before x)) None) t ∙ sym (cond-true (is_some (literal_over after x)) None (cond (is_bad_throughout pivot w after) (option_map (bad_choice pivot) (literal_over before x)) None) t))
       (λ f. none v ∙ sym (none w))
       (cases_Bool (is_some (literal_over after x)))
     where
       none : (u : Assignment) → forced_by pivot u x before after ≡ None
-      none u = cond_both (is_some (literal_over after x)) None (cond (is_bad_row pivot u after) (option_map (bad_choice pivot) (literal_over before x)) None) (λ o. o ≡ None) (λ t. refl)
-          (λ f. cond_both (is_bad_row pivot u after) (option_map (bad_choice pivot) (literal_over before x)) None (λ o. o ≡ None) (λ t. ap (option_map (bad_choice pivot)) e) (λ f. refl))
+      none u = cond_both (is_some (literal_over after x)) None (cond (is_bad_throughout pivot u after) (option_map (bad_choice pivot) (literal_over before x)) None) (λ o. o ≡ None) (λ t. refl)
+          (λ f. cond_both (is_bad_throughout pivot u after) (option_map (bad_choice pivot) (literal_over before x)) None (λ o. o ≡ None) (λ t. ap (option_map (bad_choice pivot)) e) (λ f. refl))
   forced_by_same before after is_row removal (Some l) e =
       let at = over_at before x l e in
-      ⊎_elim (λ t. cond-true (is_some (literal_over after x)) None (cond (is_bad_row pivot v after) (option_map (bad_choice pivot) (literal_over before x)) None) t ∙ sym (cond-true (is_some (literal_over after x)) None (cond (is_bad_row pivot w after) (option_map (bad_choice pivot) (literal_over before x)) None) t))
+      ⊎_elim (λ t. cond-true (is_some (literal_over after x)) None (cond (is_bad_throughout pivot v after) (option_map (bad_choice pivot) (literal_over before x)) None) t ∙ sym (cond-true (is_some (literal_over after x)) None (cond (is_bad_throughout pivot w after) (option_map (bad_choice pivot) (literal_over before x)) None) t))
       (λ f.
       let out : Contains after l → ⊥ = λ j. let r = over_from after l j in (let g : is_some (Some r.0) ≡ false = ap is_some (sym r.1 ∙ ap (literal_over after) at.1) ∙ f in absurd (cc)) in
       let same = bad_row_same pivot v w after (λ k j. ⊎_elim (λ (lower : depth_of scopes k.variable < depth_of scopes l.variable). below k.variable (is_row.over_prefix k j) (rw at.1 at lower)) (λ r. fixed k.variable r.0 r.1 r.2) (removal.earlier l at.0 out k j)) in

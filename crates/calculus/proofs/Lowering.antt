@@ -6,7 +6,7 @@ use Rattle.prefix.specs.declared.quant.Quant.{Quant}
 use Rattle.prefix.specs.Literal.{Literal}
 use Rattle.prefix.specs.Scopes.{Scope, quantifier_of}
 use Rattle.calculus.specs.Rows.{IsRow, Row, depth_of, is_pivot}
-use Rattle.calculus.specs.Search.{IsClean, IsLast, IsOrderedTrail, MakesUnitAt, Trail, cause_on, cut_to, cut_trail, decision_level_on, last_level, must_stay, place_on, value_on}
+use Rattle.calculus.specs.Search.{IsClean, IsLast, IsOrderedTrail, MakesUnitAt, Trail, cause_on, values_up_to, cut_trail, decision_level_on, last_level, must_stay, place_on, value_on}
 use Rattle.calculus.specs.Search.Cause.{Decided}
 use Rattle.calculus.proofs.Ascending.{rises}
 use Rattle.calculus.proofs.Levels.{one_quantifier}
@@ -20,7 +20,7 @@ pub lower_unit : (pivot : Quant) (scopes : List Scope) (trail : Trail) (row : Ro
     → MakesUnitAt pivot scopes trail row e b
 lower_unit pivot scopes trail row e b clean i p below others =
     let most : decision_level_on trail e.variable ≤ last_level trail = level_most 0 trail e.variable in
-    let same : value_on (cut_trail b trail) ≡ cut_to (value_on trail) (decision_level_on trail) b = fun_ext (λ x. cut_value_from 0 b trail x) in
+    let same : value_on (cut_trail b trail) ≡ values_up_to (value_on trail) (decision_level_on trail) b = fun_ext (λ x. cut_value_from 0 b trail x) in
     record { below = omega arith; unit = rw same (unit_at_level pivot scopes (value_on trail) (decision_level_on trail) row e b clean i p below others) }
 
 -- the literals that must stay bad

@@ -8,7 +8,7 @@ use Rattle.prefix.specs.declared.quant.Quant.{Quant}
 use Rattle.prefix.specs.declared.quant.Quant.TheVariants.{Exists, Forall}
 use Rattle.truth.specs.Matrix.{same as same_bool}
 use Rattle.truth.specs.Truth.{assumed_value}
-use Rattle.calculus.specs.Rows.{Assignment, Row, bad_choice, depth_of, is_bad, is_bad_at, is_bad_row, is_blocked, is_pivot, literal_over, reduce, resolve, is_of, stays, without}
+use Rattle.calculus.specs.Rows.{Assignment, Row, bad_choice, depth_of, is_bad, is_bad_at, is_bad_throughout, is_blocked, is_pivot, literal_over, reduce, resolve, is_of, stays, without}
 use Rattle.calculus.specs.Verdicts.{IsEndRow, IsFinish, finished}
 use Rattle.calculus.proofs.Ascending.{IsAscendingRow}
 use Rattle.std.proofs.lemmas.List.{get_or_default}
@@ -82,7 +82,7 @@ one_is_bad Forall true = inl refl
 one_is_bad Forall false = inr refl
 
 -- a bad resolvent has a bad parent
-pub bad_parent : (pivot : Quant) (values : Assignment) (a b : Row) (x : ℕ) → IsAscendingRow a → IsAscendingRow b → Contains a (record { variable = x; positive = true }) → Contains b (record { variable = x; positive = false }) → is_bad_row pivot values (resolve a b x) ≡ true → (is_bad_row pivot values a ≡ true) ⊎ (is_bad_row pivot values b ≡ true)
+pub bad_parent : (pivot : Quant) (values : Assignment) (a b : Row) (x : ℕ) → IsAscendingRow a → IsAscendingRow b → Contains a (record { variable = x; positive = true }) → Contains b (record { variable = x; positive = false }) → is_bad_throughout pivot values (resolve a b x) ≡ true → (is_bad_throughout pivot values a ≡ true) ⊎ (is_bad_throughout pivot values b ≡ true)
 bad_parent pivot values a b x up down i j bad =
     ⊎_elim (λ t. inl (all_from (is_bad pivot values) a (λ l k. ⊎_elim (λ e. rw (one_literal a up l (record { variable = x; positive = true }) k i e) t) (λ ne. all_at (is_bad pivot values) (resolve a b x) bad l (resolve_left a b x l k ne)) (cases_eq l.variable x))))
     (λ t. inr (all_from (is_bad pivot values) b (λ l k. ⊎_elim (λ e. rw (one_literal b down l (record { variable = x; positive = false }) k j e) t) (λ ne. all_at (is_bad pivot values) (resolve a b x) bad l (resolve_right a b x l k ne)) (cases_eq l.variable x))))

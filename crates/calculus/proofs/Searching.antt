@@ -8,7 +8,7 @@ use Rattle.prefix.specs.declared.quant.Quant.{Quant}
 use Rattle.prefix.specs.declared.quant.Quant.TheVariants.{Exists, Forall}
 use Rattle.truth.specs.Matrix.{Values, same as same_bool}
 use Rattle.calculus.specs.Rows.{Row, depth_of, is_blocked, is_pivot, reduce, stays}
-use Rattle.calculus.specs.Search.{Blocks, IsClean, IsKept, IsPending, IsUnitIn, cut_to, is_bad_if, is_bad_now, is_open}
+use Rattle.calculus.specs.Search.{Blocks, IsClean, IsKept, IsPending, IsUnitIn, values_up_to, is_bad_if, is_bad_now, is_open}
 use Rattle.std.proofs.lemmas.Bool.{cond_both, cases_lt, cond-true, cond-false, and_parts, ltb-true, le-leb, lt-leb, or_cases, false≢true, true≢false}
 use Rattle.calculus.proofs.Lists.{any_at, filter_at}
 use Rattle.std.specs.Prelude.{IsTrue}
@@ -146,16 +146,16 @@ module _ (pivot : Quant) (scopes : List Scope) (values : Values) (place : ℕ �
 -- the level-wise part of analysis
 
 -- bad values stay where the variable's level is kept
-cut_bad : (pivot : Quant) (values : Values) (decision_level : ℕ → ℕ) (b : ℕ) (l : Literal) → decision_level l.variable ≤ b → is_bad_now pivot values l ≡ true → is_bad_now pivot (cut_to values decision_level b) l ≡ true
+cut_bad : (pivot : Quant) (values : Values) (decision_level : ℕ → ℕ) (b : ℕ) (l : Literal) → decision_level l.variable ≤ b → is_bad_now pivot values l ≡ true → is_bad_now pivot (values_up_to values decision_level b) l ≡ true
 cut_bad pivot values decision_level b l low bad = ap (λ o. is_bad_if pivot o l) (cond-true (nat_le (decision_level l.variable) b) (values l.variable) None (le-leb (decision_level l.variable) b low)) ∙ bad
 
-cut_open : (values : Values) (decision_level : ℕ → ℕ) (b : ℕ) (l : Literal) → b < decision_level l.variable → is_open (cut_to values decision_level b) l ≡ true
+cut_open : (values : Values) (decision_level : ℕ → ℕ) (b : ℕ) (l : Literal) → b < decision_level l.variable → is_open (values_up_to values decision_level b) l ≡ true
 cut_open values decision_level b l high = ap is_none (cond-false (nat_le (decision_level l.variable) b) (values l.variable) None (lt-leb (decision_level l.variable) b high))
 
 -- a clean row is unit at a level below that of one of its pivot-type literals and not below those of the others and of its literals of earlier scopes
 pub unit_at_level : (pivot : Quant) (scopes : List Scope) (values : Values) (decision_level : ℕ → ℕ) (row : Row) (e : Literal) (b : ℕ) → IsClean pivot values row → Contains row e → is_pivot pivot scopes e ≡ true → b < decision_level e.variable
     → ((l : Literal) → Contains row l → (l ≡ e) ⊎ ((decision_level l.variable ≤ b) ⊎ (is_pivot pivot scopes l ≡ false) × (depth_of scopes e.variable < depth_of scopes l.variable)))
-    → IsUnitIn pivot scopes (cut_to values decision_level b) row e
+    → IsUnitIn pivot scopes (values_up_to values decision_level b) row e
 unit_at_level pivot scopes values decision_level row e b clean i p below others = record {
   stands = i;
   pivot_type = p;

@@ -7,7 +7,7 @@ use Rattle.prefix.specs.Scopes.{Scope, all_variables}
 use Rattle.truth.specs.Matrix.{Values}
 use Rattle.calculus.specs.Rows.{Row, Assignment, is_bad, is_bad_at, reduce, is_pivot, stays, is_blocked}
 use Rattle.calculus.specs.Derivations.{Step}
-use Rattle.calculus.specs.Search.{Placed, Trail, value_on, cause_on, place_on, literals_on, level_after, level_from_start, last_level_from, cut_from, cut_to, IsOrderedAfter, IsUnitReason, HaveReasonsAfter, before_on, is_bad_if, is_bad_now, IsCleanBut, IsUnitIn, Blocks}
+use Rattle.calculus.specs.Search.{Placed, Trail, value_on, cause_on, place_on, literals_on, level_after, level_from_start, last_level_from, cut_from, values_up_to, IsOrderedAfter, IsUnitReason, HaveReasonsAfter, before_on, is_bad_if, is_bad_now, IsCleanBut, IsUnitIn, Blocks}
 use Rattle.calculus.specs.Search.Cause.{Propagated}
 use Rattle.calculus.proofs.Lists.{contains_cons, contains_nil, pairs_nil, pairs_cons, any_from, filter_from}
 use Rattle.calculus.proofs.Levels.{assumption_of}
@@ -53,7 +53,7 @@ value_literal trail x b e =
     rw same at r.1
 
 -- the values on a cut trail
-pub cut_value_from : (before b : ℕ) (trail : Trail) (x : ℕ) → value_on (cut_from before b trail) x ≡ cut_to (value_on trail) (level_from_start before trail) b x
+pub cut_value_from : (before b : ℕ) (trail : Trail) (x : ℕ) → value_on (cut_from before b trail) x ≡ values_up_to (value_on trail) (level_from_start before trail) b x
 cut_value_from before b [] x = sym (cond_both (nat_le before b) None None (λ o. o ≡ None) (λ t. refl) (λ f. refl))
 cut_value_from before b (p ∷ rest) x =
     let now = level_after before p in

@@ -11,7 +11,7 @@ use Rattle.truth.specs.Matrix.{same as same_bool, matrix_true, literal_true, cla
 use Rattle.truth.specs.Truth.{assumed_value, truth_under}
 use Rattle.calculus.specs.Derivations.{Inference, IsInput}
 use Rattle.calculus.specs.Plays.{Follows, IsAllowed, first_forced}
-use Rattle.calculus.specs.Rows.{Assignment, Row, depth_of, is_bad, is_bad_row, IsRow}
+use Rattle.calculus.specs.Rows.{Assignment, Row, depth_of, is_bad, is_bad_throughout, IsRow}
 use Rattle.calculus.specs.Verdicts.{AreOuter}
 use Rattle.calculus.proofs.Sound.{AreSoundSteps, IsSound}
 use Rattle.std.proofs.lemmas.Bool.{true≢false, false_from_ne_true, false≢true}
@@ -37,7 +37,7 @@ bad_is_true false true e = absurd (false≢true e)
 bad_is_true false false e = refl
 
 -- a bad input row decides the matrix, under all values that are the same on the prefix
-bad_matrix : (pivot : Quant) (scopes : List Scope) (clauses : List Row) (values : Assignment) (σ : Values) → ((x : ℕ) → Contains (all_variables scopes) x → σ x ≡ Some (values x)) → (row : Row) → IsRow scopes row → IsInput pivot clauses row → is_bad_row pivot values row ≡ true → matrix_true σ clauses ≡ bad_of pivot
+bad_matrix : (pivot : Quant) (scopes : List Scope) (clauses : List Row) (values : Assignment) (σ : Values) → ((x : ℕ) → Contains (all_variables scopes) x → σ x ≡ Some (values x)) → (row : Row) → IsRow scopes row → IsInput pivot clauses row → is_bad_throughout pivot values row ≡ true → matrix_true σ clauses ≡ bad_of pivot
 bad_matrix Exists scopes clauses values σ gives row is_row input bad =
     false_from_ne_true (matrix_true σ clauses) (λ t.
     let r = any_at (literal_true σ) row (all_at (clause_true σ) clauses t row input) in
@@ -58,9 +58,9 @@ respects {pivot} {scopes} allowed follows x b e = ⊎_elim (λ same. allowed x b
 pub following_decides : (pivot : Quant) (scopes : List Scope) (clauses : List Row) (assumptions : List Literal) (steps : List Inference) (values : Assignment) → AreOuter scopes assumptions → IsSound pivot scopes clauses assumptions steps → IsAllowed pivot scopes assumptions values → Follows pivot scopes assumptions steps values → (σ : Values) → ((x : ℕ) → Contains (all_variables scopes) x → σ x ≡ Some (values x)) → matrix_true σ clauses ≡ bad_of pivot
 following_decides pivot scopes clauses assumptions steps values outer proof allowed follows σ gives =
     let level : (x : ℕ) (b : Bool) → assumed_value assumptions x ≡ Some b → depth_of scopes x ≡ 1 = λ x b e. (outer_level scopes assumptions outer x b e).1 in
-    let last_bad : is_bad_row pivot values proof.last.row ≡ true = all_from (is_bad pivot values) proof.last.row (λ l i. let d = proof.decided l i in rw (respects allowed follows l.variable d.0 d.1) d.2) in
+    let last_bad : is_bad_throughout pivot values proof.last.row ≡ true = all_from (is_bad pivot values) proof.last.row (λ l i. let d = proof.decided l i in rw (respects allowed follows l.variable d.0 d.1) d.2) in
     let stands : Contains steps proof.last = rw proof.parts (Contains-append_right proof.front (proof.last ∷ []) proof.last (contains_head proof.last [])) in
-    let some : list_any (λ s. is_bad_row pivot values s.row) steps ≡ true = any_from (λ (s : Inference). is_bad_row pivot values s.row) steps proof.last stands last_bad in
+    let some : list_any (λ s. is_bad_throughout pivot values s.row) steps ≡ true = any_from (λ (s : Inference). is_bad_throughout pivot values s.row) steps proof.last stands last_bad in
     let r = bad_input pivot scopes clauses assumptions level values [] (λ r i. absurd (contains_nil r i)) steps proof.last_step follows.ruled some in
     bad_matrix pivot scopes clauses values σ gives r.0 r.3 r.1 r.2
 

@@ -8,7 +8,7 @@ use Rattle.prefix.specs.Scopes.{Scope, quantifier_of, all_variables}
 use Rattle.prefix.specs.Sides.{bad_of}
 use Rattle.truth.specs.Matrix.{Values, matrix_true}
 use Rattle.truth.specs.Truth.{assumed_value}
-use Rattle.calculus.specs.Rows.{Row, Assignment, is_of, depth_of, is_bad_row, bad_choice, literal_over}
+use Rattle.calculus.specs.Rows.{Row, Assignment, is_of, depth_of, is_bad_throughout, bad_choice, literal_over}
 use Rattle.calculus.specs.Derivations.{Reason, Inference}
 use Rattle.calculus.specs.Derivations.Reason.{Input, One, Two}
 
@@ -24,7 +24,7 @@ assign values x b y = if x == y then b else values y
 abbrev pub forced_by : Quant → Assignment → ℕ → Row → Row → Option Bool
 forced_by pivot values x before after =
     if is_some (literal_over after x) then None
-    else (if is_bad_row pivot values after then option_map (bad_choice pivot) (literal_over before x) else None)
+    else (if is_bad_throughout pivot values after then option_map (bad_choice pivot) (literal_over before x) else None)
 
 -- the value that a step forces on x: reductions and finishes alone force one
 abbrev pub forced : Quant → Assignment → ℕ → Row → Reason → Option Bool

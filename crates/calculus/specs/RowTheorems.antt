@@ -5,7 +5,7 @@ use Rattle.prefix.specs.declared.quant.Quant.TheVariants.{Exists, Forall}
 use Rattle.prefix.specs.Literal.{Literal, negation}
 use Rattle.prefix.specs.Scopes.{Scope, level_of, quantifier_of, all_variables, IsAscending}
 use Rattle.truth.specs.Matrix.{Values, literal_true, clause_true, cube_true}
-use Rattle.calculus.specs.Rows.{Row, Assignment, depth_of, reduce, resolve, clashes, IsRow, variables_in, is_bad, is_bad_at, is_bad_row}
+use Rattle.calculus.specs.Rows.{Row, Assignment, depth_of, reduce, resolve, clashes, IsRow, variables_in, is_bad, is_bad_at, is_bad_throughout}
 use Rattle.calculus.specs.Derivations.{Extends}
 use Rattle.calculus.specs.Plays.{total}
 use Rattle.calculus.specs.Search.{is_bad_now, IsClean, IsBadRow, IsUnitIn}
@@ -56,8 +56,8 @@ pub record ValueLaws : Type 0 where
       → ((x : ℕ) (b : Bool) → partial x ≡ Some b → values x ≡ b)
       → IsTrue (literal_true partial l) → IsTrue (literal_true (total values) l)
   pub bad_clause : (values : Assignment) (row : Row)
-      → is_bad_row Exists values row ≡ not (clause_true (total values) row)
-  pub bad_cube : (values : Assignment) (row : Row) → is_bad_row Forall values row ≡ cube_true (total values) row
+      → is_bad_throughout Exists values row ≡ not (clause_true (total values) row)
+  pub bad_cube : (values : Assignment) (row : Row) → is_bad_throughout Forall values row ≡ cube_true (total values) row
   pub clean_clause : (values : Values) (row : Row) → IsClean Exists values row → IsFalse (clause_true values row)
   pub clean_cube : (values : Values) (row : Row) → IsClean Forall values row → IsTrue (cube_true values row)
   pub total_bad : (pivot : Quant) (values : Assignment) (l : Literal)

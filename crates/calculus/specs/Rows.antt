@@ -27,8 +27,8 @@ abbrev pub is_bad : Quant → Assignment → Literal → Bool
 is_bad pivot values literal = is_bad_at pivot (values literal.variable) literal
 
 -- whether each literal is bad: a false clause, a true cube
-abbrev pub is_bad_row : Quant → Assignment → Row → Bool
-is_bad_row pivot values row = list_all (is_bad pivot values) row
+abbrev pub is_bad_throughout : Quant → Assignment → Row → Bool
+is_bad_throughout pivot values row = list_all (is_bad pivot values) row
 
 -- the value of its variable that makes a literal bad
 abbrev pub bad_choice : Quant → Literal → Bool

@@ -157,8 +157,8 @@ abbrev pub cut_trail : ℕ → Trail → Trail
 cut_trail b trail = cut_from 0 b trail
 
 -- the values of the variables whose decision level is at most b
-abbrev pub cut_to : Values → (ℕ → ℕ) → ℕ → Values
-cut_to values decision_level b x = if nat_le (decision_level x) b then values x else None
+abbrev pub values_up_to : Values → (ℕ → ℕ) → ℕ → Values
+values_up_to values decision_level b x = if nat_le (decision_level x) b then values x else None
 
 -- a row makes its literal unit at level b: b is below the trail's level, and on the trail cut to it the row is unit
 -- in the literal (an asserting row)

@@ -8,7 +8,7 @@ use Rattle.calculus.specs.Rows.{Row, is_bad_at, variables_in}
 use Rattle.calculus.specs.Derivations.{Step}
 use Rattle.calculus.specs.Verdicts.{AreOuter}
 use Rattle.calculus.specs.Weights.{trail_weight}
-use Rattle.calculus.specs.Search.{Trail, Placed, value_on, place_on, decision_level_on, last_level, cause_on, cut_to, cut_trail, literals_on, before_on, decisions_on, is_decision, MayStand, IsOrderedTrail, IsCleanBut, IsUnitIn, good_literal, IsUnitReason, HasReason, HasUnitReasons, Opposes, HaveOpposites, assumed, AreTheAssumptions, HasAssumptions}
+use Rattle.calculus.specs.Search.{Trail, Placed, value_on, place_on, decision_level_on, last_level, cause_on, values_up_to, cut_trail, literals_on, before_on, decisions_on, is_decision, MayStand, IsOrderedTrail, IsCleanBut, IsUnitIn, good_literal, IsUnitReason, HasReason, HasUnitReasons, Opposes, HaveOpposites, assumed, AreTheAssumptions, HasAssumptions}
 use Rattle.calculus.specs.Search.Cause.{Assumed, Propagated}
 
 -- The trail's list of literals gives the partial values: each literal on it has its value, and so a trail as
@@ -30,7 +30,7 @@ pub record TrailLaws : Type 0 where
       → (value_on (front ++ back) x ≡ value_on front x) × (cause_on (front ++ back) x ≡ cause_on front x)
       × (place_on (front ++ back) x ≡ place_on front x)
   pub cut_value : (trail : Trail) (b x : ℕ)
-      → value_on (cut_trail b trail) x ≡ cut_to (value_on trail) (decision_level_on trail) b x
+      → value_on (cut_trail b trail) x ≡ values_up_to (value_on trail) (decision_level_on trail) b x
   pub cut_cause : (trail : Trail) (b x : ℕ)
       → cause_on (cut_trail b trail) x ≡ (if nat_le (decision_level_on trail x) b then cause_on trail x else None)
   pub cut_order : (scopes : List Scope) (trail : Trail) (b : ℕ) → IsOrderedTrail scopes trail

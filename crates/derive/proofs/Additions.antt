@@ -13,7 +13,7 @@ use Rattle.calculus.specs.Derivations.{Why, RestsOn}
 use Rattle.calculus.specs.Derivations.Why.{Given, ReducedFrom, ResolvedFrom, FinishedFrom}
 use Rattle.derive.specs.State.{Note, Notes, State, SameStep, note_in, note_at, is_live, is_step, is_finish, may_be_antecedent, next_id, has_rows, row_of, side_at, side_in, tag_at, why_in, tag_in, step_from, clause_from, with_step}
 use Rattle.derive.specs.Antecedents.{AreSupported, IsAntecedentIn, IsSupportedAt, HasTag, Fits}
-use Rattle.derive.specs.Kept.{AreFrom, IsKept}
+use Rattle.derive.specs.Kept.{AreFrom, BelongTogether}
 use Rattle.derive.specs.Dropping.{StepTest, has_tag}
 use Rattle.derive.specs.Adding.{Adds, AddsBoth, IsOver, Removes, clause_note, note_over}
 use Rattle.derive.proofs.Ids.{listed_push}
@@ -174,7 +174,7 @@ module _ (notes : Notes) (arena : Arena) (note : Note) (row : Row) (fits : Fits 
             ]
           ]
 
-  pub kept_more : (frames : List ℕ) (cubes finishes : ℕ) → note.tag < length frames → IsKept notes (Some arena) frames cubes finishes → IsKept (notes ++ Some note ∷ []) (Some (with_row arena row)) frames cubes finishes
+  pub kept_more : (frames : List ℕ) (cubes finishes : ℕ) → note.tag < length frames → BelongTogether notes (Some arena) frames cubes finishes → BelongTogether (notes ++ Some note ∷ []) (Some (with_row arena row)) frames cubes finishes
   kept_more frames cubes finishes within kept =
       record {
         supported = all_supported kept.supported;
@@ -185,7 +185,7 @@ module _ (notes : Notes) (arena : Arena) (note : Note) (row : Row) (fits : Fits 
       }
 
 -- the same with other places for frames that tell the same
-pub kept_widened : (notes : Notes) (rows : Option Arena) (frames wider : List ℕ) (cubes finishes : ℕ) → ((frame : ℕ) → get_or wider frame (length notes) ≡ get_or frames frame (length notes)) → IsKept notes rows frames cubes finishes → IsKept notes rows wider cubes finishes
+pub kept_widened : (notes : Notes) (rows : Option Arena) (frames wider : List ℕ) (cubes finishes : ℕ) → ((frame : ℕ) → get_or wider frame (length notes) ≡ get_or frames frame (length notes)) → BelongTogether notes rows frames cubes finishes → BelongTogether notes rows wider cubes finishes
 kept_widened notes rows frames wider cubes finishes same kept =
     record {
       supported = kept.supported;
@@ -200,11 +200,11 @@ kept_widened notes rows frames wider cubes finishes same kept =
 some_same : (a b : Arena) → ◌≡◌ {A = Option Arena} (Some a) (Some b) → a ≡ b
 some_same a b e = cc
 
-pub kept_add : (notes after : Notes) (rows : Option Arena) (arena new_arena : Arena) (note : Note) (row : Row) (frames : List ℕ) (cubes finishes : ℕ) → note.tag < length frames → rows ≡ Some arena → after ≡ notes ++ Some note ∷ [] → new_arena ≡ with_row arena row → IsSupportedAt notes (length notes) note → IsKept notes rows frames cubes finishes → IsKept after (Some new_arena) frames cubes finishes
+pub kept_add : (notes after : Notes) (rows : Option Arena) (arena new_arena : Arena) (note : Note) (row : Row) (frames : List ℕ) (cubes finishes : ℕ) → note.tag < length frames → rows ≡ Some arena → after ≡ notes ++ Some note ∷ [] → new_arena ≡ with_row arena row → IsSupportedAt notes (length notes) note → BelongTogether notes rows frames cubes finishes → BelongTogether after (Some new_arena) frames cubes finishes
 kept_add notes after rows arena new_arena note row frames cubes finishes within has is_after is_arena support kept =
     rw (is_after, is_arena) (kept_more notes arena note row (kept.fits arena has) support frames cubes finishes within (rw has at kept))
 
-pub adds_of : (d : State) (notes after : Notes) (rows : Option Arena) (arena new_arena : Arena) (note : Note) (row : Row) (id : ℕ) (frames : List ℕ) (cubes finishes : ℕ) → record { notes = notes; rows = rows } ≡ d → rows ≡ Some arena → after ≡ notes ++ Some note ∷ [] → new_arena ≡ with_row arena row → id ≡ next_row arena → IsKept notes rows frames cubes finishes → Adds d (record { notes = after; rows = Some new_arena }) id note row
+pub adds_of : (d : State) (notes after : Notes) (rows : Option Arena) (arena new_arena : Arena) (note : Note) (row : Row) (id : ℕ) (frames : List ℕ) (cubes finishes : ℕ) → record { notes = notes; rows = rows } ≡ d → rows ≡ Some arena → after ≡ notes ++ Some note ∷ [] → new_arena ≡ with_row arena row → id ≡ next_row arena → BelongTogether notes rows frames cubes finishes → Adds d (record { notes = after; rows = Some new_arena }) id note row
 adds_of d notes after rows arena new_arena note row id frames cubes finishes view has is_after is_arena is_id kept =
     let same = (kept.fits arena has).same_next in
     rw (← view, has, is_after, is_arena, is_id ∙ same) (adds notes arena same note row)
@@ -223,12 +223,12 @@ over_clause notes frame =
       tag = sym (ap tag_in there);
     }
 
-pub kept_both : (notes after : Notes) (rows : Option Arena) (arena new_arena : Arena) (frame : ℕ) (row reduced : Row) (frames : List ℕ) (cubes finishes : ℕ) → frame < length frames → rows ≡ Some arena → after ≡ (notes ++ Some (clause_note frame) ∷ []) ++ Some (record { side = Exists; why = ReducedFrom (length notes); tag = frame }) ∷ [] → new_arena ≡ with_row (with_row arena row) reduced → IsKept notes rows frames cubes finishes → IsKept after (Some new_arena) frames cubes finishes
+pub kept_both : (notes after : Notes) (rows : Option Arena) (arena new_arena : Arena) (frame : ℕ) (row reduced : Row) (frames : List ℕ) (cubes finishes : ℕ) → frame < length frames → rows ≡ Some arena → after ≡ (notes ++ Some (clause_note frame) ∷ []) ++ Some (record { side = Exists; why = ReducedFrom (length notes); tag = frame }) ∷ [] → new_arena ≡ with_row (with_row arena row) reduced → BelongTogether notes rows frames cubes finishes → BelongTogether after (Some new_arena) frames cubes finishes
 kept_both notes after rows arena new_arena frame row reduced frames cubes finishes within has is_after is_arena kept =
     kept_add (notes ++ Some (clause_note frame) ∷ []) after (Some (with_row arena row)) (with_row arena row) new_arena (record { side = Exists; why = ReducedFrom (length notes); tag = frame }) reduced frames cubes finishes within refl is_after is_arena (over_clause notes frame)
     (kept_add notes (notes ++ Some (clause_note frame) ∷ []) rows arena (with_row arena row) (clause_note frame) row frames cubes finishes within has refl refl (clause_supported notes frame) kept)
 
-pub adds_both : (d : State) (notes after : Notes) (rows : Option Arena) (arena new_arena : Arena) (frame : ℕ) (row reduced : Row) (first second : ℕ) (frames : List ℕ) (cubes finishes : ℕ) → frame < length frames → record { notes = notes; rows = rows } ≡ d → rows ≡ Some arena → after ≡ (notes ++ Some (clause_note frame) ∷ []) ++ Some (record { side = Exists; why = ReducedFrom (length notes); tag = frame }) ∷ [] → new_arena ≡ with_row (with_row arena row) reduced → first ≡ next_row arena → second ≡ next_row arena + 1 → IsKept notes rows frames cubes finishes → AddsBoth d (record { notes = after; rows = Some new_arena }) first second frame row reduced
+pub adds_both : (d : State) (notes after : Notes) (rows : Option Arena) (arena new_arena : Arena) (frame : ℕ) (row reduced : Row) (first second : ℕ) (frames : List ℕ) (cubes finishes : ℕ) → frame < length frames → record { notes = notes; rows = rows } ≡ d → rows ≡ Some arena → after ≡ (notes ++ Some (clause_note frame) ∷ []) ++ Some (record { side = Exists; why = ReducedFrom (length notes); tag = frame }) ∷ [] → new_arena ≡ with_row (with_row arena row) reduced → first ≡ next_row arena → second ≡ next_row arena + 1 → BelongTogether notes rows frames cubes finishes → AddsBoth d (record { notes = after; rows = Some new_arena }) first second frame row reduced
 adds_both d notes after rows arena new_arena frame row reduced first second frames cubes finishes within view has is_after is_arena is_first is_second kept =
     let same = (kept.fits arena has).same_next in
     let middle : State = record { notes = notes ++ Some (clause_note frame) ∷ []; rows = Some (with_row arena row) } in

@@ -17,7 +17,7 @@ use Rattle.calculus.proofs.Levels.{contains_map_of}
 use Rattle.calculus.proofs.Changes.{changed_derivation, extends_itself}
 use Rattle.derive.specs.State.{Note, Notes, State, SameStep, OpenClause, note_in, note_at, next_id, row_of, is_finish, is_live, step_from, steps_of, clause_at, clause_from, clause_with, clauses_of, open_clauses, arena_of, has_rows, IsLegalFor}
 use Rattle.derive.specs.Antecedents.{AreSupported, Fits}
-use Rattle.derive.specs.Kept.{AreFrom, IsKept}
+use Rattle.derive.specs.Kept.{AreFrom, BelongTogether}
 use Rattle.derive.specs.Dropping.{StepTest, has_tag, Falls, DropsFrom, Drops, is_cube, is_initial_cube, finishes, is_from, unless_finish}
 use Rattle.derive.specs.Dropping.Falls.{root, rests}
 use Rattle.derive.proofs.Ids.{listed_at, listed_from, listed_filter, listed_same, listed_push, kept_if}
@@ -62,7 +62,7 @@ module _ (is_root : StepTest) (old new : Notes) (old_rows new_rows : Arena) (dro
   frames_left : (frames : List ℕ) → ((frame : ℕ) → AreFrom (has_tag frame) old (get_or frames frame (length old))) → (frame : ℕ) → AreFrom (has_tag frame) new (get_or frames frame (length new))
   frames_left frames are frame = rw drops.same_next (from_left (has_tag frame) (get_or frames frame (length old)) (are frame))
 
-  pub kept_left : (frames : List ℕ) (cubes finishing : ℕ) → IsKept old (Some old_rows) frames cubes finishing → IsKept new (Some new_rows) frames cubes finishing
+  pub kept_left : (frames : List ℕ) (cubes finishing : ℕ) → BelongTogether old (Some old_rows) frames cubes finishing → BelongTogether new (Some new_rows) frames cubes finishing
   kept_left frames cubes finishing kept =
       record {
         supported = supported_left kept.supported;
@@ -236,7 +236,7 @@ module _ (is_root : StepTest) (old new : State) (has : has_rows new ≡ true) (d
 
 -- the same where the parts are told by equations
 
-pub kept_drop : (is_root : StepTest) (old new : Notes) (rows : Option Arena) (old_rows new_rows : Arena) (frames : List ℕ) (cubes finishing : ℕ) → rows ≡ Some old_rows → DropsFrom is_root old new old_rows new_rows → IsKept old rows frames cubes finishing → IsKept new (Some new_rows) frames cubes finishing
+pub kept_drop : (is_root : StepTest) (old new : Notes) (rows : Option Arena) (old_rows new_rows : Arena) (frames : List ℕ) (cubes finishing : ℕ) → rows ≡ Some old_rows → DropsFrom is_root old new old_rows new_rows → BelongTogether old rows frames cubes finishing → BelongTogether new (Some new_rows) frames cubes finishing
 kept_drop is_root old new rows old_rows new_rows frames cubes finishing has drops kept = kept_left is_root old new old_rows new_rows drops frames cubes finishing (rw has at kept)
 
 pub drops_of : (is_root : StepTest) (d : State) (old new : Notes) (rows : Option Arena) (old_rows new_rows : Arena) → record { notes = old; rows = rows } ≡ d → rows ≡ Some old_rows → DropsFrom is_root old new old_rows new_rows → Drops is_root d (record { notes = new; rows = Some new_rows })
@@ -258,13 +258,13 @@ left_none is_root old new drops notes rows len view is =
     let same : notes ≡ new.notes = ap (λ (d : State). d.notes) view in
     rw (is, same) (from_none is_root old.notes new.notes (arena_of old) (arena_of new) drops.exactly is_root (λ id note r. r))
 
-pub kept_cubes : (old new : State) (notes : Notes) (rows : Option Arena) (frames : List ℕ) (cubes finishing len : ℕ) → Drops is_initial_cube old new → record { notes = notes; rows = rows } ≡ new → len ≡ length notes → IsKept notes rows frames cubes finishing → IsKept notes rows frames len finishing
+pub kept_cubes : (old new : State) (notes : Notes) (rows : Option Arena) (frames : List ℕ) (cubes finishing len : ℕ) → Drops is_initial_cube old new → record { notes = notes; rows = rows } ≡ new → len ≡ length notes → BelongTogether notes rows frames cubes finishing → BelongTogether notes rows frames len finishing
 kept_cubes old new notes rows frames cubes finishing len drops view is kept = record { supported = kept.supported; fits = kept.fits; frames = kept.frames; cubes = left_none is_initial_cube old new drops notes rows len view is; finishing = kept.finishing }
 
-pub kept_finishes : (old new : State) (notes : Notes) (rows : Option Arena) (frames : List ℕ) (cubes finishing len : ℕ) → Drops finishes old new → record { notes = notes; rows = rows } ≡ new → len ≡ length notes → IsKept notes rows frames cubes finishing → IsKept notes rows frames cubes len
+pub kept_finishes : (old new : State) (notes : Notes) (rows : Option Arena) (frames : List ℕ) (cubes finishing len : ℕ) → Drops finishes old new → record { notes = notes; rows = rows } ≡ new → len ≡ length notes → BelongTogether notes rows frames cubes finishing → BelongTogether notes rows frames cubes len
 kept_finishes old new notes rows frames cubes finishing len drops view is kept = record { supported = kept.supported; fits = kept.fits; frames = kept.frames; cubes = kept.cubes; finishing = left_none finishes old new drops notes rows len view is }
 
-pub kept_frame : (old new : State) (notes : Notes) (rows : Option Arena) (frames : List ℕ) (frame cubes finishing len : ℕ) → Drops (has_tag frame) old new → record { notes = notes; rows = rows } ≡ new → len ≡ length notes → IsKept notes rows frames cubes finishing → IsKept notes rows (set frames frame len) cubes finishing
+pub kept_frame : (old new : State) (notes : Notes) (rows : Option Arena) (frames : List ℕ) (frame cubes finishing len : ℕ) → Drops (has_tag frame) old new → record { notes = notes; rows = rows } ≡ new → len ≡ length notes → BelongTogether notes rows frames cubes finishing → BelongTogether notes rows (set frames frame len) cubes finishing
 kept_frame old new notes rows frames frame cubes finishing len drops view is kept =
     record {
       supported = kept.supported;

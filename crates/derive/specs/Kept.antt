@@ -11,7 +11,7 @@ pub record AreFrom (sort : StepTest) (notes : Notes) (from : ℕ) : Type 0 where
   pub within : from ≤ length notes
 
 -- each live step rests on live ones, the rows stand under the ids of the live steps, and the marks are right
-pub record IsKept (notes : Notes) (rows : Option Arena) (frames_from : List ℕ)
+pub record BelongTogether (notes : Notes) (rows : Option Arena) (frames_from : List ℕ)
     (cubes_from finishes_from : ℕ) : Type 0 where
   pub supported : AreSupported notes
   pub fits : (arena : Arena) → rows ≡ Some arena → Fits notes arena

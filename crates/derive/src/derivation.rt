@@ -50,11 +50,11 @@ impl Model for Derivation {
 
     ghost Value = { State };
 
-    ghost use Rattle.derive.specs.Kept.{IsKept};
+    ghost use Rattle.derive.specs.Kept.{BelongTogether};
 
     ghost view = { λ d. record { notes = d.notes.items; rows = d.rows } };
 
-    ghost invariant = { λ d. IsKept d.notes.items d.rows d.frames_from.items d.cubes_from d.finishes_from };
+    ghost invariant = { λ d. BelongTogether d.notes.items d.rows d.frames_from.items d.cubes_from d.finishes_from };
 }
 
 impl Derivation {

@@ -3,7 +3,7 @@ use Rattle.std.specs.Option.{option_copied_mut}
 use Rattle.std.specs.Prelude.{vec_len, vec_capacity}
 use Rattle.std.proofs.lemmas.Bool.{cond-true}
 use Rattle.derive.specs.State.{Notes}
-use Rattle.derive.specs.Kept.{IsKept}
+use Rattle.derive.specs.Kept.{BelongTogether}
 use Rattle.derive.proofs.Additions.{kept_add, kept_widened, adds_of}
 use Rattle.derive.proofs.Growth.{adds_unlinked}
 use Rattle.derive.proofs.derivation.Derivation.add.Goals as goal
@@ -18,7 +18,7 @@ here : (c : goal.After-push) → c.self.inside.rows ≡ Some c.unwrap.result.now
 here c = sym c.as_mut.ensures.value ∙ ap option_copied_mut c.unwrap.ensures
 
 -- a frame without a place has one now
-wide : (c : goal.After-push) → IsKept c.self.inside.notes.items c.self.inside.rows c.widen.new.frames_from.items c.self.inside.cubes_from c.self.inside.finishes_from
+wide : (c : goal.After-push) → BelongTogether c.self.inside.notes.items c.self.inside.rows c.widen.new.frames_from.items c.self.inside.cubes_from c.self.inside.finishes_from
 wide c =
     let len : c.len.result ≡ length c.self.inside.notes.items = c.len.ensures ∙ c.reserve.new.self.ok.0 ∙ ap (λ (ns : Notes). length ns) c.reserve.ensures.items in
     kept_widened _ _ _ _ _ _ (λ f. subst (λ n. get_or c.widen.new.frames_from.items f n ≡ get_or c.self.inside.frames_from.items f n) len (c.widen.ensures.same f)) c.self.invariant

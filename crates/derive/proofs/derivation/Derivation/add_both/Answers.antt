@@ -6,7 +6,7 @@ use Rattle.prefix.specs.declared.quant.Quant.TheVariants.{Exists}
 use Rattle.calculus.specs.Derivations.Why.{ReducedFrom}
 use Rattle.derive.specs.State.{Note, Notes}
 use Rattle.derive.specs.Adding.{clause_note}
-use Rattle.derive.specs.Kept.{IsKept}
+use Rattle.derive.specs.Kept.{BelongTogether}
 use Rattle.derive.proofs.Additions.{kept_both, kept_widened, adds_both}
 use Rattle.derive.proofs.Growth.{pair_unlinked}
 use Rattle.derive.proofs.derivation.Derivation.add_both.Goals as goal
@@ -29,7 +29,7 @@ here : (c : goal.After-push-2) → c.self.inside.rows ≡ Some c.unwrap.result.n
 here c = sym c.as_mut.ensures.value ∙ ap option_copied_mut c.unwrap.ensures
 
 -- a frame without a place has one now
-wide : (c : goal.After-push-2) → IsKept c.self.inside.notes.items c.self.inside.rows c.widen.new.frames_from.items c.self.inside.cubes_from c.self.inside.finishes_from
+wide : (c : goal.After-push-2) → BelongTogether c.self.inside.notes.items c.self.inside.rows c.widen.new.frames_from.items c.self.inside.cubes_from c.self.inside.finishes_from
 wide c =
     let len : c.len.result ≡ length c.self.inside.notes.items = c.len.ensures ∙ c.reserve.new.self.ok.0 ∙ ap (λ (ns : Notes). length ns) c.reserve.ensures.items in
     kept_widened _ _ _ _ _ _ (λ f. subst (λ n. get_or c.widen.new.frames_from.items f n ≡ get_or c.self.inside.frames_from.items f n) len (c.widen.ensures.same f)) c.self.invariant
