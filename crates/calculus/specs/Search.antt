@@ -258,7 +258,7 @@ pub record AreTheAssumptions (trail : Trail) (assumptions : List Literal) : Type
       × (cause_on trail x ≡ Some Assumed)
 
 -- each assumed place is an assumption, and each assumption has its value, from whatever cause; a premise alone, since
--- an assumption that was decided is lost by a cut
+-- a cut may lose an assumption that was decided
 pub record HasAssumptions (trail : Trail) (assumptions : List Literal) : Type 0 where
   pub entries : (x : ℕ) → cause_on trail x ≡ Some Assumed → IsTrue (is_some (assumed_value assumptions x))
   pub values : (x : ℕ) (b : Bool) → assumed_value assumptions x ≡ Some b → value_on trail x ≡ Some b

@@ -96,8 +96,7 @@ CutsKeepHasAssumptions = (scopes : List Scope) (trail : Trail) (assumptions : Li
     → IsOrderedTrail scopes trail → HasAssumptions trail assumptions → HasAssumptions (cut_trail b trail) assumptions
 
 -- A live step that is unit in a literal is the reason of the value that makes it good. Reasons stay where a literal
--- with its reason comes after them, on a front of the trail, on a cut one, and under
--- more steps.
+-- with its reason comes after them, on a front of the trail, on a cut one, and under more steps.
 pub record ReasonMoves : Type 0 where
   pub none : (scopes : List Scope) (steps : List Step) (literals : List Literal)
       → HasUnitReasons scopes steps (map assumed literals)
