@@ -1,9 +1,8 @@
 //! How a run ends, and what it says on the error output.
-ghost use Rattle.std.specs.Prelude.{◌≡◌, List, ℕ, OnOk};
+ghost use Rattle.std.specs.Prelude.{◌≡◌, List, ℕ, OnOk, ◌++◌, codes};
 ghost use Rattle.std.specs.Io.KnownBytes.{Appends};
 ghost use Rattle.ports.specs.Bytes.{AppendsFront};
 ghost use Rattle.ports.specs.Causes.{HasCause};
-ghost use Rattle.std.specs.Prelude.{◌++◌, codes};
 ghost use Rattle.std.specs.Fmt.{decimal};
 ghost use Rattle.qbf_cli.specs.Run.{status_of, line_of, quantity_name as name_of_quantity, placed_line};
 
