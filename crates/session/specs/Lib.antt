@@ -1,1 +1,2 @@
 pub mod Solve
+pub mod Endings
