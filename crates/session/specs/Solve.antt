@@ -35,6 +35,10 @@ answer_line Sat = codes "SAT\n"
 answer_line Unsat = codes "UNSAT\n"
 answer_line Unknown = codes "UNKNOWN\n"
 
+-- An answer has this status.
+abbrev pub HasAnswer : ℕ → Type 0
+HasAnswer status = (answer : Answer) × (status ≡ answer_status answer)
+
 -- This is so of the answer with the status.
 abbrev pub OfAnswer : ℕ → (Answer → Type 0) → Type 0
 OfAnswer status P = (answer : Answer) × (status ≡ answer_status answer) × P answer
