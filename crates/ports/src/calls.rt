@@ -7,7 +7,7 @@ use super::Failed;
 use super::faults::Faults;
 use std::marker::Model;
 
-/// How many calls were made and how many failed, and which are to fail.
+// How many calls were made and how many failed, and which are to fail.
 #[derive(Debug, Drop)]
 pub(crate) struct Calls {
     failing: Vec<u64>,

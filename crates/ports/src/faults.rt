@@ -5,7 +5,7 @@ ghost use Rattle.ports.specs.Causes.{HasCause, raised};
 use super::Failed;
 use std::marker::Model;
 
-/// How often a call failed. At 2^64 - 1 the count stays.
+// How often a call failed. At 2^64 - 1 the count stays.
 #[derive(Debug, Drop)]
 pub(crate) struct Faults {
     count: u64,

@@ -14,16 +14,12 @@ use std::alloc::Global;
 
 /// Carries out the command that the words ask for, the program's name first: `solve [--budget N] [NAME]` decides the
 /// formula of the file NAME, or of standard input, with at most N steps, and writes `SAT`, `UNSAT` or `UNKNOWN` to
-/// `out`.
-/// What else happens is said on `err`.
+/// `out`. What else happens is said on `err`.
 ///
 /// Answers the exit status: 10 for a true formula, 20 for a false one, and 0 where the budget was spent; 2 where the
-/// input
-/// is malformed and 6 where it goes beyond a limit, each with its line; 3 for a read fault; 4 for a write fault of
-/// `out`; 5
-/// for want of memory, which may come at any time; 7 for other words. The first of these events decides. A failing
-/// `err`
-/// changes none.
+/// input is malformed and 6 where it goes beyond a limit, each with its line; 3 for a read fault; 4 for a write fault of
+/// `out`; 5 for want of memory, which may come at any time; 7 for other words. The first of these events decides. A
+/// failing `err` changes none.
 pub fn run<D: Desk, O: Sink, E: Sink>(
     alloc: Global,
     words: &[String],
@@ -58,7 +54,7 @@ pub fn run<D: Desk, O: Sink, E: Sink>(
     report(err, &ending)
 }
 
-/// Writes the line of an ending to the error output, and answers its exit status.
+// Writes the line of an ending to the error output, and answers its exit status.
 pub(crate) fn report<E: Sink>(err: &mut E, ending: &RunEnding) -> u8
     ensures status { result ≡ status_of ending.now }
     ensures front { AppendsFront (E.written err.old) (E.written err.new) (line_of ending.now) }

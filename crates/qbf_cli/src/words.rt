@@ -8,8 +8,8 @@ use session::Ending;
 use std::alloc::Global;
 use std::io;
 
-/// The words as the system gives them, or how the run ends where it can't: with want of memory, or where a word isn't
-/// UTF-8, which is none of the program's.
+// The words as the system gives them, or how the run ends where it can't: with want of memory, or where a word isn't
+// UTF-8, which is none of the program's.
 pub(crate) fn words_of(
     alloc: Global,
     given: io::Result<Vec<String>>,

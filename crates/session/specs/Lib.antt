@@ -1,2 +1,2 @@
-pub mod Solve
 pub mod Endings
+pub mod Solve
