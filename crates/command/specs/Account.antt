@@ -42,7 +42,8 @@ AreValuesOf rows (Solve budget name) = (budget < 2 ^ 64) × (first_of (codes "bu
 
 -- by `clap`'s account no word is at fault, and the subcommand `solve` has the values of the command
 abbrev pub IsAccountOf : List Text → Command → Type 0
-IsAccountOf words c = (rows : List Row) × (fault_of qbf_app words ≡ []) × (subcommand_of qbf_app words ≡ Some (codes "solve", rows)) × AreValuesOf rows c
+IsAccountOf words c = (rows : List Row) × (fault_of qbf_app words ≡ [])
+    × (subcommand_of qbf_app words ≡ Some (codes "solve", rows)) × AreValuesOf rows c
 
 -- a word behind the program's name is `--`
 abbrev pub has_dashes : List Text → Bool

@@ -11,7 +11,8 @@ Text = List ℕ
 
 -- `--budget N` or `--budget=N`, with N in decimal, below 2^64
 abbrev pub SetsBudget : List Text → ℕ → Type 0
-SetsBudget words n = (n < 2 ^ 64) × ((words ≡ codes "--budget" ∷ decimal n ∷ []) ⊎ (words ≡ (codes "--budget=" ++ decimal n) ∷ []))
+SetsBudget words n = (n < 2 ^ 64)
+    × ((words ≡ codes "--budget" ∷ decimal n ∷ []) ⊎ (words ≡ (codes "--budget=" ++ decimal n) ∷ []))
 
 -- `[--budget N]`: with no words it is 2^64 - 1
 abbrev pub GivesBudget : List Text → ℕ → Type 0
@@ -32,7 +33,8 @@ pub record GivesBudgetAndName (words : List Text) (budget : ℕ) (name : Option 
 
 -- behind the program's name, `solve [--budget N] [NAME]`
 abbrev pub AsksSolve : List Text → ℕ → Option Text → Type 0
-AsksSolve words budget name = (program : Text) × (rest : List Text) × (words ≡ program ∷ codes "solve" ∷ rest) × GivesBudgetAndName rest budget name
+AsksSolve words budget name = (program : Text) × (rest : List Text) × (words ≡ program ∷ codes "solve" ∷ rest)
+    × GivesBudgetAndName rest budget name
 
 -- the words ask for the command
 abbrev pub Asks : List Text → Command → Type 0

@@ -7,7 +7,7 @@ ghost use Rattle.command.specs.Account.{qbf_app, solve_app};
 use clap::{Arg, Command, value_parser};
 use std::alloc::{AllocError, Global};
 
-/// The program `qbf`.
+// The program `qbf`.
 pub(crate) fn program<'a>(alloc: Global) -> Result<Command<'a>, AllocError>
     ensures { IfOk result (λ c. app_of c ≡ qbf_app) }
 {

@@ -2,7 +2,7 @@
 ghost use Rattle.std.specs.Prelude.{◌≡◌, ◌≢◌, ◌↔◌, ℕ, ◌<◌, ◌^◌, IsTrue, IfSome, IfNone, length, slice_index};
 ghost use Rattle.std.specs.Fmt.{decimal};
 
-/// The number whose decimal text this is, without a sign or a needless zero.
+// The number whose decimal text this is, without a sign or a needless zero.
 pub(crate) fn number_of(text: &str) -> Option<u64>
     ensures some { IfSome result (λ n. text.now ≡ decimal n) }
     ensures none { IfNone result ((n : ℕ) → n < 2 ^ 64 → text.now ≢ decimal n) }

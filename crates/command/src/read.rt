@@ -117,5 +117,6 @@ fn has_no_hyphen(name: Option<&str>) -> bool
 
 /// A law: words ask for one command at most.
 pub fn words_ask_for_one_command()
-    ensures { (words : List Text) (m n : ℕ) (g h : Option Text) → AsksSolve words m g → AsksSolve words n h → (m ≡ n) × (g ≡ h) }
+    ensures { (words : List Text) (m n : ℕ) (g h : Option Text)
+        → AsksSolve words m g → AsksSolve words n h → (m ≡ n) × (g ≡ h) }
 {}

@@ -170,7 +170,7 @@ refuses_at : (e : LexRefusal) (x y : List Item) → x ≡ y → Refuses e (Some 
 refuses_at e x y h r = subst (λ z. Refuses e (Some z)) (sym h) r
 
 pub word_beyond : (s : State) (scan : Scan) (b : ℕ) (l : Option (List ℕ)) (e : LexRefusal) → slice_get s.ahead 0 ≡ Some b → s.room ≡ 0 → is_blank b ≡ false → Refuses e (Some (cut_items s.comments s.fresh s.line scan)) → Refuses e (upcoming_in_word s scan l)
-word_beyond s scan b None (ReadFault line) f z h r = tt
+word_beyond s scan b None ReadFault f z h r = tt
 word_beyond s scan b None (TooLong line) f z h r = tt
 word_beyond s scan b None (BadByte line) f z h r = tt
 word_beyond s scan b None (NumberRange line) f z h r = tt
@@ -178,7 +178,7 @@ word_beyond s scan b (Some rest) e f z h r = refuses_at e (word_items s.comments
     (ap (λ r. word_items s.comments s.fresh s.line r scan (s.ahead ++ rest)) z ∙ cut_word s.comments s.fresh s.line scan s.ahead rest b f h) r
 
 pub refuses_on : (x y : Option (List Item)) (e : LexRefusal) → Stays x y → Refuses e y → Refuses e x
-refuses_on x y (ReadFault line) h r = tt
+refuses_on x y ReadFault h r = tt
 refuses_on x y (TooLong line) h r = begins_on x y (too_long line) h r
 refuses_on x y (BadByte line) h r = begins_on x y (bad_byte line) h r
 refuses_on x y (NumberRange line) h r = begins_on x y (number_range line) h r
@@ -238,13 +238,13 @@ item_behind (Some items) s scan (Some rest) t e i h =
     )
 
 refused_first : (items : List Item) (i : Item) (rest : List Item) → items ≡ i ∷ rest → (e : LexRefusal) → IsScanned (Err e) i → Refuses e (Some items)
-refused_first items i rest h (ReadFault line) s = absurd s
+refused_first items i rest h ReadFault s = absurd s
 refused_first items i rest h (TooLong line) s = (rest, h ∙ ap (λ i. i ∷ rest) s)
 refused_first items i rest h (BadByte line) s = (rest, h ∙ ap (λ i. i ∷ rest) s)
 refused_first items i rest h (NumberRange line) s = (rest, h ∙ ap (λ i. i ∷ rest) s)
 
 refuses_none : (e : LexRefusal) → Refuses e None
-refuses_none (ReadFault line) = tt
+refuses_none ReadFault = tt
 refuses_none (TooLong line) = tt
 refuses_none (BadByte line) = tt
 refuses_none (NumberRange line) = tt

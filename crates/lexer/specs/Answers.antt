@@ -12,7 +12,7 @@ Begins (Some items) item = (rest : List Item) × (items ≡ item ∷ rest)
 
 -- The refusal is that of the first item; a fault of the desk says nothing of the items.
 abbrev pub Refuses : LexRefusal → Option (List Item) → Type 0
-Refuses (ReadFault line) items = Unit {0}
+Refuses ReadFault items = Unit {0}
 Refuses (TooLong line) items = Begins items (too_long line)
 Refuses (BadByte line) items = Begins items (bad_byte line)
 Refuses (NumberRange line) items = Begins items (number_range line)
@@ -35,7 +35,7 @@ Answers (Err e) before after line = Refuses e before
 
 -- The refusal is a fault of the desk.
 abbrev pub IsReadFault : LexRefusal → Type 0
-IsReadFault (ReadFault line) = Unit {0}
+IsReadFault ReadFault = Unit {0}
 IsReadFault (TooLong line) = ⊥
 IsReadFault (BadByte line) = ⊥
 IsReadFault (NumberRange line) = ⊥
@@ -43,7 +43,7 @@ IsReadFault (NumberRange line) = ⊥
 -- The token, or the refusal, is this item.
 abbrev pub IsScanned : Result Token LexRefusal → Item → Type 0
 IsScanned (Ok t) item = item ≡ word t
-IsScanned (Err (ReadFault line)) item = ⊥
+IsScanned (Err ReadFault) item = ⊥
 IsScanned (Err (TooLong line)) item = item ≡ too_long line
 IsScanned (Err (BadByte line)) item = item ≡ bad_byte line
 IsScanned (Err (NumberRange line)) item = item ≡ number_range line

@@ -8,7 +8,8 @@ use Rattle.lexer.specs.State.{State, bytes_ahead}
 
 -- In a comment: the rest of the line is left out.
 abbrev pub comment_items : Comments → ℕ → ℕ → List ℕ → List Item
-comment_items comments n room bytes = items_of_lines comments true (n + 1) (drop 1 (lines_of (seen room bytes))) ++ ending n room bytes ∷ []
+comment_items comments n room bytes =
+    items_of_lines comments true (n + 1) (drop 1 (lines_of (seen room bytes))) ++ ending n room bytes ∷ []
 
 -- Behind a word that was scanned so.
 abbrev pub word_end : Comments → Bool → ℕ → ℕ → Scan → List ℕ → List Item

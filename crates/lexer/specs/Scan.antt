@@ -41,14 +41,18 @@ scanned_text line s = word (record { word = (if s.is_long then Other else Text s
 
 -- The number of a word that was scanned so, or its refusal.
 abbrev pub scanned_number : ℕ → Bool → ℕ → Item
-scanned_number line negative n = if nat_le n (2 ^ 63 - 1) then word (record { word = Num (signed (not negative) n); line = line }) else number_range line
+scanned_number line negative n =
+    if nat_le n (2 ^ 63 - 1) then word (record { word = Num (signed (not negative) n); line = line })
+    else number_range line
 
 -- What a word of this shape is.
 abbrev pub scanned_shape : ℕ → Scan → Shape → Item
 scanned_shape line s Empty = scanned_text line s
 scanned_shape line s Minus = scanned_text line s
 scanned_shape line s NoNumber = scanned_text line s
-scanned_shape line s (Digits negative n) = if negative && (n == 0) then scanned_text line s else scanned_number line negative n
+scanned_shape line s (Digits negative n) =
+    if negative && (n == 0) then scanned_text line s
+    else scanned_number line negative n
 
 -- The item of a word that was scanned so.
 abbrev pub scanned : ℕ → Scan → Item

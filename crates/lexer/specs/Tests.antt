@@ -12,22 +12,33 @@ text bytes = map (λ b. if b == 47 then 10 else b) bytes
 abbrev pub at : ℕ → Word → Item
 at line w = word (record { word = w; line = line })
 
-two_lines : items Dimacs (text (codes "p cnf 0 1/0/")) ≡ at 1 (Text (codes "p")) ∷ at 1 (Text (codes "cnf")) ∷ at 1 (Num (pos 0)) ∷ at 1 (Num (pos 1)) ∷ at 2 (Num (pos 0)) ∷ the_end 3 ∷ []
+two_lines : items Dimacs (text (codes "p cnf 0 1/0/")) ≡ at 1 (Text (codes "p")) ∷ at 1 (Text (codes "cnf"))
+    ∷ at 1 (Num (pos 0)) ∷ at 1 (Num (pos 1)) ∷ at 2 (Num (pos 0)) ∷ the_end 3 ∷ []
 two_lines = refl
 
-carriage_returns_and_comments : items Dimacs (text (codes "c x" ++ 13 ∷ codes "/p cnf 1 1" ++ 13 ∷ codes "/e 1 0/c inside/1/0" ++ 13 ∷ 10 ∷ [])) ≡ at 2 (Text (codes "p")) ∷ at 2 (Text (codes "cnf")) ∷ at 2 (Num (pos 1)) ∷ at 2 (Num (pos 1)) ∷ at 3 (Text (codes "e")) ∷ at 3 (Num (pos 1)) ∷ at 3 (Num (pos 0)) ∷ at 5 (Num (pos 1)) ∷ at 6 (Num (pos 0)) ∷ the_end 7 ∷ []
+carriage_returns_and_comments : items Dimacs (text (codes "c x" ++ 13 ∷ codes "/p cnf 1 1"
+    ++ 13 ∷ codes "/e 1 0/c inside/1/0" ++ 13 ∷ 10 ∷ [])) ≡ at 2 (Text (codes "p")) ∷ at 2 (Text (codes "cnf"))
+    ∷ at 2 (Num (pos 1)) ∷ at 2 (Num (pos 1)) ∷ at 3 (Text (codes "e")) ∷ at 3 (Num (pos 1)) ∷ at 3 (Num (pos 0))
+    ∷ at 5 (Num (pos 1)) ∷ at 6 (Num (pos 0)) ∷ the_end 7 ∷ []
 carriage_returns_and_comments = refl
 
 empty : items Dimacs [] ≡ the_end 1 ∷ []
 empty = refl
 
-no_last_line_end : items Dimacs (text (codes "p cnf 1 1/1")) ≡ at 1 (Text (codes "p")) ∷ at 1 (Text (codes "cnf")) ∷ at 1 (Num (pos 1)) ∷ at 1 (Num (pos 1)) ∷ at 2 (Num (pos 1)) ∷ the_end 2 ∷ []
+no_last_line_end : items Dimacs (text (codes "p cnf 1 1/1")) ≡ at 1 (Text (codes "p")) ∷ at 1 (Text (codes "cnf"))
+    ∷ at 1 (Num (pos 1)) ∷ at 1 (Num (pos 1)) ∷ at 2 (Num (pos 1)) ∷ the_end 2 ∷ []
 no_last_line_end = refl
 
-out_of_range : items Dimacs (text (codes "1/99999999999999999999 9223372036854775807 -9223372036854775807 9223372036854775808 -9223372036854775808")) ≡ at 1 (Num (pos 1)) ∷ number_range 2 ∷ at 2 (Num (pos 9223372036854775807)) ∷ at 2 (Num (negsuc 9223372036854775806)) ∷ number_range 2 ∷ number_range 2 ∷ the_end 2 ∷ []
+out_of_range : items Dimacs (text (codes "1/99999999999999999999 9223372036854775807 -9223372036854775807"
+    ++ codes " 9223372036854775808 -9223372036854775808"))
+    ≡ at 1 (Num (pos 1)) ∷ number_range 2 ∷ at 2 (Num (pos 9223372036854775807))
+    ∷ at 2 (Num (negsuc 9223372036854775806)) ∷ number_range 2 ∷ number_range 2 ∷ the_end 2 ∷ []
 out_of_range = refl
 
-texts : items Dimacs (text (codes "-0 -00 - +1 007 1x 1234567890abcdef 1234567890abcdefg cnf")) ≡ at 1 (Text (codes "-0")) ∷ at 1 (Text (codes "-00")) ∷ at 1 (Text (codes "-")) ∷ at 1 (Text (codes "+1")) ∷ at 1 (Num (pos 7)) ∷ at 1 (Text (codes "1x")) ∷ at 1 (Text (codes "1234567890abcdef")) ∷ at 1 Other ∷ at 1 (Text (codes "cnf")) ∷ the_end 1 ∷ []
+texts : items Dimacs (text (codes "-0 -00 - +1 007 1x 1234567890abcdef 1234567890abcdefg cnf"))
+    ≡ at 1 (Text (codes "-0")) ∷ at 1 (Text (codes "-00")) ∷ at 1 (Text (codes "-")) ∷ at 1 (Text (codes "+1"))
+    ∷ at 1 (Num (pos 7)) ∷ at 1 (Text (codes "1x")) ∷ at 1 (Text (codes "1234567890abcdef")) ∷ at 1 Other
+    ∷ at 1 (Text (codes "cnf")) ∷ the_end 1 ∷ []
 texts = refl
 
 gzip : items Dimacs (31 ∷ 139 ∷ 8 ∷ 10 ∷ []) ≡ bad_byte 1 ∷ the_end 2 ∷ []
@@ -37,27 +48,32 @@ comments_hold_any_bytes : items Dimacs (99 ∷ 139 ∷ 0 ∷ 10 ∷ 49 ∷ []) �
 comments_hold_any_bytes = refl
 
 -- in a script `cx` is a word
-script : items Script (text (codes "c x/cx/5 c 1/")) ≡ at 2 (Text (codes "cx")) ∷ at 3 (Num (pos 5)) ∷ at 3 (Text (codes "c")) ∷ at 3 (Num (pos 1)) ∷ the_end 4 ∷ []
+script : items Script (text (codes "c x/cx/5 c 1/")) ≡ at 2 (Text (codes "cx")) ∷ at 3 (Num (pos 5))
+    ∷ at 3 (Text (codes "c")) ∷ at 3 (Num (pos 1)) ∷ the_end 4 ∷ []
 script = refl
 
 script_bad : items Script (99 ∷ 139 ∷ 10 ∷ []) ≡ bad_byte 1 ∷ the_end 2 ∷ []
 script_bad = refl
 
 -- room for six bytes: at the limit, beyond it in a word, beyond it behind a word, beyond it in a comment
-at_limit : items_from Dimacs true 1 6 (text (codes "12/345")) ≡ at 1 (Num (pos 12)) ∷ at 2 (Num (pos 345)) ∷ the_end 2 ∷ []
+at_limit : items_from Dimacs true 1 6 (text (codes "12/345"))
+    ≡ at 1 (Num (pos 12)) ∷ at 2 (Num (pos 345)) ∷ the_end 2 ∷ []
 at_limit = refl
 
 in_word : items_from Dimacs true 1 6 (text (codes "12/3456/1")) ≡ at 1 (Num (pos 12)) ∷ too_long 2 ∷ too_long 2 ∷ []
 in_word = refl
 
-behind_word : items_from Dimacs true 1 6 (text (codes "12/345/1")) ≡ at 1 (Num (pos 12)) ∷ at 2 (Num (pos 345)) ∷ too_long 2 ∷ []
+behind_word : items_from Dimacs true 1 6 (text (codes "12/345/1"))
+    ≡ at 1 (Num (pos 12)) ∷ at 2 (Num (pos 345)) ∷ too_long 2 ∷ []
 behind_word = refl
 
 in_comment : items_from Dimacs true 1 6 (text (codes "12/c45678")) ≡ at 1 (Num (pos 12)) ∷ too_long 2 ∷ []
 in_comment = refl
 
-bad_before : items_from Dimacs true 1 6 (49 ∷ 10 ∷ 50 ∷ 128 ∷ 51 ∷ 52 ∷ 53 ∷ 54 ∷ []) ≡ at 1 (Num (pos 1)) ∷ bad_byte 2 ∷ too_long 2 ∷ []
+bad_before : items_from Dimacs true 1 6 (49 ∷ 10 ∷ 50 ∷ 128 ∷ 51 ∷ 52 ∷ 53 ∷ 54 ∷ [])
+    ≡ at 1 (Num (pos 1)) ∷ bad_byte 2 ∷ too_long 2 ∷ []
 bad_before = refl
 
-bad_beyond : items_from Dimacs true 1 6 (49 ∷ 10 ∷ 50 ∷ 50 ∷ 51 ∷ 52 ∷ 128 ∷ 54 ∷ []) ≡ at 1 (Num (pos 1)) ∷ too_long 2 ∷ too_long 2 ∷ []
+bad_beyond : items_from Dimacs true 1 6 (49 ∷ 10 ∷ 50 ∷ 50 ∷ 51 ∷ 52 ∷ 128 ∷ 54 ∷ [])
+    ≡ at 1 (Num (pos 1)) ∷ too_long 2 ∷ too_long 2 ∷ []
 bad_beyond = refl

@@ -110,7 +110,9 @@ text_of w = if nat_le (length w) 16 then Text w else Other
 -- A word is its number, which is refused above 2^63 - 1 in magnitude, or else a text.
 abbrev pub classified : ℕ → List ℕ → Option (Bool × ℕ) → Item
 classified line w None = word (record { word = text_of w; line = line })
-classified line w (Some n) = if nat_le n.1 (2 ^ 63 - 1) then word (record { word = Num (signed n.0 n.1); line = line }) else number_range line
+classified line w (Some n) =
+    if nat_le n.1 (2 ^ 63 - 1) then word (record { word = Num (signed n.0 n.1); line = line })
+    else number_range line
 
 -- The bytes that are seen of a word.
 abbrev pub bytes_of : List Seen → List ℕ
@@ -131,7 +133,8 @@ item_of line w = unwrap_or (fault_of line w) (classified line (bytes_of w) (numb
 -- The items of the words of these lines outside comments, where the first line has the number n.
 abbrev pub items_of_lines : Comments → Bool → ℕ → List (List Seen) → List Item
 items_of_lines comments fresh n [] = []
-items_of_lines comments fresh n (line ∷ lines) = map (item_of n) (outside_comment comments fresh (words_of line)) ++ items_of_lines comments true (n + 1) lines
+items_of_lines comments fresh n (line ∷ lines) =
+    map (item_of n) (outside_comment comments fresh (words_of line)) ++ items_of_lines comments true (n + 1) lines
 
 -- Of the first byte beyond the limit only this is seen, whether it ends a word.
 abbrev pub as_seen : ℕ → Seen
@@ -147,12 +150,15 @@ last_line n text = n + count_by is_line_end text
 
 -- A text ends in its last line, or is too long, in the line of the first byte beyond the limit.
 abbrev pub ending : ℕ → ℕ → List ℕ → Item
-ending n room text = if nat_le (length text) room then the_end (last_line n text) else too_long (last_line n (take room text))
+ending n room text =
+    if nat_le (length text) room then the_end (last_line n text)
+    else too_long (last_line n (take room text))
 
 -- The items of the rest of a text in order, where its first line has the number n, fresh says that this line has had no
 -- word before, and room is how many bytes may be read.
 abbrev pub items_from : Comments → Bool → ℕ → ℕ → List ℕ → List Item
-items_from comments fresh n room text = items_of_lines comments fresh n (lines_of (seen room text)) ++ ending n room text ∷ []
+items_from comments fresh n room text =
+    items_of_lines comments fresh n (lines_of (seen room text)) ++ ending n room text ∷ []
 
 -- Only the first 2^30 bytes of a text are read.
 abbrev pub max_bytes : ℕ

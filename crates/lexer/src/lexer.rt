@@ -1,7 +1,7 @@
 //! The words of a text, read from a desk through a buffer.
-ghost use Rattle.std.specs.Prelude.{◌≡◌, ℕ, ◌+◌, ◌-◌, ◌^◌, ◌<◌, ◌≤◌, Option, None, Some, List, [], ◌∷◌, ◌++◌, true, false, length, take, drop, slice_get, IfSome, IfNone, IfOk, IfErr, OnOk, OnErr, IsErrOf, ◌&&◌, map, is_err};
+ghost use Rattle.std.specs.Prelude.{◌≡◌, ℕ, ◌+◌, ◌-◌, ◌^◌, ◌<◌, ◌≤◌, Option, None, Some, List, [], ◌∷◌, ◌++◌, true, false, length, take, drop, slice_get, IfSome, IfNone, IfOk, IfErr, OnOk, OnErr, IsErrAnd, IsOk, ◌&&◌, map, is_err};
 ghost use Rattle.std.specs.Io.KnownBytes.{Keeps, IsAtEnd};
-ghost use Rattle.ports.specs.Causes.{Rose, HasCause};
+ghost use Rattle.ports.specs.Causes.{HasCause, IsCounted};
 ghost use Rattle.lexer.specs.State.{State, bytes_ahead, upcoming, past, Stays};
 ghost use Rattle.lexer.specs.Words.{is_blank, begins_comment, byte, beyond, items};
 ghost use Rattle.lexer.specs.Scan.{no_scan};
@@ -43,15 +43,30 @@ impl Model for Lexer {
 
     ghost Value = { State };
 
-    ghost view = { λ l. record { comments = l.comments; fresh = l.fresh; line = l.line; room = l.room; ahead = drop l.at (take l.end l.buffer.items); failed = l.failed } };
+    ghost view = { λ l. record {
+      comments = l.comments;
+      fresh = l.fresh;
+      line = l.line;
+      room = l.room;
+      ahead = drop l.at (take l.end l.buffer.items);
+      failed = l.failed;
+    } };
 
-    ghost invariant = { λ l. (l.at ≤ l.end) × (l.end ≤ 4096) × (length l.buffer.items ≡ 4096) × (l.line + l.room ≤ 2 ^ 30 + 1) };
+    ghost invariant = { λ l. (l.at ≤ l.end) × (l.end ≤ 4096) × (length l.buffer.items ≡ 4096)
+        × (l.line + l.room ≤ 2 ^ 30 + 1) };
 }
 
 impl Lexer {
     /// A lexer in front of a text, with the buffer that it reads through. Its calls take no more memory.
     pub fn new(alloc: Global, comments: Comments) -> Result<Self, AllocError>
-        ensures state { IfOk result (λ l. l ≡ record { comments = comments; fresh = true; line = 1; room = 2 ^ 30; ahead = []; failed = false }) }
+        ensures state { IfOk result (λ l. l ≡ record {
+          comments = comments;
+          fresh = true;
+          line = 1;
+          room = 2 ^ 30;
+          ahead = [];
+          failed = false;
+        }) }
         // The items to come are those of the whole text.
         ensures items { IfOk result (λ l. (text : List ℕ) → upcoming l (Some text) ≡ Some (items comments text)) }
     {
@@ -101,7 +116,9 @@ impl Lexer {
         ensures bytes { Keeps (bytes_ahead self.old (D.left desk.old)) (bytes_ahead self.new (D.left desk.new)) }
         ensures end { OnOk result (slice_get self.new.ahead 0 ≡ None → IsAtEnd (D.left desk.new)) }
         ensures content { (n : List ℕ) → D.content desk.new n ≡ D.content desk.old n }
+        ensures stays { (n : List ℕ) → D.steady desk.old n → D.steady desk.new n }
         ensures cause { HasCause (D.faults desk.old) (D.faults desk.new) result }
+        ensures flows { D.flows desk.old → IsOk result × D.flows desk.new }
     {
         self.at = 0;
         self.end = 0;
@@ -115,16 +132,18 @@ impl Lexer {
         ensures bytes { Keeps (bytes_ahead self.old (D.left desk.old)) (bytes_ahead self.new (D.left desk.new)) }
         ensures next { IfOk result (λ b. b ≡ slice_get self.new.ahead 0) }
         ensures end { IfOk result (λ b. IfNone b (IsAtEnd (D.left desk.new))) }
-        ensures fault { IfErr result (λ e. IsReadFault e × Rose (D.faults desk.old) (D.faults desk.new)) }
-        ensures later { D.faults desk.old ≤ D.faults desk.new }
+        ensures fault { IfErr result IsReadFault }
+        ensures cause { HasCause (D.faults desk.old) (D.faults desk.new) result }
+        ensures flows { D.flows desk.old → IsOk result × D.flows desk.new }
         ensures content { (n : List ℕ) → D.content desk.new n ≡ D.content desk.old n }
+        ensures stays { (n : List ℕ) → D.steady desk.old n → D.steady desk.new n }
     {
         if let Some(b) = self.first() {
             return Ok(Some(b));
         }
         match self.refill(desk) {
             Ok(()) => Ok(self.first()),
-            Err(Failed) => Err(LexRefusal::ReadFault { line: self.line }),
+            Err(Failed) => Err(LexRefusal::ReadFault),
         }
     }
 
@@ -151,14 +170,16 @@ impl Lexer {
 
     // Takes white space. Answers the byte behind it.
     fn skip_blanks<D: Desk>(&mut self, desk: &mut D) -> Result<Option<u8>, LexRefusal>
-        ensures items { OnOk result (Stays (upcoming self.old (D.left desk.old)) (upcoming self.new (D.left desk.new))) }
+        ensures items { OnOk result (Stays (upcoming self.old (D.left desk.old))
+            (upcoming self.new (D.left desk.new))) }
         ensures next { IfOk result (λ b. b ≡ slice_get self.new.ahead 0) }
         ensures word { IfOk result (λ b. IfSome b (λ b. is_blank b ≡ false)) }
         ensures end { IfOk result (λ b. IfNone b (IsAtEnd (D.left desk.new))) }
         ensures refusal { IfErr result (λ e. Refuses e (upcoming self.old (D.left desk.old))) }
-        ensures fault { IfErr result (λ e. IsReadFault e → Rose (D.faults desk.old) (D.faults desk.new)) }
-        ensures later { D.faults desk.old ≤ D.faults desk.new }
+        ensures cause { IsCounted (IsErrAnd result IsReadFault) (IsOk result) (D.faults desk.old) (D.faults desk.new) }
+        ensures flows { D.flows desk.old → ¬ IsErrAnd result IsReadFault × D.flows desk.new }
         ensures content { (n : List ℕ) → D.content desk.new n ≡ D.content desk.old n }
+        ensures stays { (n : List ℕ) → D.steady desk.old n → D.steady desk.new n }
         ensures room { self.new.room ≤ self.old.room }
         ensures comments { self.new.comments ≡ self.old.comments }
         ensures failed { self.new.failed ≡ self.old.failed }
@@ -179,11 +200,13 @@ impl Lexer {
 
     // Takes the rest of a comment with its line end.
     fn skip_line<D: Desk>(&mut self, desk: &mut D) -> Result<(), LexRefusal>
-        ensures items { OnOk result (Stays (upcoming_in_comment self.old (D.left desk.old)) (upcoming self.new (D.left desk.new))) }
+        ensures items { OnOk result (Stays (upcoming_in_comment self.old (D.left desk.old))
+            (upcoming self.new (D.left desk.new))) }
         ensures refusal { IfErr result (λ e. Refuses e (upcoming_in_comment self.old (D.left desk.old))) }
-        ensures fault { IfErr result (λ e. IsReadFault e → Rose (D.faults desk.old) (D.faults desk.new)) }
-        ensures later { D.faults desk.old ≤ D.faults desk.new }
+        ensures cause { IsCounted (IsErrAnd result IsReadFault) (IsOk result) (D.faults desk.old) (D.faults desk.new) }
+        ensures flows { D.flows desk.old → ¬ IsErrAnd result IsReadFault × D.flows desk.new }
         ensures content { (n : List ℕ) → D.content desk.new n ≡ D.content desk.old n }
+        ensures stays { (n : List ℕ) → D.steady desk.old n → D.steady desk.new n }
         ensures room { self.new.room ≤ self.old.room }
         ensures comments { self.new.comments ≡ self.old.comments }
         ensures failed { self.new.failed ≡ self.old.failed }
@@ -204,7 +227,8 @@ impl Lexer {
 
     // Whether a word that goes on makes its line a comment.
     fn is_cut_comment(&self, scan: &Scan) -> bool
-        ensures { result ≡ (self.now.fresh && begins_comment self.now.comments (map byte scan.now.text ++ beyond ∷ [])) }
+        ensures { result ≡ (self.now.fresh && begins_comment self.now.comments
+            (map byte scan.now.text ++ beyond ∷ [])) }
     {
         self.fresh && self.comments.begins_cut(scan.text.as_slice())
     }
@@ -242,11 +266,13 @@ impl Lexer {
     fn word<D: Desk>(&mut self, desk: &mut D, first: u8) -> Result<Scan, LexRefusal>
         requires byte { slice_get self.old.ahead 0 ≡ Some first }
         requires word { is_blank first ≡ false }
-        ensures items { IfOk result (λ scan. Stays (upcoming_in_word self.old no_scan (D.left desk.old)) (upcoming_behind_word self.new scan (D.left desk.new))) }
+        ensures items { IfOk result (λ scan. Stays (upcoming_in_word self.old no_scan (D.left desk.old))
+            (upcoming_behind_word self.new scan (D.left desk.new))) }
         ensures refusal { IfErr result (λ e. Refuses e (upcoming_in_word self.old no_scan (D.left desk.old))) }
-        ensures fault { IfErr result (λ e. IsReadFault e → Rose (D.faults desk.old) (D.faults desk.new)) }
-        ensures later { D.faults desk.old ≤ D.faults desk.new }
+        ensures cause { IsCounted (IsErrAnd result IsReadFault) (IsOk result) (D.faults desk.old) (D.faults desk.new) }
+        ensures flows { D.flows desk.old → ¬ IsErrAnd result IsReadFault × D.flows desk.new }
         ensures content { (n : List ℕ) → D.content desk.new n ≡ D.content desk.old n }
+        ensures stays { (n : List ℕ) → D.steady desk.old n → D.steady desk.new n }
         ensures room { OnOk result (self.new.room < self.old.room) }
         ensures comments { self.new.comments ≡ self.old.comments }
         ensures failed { self.new.failed ≡ self.old.failed }
@@ -276,11 +302,13 @@ impl Lexer {
 
     // The next word, where comments are left out.
     fn next_word<D: Desk>(&mut self, desk: &mut D) -> Result<Option<Token>, LexRefusal>
-        ensures items { Answers result (upcoming self.old (D.left desk.old)) (upcoming self.new (D.left desk.new)) self.new.line }
+        ensures items { Answers result (upcoming self.old (D.left desk.old))
+            (upcoming self.new (D.left desk.new)) self.new.line }
         ensures end { IfOk result (λ t. IfNone t (IsAtEnd (D.left desk.new))) }
-        ensures fault { IfErr result (λ e. IsReadFault e → Rose (D.faults desk.old) (D.faults desk.new)) }
-        ensures later { D.faults desk.old ≤ D.faults desk.new }
+        ensures cause { IsCounted (IsErrAnd result IsReadFault) (IsOk result) (D.faults desk.old) (D.faults desk.new) }
+        ensures flows { D.flows desk.old → ¬ IsErrAnd result IsReadFault × D.flows desk.new }
         ensures content { (n : List ℕ) → D.content desk.new n ≡ D.content desk.old n }
+        ensures stays { (n : List ℕ) → D.steady desk.old n → D.steady desk.new n }
         ensures failed { self.new.failed ≡ self.old.failed }
         ensures less { IfOk result (λ t. IfSome t (λ _. self.new.room < self.old.room)) }
     {
@@ -309,13 +337,15 @@ impl Lexer {
     pub fn next<D: Desk>(&mut self, desk: &mut D) -> Result<Option<Token>, LexRefusal>
         requires { self.old.failed ≡ false }
         // The items to come, where the desk tells its bytes, are this one and then those to come after.
-        ensures items { Answers result (upcoming self.old (D.left desk.old)) (upcoming self.new (D.left desk.new)) self.new.line }
+        ensures items { Answers result (upcoming self.old (D.left desk.old))
+            (upcoming self.new (D.left desk.new)) self.new.line }
         // At the end the desk has nothing left.
         ensures end { IfOk result (λ t. IfNone t (IsAtEnd (D.left desk.new))) }
-        // It gives up only where the desk failed.
-        ensures fault { IfErr result (λ e. IsReadFault e → Rose (D.faults desk.old) (D.faults desk.new)) }
-        ensures later { D.faults desk.old ≤ D.faults desk.new }
+        // It gives up only where the desk failed, so never where it flows.
+        ensures cause { IsCounted (IsErrAnd result IsReadFault) (IsOk result) (D.faults desk.old) (D.faults desk.new) }
+        ensures flows { D.flows desk.old → ¬ IsErrAnd result IsReadFault × D.flows desk.new }
         ensures content { (n : List ℕ) → D.content desk.new n ≡ D.content desk.old n }
+        ensures stays { (n : List ℕ) → D.steady desk.old n → D.steady desk.new n }
         ensures failed { self.new.failed ≡ is_err result }
         // A word takes a byte of the room.
         ensures less { IfOk result (λ t. IfSome t (λ _. self.new.room < self.old.room)) }
@@ -332,5 +362,5 @@ impl Lexer {
 fn is_blank(b: u8) -> bool
     ensures { result ≡ is_blank b }
 {
-    (b >= 9 && b <= 13) || b == 32
+    matches!(b, 9..=13 | b' ')
 }

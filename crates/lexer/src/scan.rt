@@ -9,16 +9,16 @@ use crate::token::{LexRefusal, Token, Word};
 // 2^63 - 1, the greatest magnitude of a number.
 const MAX_MAGNITUDE: u64 = 9_223_372_036_854_775_807;
 
-/// What the bytes of a word so far may be.
+// What the bytes of a word so far may be.
 #[derive(Clone, Copy)]
 pub enum Shape {
-    /// No byte.
+    // No byte.
     Empty,
-    /// A `-`.
+    // A `-`.
     Minus,
-    /// Digits, behind a `-` or not, and their value, which stops at 2^64 - 1.
+    // Digits, behind a `-` or not, and their value, which stops at 2^64 - 1.
     Digits(bool, u64),
-    /// No number's beginning.
+    // No number's beginning.
     NoNumber,
 }
 
@@ -27,41 +27,21 @@ impl Shape {
     pub fn after(self, b: u8) -> Shape
         ensures { result ≡ shape_after self b }
     {
-        let digit = b >= b'0' && b <= b'9';
-        match self {
-            Shape::Empty => {
-                if b == b'-' {
-                    Shape::Minus
-                } else if digit {
-                    Shape::Digits(false, u64::from(b - b'0'))
-                } else {
-                    Shape::NoNumber
-                }
-            }
-            Shape::Minus => {
-                if digit {
-                    Shape::Digits(true, u64::from(b - b'0'))
-                } else {
-                    Shape::NoNumber
-                }
-            }
-            Shape::Digits(negative, n) => {
-                if digit {
-                    Shape::Digits(
-                        negative,
-                        n.saturating_mul(10).saturating_add(u64::from(b - b'0')),
-                    )
-                } else {
-                    Shape::NoNumber
-                }
-            }
-            Shape::NoNumber => Shape::NoNumber,
+        match (self, b) {
+            (Shape::Empty, b'-') => Shape::Minus,
+            (Shape::Empty, b'0'..=b'9') => Shape::Digits(false, u64::from(b - b'0')),
+            (Shape::Minus, b'0'..=b'9') => Shape::Digits(true, u64::from(b - b'0')),
+            (Shape::Digits(negative, n), b'0'..=b'9') => Shape::Digits(
+                negative,
+                n.saturating_mul(10).saturating_add(u64::from(b - b'0')),
+            ),
+            _ => Shape::NoNumber,
         }
     }
 }
 
-/// What is kept of a word while its bytes come: its first 16, whether there are more, and whether one may
-/// not stand in a word.
+// What is kept of a word while its bytes come: its first 16, whether there are more, and whether one may
+// not stand in a word.
 #[derive(Drop)]
 pub struct Scan {
     pub text: ShortText,
@@ -100,27 +80,14 @@ impl Scan {
         if self.is_bad {
             return Err(LexRefusal::BadByte { line });
         }
-        if let Shape::Digits(negative, n) = self.shape {
-            if !negative && n <= MAX_MAGNITUDE {
-                return Ok(Token {
-                    word: Word::Num(n as i64),
-                    line,
-                });
-            }
-            if n > MAX_MAGNITUDE {
+        let word = match self.shape {
+            Shape::Digits(_, n) if n > MAX_MAGNITUDE => {
                 return Err(LexRefusal::NumberRange { line });
             }
-            if n > 0 {
-                return Ok(Token {
-                    word: Word::Num(-(n as i64)),
-                    line,
-                });
-            }
-        }
-        let word = if self.is_long {
-            Word::Other
-        } else {
-            Word::Text(self.text)
+            Shape::Digits(false, n) => Word::Num(n as i64),
+            Shape::Digits(true, n) if n > 0 => Word::Num(-(n as i64)),
+            _ if self.is_long => Word::Other,
+            _ => Word::Text(self.text),
         };
         Ok(Token { word, line })
     }

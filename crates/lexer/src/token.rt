@@ -20,8 +20,8 @@ impl Comments {
         ensures { result ≡ begins_comment self (map byte word.now) }
     {
         match self {
-            Comments::Dimacs => !word.is_empty() && word[0] == b'c',
-            Comments::Script => word.len() == 1 && word[0] == b'c',
+            Comments::Dimacs => word.first() == Some(&b'c'),
+            Comments::Script => matches!(word, [b'c']),
         }
     }
 
@@ -30,7 +30,7 @@ impl Comments {
         ensures { result ≡ begins_comment self (map byte word.now ++ beyond ∷ []) }
     {
         match self {
-            Comments::Dimacs => !word.is_empty() && word[0] == b'c',
+            Comments::Dimacs => word.first() == Some(&b'c'),
             Comments::Script => false,
         }
     }
@@ -54,12 +54,11 @@ pub struct Token {
     pub line: u32,
 }
 
-/// Why no word is given. The line is that of the word or byte that is refused; at a fault of the desk it
-/// is where the lexer stood.
+/// Why no word is given. The line is that of the word or byte that is refused.
 #[derive(Clone, Copy, Debug, PartialEq, Eq, Error)]
 pub enum LexRefusal {
-    #[error("line {line}: the text can't be read")]
-    ReadFault { line: u32 },
+    #[error("the text can't be read")]
+    ReadFault,
     #[error("line {line}: a byte stands beyond the first 2^30")]
     TooLong { line: u32 },
     #[error("line {line}: a byte of a word is none of 33 to 126")]

@@ -1,95 +1,65 @@
 //! A desk over the files and the standard input of the system.
-ghost use Rattle.std.specs.Prelude.{◌≡◌, ◌≤◌, length, None, IfSome};
-ghost use Rattle.ports.specs.Causes.{raised};
+ghost use Rattle.std.specs.Prelude.{◌≡◌, ℕ, None, IfSome};
 
+use super::faults::Faults;
+use super::source::Source;
 use super::{Desk, Failed};
-use std::fs;
 use std::io::Read;
-use std::marker::Model;
-use std::rt::Files;
 
-/// A desk whose names are paths of files, and `-` standard input. It tells nothing of their bytes.
-/// What can't be opened or read, as a folder, is a fault.
+/// A desk whose names are paths of files, and `-` standard input. It tells of their bytes what the source tells, which
+/// is nothing where that is the system. What can't be opened or read, as a folder, is a fault, and nothing else is.
 #[derive(Drop)]
-pub struct HostDesk<R: Files + Input> {
-    rt: R,
-    chosen: Chosen<R>,
-    faults: u64,
+pub struct HostDesk<S: Source> {
+    source: S,
+    chosen: Option<S::Reader>,
+    faults: Faults,
 }
 
-#[derive(Drop)]
-enum Chosen<R: Files + Input> {
-    Nothing,
-    Standard(R::Reader),
-    Named(R::File),
-}
-
-impl<R: Files + Input> Model for HostDesk<R> {
-    ghost use Rattle.std.specs.Prelude.{ℕ};
-
-    ghost Value = { ℕ };
-
-    ghost view = { λ d. d.faults };
-}
-
-impl<R: Files + Input> HostDesk<R> {
-    /// A desk of which nothing is chosen. Contracts see its count of faults.
-    pub fn new(rt: R) -> Self
-        ensures { result ≡ 0 }
+impl<S: Source> HostDesk<S> {
+    /// A desk of which nothing is chosen, with no fault yet.
+    pub fn new(source: S) -> Self
+        ensures source { result.source ≡ source }
+        ensures chosen { result.chosen ≡ None }
+        ensures faults { result.faults ≡ 0 }
     {
         Self {
-            rt,
-            chosen: Chosen::Nothing,
-            faults: 0,
+            source,
+            chosen: None,
+            faults: Faults::new(),
         }
-    }
-
-    // Counts a fault.
-    fn fail(&mut self) -> Failed
-        ensures counted { self.new ≡ raised self.old }
-        ensures later { self.old ≤ self.new }
-    {
-        self.faults = self.faults.saturating_add(1);
-        Failed
     }
 }
 
-impl<R: Files + Input> Desk for HostDesk<R> {
-    ghost content = { λ _ _. None };
+impl<S: Source> Desk for HostDesk<S> {
+    ghost use Rattle.std.specs.Option.{option_and_then};
 
-    ghost left = { λ _. None };
+    ghost content = { λ d. S.holds d.source };
 
-    ghost faults = { λ d. d };
+    ghost left = { λ d. option_and_then S.Reader.remaining d.chosen };
+
+    ghost faults = { λ d. d.faults };
+
+    ghost steady = { λ _ _. ⊥ };
+
+    ghost flows = { λ _. ⊥ };
 
     fn choose(&mut self, name: &str) -> Result<(), Failed> {
         if name == "-" {
-            self.chosen = Chosen::Standard(self.rt.reader());
+            self.chosen = Some(self.source.standard());
             return Ok(());
         }
-        match fs::open(&self.rt, name) {
-            Ok(file) => {
-                self.chosen = Chosen::Named(file);
-                Ok(())
-            }
-            Err(_) => Err(self.fail()),
-        }
+        let answer = self.source.open(name);
+        self.chosen = Some(self.faults.counted(answer)?);
+        Ok(())
     }
 
     fn read(&mut self, buf: &mut [u8]) -> Result<usize, Failed> {
-        match read_chosen(&mut self.chosen, buf) {
-            Some(n) => Ok(n),
-            None => Err(self.fail()),
+        match &mut self.chosen {
+            Some(reader) => {
+                let answer = reader.read(buf);
+                self.faults.counted(answer)
+            }
+            None => self.faults.fail(),
         }
-    }
-}
-
-// Reads what is chosen. None where nothing is, or the read failed.
-fn read_chosen<R: Files + Input>(chosen: &mut Chosen<R>, buf: &mut [u8]) -> Option<usize>
-    ensures { IfSome result (λ n. n ≤ length buf.new) }
-{
-    match chosen {
-        Chosen::Nothing => None,
-        Chosen::Standard(input) => input.read(buf).ok(),
-        Chosen::Named(file) => file.read(buf).ok(),
     }
 }

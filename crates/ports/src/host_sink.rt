@@ -1,61 +1,67 @@
 //! A sink over a writer of the system.
-ghost use Rattle.std.specs.Prelude.{◌≡◌, ◌≤◌, None};
-ghost use Rattle.ports.specs.Causes.{raised};
+ghost use Rattle.std.specs.Prelude.{◌≡◌, ◌⊎◌, ◌<◌, length, IfErr, OnOk};
+ghost use Rattle.std.specs.Io.{WritesAtMost};
+ghost use Rattle.ports.specs.Bytes.{TakesSome};
 
+use super::faults::Faults;
 use super::{Failed, Sink};
+use std::io;
 use std::io::Write;
-use std::marker::Model;
 
-/// A sink over standard output, standard error, a file or another writer. It tells nothing of the bytes
-/// written. An error of the writer is a fault, and so is a write that takes nothing of a piece with bytes.
+/// A sink over standard output, standard error, a file or another writer. It tells of the bytes written what the
+/// writer tells, and nothing of a flush. An error of the writer is a fault, and so is a write that takes nothing of a
+/// piece with bytes; nothing else is.
 #[derive(Debug, Drop)]
 pub struct HostSink<W: Write> {
     to: W,
-    faults: u64,
-}
-
-impl<W: Write> Model for HostSink<W> {
-    ghost use Rattle.std.specs.Prelude.{ℕ};
-
-    ghost Value = { ℕ };
-
-    ghost view = { λ s. s.faults };
+    faults: Faults,
 }
 
 impl<W: Write> HostSink<W> {
-    /// A sink that writes to `to`. Contracts see its count of faults.
+    /// A sink that writes to `to`, with no fault yet.
     pub fn new(to: W) -> Self
-        ensures { result ≡ 0 }
+        ensures to { result.to ≡ to }
+        ensures faults { result.faults ≡ 0 }
     {
-        Self { to, faults: 0 }
-    }
-
-    // Counts a fault.
-    fn fail(&mut self) -> Failed
-        ensures counted { self.new ≡ raised self.old }
-        ensures later { self.old ≤ self.new }
-    {
-        self.faults = self.faults.saturating_add(1);
-        Failed
+        Self {
+            to,
+            faults: Faults::new(),
+        }
     }
 }
 
 impl<W: Write> Sink for HostSink<W> {
-    ghost written = { λ _. None };
+    ghost use Rattle.std.specs.Prelude.{None};
 
-    ghost faults = { λ s. s };
+    ghost written = { λ s. W.contents s.to };
+
+    ghost flushed = { λ _. None };
+
+    ghost faults = { λ s. s.faults };
+
+    ghost has_room = { λ _ _. ⊥ };
 
     fn write(&mut self, piece: &[u8]) -> Result<usize, Failed> {
-        match self.to.write(piece) {
-            Ok(n) if n > 0 || piece.is_empty() => Ok(n),
-            _ => Err(self.fail()),
-        }
+        let answer = self.to.write(piece);
+        self.faults.counted(some_of(piece, answer))
     }
 
     fn flush(&mut self) -> Result<(), Failed> {
-        match self.to.flush() {
-            Ok(()) => Ok(()),
-            Err(_) => Err(self.fail()),
-        }
+        let answer = self.to.flush();
+        self.faults.counted(answer)
     }
+}
+
+// The answer to a write of this piece. One that takes nothing of a piece with bytes is an error.
+fn some_of(piece: &[u8], answer: io::Result<usize>) -> io::Result<usize>
+    requires { WritesAtMost answer piece.now }
+    ensures some { TakesSome result piece.now }
+    ensures same { OnOk result (result ≡ answer) }
+    ensures none { IfErr result (λ e. (answer ≡ Err e) ⊎ ((answer ≡ Ok 0) × (0 < length piece.now))) }
+{
+    let n = answer?;
+    if n == 0 && !piece.is_empty() {
+        return Err(io::Error::from(io::ErrorKind::WriteZero));
+    }
+    Ok(n)
 }

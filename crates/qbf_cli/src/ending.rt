@@ -1,9 +1,8 @@
 //! How a run ends, and what it says on the error output.
-ghost use Rattle.std.specs.Prelude.{◌≡◌, List, ℕ, OnOk};
+ghost use Rattle.std.specs.Prelude.{◌≡◌, List, ℕ, OnOk, ◌++◌, codes};
 ghost use Rattle.std.specs.Io.KnownBytes.{Appends};
 ghost use Rattle.ports.specs.Bytes.{AppendsFront};
 ghost use Rattle.ports.specs.Causes.{HasCause};
-ghost use Rattle.std.specs.Prelude.{◌++◌, codes};
 ghost use Rattle.std.specs.Fmt.{decimal};
 ghost use Rattle.qbf_cli.specs.Run.{status_of, line_of, quantity_name as name_of_quantity, placed_line};
 
@@ -11,17 +10,17 @@ use ports::{Failed, Sink, write_all};
 use qdimacs::Quantity;
 use session::Ending;
 
-/// How a run ends.
+// How a run ends.
 #[derive(Debug, Drop)]
 pub(crate) enum RunEnding {
-    /// The work on the input ended so.
+    // The work on the input ended so.
     Worked(Ending),
-    /// The words ask for no command. The text says what is asked for.
+    // The words ask for no command. The text says what is asked for.
     Usage(String),
 }
 
 impl RunEnding {
-    /// The exit status.
+    // The exit status.
     pub(crate) fn status(&self) -> u8
         ensures { result ≡ status_of self.now }
     {
@@ -36,7 +35,7 @@ impl RunEnding {
         }
     }
 
-    /// Writes the line on the error output.
+    // Writes the line on the error output.
     pub(crate) fn write_line<E: Sink>(&self, err: &mut E) -> Result<(), Failed>
         ensures ok { OnOk result (Appends (E.written err.old) (E.written err.new) (line_of self.now)) }
         ensures front { AppendsFront (E.written err.old) (E.written err.new) (line_of self.now) }

@@ -5,10 +5,9 @@ mod ending;
 mod run;
 #[cfg(test)]
 mod tests;
+mod words;
 
-use ending::RunEnding;
 use ports::{HostDesk, HostSink};
-use session::Ending;
 use std::process::ExitCode;
 use std::rt::Env;
 use std::{env, io};
@@ -16,7 +15,7 @@ use std::{env, io};
 fn main(rt: HostRuntime) -> ExitCode {
     let mut out = HostSink::new(rt.stdout());
     let mut err = HostSink::new(rt.stderr());
-    let status = match words_of(&rt) {
+    let status = match words::words_of(rt.alloc(), given(&rt)) {
         Ok(words) => {
             let mut desk = HostDesk::new(rt);
             run::run(rt.alloc(), &words, &mut desk, &mut out, &mut err)
@@ -26,24 +25,7 @@ fn main(rt: HostRuntime) -> ExitCode {
     ExitCode::from(status)
 }
 
-// The words of the command line, the program's name first.
-fn words_of(rt: &(impl Env + AllocGlobal)) -> Result<Vec<String>, RunEnding> {
-    match collected(rt) {
-        Ok(words) => Ok(words),
-        Err(e) if e.kind() == io::ErrorKind::OutOfMemory => Err(RunEnding::Worked(
-            Ending::NoMemory,
-        )),
-        // A word that isn't UTF-8 is none of the program's.
-        Err(_) => Err(
-            match String::from_str(rt.alloc(), "error: a word isn't UTF-8\n") {
-                Ok(text) => RunEnding::Usage(text),
-                Err(_) => RunEnding::Worked(Ending::NoMemory),
-            },
-        ),
-    }
-}
-
-// The words as the system gives them.
-fn collected(rt: &(impl Env + AllocGlobal)) -> io::Result<Vec<String>> {
+// The words of the command line as the system gives them, the program's name first.
+fn given(rt: &(impl Env + AllocGlobal)) -> io::Result<Vec<String>> {
     Ok(env::args(rt)?.collect(rt.alloc())?)
 }

@@ -1,12 +1,10 @@
 //! The program as a function over a desk and two sinks.
-ghost use Rattle.std.specs.Prelude.{◌≡◌, ◌≢◌, ℕ, List, true, false, [], ◌∷◌, map, option_map, Contains, IfSome, Some, string_bytes};
-ghost use Rattle.std.specs.Io.KnownBytes.{Appends, Keeps};
-ghost use Rattle.ports.specs.Bytes.{AppendsFront};
-ghost use Rattle.ports.specs.Causes.{Rose};
-ghost use Rattle.command.specs.Forms.{HasNoForm};
-ghost use Rattle.session.specs.Solve.{Solves, answer_line, IsEnding, IfDone, HasWritten};
-ghost use Rattle.session.specs.declared.ending.Ending.{Ending as FileEnding};
-ghost use Rattle.qbf_cli.specs.Run.{Asked, HasTruth, IsBeyond, IsRefused, IsLimited, IsErrorLine, Carried, IsSolved, input_name as name_of_input, line_of, status_of};
+ghost use Rattle.std.specs.Prelude.{◌≡◌, ◌≢◌, [], ◌∷◌, map, option_map, Contains, Some, string_bytes};
+ghost use Rattle.std.specs.Io.KnownBytes.{Appends};
+ghost use Rattle.ports.specs.Bytes.{AllFlushed, AppendsFront};
+ghost use Rattle.ports.specs.Causes.{IsCounted, Rose};
+ghost use Rattle.session.specs.Solve.{HasAnswer, IsDone, RoomForAnswer};
+ghost use Rattle.qbf_cli.specs.Run.{Asked, Carried, IsAnswered, IsErrorOutput, IsOutput, IsSolved, IsVerdict, RoomForOutput, SteadyForInput, input_name as name_of_input, line_of, status_of};
 
 use super::ending::RunEnding;
 use command::{Command, Refused, read_command};
@@ -15,13 +13,13 @@ use session::{Ending, Job, run_file};
 use std::alloc::Global;
 
 /// Carries out the command that the words ask for, the program's name first: `solve [--budget N] [NAME]` decides the
-/// formula of the file NAME, or of standard input, with at most N steps, and writes `SAT`, `UNSAT` or `UNKNOWN` to `out`.
-/// What else happens is said on `err`.
+/// formula of the file NAME, or of standard input, with at most N steps, and writes `SAT`, `UNSAT` or `UNKNOWN` to
+/// `out`. What else happens is said on `err`.
 ///
-/// Answers the exit status: 10 for a true formula, 20 for a false one, and 0 where the budget was spent; 2 where the input
-/// is malformed and 6 where it goes beyond a limit, each with its line; 3 for a read fault; 4 for a write fault of `out`; 5
-/// for want of memory, which may come at any time; 7 for other words. The first of these events decides. A failing `err`
-/// changes none.
+/// Answers the exit status: 10 for a true formula, 20 for a false one, and 0 where the budget was spent; 2 where the
+/// input is malformed and 6 where it goes beyond a limit, each with its line; 3 for a read fault; 4 for a write fault of
+/// `out`; 5 for want of memory, which may come at any time; 7 for other words. The first of these events decides. A
+/// failing `err` changes none.
 pub fn run<D: Desk, O: Sink, E: Sink>(
     alloc: Global,
     words: &[String],
@@ -29,39 +27,39 @@ pub fn run<D: Desk, O: Sink, E: Sink>(
     out: &mut O,
     err: &mut E,
 ) -> u8
-    // each status with its cause
+    // each status, and what it says of the words and the input
     ensures statuses { Contains (10 ∷ 20 ∷ 0 ∷ 2 ∷ 3 ∷ 4 ∷ 5 ∷ 6 ∷ 7 ∷ []) result }
-    ensures sat { result ≡ 10 → Asked (map string_bytes words.now) (D.content desk.old) (λ budget text. HasTruth text true) }
-    ensures unsat { result ≡ 20 → Asked (map string_bytes words.now) (D.content desk.old) (λ budget text. HasTruth text false) }
-    ensures unknown { result ≡ 0 → Asked (map string_bytes words.now) (D.content desk.old) IsBeyond }
-    ensures solved { Contains (10 ∷ 20 ∷ 0 ∷ []) result → Asked (map string_bytes words.now) (D.content desk.old) (λ budget text. Solves budget text result) }
-    ensures refused { result ≡ 2 → Asked (map string_bytes words.now) (D.content desk.old) (λ budget text. IsRefused text) }
-    ensures limit { result ≡ 6 → Asked (map string_bytes words.now) (D.content desk.old) (λ budget text. IsLimited text) }
-    ensures read_fault { result ≡ 3 → Rose (D.faults desk.old) (D.faults desk.new) }
-    ensures write_fault { result ≡ 4 → Rose (O.faults out.old) (O.faults out.new) }
-    ensures usage { result ≡ 7 → HasNoForm (map string_bytes words.now) }
-    ensures unasked { HasNoForm (map string_bytes words.now) → Contains (5 ∷ 7 ∷ []) result }
+    ensures verdict { IsVerdict (map string_bytes words.now) (D.content desk.old) result }
 
     // an answer comes after the whole input was read
-    ensures whole_input { Contains (10 ∷ 20 ∷ 0 ∷ []) result → Asked (map string_bytes words.now) (D.content desk.old) (λ budget text. D.left desk.new ≡ Some []) }
+    ensures whole_input { HasAnswer result
+        → Asked (map string_bytes words.now) (D.content desk.old) (λ _ _. D.left desk.new ≡ Some []) }
 
-    // what stands on the output
-    ensures line { Contains (10 ∷ 20 ∷ 0 ∷ []) result → Appends (O.written out.old) (O.written out.new) (answer_line result) }
-    ensures front { result ≡ 4 → (status : ℕ) × Asked (map string_bytes words.now) (D.content desk.old) (λ budget text. Solves budget text status) × AppendsFront (O.written out.old) (O.written out.new) (answer_line status) }
-    ensures nothing { Contains (2 ∷ 3 ∷ 5 ∷ 6 ∷ 7 ∷ []) result → Keeps (O.written out.old) (O.written out.new) }
+    // faults come from outside alone, and an answer only where there was none
+    ensures read_fault { IsCounted (result ≡ 3) (HasAnswer result) (D.faults desk.old) (D.faults desk.new) }
+    ensures write_fault { IsCounted (result ≡ 4) (HasAnswer result) (O.faults out.old) (O.faults out.new) }
+    ensures steady { SteadyForInput (map string_bytes words.now) (D.steady desk.old) → result ≢ 3 }
+    ensures room { RoomForOutput (map string_bytes words.now) (D.content desk.old) (O.has_room out.old) → result ≢ 4 }
 
-    // what stands on the error output, whole where it didn't fail
-    ensures error { (line : List ℕ) × IsErrorLine (map string_bytes words.now) (D.content desk.old) result line × AppendsFront (E.written err.old) (E.written err.new) line × ((Rose (E.faults err.old) (E.faults err.new) → ⊥) → Appends (E.written err.old) (E.written err.new) line) }
+    // what stands on the output, and that all of it is flushed where there is an answer
+    ensures output { IsOutput (map string_bytes words.now) (D.content desk.old) (O.written out.old)
+        (O.written out.new) result }
+    ensures flushed { HasAnswer result → AllFlushed (O.written out.new) (O.flushed out.old) (O.flushed out.new) }
+
+    // what stands on the error output
+    ensures error { IsErrorOutput (map string_bytes words.now) (D.content desk.old) (E.faults err.old, E.faults err.new)
+        (E.written err.old) (E.written err.new) result }
 {
     let ending = ending_of(alloc, words, desk, out);
     report(err, &ending)
 }
 
-/// Writes the line of an ending to the error output, and answers its exit status.
+// Writes the line of an ending to the error output, and answers its exit status.
 pub(crate) fn report<E: Sink>(err: &mut E, ending: &RunEnding) -> u8
     ensures status { result ≡ status_of ending.now }
-    ensures error_front { AppendsFront (E.written err.old) (E.written err.new) (line_of ending.now) }
-    ensures error_whole { (Rose (E.faults err.old) (E.faults err.new) → ⊥) → Appends (E.written err.old) (E.written err.new) (line_of ending.now) }
+    ensures front { AppendsFront (E.written err.old) (E.written err.new) (line_of ending.now) }
+    ensures whole { ¬ Rose (E.faults err.old) (E.faults err.new)
+        → Appends (E.written err.old) (E.written err.new) (line_of ending.now) }
 {
     let _ = ending.write_line(err);
     ending.status()
@@ -74,9 +72,17 @@ fn ending_of<D: Desk, O: Sink>(
     desk: &mut D,
     out: &mut O,
 ) -> RunEnding
-    ensures carried { Carried (map string_bytes words.now) (D.content desk.old) (D.left desk.new) (O.written out.old) (O.written out.new) result }
-    ensures read_fault { result ≡ RunEnding.Worked Ending.ReadFault → Rose (D.faults desk.old) (D.faults desk.new) }
-    ensures write_fault { result ≡ RunEnding.Worked Ending.WriteFault → Rose (O.faults out.old) (O.faults out.new) }
+    ensures carried { Carried (map string_bytes words.now) (D.content desk.old) (D.left desk.new)
+        (O.written out.old) (O.written out.new) result }
+    ensures read_fault { IsCounted (result ≡ RunEnding.Worked Ending.ReadFault) (IsAnswered result)
+        (D.faults desk.old) (D.faults desk.new) }
+    ensures write_fault { IsCounted (result ≡ RunEnding.Worked Ending.WriteFault) (IsAnswered result)
+        (O.faults out.old) (O.faults out.new) }
+    ensures steady { SteadyForInput (map string_bytes words.now) (D.steady desk.old)
+        → result ≢ RunEnding.Worked Ending.ReadFault }
+    ensures room { RoomForOutput (map string_bytes words.now) (D.content desk.old) (O.has_room out.old)
+        → result ≢ RunEnding.Worked Ending.WriteFault }
+    ensures flushed { IsAnswered result → AllFlushed (O.written out.new) (O.flushed out.old) (O.flushed out.new) }
 {
     match read_command(alloc, words) {
         Ok(Command::Solve { budget, name }) => {
@@ -95,9 +101,15 @@ fn solve<D: Desk, O: Sink>(
     desk: &mut D,
     out: &mut O,
 ) -> Ending
-    ensures solved { IsSolved budget (D.content desk.old (name_of_input (option_map (λ s. s.now) name.entry))) (D.left desk.new) (O.written out.old) (O.written out.new) result }
-    ensures read_fault { result ≡ Ending.ReadFault → Rose (D.faults desk.old) (D.faults desk.new) }
-    ensures write_fault { result ≡ Ending.WriteFault → Rose (O.faults out.old) (O.faults out.new) }
+    ensures solved { IsSolved budget (D.content desk.old (name_of_input (option_map (λ s. s.now) name.entry)))
+        (D.left desk.new) (O.written out.old) (O.written out.new) result }
+    ensures read_fault { IsCounted (result ≡ Ending.ReadFault) (IsDone result) (D.faults desk.old) (D.faults desk.new) }
+    ensures write_fault { IsCounted (result ≡ Ending.WriteFault) (IsDone result) (O.faults out.old) (O.faults out.new) }
+    ensures steady { D.steady desk.old (name_of_input (option_map (λ s. s.now) name.entry))
+        → result ≢ Ending.ReadFault }
+    ensures room { RoomForAnswer budget (D.content desk.old (name_of_input (option_map (λ s. s.now) name.entry)))
+        (O.has_room out.old) → result ≢ Ending.WriteFault }
+    ensures flushed { IsDone result → AllFlushed (O.written out.new) (O.flushed out.old) (O.flushed out.new) }
 {
     if desk.choose(input_name(name)).is_err() {
         return Ending::ReadFault;
@@ -109,8 +121,5 @@ fn solve<D: Desk, O: Sink>(
 fn input_name<'a>(name: Option<&'a str>) -> &'a str
     ensures { result.now ≡ name_of_input (option_map (λ s. s.now) name.entry) }
 {
-    match name {
-        Some(name) => name,
-        None => "-",
-    }
+    name.unwrap_or("-")
 }

@@ -1,9 +1,11 @@
 //! Runs of the whole program in memory.
 ghost use Rattle.std.specs.Prelude.{◌<◌};
 
-use super::run::run;
+use super::run::{report, run};
+use super::words::words_of;
 use ports::{Input, MemoryDesk, MemorySink};
 use std::alloc::Global;
+use std::io::{Error, ErrorKind};
 use std::test::Fail;
 
 // For each value of 1 there is one of 2 that differs from it.
@@ -46,7 +48,8 @@ fn ends(
         &mut out,
         &mut err,
     );
-    Ok(answer == status && out.bytes() == out_text.as_bytes() && err.bytes() == err_text.as_bytes())
+    let is_written = out.bytes() == out_text.as_bytes() && out.flushed() == out_text.as_bytes();
+    Ok(answer == status && is_written && err.bytes() == err_text.as_bytes())
 }
 
 #[test]
@@ -299,5 +302,32 @@ fn other_words_are_usage(rt: HostRuntime) -> Result<(), Fail> {
         assert_eq!(rt; written.as_str(), "", "{others:?}");
         assert!(rt; !silent, "{others:?}");
     }
+    Ok(())
+}
+
+// The status and the text on the error output where the system has an error of this kind for the words.
+fn ends_without_words(alloc: Global, kind: ErrorKind) -> Result<(u8, String), Fail> {
+    let mut err = MemorySink::new(alloc, 64, 5, Vec::new(alloc))?;
+    let status = match words_of(alloc, Err(Error::from(kind))) {
+        Ok(_) => 0,
+        Err(ending) => report(&mut err, &ending),
+    };
+    Ok((status, String::from_utf8_lossy(alloc, err.bytes())?))
+}
+
+#[test]
+fn words_that_the_system_can_not_give_are_usage(rt: HostRuntime) -> Result<(), Fail> {
+    let alloc = rt.alloc();
+    for (kind, status, text) in [
+        // So a word that isn't UTF-8 is told.
+        (ErrorKind::InvalidData, 7, "error: a word isn't UTF-8\n"),
+        (ErrorKind::OutOfMemory, 5, "qbf: no memory\n"),
+    ] {
+        let (found, written) = ends_without_words(alloc, kind)?;
+        assert_eq!(rt; found, status);
+        assert_eq!(rt; written.as_str(), text);
+    }
+    let given = words_of(alloc, Ok(words(alloc, &["qbf", "solve"])?));
+    assert!(rt; given.is_ok_and(|given| given.len() == 2 && given[1].as_str() == "solve"));
     Ok(())
 }

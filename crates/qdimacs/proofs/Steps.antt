@@ -63,7 +63,7 @@ word_refused left now after front t e r g v = refused_by left now front (word t)
 
 -- the lexer refused
 pub lexer_refused : (left : Option (List ℕ)) (now : Option (List Item)) (front : Front) (e : LexRefusal) → Remains (option_map (items Dimacs) left) front now → Refuses e now → IfSome left (λ text. IsAnswer (Err (refusal_for e)) text)
-lexer_refused left now front (LexFault line) r b = no_answer left
+lexer_refused left now front LexFault r b = no_answer left
 lexer_refused left now front (TooLong line) r b = decides left now front (too_long line) _ r b refl
 lexer_refused left now front (BadByte line) r b = decides left now front (bad_byte line) _ r b refl
 lexer_refused left now front (NumberRange line) r b = decides left now front (number_range line) _ r b refl

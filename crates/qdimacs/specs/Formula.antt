@@ -73,7 +73,8 @@ is_tautology clause = list_any (λ l. has_literal (neg_ℤ l) clause) clause
 
 -- The literals of a clause once each, ascending by variable. None stands beside its negation.
 abbrev pub as_row : List ℤ → List Literal
-as_row clause = map (λ v. record { variable = v; positive = has_literal (pos v) clause }) (ascending (map nat_abs clause))
+as_row clause = map (λ v. record { variable = v; positive = has_literal (pos v) clause })
+    (ascending (map nat_abs clause))
 
 -- The clauses that are no tautology.
 abbrev pub matrix_of : List (List ℤ) → List (List Literal)

@@ -42,7 +42,8 @@ put_last q v (x ∷ y ∷ rest) = x ∷ put_last q v (y ∷ rest)
 abbrev pub put_front : List ℕ → List QuantSet → List QuantSet
 put_front [] scopes = scopes
 put_front (v ∷ vs) [] = (Exists, v ∷ vs) ∷ []
-put_front (v ∷ vs) (x ∷ rest) = if same_quant x.0 Exists then (x.0, x.1 ++ v ∷ vs) ∷ rest else (Exists, v ∷ vs) ∷ x ∷ rest
+put_front (v ∷ vs) (x ∷ rest) = if same_quant x.0 Exists then (x.0, x.1 ++ v ∷ vs) ∷ rest
+    else (Exists, v ∷ vs) ∷ x ∷ rest
 
 -- The rules of a variable, over marks and merged scopes.
 abbrev pub variable_rules_kept : ℕ → List Bool → List QuantSet → Quant → ℤ → ℕ → List (Bool × Outcome)

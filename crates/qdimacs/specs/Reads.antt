@@ -67,7 +67,8 @@ pub record AreAllowed (h : Header) (sets : List QuantSet) (clauses : List (List 
 
 abbrev pub IsAllowed : Front → Type 0
 IsAllowed nothing = Unit {0}
-IsAllowed (in_header line ws) = (vars count n : ℕ) × (n < 3) × (ws ≡ take n (Text (codes "cnf") ∷ Num (pos vars) ∷ Num (pos count) ∷ []))
+IsAllowed (in_header line ws) = (vars count n : ℕ) × (n < 3)
+    × (ws ≡ take n (Text (codes "cnf") ∷ Num (pos vars) ∷ Num (pos count) ∷ []))
 IsAllowed (headed h) = Unit {0}
 IsAllowed (between h sets clauses) = ((sets ≢ []) ⊎ (clauses ≢ [])) × AreAllowed h sets clauses
 IsAllowed (in_set h sets q vs) = AreAllowed h (sets ++ (q, vs) ∷ []) []

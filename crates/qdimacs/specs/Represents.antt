@@ -53,7 +53,8 @@ pub record KeepsClauses (vars count : ℕ) (kept : Clauses) (clauses : List (Lis
   pub marked : length kept.marks.items ≡ vars + 1
 
 -- what is kept behind the header
-pub record Keeps (vars count : ℕ) (kept_sets : Sets) (kept_clauses : Clauses) (sets : List QuantSet) (clauses : List (List ℤ)) (ls : List ℤ) : Type 0 where
+pub record Keeps (vars count : ℕ) (kept_sets : Sets) (kept_clauses : Clauses) (sets : List QuantSet)
+    (clauses : List (List ℤ)) (ls : List ℤ) : Type 0 where
   pub vars_few : vars ≤ max_vars
   pub count_few : count ≤ max_clauses
   pub of_sets : KeepsSets vars kept_sets sets
@@ -63,11 +64,16 @@ abbrev pub Stands : Stage → Reader → Front → Type 0
 Stands Nothing r front = (front ≡ nothing) × IsFresh r.sets r.clauses
 Stands Problem r front = (front ≡ in_header r.line []) × IsFresh r.sets r.clauses
 Stands Format r front = (w : Word) × (front ≡ in_header r.line (w ∷ [])) × IsFresh r.sets r.clauses
-Stands Vars r front = (w u : Word) × (front ≡ in_header r.line (w ∷ u ∷ [])) × (natural_of u ≡ r.vars) × IsFresh r.sets r.clauses
+Stands Vars r front = (w u : Word) × (front ≡ in_header r.line (w ∷ u ∷ [])) × (natural_of u ≡ r.vars)
+    × IsFresh r.sets r.clauses
 Stands Headed r front = (front ≡ headed (header_of r)) × IsFresh r.sets r.clauses
-Stands Between r front = (sets : List QuantSet) × (clauses : List (List ℤ)) × (front ≡ between (header_of r) sets clauses) × Keeps r.vars r.count r.sets r.clauses sets clauses []
-Stands (InSet q) r front = (sets : List QuantSet) × (vs : List ℕ) × (front ≡ in_set (header_of r) sets q vs) × Keeps r.vars r.count r.sets r.clauses (sets ++ (q, vs) ∷ []) [] []
-Stands InClause r front = (sets : List QuantSet) × (clauses : List (List ℤ)) × (ls : List ℤ) × (front ≡ in_clause (header_of r) sets clauses ls) × (length clauses < r.count) × Keeps r.vars r.count r.sets r.clauses sets clauses ls
+Stands Between r front = (sets : List QuantSet) × (clauses : List (List ℤ))
+    × (front ≡ between (header_of r) sets clauses) × Keeps r.vars r.count r.sets r.clauses sets clauses []
+Stands (InSet q) r front = (sets : List QuantSet) × (vs : List ℕ) × (front ≡ in_set (header_of r) sets q vs)
+    × Keeps r.vars r.count r.sets r.clauses (sets ++ (q, vs) ∷ []) [] []
+Stands InClause r front = (sets : List QuantSet) × (clauses : List (List ℤ)) × (ls : List ℤ)
+    × (front ≡ in_clause (header_of r) sets clauses ls) × (length clauses < r.count)
+    × Keeps r.vars r.count r.sets r.clauses sets clauses ls
 
 -- The reader stands for what has been read.
 abbrev pub Represents : Reader → Front → Type 0
@@ -94,21 +100,27 @@ Goes (Err e) found P = Is e found
 
 -- A word is taken where no rule refuses it, and refused by the first rule that does.
 abbrev pub Steps : {A : Type 0} → Result A ReadRefusal → Reader → Reader → Word → ℕ → Type 0
-Steps result old new w line = (front : Front) → Represents old front → Goes result (first_of (word_rules front w line)) (Represents new (extended front w line))
+Steps result old new w line = (front : Front) → Represents old front
+    → Goes result (first_of (word_rules front w line)) (Represents new (extended front w line))
 
 -- The header's numbers are within the limits, and what follows it begins.
 abbrev pub Passes : {A : Type 0} → Result A ReadRefusal → Reader → Reader → Type 0
-Passes result old new = (front : Front) → Represents old front → Goes result (first_of (header_limits (header_of old))) (Represents new (between (header_of old) [] []))
+Passes result old new = (front : Front) → Represents old front
+    → Goes result (first_of (header_limits (header_of old))) (Represents new (between (header_of old) [] []))
 
 -- A number of a clause is taken or refused.
 abbrev pub TakesNumber : {A : Type 0} → Result A ReadRefusal → Reader → Reader → ℤ → ℕ → Type 0
-TakesNumber result old new n line = (sets : List QuantSet) (clauses : List (List ℤ)) (ls : List ℤ) → Keeps old.vars old.count old.sets old.clauses sets clauses ls → length clauses < old.count
-    → Goes result (first_of (unless_zero n (literal_rules (header_of old) clauses ls n line))) (Represents new (clause_after (is_zero n) (header_of old) sets clauses ls n))
+TakesNumber result old new n line = (sets : List QuantSet) (clauses : List (List ℤ)) (ls : List ℤ)
+    → Keeps old.vars old.count old.sets old.clauses sets clauses ls → length clauses < old.count
+    → Goes result (first_of (unless_zero n (literal_rules (header_of old) clauses ls n line)))
+    (Represents new (clause_after (is_zero n) (header_of old) sets clauses ls n))
 
 -- A number of a set that isn't 0 is taken or refused.
 abbrev pub TakesVariable : {A : Type 0} → Result A ReadRefusal → Reader → Reader → Quant → ℤ → ℕ → Type 0
-TakesVariable result old new q n line = (sets : List QuantSet) (vs : List ℕ) → Keeps old.vars old.count old.sets old.clauses (sets ++ (q, vs) ∷ []) [] []
-    → Goes result (first_of (variable_rules (header_of old) sets q vs n line)) (Represents new (in_set (header_of old) sets q (vs ++ nat_abs n ∷ [])))
+TakesVariable result old new q n line = (sets : List QuantSet) (vs : List ℕ)
+    → Keeps old.vars old.count old.sets old.clauses (sets ++ (q, vs) ∷ []) [] []
+    → Goes result (first_of (variable_rules (header_of old) sets q vs n line))
+    (Represents new (in_set (header_of old) sets q (vs ++ nat_abs n ∷ [])))
 
 -- The end gives the formula, or the first rule that refuses.
 abbrev pub Closing : Result Formula ReadRefusal → Reader → ℕ → Type 0

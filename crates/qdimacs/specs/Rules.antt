@@ -82,7 +82,8 @@ is_empty (x ∷ xs) = false
 
 -- The header's numbers are within the limits.
 abbrev pub header_limits : Header → List (Bool × Outcome)
-header_limits h = (nat_lt max_vars h.vars, limit Variables h.line) ∷ (nat_lt max_clauses h.count, limit Clauses h.line) ∷ []
+header_limits h = (nat_lt max_vars h.vars, limit Variables h.line)
+    ∷ (nat_lt max_clauses h.count, limit Clauses h.line) ∷ []
 
 -- The first word behind the header stands on another line.
 abbrev pub header_rules : Header → ℕ → List (Bool × Outcome)
@@ -117,7 +118,8 @@ outside_rules clauses (Some q) line = (not (is_empty clauses), refused 14 line) 
 outside_rules clauses None line = (true, refused 18 line) ∷ []
 
 abbrev pub between_rules : Header → List (List ℤ) → Word → ℕ → List (Bool × Outcome)
-between_rules h clauses (Num n) line = (length clauses == h.count, refused 17 line) ∷ unless_zero n (literal_rules h clauses [] n line)
+between_rules h clauses (Num n) line = (length clauses == h.count, refused 17 line)
+    ∷ unless_zero n (literal_rules h clauses [] n line)
 between_rules h clauses (Text t) line = outside_rules clauses (quant_of (Text t)) line
 between_rules h clauses Other line = outside_rules clauses None line
 
@@ -134,7 +136,8 @@ clause_rules h clauses ls Other line = inside_rules None line
 -- what refuses a word behind what has been read
 abbrev pub word_rules : Front → Word → ℕ → List (Bool × Outcome)
 word_rules nothing w line = (not (is_text (codes "p") w), refused 10 line) ∷ []
-word_rules (in_header start ws) w line = (not (line == start), refused 11 start) ∷ (not (fits_header (length ws) w), refused 11 start) ∷ []
+word_rules (in_header start ws) w line = (not (line == start), refused 11 start)
+    ∷ (not (fits_header (length ws) w), refused 11 start) ∷ []
 word_rules (headed h) w line = header_rules h line ++ between_rules h [] w line
 word_rules (between h sets clauses) w line = between_rules h clauses w line
 word_rules (in_set h sets q vs) w line = set_rules h sets q vs w line

@@ -19,7 +19,7 @@ Is NoMemory found = Unit {0}
 
 -- what the reader answers for a refusal of the lexer
 abbrev pub refusal_for : LexRefusal → ReadRefusal
-refusal_for (LexFault line) = ReadFault
+refusal_for LexFault = ReadFault
 refusal_for (TooLong line) = Limit Bytes line
 refusal_for (BadByte line) = Refused 7 line
 refusal_for (NumberRange line) = Refused 8 line

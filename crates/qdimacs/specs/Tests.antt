@@ -20,7 +20,12 @@ literal (pos n) = record { variable = n; positive = true }
 literal (negsuc n) = record { variable = suc n; positive = false }
 
 abbrev pub formula : List QuantSet → List (List ℤ) → ℕ → ℕ → Option Outcome
-formula scopes clauses vars count = Some (parsed (record { prefix = map scope scopes; clauses = map (map literal) clauses; declared_vars = vars; declared_clauses = count }))
+formula scopes clauses vars count = Some (parsed (record {
+  prefix = map scope scopes;
+  clauses = map (map literal) clauses;
+  declared_vars = vars;
+  declared_clauses = count;
+}))
 
 abbrev pub refusal : ℕ → ℕ → Option Outcome
 refusal line number = Some (refused number line)
@@ -37,10 +42,12 @@ not_one = negsuc 0
 abbrev pub not_two : ℤ
 not_two = negsuc 1
 
-two_scopes : outcome_of (text (codes "p cnf 2 2/a 1 0/e 2 0/1 2 0/-1 -2 0/")) ≡ formula ((Forall, 1 ∷ []) ∷ (Exists, 2 ∷ []) ∷ []) ((one ∷ two ∷ []) ∷ (not_one ∷ not_two ∷ []) ∷ []) 2 2
+two_scopes : outcome_of (text (codes "p cnf 2 2/a 1 0/e 2 0/1 2 0/-1 -2 0/"))
+    ≡ formula ((Forall, 1 ∷ []) ∷ (Exists, 2 ∷ []) ∷ []) ((one ∷ two ∷ []) ∷ (not_one ∷ not_two ∷ []) ∷ []) 2 2
 two_scopes = refl
 
-free_variable : outcome_of (text (codes "p cnf 2 2/a 1 0/1 2 0/-1 -2 0/")) ≡ formula ((Exists, 2 ∷ []) ∷ (Forall, 1 ∷ []) ∷ []) ((one ∷ two ∷ []) ∷ (not_one ∷ not_two ∷ []) ∷ []) 2 2
+free_variable : outcome_of (text (codes "p cnf 2 2/a 1 0/1 2 0/-1 -2 0/"))
+    ≡ formula ((Exists, 2 ∷ []) ∷ (Forall, 1 ∷ []) ∷ []) ((one ∷ two ∷ []) ∷ (not_one ∷ not_two ∷ []) ∷ []) 2 2
 free_variable = refl
 
 no_clause : outcome_of (text (codes "p cnf 0 0/")) ≡ formula [] [] 0 0
@@ -49,13 +56,17 @@ no_clause = refl
 empty_clause : outcome_of (text (codes "p cnf 0 1/0/")) ≡ formula [] ([] ∷ []) 0 1
 empty_clause = refl
 
-tautology : outcome_of (text (codes "p cnf 2 2/a 1 0/e 2 0/1 -1 2 0/2 2 0/")) ≡ formula ((Forall, 1 ∷ []) ∷ (Exists, 2 ∷ []) ∷ []) ((two ∷ []) ∷ []) 2 2
+tautology : outcome_of (text (codes "p cnf 2 2/a 1 0/e 2 0/1 -1 2 0/2 2 0/"))
+    ≡ formula ((Forall, 1 ∷ []) ∷ (Exists, 2 ∷ []) ∷ []) ((two ∷ []) ∷ []) 2 2
 tautology = refl
 
-cut_or_wrong : (outcome_of (text (codes "p cnf 1 2/1 0/")) ≡ refusal 3 16) × (outcome_of (text (codes "p cnf 1 1/2 0/")) ≡ refusal 2 12) × (outcome_of (text (codes "p cnf 1 1/1")) ≡ refusal 2 15)
+cut_or_wrong : (outcome_of (text (codes "p cnf 1 2/1 0/")) ≡ refusal 3 16)
+    × (outcome_of (text (codes "p cnf 1 1/2 0/")) ≡ refusal 2 12)
+    × (outcome_of (text (codes "p cnf 1 1/1")) ≡ refusal 2 15)
 cut_or_wrong = (refl, refl, refl)
 
-comments_and_returns : outcome_of (text (codes "c x" ++ 13 ∷ codes "/p cnf 1 1" ++ 13 ∷ codes "/e 1 0/c inside/1/0" ++ 13 ∷ 10 ∷ [])) ≡ formula ((Exists, 1 ∷ []) ∷ []) ((one ∷ []) ∷ []) 1 1
+comments_and_returns : outcome_of (text (codes "c x" ++ 13 ∷ codes "/p cnf 1 1" ++ 13 ∷ codes "/e 1 0/c inside/1/0"
+    ++ 13 ∷ 10 ∷ [])) ≡ formula ((Exists, 1 ∷ []) ∷ []) ((one ∷ []) ∷ []) 1 1
 comments_and_returns = refl
 
 each_refusal : (outcome_of [] ≡ refusal 1 10)
@@ -98,7 +109,9 @@ limits : (outcome_of (text (codes "p cnf 1 16777216/1 0/")) ≡ refusal 3 16)
 limits = (refl, refl, refl, refl, refl, refl, refl)
 
 -- empty sets are left out, neighbours merged, variables and literals put in order
-built : outcome_of (text (codes "p cnf 9 3/e 3 0/a 0/e 1 0/a 5 4 0/2 -7 -3 2 0/8 -8 0/ 0/")) ≡ formula ((Exists, 1 ∷ 2 ∷ 3 ∷ 7 ∷ 8 ∷ []) ∷ (Forall, 4 ∷ 5 ∷ []) ∷ []) ((two ∷ negsuc 2 ∷ negsuc 6 ∷ []) ∷ [] ∷ []) 9 3
+built : outcome_of (text (codes "p cnf 9 3/e 3 0/a 0/e 1 0/a 5 4 0/2 -7 -3 2 0/8 -8 0/ 0/"))
+    ≡ formula ((Exists, 1 ∷ 2 ∷ 3 ∷ 7 ∷ 8 ∷ []) ∷ (Forall, 4 ∷ 5 ∷ []) ∷ [])
+    ((two ∷ negsuc 2 ∷ negsuc 6 ∷ []) ∷ [] ∷ []) 9 3
 built = refl
 
 -- which of two rules comes first

@@ -1,13 +1,12 @@
 //! The matrix while the clauses come.
-ghost use Rattle.std.specs.Prelude.{◌≡◌, ◌<◌, ◌≤◌, ◌+◌, ◌^◌, [], ◌∷◌, ◌++◌, set, length, true, OnOk, IfOk, nat_abs};
+ghost use Rattle.std.specs.Prelude.{◌≡◌, ◌<◌, ◌≤◌, ◌+◌, ◌^◌, [], ◌∷◌, ◌++◌, set, length, true, OnOk, IfOk, nat_abs, List, ℤ, map, All};
 ghost use Rattle.qdimacs.specs.Kept.{code_of as code_of_literal, codes_of, with_clause, literal_rules_kept, Checks, has_pair, literal_of};
 ghost use Rattle.std.specs.List.{AllByRecursion};
 ghost use Rattle.qdimacs.specs.Rules.{first_of};
 ghost use Rattle.qdimacs.specs.Formula.{as_row, is_tautology};
 ghost use Rattle.prefix.specs.Literal.{Literal};
-ghost use Rattle.std.specs.Prelude.{List, ℤ, map, All};
 
-use crate::refusal::{Quantity, ReadRefusal, VARIABLE_RANGE};
+use crate::refusal::{Quantity, ReadRefusal, VARIABLE_RANGE, beyond, refused};
 use prefix::{Lit, LitList, Var};
 use std::alloc::{AllocError, Global};
 
@@ -48,16 +47,10 @@ impl Clauses {
         ensures { Checks result (first_of (literal_rules_kept vars self.now.amount n line)) }
     {
         if n.unsigned_abs() > vars {
-            return Err(ReadRefusal::Refused {
-                number: VARIABLE_RANGE,
-                line,
-            });
+            return Err(refused(VARIABLE_RANGE, line));
         }
         if self.amount >= MAX_LITERALS {
-            return Err(ReadRefusal::Limit {
-                quantity: Quantity::Literals,
-                line,
-            });
+            return Err(beyond(Quantity::Literals, line));
         }
         Ok(())
     }
@@ -83,7 +76,8 @@ impl Clauses {
     pub(crate) fn end(&mut self) -> Result<(), AllocError>
         requires few { self.old.ended < 2 ^ 24 }
         requires codes { All (λ c. (2 ≤ c) × (c < 2097154)) self.old.begun.items }
-        ensures rows { OnOk result ((clause : List ℤ) → AllByRecursion (λ n. 0 < nat_abs n) clause → self.old.begun.items ≡ codes_of clause → self.new.rows.items ≡ with_clause clause self.old.rows.items) }
+        ensures rows { OnOk result ((clause : List ℤ) → AllByRecursion (λ n. 0 < nat_abs n) clause
+            → self.old.begun.items ≡ codes_of clause → self.new.rows.items ≡ with_clause clause self.old.rows.items) }
         ensures begun { OnOk result (self.new.begun.items ≡ []) }
         ensures ended { OnOk result (self.new.ended ≡ self.old.ended + 1) }
         ensures amount { self.new.amount ≡ self.old.amount }

@@ -1,16 +1,16 @@
 //! Reading a whole text.
-ghost use Rattle.std.specs.Prelude.{◌≡◌, ◌≤◌, List, ℕ, Some, [], OnOk, IfSome, IsErrOf, false, option_map};
+ghost use Rattle.std.specs.Prelude.{◌≡◌, List, ℕ, Some, [], OnOk, IsOk, IfSome, IsErrOf, false, option_map};
 ghost use Rattle.lexer.specs.declared.token.Comments.TheVariants.{Dimacs};
 ghost use Rattle.lexer.specs.Words.{items};
 ghost use Rattle.lexer.specs.State.{upcoming};
-ghost use Rattle.ports.specs.Causes.{Rose};
+ghost use Rattle.ports.specs.Causes.{IsCounted};
 ghost use Rattle.qdimacs.specs.Rules.{nothing};
 ghost use Rattle.qdimacs.specs.Answers.{IsAnswer};
 ghost use Rattle.qdimacs.specs.Step.{refusal_for};
 ghost use Rattle.qdimacs.specs.Represents.{Represents};
 
 use crate::reader::Reader;
-use crate::refusal::{BAD_BYTE, NUMBER_RANGE, Quantity, ReadRefusal};
+use crate::refusal::{BAD_BYTE, NUMBER_RANGE, Quantity, ReadRefusal, beyond, refused};
 use lexer::{Comments, LexRefusal, Lexer};
 use ports::Desk;
 use std::alloc::Global;
@@ -21,19 +21,10 @@ fn refusal_of(e: LexRefusal) -> ReadRefusal
     ensures { result ≡ refusal_for e }
 {
     match e {
-        LexRefusal::ReadFault { .. } => ReadRefusal::ReadFault,
-        LexRefusal::TooLong { line } => ReadRefusal::Limit {
-            quantity: Quantity::Bytes,
-            line,
-        },
-        LexRefusal::BadByte { line } => ReadRefusal::Refused {
-            number: BAD_BYTE,
-            line,
-        },
-        LexRefusal::NumberRange { line } => ReadRefusal::Refused {
-            number: NUMBER_RANGE,
-            line,
-        },
+        LexRefusal::ReadFault => ReadRefusal::ReadFault,
+        LexRefusal::TooLong { line } => beyond(Quantity::Bytes, line),
+        LexRefusal::BadByte { line } => refused(BAD_BYTE, line),
+        LexRefusal::NumberRange { line } => refused(NUMBER_RANGE, line),
     }
 }
 
@@ -48,9 +39,11 @@ fn read_words<D: Desk>(
     requires failed { lexer.old.failed ≡ false }
     ensures outcome { IfSome (D.left desk.old) (λ text. IsAnswer result text) }
     ensures read { OnOk result (IfSome (D.left desk.old) (λ _. D.left desk.new ≡ Some [])) }
-    ensures fault { IsErrOf result ReadRefusal.ReadFault → Rose (D.faults desk.old) (D.faults desk.new) }
-    ensures later { D.faults desk.old ≤ D.faults desk.new }
+    ensures cause { IsCounted (IsErrOf result ReadRefusal.ReadFault) (IsOk result) (D.faults desk.old)
+        (D.faults desk.new) }
+    ensures flows { D.flows desk.old → ¬ IsErrOf result ReadRefusal.ReadFault × D.flows desk.new }
     ensures content { (n : List ℕ) → D.content desk.new n ≡ D.content desk.old n }
+    ensures stays { (n : List ℕ) → D.steady desk.old n → D.steady desk.new n }
 {
     loop {
         match lexer.next(desk) {
@@ -71,10 +64,12 @@ pub fn read_formula<D: Desk>(alloc: Global, desk: &mut D) -> Result<Formula, Rea
     ensures outcome { IfSome (D.left desk.old) (λ text. IsAnswer result text) }
     // A text that is a formula is read to its end.
     ensures read { OnOk result (IfSome (D.left desk.old) (λ _. D.left desk.new ≡ Some [])) }
-    // It doesn't give up by itself.
-    ensures fault { IsErrOf result ReadRefusal.ReadFault → Rose (D.faults desk.old) (D.faults desk.new) }
-    ensures later { D.faults desk.old ≤ D.faults desk.new }
+    // It gives up only where the desk failed, so never where it flows.
+    ensures cause { IsCounted (IsErrOf result ReadRefusal.ReadFault) (IsOk result) (D.faults desk.old)
+        (D.faults desk.new) }
+    ensures flows { D.flows desk.old → ¬ IsErrOf result ReadRefusal.ReadFault × D.flows desk.new }
     ensures content { (n : List ℕ) → D.content desk.new n ≡ D.content desk.old n }
+    ensures stays { (n : List ℕ) → D.steady desk.old n → D.steady desk.new n }
 {
     let mut lexer = Lexer::new(alloc, Comments::Dimacs)?;
     let mut reader = Reader::new(alloc);

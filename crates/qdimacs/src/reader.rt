@@ -1,5 +1,5 @@
 //! What has been read.
-ghost use Rattle.std.specs.Prelude.{◌≡◌, ℕ, ◌<◌, ◌≤◌, ◌&&◌, not, false, if◌then◌else◌, length, Some, None, IfOk, OnOk, slice_index_or, nat_abs};
+ghost use Rattle.std.specs.Prelude.{◌≡◌, ℕ, ◌<◌, ◌≤◌, ◌&&◌, not, false, if◌then◌else◌, length, Some, None, true, IfErr, IfOk, OnOk, slice_index_or, nat_abs};
 ghost use Rattle.lexer.specs.declared.token.Word.TheVariants.{Text};
 ghost use Rattle.prefix.specs.Scopes.{is_among, AreDistinct};
 ghost use Rattle.qdimacs.specs.Rules.{nothing, is_text as is_text_word, is_natural, quant_of as quant_of_word, first_of, inside_rules};
@@ -10,7 +10,7 @@ ghost use Rattle.qdimacs.specs.Represents.{Steps, Represents, Passes, Closing, T
 use crate::clauses::Clauses;
 use crate::refusal::{
     BAD_HEADER, BAD_WORD, MISSING_ZERO, NO_HEADER, Quantity, ReadRefusal, SET_AFTER_CLAUSE,
-    TOO_FEW_CLAUSES, TOO_MANY_CLAUSES,
+    TOO_FEW_CLAUSES, TOO_MANY_CLAUSES, beyond, refused,
 };
 use crate::sets::Sets;
 use lexer::{Token, Word};
@@ -74,10 +74,7 @@ impl Reader {
             Stage::Vars => self.take_count(&token.word, line),
             Stage::Headed => {
                 if line == self.line {
-                    return Err(ReadRefusal::Refused {
-                        number: BAD_HEADER,
-                        line,
-                    });
+                    return Err(refused(BAD_HEADER, line));
                 }
                 self.begin_body()?;
                 self.take_between(&token.word, line)
@@ -94,10 +91,7 @@ impl Reader {
         ensures { Steps result self.old self.new word.now line }
     {
         if !is_text(word, b"p".as_slice()) {
-            return Err(ReadRefusal::Refused {
-                number: NO_HEADER,
-                line,
-            });
+            return Err(refused(NO_HEADER, line));
         }
         self.line = line;
         self.stage = Stage::Problem;
@@ -124,14 +118,7 @@ impl Reader {
         requires { self.old.stage ≡ Stage.Format }
         ensures { Steps result self.old self.new word.now line }
     {
-        let natural = natural_of(word);
-        let Some(n) = natural else {
-            return Err(self.bad_header());
-        };
-        if line != self.line {
-            return Err(self.bad_header());
-        }
-        self.vars = n;
+        self.vars = self.header_number(word, line)?;
         self.stage = Stage::Vars;
         Ok(())
     }
@@ -141,16 +128,22 @@ impl Reader {
         requires { self.old.stage ≡ Stage.Vars }
         ensures { Steps result self.old self.new word.now line }
     {
-        let natural = natural_of(word);
-        let Some(n) = natural else {
-            return Err(self.bad_header());
-        };
+        self.count = self.header_number(word, line)?;
+        self.stage = Stage::Headed;
+        Ok(())
+    }
+
+    // The number that a word of the header is.
+    fn header_number(&self, word: &Word, line: u32) -> Result<u64, ReadRefusal>
+        ensures ok { IfOk result (λ n. (line ≡ self.now.line) × (is_natural word.now ≡ true)
+            × (n ≡ natural_of_word word.now)) }
+        ensures err { IfErr result (λ e. (e ≡ ReadRefusal.Refused 11 self.now.line)
+            × ((line ≡ self.now.line) → is_natural word.now ≡ false)) }
+    {
         if line != self.line {
             return Err(self.bad_header());
         }
-        self.count = n;
-        self.stage = Stage::Headed;
-        Ok(())
+        natural_of(word).ok_or_else(|| self.bad_header())
     }
 
     // Goes on behind the header, where its numbers are within the limits. It takes the marks.
@@ -162,16 +155,10 @@ impl Reader {
         ensures stage { OnOk result (self.new.stage ≡ Stage.Between) }
     {
         if self.vars > Var::MAX as u64 {
-            return Err(ReadRefusal::Limit {
-                quantity: Quantity::Variables,
-                line: self.line,
-            });
+            return Err(beyond(Quantity::Variables, self.line));
         }
         if self.count > MAX_CLAUSES {
-            return Err(ReadRefusal::Limit {
-                quantity: Quantity::Clauses,
-                line: self.line,
-            });
+            return Err(beyond(Quantity::Clauses, self.line));
         }
         let len = self.vars as usize + 1;
         self.sets.marks.resize(len, false)?;
@@ -189,33 +176,21 @@ impl Reader {
         match word {
             Word::Num(n) => {
                 if self.clauses.ended == self.count {
-                    return Err(ReadRefusal::Refused {
-                        number: TOO_MANY_CLAUSES,
-                        line,
-                    });
+                    return Err(refused(TOO_MANY_CLAUSES, line));
                 }
                 self.take_literal(*n, line)
             }
             Word::Text(text) => {
                 let Some(quant) = quant_of(text.as_slice()) else {
-                    return Err(ReadRefusal::Refused {
-                        number: BAD_WORD,
-                        line,
-                    });
+                    return Err(refused(BAD_WORD, line));
                 };
                 if self.clauses.ended > 0 {
-                    return Err(ReadRefusal::Refused {
-                        number: SET_AFTER_CLAUSE,
-                        line,
-                    });
+                    return Err(refused(SET_AFTER_CLAUSE, line));
                 }
                 self.stage = Stage::InSet(quant);
                 Ok(())
             }
-            Word::Other => Err(ReadRefusal::Refused {
-                number: BAD_WORD,
-                line,
-            }),
+            Word::Other => Err(refused(BAD_WORD, line)),
         }
     }
 
@@ -246,10 +221,7 @@ impl Reader {
         match word {
             Word::Num(n) => self.take_literal(*n, line),
             Word::Text(text) => Err(stray(text.as_slice(), line)),
-            Word::Other => Err(ReadRefusal::Refused {
-                number: BAD_WORD,
-                line,
-            }),
+            Word::Other => Err(refused(BAD_WORD, line)),
         }
     }
 
@@ -268,10 +240,7 @@ impl Reader {
                 self.take_variable(quant, *n, line)
             }
             Word::Text(text) => Err(stray(text.as_slice(), line)),
-            Word::Other => Err(ReadRefusal::Refused {
-                number: BAD_WORD,
-                line,
-            }),
+            Word::Other => Err(refused(BAD_WORD, line)),
         }
     }
 
@@ -292,10 +261,7 @@ impl Reader {
     fn bad_header(&self) -> ReadRefusal
         ensures { result ≡ ReadRefusal.Refused 11 self.now.line }
     {
-        ReadRefusal::Refused {
-            number: BAD_HEADER,
-            line: self.line,
-        }
+        refused(BAD_HEADER, self.line)
     }
 
     // The formula, where the text ends on this line.
@@ -304,20 +270,14 @@ impl Reader {
         ensures { Closing result self.old line }
     {
         match self.stage {
-            Stage::Nothing => Err(ReadRefusal::Refused {
-                number: NO_HEADER,
-                line,
-            }),
+            Stage::Nothing => Err(refused(NO_HEADER, line)),
             Stage::Problem | Stage::Format | Stage::Vars => Err(self.bad_header()),
             Stage::Headed => {
                 self.begin_body()?;
                 self.finish(line)
             }
             Stage::Between => self.finish(line),
-            Stage::InSet(_) | Stage::InClause => Err(ReadRefusal::Refused {
-                number: MISSING_ZERO,
-                line,
-            }),
+            Stage::InSet(_) | Stage::InClause => Err(refused(MISSING_ZERO, line)),
         }
     }
 
@@ -329,19 +289,13 @@ impl Reader {
         ensures { Closing result self.old line }
     {
         if self.clauses.ended < self.count {
-            return Err(ReadRefusal::Refused {
-                number: TOO_FEW_CLAUSES,
-                line,
-            });
+            return Err(refused(TOO_FEW_CLAUSES, line));
         }
         let alloc = *self.clauses.rows.allocator();
         let free = free_of(alloc, &self.clauses.marks, &self.sets.marks)?;
         self.sets.put_in_front(free)?;
         if self.sets.rows.len() > Prefix::MAX_SCOPES {
-            return Err(ReadRefusal::Limit {
-                quantity: Quantity::Scopes,
-                line,
-            });
+            return Err(beyond(Quantity::Scopes, line));
         }
         let Ok(prefix) = self.sets.prefix() else {
             return Err(ReadRefusal::NoMemory);
@@ -361,7 +315,8 @@ fn free_of(alloc: Global, occur: &[bool], declared: &[bool]) -> Result<Vec<u32>,
     requires same { length occur.now ≡ length declared.now }
     requires few { length occur.now ≤ 1048577 }
     ensures distinct { IfOk result (λ free. AreDistinct free.items) }
-    ensures those { IfOk result (λ free. (v : ℕ) → is_among v free.items ≡ (slice_index_or occur.now v false && not (slice_index_or declared.now v false))) }
+    ensures those { IfOk result (λ free. (v : ℕ) → is_among v free.items
+        ≡ (slice_index_or occur.now v false && not (slice_index_or declared.now v false))) }
 {
     let mut free = Vec::new(alloc);
     for v in 0..occur.len() {
@@ -385,10 +340,7 @@ fn is_free(occur: &[bool], declared: &[bool], v: usize) -> bool
 fn is_text(word: &Word, text: &[u8]) -> bool
     ensures { result ≡ is_text_word text.now word.now }
 {
-    match word {
-        Word::Text(bytes) => bytes.as_slice() == text,
-        Word::Num(_) | Word::Other => false,
-    }
+    matches!(word, Word::Text(bytes) if bytes.as_slice() == text)
 }
 
 // The number that a word is, where it isn't negative.
@@ -396,8 +348,8 @@ fn natural_of(word: &Word) -> Option<u64>
     ensures { result ≡ (if is_natural word.now then Some (natural_of_word word.now) else None) }
 {
     match word {
-        Word::Num(n) => { if *n >= 0 { Some(*n as u64) } else { None } }
-        Word::Text(_) | Word::Other => None,
+        Word::Num(n) if *n >= 0 => Some(*n as u64),
+        _ => None,
     }
 }
 
@@ -405,12 +357,10 @@ fn natural_of(word: &Word) -> Option<u64>
 fn quant_of(text: &[u8]) -> Option<Quant>
     ensures { result ≡ quant_of_word (Text text.now) }
 {
-    if text == b"e".as_slice() {
-        Some(Quant::Exists)
-    } else if text == b"a".as_slice() {
-        Some(Quant::Forall)
-    } else {
-        None
+    match text {
+        [b'e'] => Some(Quant::Exists),
+        [b'a'] => Some(Quant::Forall),
+        _ => None,
     }
 }
 
@@ -423,5 +373,5 @@ fn stray(text: &[u8], line: u32) -> ReadRefusal
     } else {
         BAD_WORD
     };
-    ReadRefusal::Refused { number, line }
+    refused(number, line)
 }

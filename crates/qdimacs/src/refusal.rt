@@ -47,9 +47,9 @@ pub(crate) const BAD_WORD: u8 = 18;
 #[derive(Clone, Copy, Debug, PartialEq, Eq, Error)]
 pub enum ReadRefusal {
     /// The text is refused, at the word, the header or the end on this line: 7 is a byte of a word that is none of 33 to
-    /// 126, 8 a number whose magnitude is above 2^63 - 1, 10 no header, 11 a malformed header, 12 a variable that isn't
-    /// declared, 13 a variable that stands in a set already, 14 a set behind a clause, 15 a set or clause without its 0,
-    /// 16 fewer clauses than declared, 17 more clauses than declared, 18 a word that doesn't belong there.
+    /// 126, 8 a number whose magnitude is above 2^63 - 1, 10 no header, 11 a malformed header, 12 a variable that
+    /// isn't declared, 13 a variable that stands in a set already, 14 a set behind a clause, 15 a set or clause without
+    /// its 0, 16 fewer clauses than declared, 17 more clauses than declared, 18 a word that doesn't belong there.
     #[error("line {line}: refused with number {number}")]
     Refused { number: u8, line: u32 },
     /// The text goes beyond a limit on this line.
@@ -61,6 +61,20 @@ pub enum ReadRefusal {
     /// There is no memory.
     #[error("out of memory")]
     NoMemory,
+}
+
+// The refusal of this number on this line.
+pub(crate) fn refused(number: u8, line: u32) -> ReadRefusal
+    ensures { result ≡ ReadRefusal.Refused number line }
+{
+    ReadRefusal::Refused { number, line }
+}
+
+// The refusal beyond this limit on this line.
+pub(crate) fn beyond(quantity: Quantity, line: u32) -> ReadRefusal
+    ensures { result ≡ ReadRefusal.Limit quantity line }
+{
+    ReadRefusal::Limit { quantity, line }
 }
 
 impl From<AllocError> for ReadRefusal {

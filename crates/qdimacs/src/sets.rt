@@ -1,11 +1,10 @@
 //! The scopes while the sets come.
-ghost use Rattle.std.specs.Prelude.{◌≡◌, ◌<◌, ◌≤◌, ◌+◌, ◌^◌, [], ◌∷◌, ◌++◌, set, length, true, OnOk, IfOk, IsOkUnless};
+ghost use Rattle.std.specs.Prelude.{◌≡◌, ◌<◌, ◌≤◌, ◌+◌, ◌^◌, [], ◌∷◌, ◌++◌, set, length, true, OnOk, IfOk, IsOkUnless, map};
 ghost use Rattle.qdimacs.specs.Kept.{sets_of, with_last, put_last, last_differs, variable_rules_kept, put_front, Checks, AreNew, AreScopes};
 ghost use Rattle.qdimacs.specs.Rules.{first_of};
 ghost use Rattle.qdimacs.specs.Formula.{in_order, same_quant};
-ghost use Rattle.std.specs.Prelude.{map};
 
-use crate::refusal::{Quantity, ReadRefusal, VARIABLE_RANGE, VARIABLE_TWICE};
+use crate::refusal::{Quantity, ReadRefusal, VARIABLE_RANGE, VARIABLE_TWICE, beyond, refused};
 use prefix::{Prefix, PrefixRefusal, Quant};
 use std::alloc::{AllocError, Global};
 
@@ -54,25 +53,17 @@ impl Sets {
     ) -> Result<(), ReadRefusal>
         requires marked { length self.now.marks.items ≡ vars + 1 }
         requires few { vars ≤ 1048576 }
-        ensures { Checks result (first_of (variable_rules_kept vars self.now.marks.items (sets_of self.now.rows.items) quant n line)) }
+        ensures { Checks result (first_of (variable_rules_kept vars self.now.marks.items
+            (sets_of self.now.rows.items) quant n line)) }
     {
         if n < 0 || n as u64 > vars {
-            return Err(ReadRefusal::Refused {
-                number: VARIABLE_RANGE,
-                line,
-            });
+            return Err(refused(VARIABLE_RANGE, line));
         }
         if self.marks[n as usize] {
-            return Err(ReadRefusal::Refused {
-                number: VARIABLE_TWICE,
-                line,
-            });
+            return Err(refused(VARIABLE_TWICE, line));
         }
         if self.begins_scope(quant) && self.rows.len() >= Prefix::MAX_SCOPES {
-            return Err(ReadRefusal::Limit {
-                quantity: Quantity::Scopes,
-                line,
-            });
+            return Err(beyond(Quantity::Scopes, line));
         }
         Ok(())
     }

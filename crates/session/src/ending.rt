@@ -1,6 +1,11 @@
 //! What is asked of a file, and how it ends.
+ghost use Rattle.std.specs.Prelude.{◌≡◌};
+ghost use Rattle.session.specs.declared.ending.Ending.TheVariants.{Refused, Limit, ReadFault, WriteFault, NoMemory as NoRoom};
+ghost use Rattle.session.specs.Endings.{ending_for};
 
-use qdimacs::Quantity;
+use ports::Failed;
+use qdimacs::{Quantity, ReadRefusal};
+use steps::NoMemory;
 
 /// What is asked of a file with a formula.
 #[derive(Clone, Copy, Debug, PartialEq, Eq)]
@@ -12,8 +17,7 @@ pub enum Job {
 /// How the work on an input ends.
 #[derive(Clone, Copy, Debug, PartialEq, Eq)]
 pub enum Ending {
-    /// The answer is written. Its exit status is 10 for a true formula, 20 for a false one and 0 where the budget was
-    /// spent before there was an answer.
+    /// The answer is written. It has this exit status (`Answer::status`).
     Done(u8),
     /// The input is malformed: the rule of that number refuses it on this line.
     Refused { number: u8, line: u32 },
@@ -25,4 +29,35 @@ pub enum Ending {
     WriteFault,
     /// There is no memory.
     NoMemory,
+}
+
+// The ending where a text is no formula, or can't be read.
+impl From<ReadRefusal> for Ending {
+    ghost from_gives = { λ e ending. ending ≡ ending_for e };
+
+    fn from(e: ReadRefusal) -> Self {
+        match e {
+            ReadRefusal::Refused { number, line } => Self::Refused { number, line },
+            ReadRefusal::Limit { quantity, line } => Self::Limit { quantity, line },
+            ReadRefusal::ReadFault => Self::ReadFault,
+            ReadRefusal::NoMemory => Self::NoMemory,
+        }
+    }
+}
+
+// The ending where the output fails.
+impl From<Failed> for Ending {
+    ghost from_gives = { λ _ ending. ending ≡ WriteFault };
+
+    fn from(_e: Failed) -> Self {
+        Self::WriteFault
+    }
+}
+
+impl From<NoMemory> for Ending {
+    ghost from_gives = { λ _ ending. ending ≡ NoRoom };
+
+    fn from(_e: NoMemory) -> Self {
+        Self::NoMemory
+    }
 }

@@ -1,11 +1,14 @@
 //! One formula, read from the chosen input and decided.
-ghost use Rattle.std.specs.Prelude.{◌≡◌, ℕ, IfOk, IfSome, [], ◌∷◌, Some, Contains};
-ghost use Rattle.ports.specs.Causes.{Rose};
-ghost use Rattle.session.specs.Solve.{solve_status, IsEnding, ending_for, answer_line, HasWritten, WritesAnswer, IfDone};
+ghost use Rattle.std.specs.Prelude.{◌≡◌, ◌≢◌, ℕ, List, IfOk, IfErr, IfSome, IsErrOf, IsOk, OnOk, [], Some, length};
+ghost use Rattle.std.specs.Io.KnownBytes.{Appends};
+ghost use Rattle.ports.specs.Bytes.{AllFlushed, AppendsFront};
+ghost use Rattle.ports.specs.Causes.{HasCause, IsCounted};
+ghost use Rattle.session.specs.Solve.{answer_line, answer_to, HasAnswer, HasWritten, IsDone, IsEnding, RoomForAnswer, Solves};
 
+use crate::answer::Answer;
 use crate::ending::{Ending, Job};
-use ports::{Desk, Sink, write_all};
-use qdimacs::{ReadRefusal, read_formula};
+use ports::{Desk, Failed, Sink, write_all};
+use qdimacs::read_formula;
 use std::alloc::Global;
 use steps::{NoMemory, Steps, Stop};
 use truth::{Formula, decide_plain};
@@ -22,64 +25,76 @@ pub fn run_file<D: Desk, S: Sink>(
 ) -> Ending
     // The ending is what the text says, where the desk tells what it holds.
     ensures ending { IfSome (D.left desk.old) (λ text. IsEnding budget text result) }
-    ensures status { (s : ℕ) → result ≡ Ending.Done s → Contains (10 ∷ 20 ∷ 0 ∷ []) s }
+    ensures status { (s : ℕ) → result ≡ Ending.Done s → HasAnswer s }
     // A text that is decided was read to its end.
-    ensures read { IfDone result (IfSome (D.left desk.old) (λ _. D.left desk.new ≡ Some [])) }
-    // Faults come from outside alone.
-    ensures read_fault { result ≡ Ending.ReadFault → Rose (D.faults desk.old) (D.faults desk.new) }
-    ensures write_fault { result ≡ Ending.WriteFault → Rose (S.faults sink.old) (S.faults sink.new) }
-    // What stands on the output.
+    ensures read { IsDone result → IfSome (D.left desk.old) (λ _. D.left desk.new ≡ Some []) }
+    // Faults come from outside alone, and an answer only where there was none.
+    ensures read_fault { IsCounted (result ≡ Ending.ReadFault) (IsDone result) (D.faults desk.old) (D.faults desk.new) }
+    ensures flows { D.flows desk.old → (result ≢ Ending.ReadFault) × D.flows desk.new }
+    ensures write_fault { IsCounted (result ≡ Ending.WriteFault) (IsDone result) (S.faults sink.old) (S.faults sink.new) }
+    ensures room { RoomForAnswer budget (D.left desk.old) (S.has_room sink.old) → result ≢ Ending.WriteFault }
+    // What stands on the output, and that all of it is flushed where there is an answer.
     ensures written { HasWritten budget (D.left desk.old) (S.written sink.old) (S.written sink.new) result }
+    ensures flushed { IsDone result → AllFlushed (S.written sink.new) (S.flushed sink.old) (S.flushed sink.new) }
+    // What the desk holds, and whether it is steady, stays.
+    ensures content { (n : List ℕ) → D.content desk.new n ≡ D.content desk.old n }
+    ensures stays { (n : List ℕ) → D.steady desk.old n → D.steady desk.new n }
 {
-    match job {
-        Job::Solve => match read_formula(alloc, desk) {
-            Ok(f) => match status_of(alloc, &f, budget) {
-                Ok(status) => write_answer(sink, status),
-                Err(NoMemory) => Ending::NoMemory,
-            },
-            Err(e) => refused_ending(e),
-        },
+    let answer = match job {
+        Job::Solve => solve(alloc, budget, desk, sink),
+    };
+    match answer {
+        Ok(answer) => Ending::Done(answer.status()),
+        Err(ending) => ending,
     }
 }
 
-// The ending where a text is no formula, or can't be read.
-fn refused_ending(e: ReadRefusal) -> Ending
-    ensures { result ≡ ending_for e }
+// Writes the answer to the formula of the chosen input.
+fn solve<D: Desk, S: Sink>(
+    alloc: Global,
+    budget: u64,
+    desk: &mut D,
+    sink: &mut S,
+) -> Result<Answer, Ending>
+    ensures answer { IfOk result (λ a. IfSome (D.left desk.old) (λ text. Solves budget text a)) }
+    ensures ending { IfErr result (λ e. ¬ IsDone e × IfSome (D.left desk.old) (λ text. IsEnding budget text e)) }
+    ensures read { OnOk result (IfSome (D.left desk.old) (λ _. D.left desk.new ≡ Some [])) }
+    ensures read_fault { IsCounted (IsErrOf result Ending.ReadFault) (IsOk result) (D.faults desk.old) (D.faults desk.new) }
+    ensures flows { D.flows desk.old → ¬ IsErrOf result Ending.ReadFault × D.flows desk.new }
+    ensures write_fault { IsCounted (IsErrOf result Ending.WriteFault) (IsOk result) (S.faults sink.old) (S.faults sink.new) }
+    ensures room { RoomForAnswer budget (D.left desk.old) (S.has_room sink.old) → ¬ IsErrOf result Ending.WriteFault }
+    ensures line { IfOk result (λ a. Appends (S.written sink.old) (S.written sink.new) (answer_line a)) }
+    ensures front { IfErr result (HasWritten budget (D.left desk.old) (S.written sink.old) (S.written sink.new)) }
+    ensures flushed { OnOk result (AllFlushed (S.written sink.new) (S.flushed sink.old) (S.flushed sink.new)) }
+    ensures content { (n : List ℕ) → D.content desk.new n ≡ D.content desk.old n }
+    ensures stays { (n : List ℕ) → D.steady desk.old n → D.steady desk.new n }
 {
-    match e {
-        ReadRefusal::Refused { number, line } => Ending::Refused { number, line },
-        ReadRefusal::Limit { quantity, line } => Ending::Limit { quantity, line },
-        ReadRefusal::ReadFault => Ending::ReadFault,
-        ReadRefusal::NoMemory => Ending::NoMemory,
-    }
+    let f = read_formula(alloc, desk)?;
+    let answer = answer_of(alloc, &f, budget)?;
+    write_answer(sink, answer)?;
+    Ok(answer)
 }
 
-// The exit status of a formula.
-fn status_of(alloc: Global, f: &Formula, budget: u64) -> Result<u8, NoMemory>
-    ensures value { IfOk result (λ status. status ≡ solve_status budget f.now) }
-    ensures known { IfOk result (λ status. Contains (10 ∷ 20 ∷ 0 ∷ []) status) }
+// The answer to a formula.
+fn answer_of(alloc: Global, f: &Formula, budget: u64) -> Result<Answer, NoMemory>
+    ensures { IfOk result (λ answer. answer ≡ answer_to budget f.now) }
 {
-    let mut steps = Steps::new(budget);
-    match decide_plain(alloc, f, &mut steps) {
-        Ok(true) => Ok(10),
-        Ok(false) => Ok(20),
-        Err(Stop::Spent) => Ok(0),
+    match decide_plain(alloc, f, &mut Steps::new(budget)) {
+        Ok(true) => Ok(Answer::Sat),
+        Ok(false) => Ok(Answer::Unsat),
+        Err(Stop::Spent) => Ok(Answer::Unknown),
         Err(Stop::NoMemory) => Err(NoMemory),
     }
 }
 
 // Writes the line of an answer, and flushes.
-fn write_answer<S: Sink>(sink: &mut S, status: u8) -> Ending
-    ensures write_fault { result ≡ Ending.WriteFault → Rose (S.faults sink.old) (S.faults sink.new) }
-    ensures written { WritesAnswer status (S.written sink.old) (S.written sink.new) result }
+fn write_answer<S: Sink>(sink: &mut S, answer: Answer) -> Result<(), Failed>
+    ensures ok { OnOk result (Appends (S.written sink.old) (S.written sink.new) (answer_line answer)) }
+    ensures front { AppendsFront (S.written sink.old) (S.written sink.new) (answer_line answer) }
+    ensures flushed { OnOk result (AllFlushed (S.written sink.new) (S.flushed sink.old) (S.flushed sink.new)) }
+    ensures cause { HasCause (S.faults sink.old) (S.faults sink.new) result }
+    ensures room { S.has_room sink.old (length (answer_line answer)) → IsOk result }
 {
-    let line = match status {
-        10 => "SAT\n",
-        20 => "UNSAT\n",
-        _ => "UNKNOWN\n",
-    };
-    if write_all(sink, line.as_bytes()).is_err() || sink.flush().is_err() {
-        return Ending::WriteFault;
-    }
-    Ending::Done(status)
+    write_all(sink, answer.line().as_bytes())?;
+    sink.flush()
 }

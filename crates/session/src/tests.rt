@@ -1,7 +1,7 @@
 //! Files that are solved.
 ghost use Rattle.std.specs.Prelude.{◌<◌};
 
-use crate::{Ending, Job, run_file};
+use crate::{Answer, Ending, Job, run_file};
 use ports::{Desk, Input, MemoryDesk, MemorySink};
 use qdimacs::Quantity;
 use std::alloc::Global;
@@ -53,6 +53,7 @@ fn files_end_as_their_texts_say(rt: HostRuntime) -> Result<(), Fail> {
         let answer = run_file(alloc, Job::Solve, budget, &mut desk, &mut sink);
         assert_eq!(rt; answer, ending, "{text:?}");
         assert_eq!(rt; sink.bytes(), line.as_bytes());
+        assert_eq!(rt; sink.flushed(), line.as_bytes());
     }
     Ok(())
 }
@@ -65,5 +66,19 @@ fn a_failing_flush_is_a_write_fault(rt: HostRuntime) -> Result<(), Fail> {
     let answer = run_file(alloc, Job::Solve, 9, &mut desk, &mut sink);
     assert_eq!(rt; answer, Ending::WriteFault);
     assert_eq!(rt; sink.bytes(), b"SAT\n".as_slice());
+    assert_eq!(rt; sink.flushed(), b"".as_slice());
+    Ok(())
+}
+
+#[test]
+fn answers_have_their_status_and_line(rt: HostRuntime) -> Result<(), Fail> {
+    for (answer, status, line) in [
+        (Answer::Sat, 10, "SAT\n"),
+        (Answer::Unsat, 20, "UNSAT\n"),
+        (Answer::Unknown, 0, "UNKNOWN\n"),
+    ] {
+        assert_eq!(rt; answer.status(), status);
+        assert_eq!(rt; answer.line(), line);
+    }
     Ok(())
 }

@@ -24,6 +24,7 @@ pub fn decide_plain(alloc: Global, f: &Formula, steps: &mut Steps) -> Result<boo
     ensures never { step_limit (length (all_variables f.now.prefix)) ≤ left steps.old → result ≢ Err Stop.Spent }
     ensures all_spent { result ≡ Err Stop.Spent → steps.new ≡ record steps.old { spent = steps.old.budget } }
     ensures budget { steps.new.budget ≡ steps.old.budget }
+    ensures later { steps.old.spent ≤ steps.new.spent }
 {
     let mut search = Search::new(alloc, &f.prefix)?;
     let mut answer = None;
@@ -56,6 +57,7 @@ fn try_value(search: &mut Search, value: bool, steps: &mut Steps) -> Result<(), 
     ensures spent { result ≡ Err Stop.Spent → steps.new.spent ≡ steps.new.budget }
     ensures unchanged { result ≡ Err Stop.Spent → steps.new ≡ steps.old }
     ensures budget { steps.new.budget ≡ steps.old.budget }
+    ensures later { steps.old.spent ≤ steps.new.spent }
 {
     steps.tick()?;
     search.choose(value)?;

@@ -1,4 +1,4 @@
-use Rattle.std.proofs.Common.{◌≡◌, ◌<◌, ◌≤◌, Err, false, Option, List, sym, ap, ◌∙◌, arith, subst}
+use Rattle.std.proofs.Common.{refl, ◌≡◌, ◌<◌, ◌≤◌, Err, false, Option, List, sym, ap, ◌∙◌, arith, subst}
 use Rattle.std.specs.Io.KnownBytes.{IsAtEnd}
 use Rattle.std.proofs.lemmas.Result.{err_from_is_err_and}
 use Rattle.lexer.specs.State.{upcoming, Stays}
@@ -48,8 +48,10 @@ loop-b-preserved g c =
     let comment_comes : Stays before in_comment = stays_on before behind in_comment word_goes (comment_behind c.word.new.self c.in_ok-scan.scan (left c.word.new.desk) (sym c.if-is_comment.ensures)) in
     record {
       items = stays_on before in_comment (upcoming c.skip_line.new.self (left c.skip_line.new.desk)) comment_comes c.in_ok-skip_line.ensures.items;
-      later = omega arith;
+      kept = c.in_ok-skip_line.ensures.cause.kept refl ∙ c.in_ok-scan.ensures.cause.kept refl ∙ c.in_ok-b.ensures.cause.kept refl ∙ c.loop-b.invariant.kept;
+      flows = λ h. (c.skip_line.ensures.flows (c.word.ensures.flows (c.skip_blanks.ensures.flows (c.loop-b.invariant.flows h)).1).1).1;
       content = λ n. c.skip_line.ensures.content n ∙ c.word.ensures.content n ∙ c.skip_blanks.ensures.content n ∙ c.loop-b.invariant.content n;
+      stays = λ n h. c.skip_line.ensures.stays n (c.word.ensures.stays n (c.skip_blanks.ensures.stays n (c.loop-b.invariant.stays n h)));
       room = (let one : c.skip_line.new.self.room ≤ c.word.new.self.room = c.in_ok-skip_line.ensures.room in let two : c.word.new.self.room < c.skip_blanks.new.self.room = c.in_ok-scan.ensures.room in let three : c.skip_blanks.new.self.room ≤ c.loop-b.self.room = c.in_ok-b.ensures.room in omega arith);
       failed = c.in_ok-skip_line.ensures.failed ∙ c.in_ok-scan.ensures.failed ∙ c.in_ok-b.ensures.failed ∙ c.loop-b.invariant.failed;
     }

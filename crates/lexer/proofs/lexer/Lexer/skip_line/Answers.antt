@@ -52,8 +52,10 @@ loop-b-preserved g c =
       items = stays_on before after (upcoming_in_comment c.advance.new.self (left c.peek.new.desk))
           (stays_on before turn after c.loop-b.invariant.items (peeked_in_comment c.loop-b.self c.peek.new.self _ _ c.peek.ensures.same c.peek.ensures.bytes))
           (rw c.advance.ensures (past_in_comment c.peek.new.self c.in-Some.b (left c.peek.new.desk) first (omega arith) c.if-b-eq10.false));
-      later = omega arith;
+      kept = c.in_ok-b.ensures.cause.kept ∙ c.loop-b.invariant.kept;
+      flows = λ h. (c.peek.ensures.flows (c.loop-b.invariant.flows h)).1;
       content = λ n. c.peek.ensures.content n ∙ c.loop-b.invariant.content n;
+      stays = λ n h. c.peek.ensures.stays n (c.loop-b.invariant.stays n h);
       room = omega arith;
       comments = ap (λ (s : State). s.comments) c.advance.ensures ∙ ap (λ (s : State). s.comments) c.peek.ensures.same ∙ c.loop-b.invariant.comments;
       failed = ap (λ (s : State). s.failed) c.advance.ensures ∙ ap (λ (s : State). s.failed) c.peek.ensures.same ∙ c.loop-b.invariant.failed;

@@ -1,4 +1,4 @@
-use Rattle.std.proofs.Common.{◌≡◌, ℕ, List, ◌<◌, ◌≤◌}
+use Rattle.std.proofs.Common.{◌≡◌, ℕ, List, ◌<◌}
 use Rattle.lexer.specs.State.{Stays}
 use Rattle.lexer.specs.Scan.{no_scan}
 use Rattle.lexer.specs.Machine.{upcoming_in_word}
@@ -9,8 +9,10 @@ invariant-loop-b g l =
     let left = g.D.Desk.left in
     record {
       items : Stays (upcoming_in_word l.fn.self no_scan (left l.fn.desk)) (upcoming_in_word l.self l.scan (left l.desk));
-      later : g.D.Desk.faults l.fn.desk ≤ g.D.Desk.faults l.desk;
+      kept : g.D.Desk.faults l.desk ≡ g.D.Desk.faults l.fn.desk;
+      flows : g.D.Desk.flows l.fn.desk → g.D.Desk.flows l.desk;
       content : (n : List ℕ) → g.D.Desk.content l.desk n ≡ g.D.Desk.content l.fn.desk n;
+      stays : (n : List ℕ) → g.D.Desk.steady l.fn.desk n → g.D.Desk.steady l.desk n;
       room : l.self.room < l.fn.self.room;
       comments : l.self.comments ≡ l.fn.self.comments;
       failed : l.self.failed ≡ l.fn.self.failed;

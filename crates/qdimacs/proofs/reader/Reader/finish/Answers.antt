@@ -23,7 +23,7 @@ returns-then-len-gt-MAX_SCOPES c = λ front stands.
     ap (map in_order) (c.in_ok-put_in_front.ensures ∙ ap (put_front free_items) k.of_sets.scopes) ∙ front_same free_items (free st.0 st.1) (merged st.0) (free_found st.0 st.1 free_items r.clauses.marks.items r.sets.marks.items k.of_clauses.marks k.of_sets.marks found) in
     let rows_len : length (sets_of new.items) ≡ length new.items = length-map new.items (λ (x : Row). (x.quant, x.vars.items)) in
     let amount : c.len.result ≡ length (scopes_of st.0 st.1) = omega (arith, c.len.ensures, new.ok.0, scopes_length (sets_of new.items) (scopes_of st.0 st.1) whole, rows_len) in
-    too_many front (header_of r) st.0 st.1 c.args.line c.len.result st.2 (omega (arith, k.of_clauses.ended, c.if-self.false)) amount c.if-len-gt-MAX_SCOPES.true
+    rw c.beyond.ensures (too_many front (header_of r) st.0 st.1 c.args.line c.len.result st.2 (omega (arith, k.of_clauses.ended, c.if-self.false)) amount c.if-len-gt-MAX_SCOPES.true)
 
 pub returns : goal.returns
 returns c = λ front stands.
