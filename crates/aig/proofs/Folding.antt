@@ -1,8 +1,8 @@
 -- The folds of a conjunction, by what the two edges are.
-use Rattle.std.proofs.Common.{◌≡◌, Bool, true, false, not, Option, Some, refl, sym, ap, ap₂, ◌∙◌}
+use Rattle.std.proofs.Common.{◌≡◌, Bool, true, false, not, Some, refl, sym, ap, ap₂, ◌∙◌}
 use Rattle.std.proofs.lemmas.Bool.{true≢false}
 use Rattle.std.proofs.Math.Bool.{beq}
-use Rattle.aig.specs.Circuits.{Circuit, zero, one, opposite, IsConstant, Folds, AreProper}
+use Rattle.aig.specs.Circuits.{zero, one, IsConstant, Folds, AreProper}
 use Rattle.aig.specs.declared.edge.Edge.{Edge}
 use Rattle.aig.specs.declared.edge.Node.{Node}
 use Rattle.aig.specs.declared.edge.Node.TheVariants.{Constant, Input, Gate}
