@@ -1,0 +1,83 @@
+-- Worked values: small circuits whose values are known.
+use Rattle.std.specs.Prelude.{◌≡◌, ℕ, ◌==◌, true, false, not, [], ◌∷◌}
+use Rattle.prefix.specs.declared.quant.Quant.TheVariants.{Exists}
+use Rattle.aig.specs.Circuits.{Circuit, zero, one, opposite, value_of, edge_number, IsGate}
+use Rattle.aig.specs.Strategies.{values_of}
+use Rattle.aig.specs.declared.edge.Edge.{Edge}
+use Rattle.aig.specs.declared.edge.Node.TheVariants.{Input, Gate}
+use Rattle.aig.specs.declared.strategy.Strategy.{Strategy}
+
+-- an input
+abbrev pub input : ℕ → Edge
+input i = record { node = Input i; negated = false }
+
+-- a gate
+abbrev pub gate : ℕ → Edge
+gate j = record { node = Gate j; negated = false }
+
+-- the second input and the first
+abbrev pub both : Circuit
+both = record { inputs = 2; gates = record { left = input 1; right = input 0 } ∷ [] }
+
+-- one of two inputs alone: neither both of them nor none
+abbrev pub either : Circuit
+either = record {
+  inputs = 2;
+  gates =
+      record { left = input 1; right = input 0 }
+      ∷ record { left = opposite (input 1); right = opposite (input 0) }
+      ∷ record { left = opposite (gate 1); right = opposite (gate 0) }
+      ∷ [];
+}
+
+-- 3 is to be the conjunction of 1 and 2
+abbrev pub conjunction : Strategy
+conjunction = record {
+  aig = both;
+  winner = Exists;
+  inputs = 1 ∷ 2 ∷ [];
+  outputs = record { var = 3; edge = gate 0 } ∷ [];
+}
+
+-- numbers in a circuit with two inputs: the constants, the inputs, then the gates
+pub record WorkedNumbers : Type 0 where
+  pub zero : edge_number 2 zero ≡ 0
+  pub one : edge_number 2 one ≡ 1
+  pub first_input : edge_number 2 (input 0) ≡ 2
+  pub second_input : edge_number 2 (input 1) ≡ 4
+  pub first_gate : edge_number 2 (gate 0) ≡ 6
+  pub its_opposite : edge_number 2 (opposite (gate 0)) ≡ 7
+  pub second_gate : edge_number 2 (gate 1) ≡ 8
+
+-- what is a gate, as the first one over two inputs: no constant, no equal or opposite edges, and not over itself
+pub record WorkedGates : Type 0 where
+  pub of_inputs : IsGate 2 0 (record { left = input 1; right = opposite (input 0) })
+  pub of_constant : IsGate 2 0 (record { left = one; right = input 0 }) → ⊥
+  pub with_constant : IsGate 2 0 (record { left = input 0; right = zero }) → ⊥
+  pub of_equals : IsGate 2 0 (record { left = input 0; right = input 0 }) → ⊥
+  pub of_opposites : IsGate 2 0 (record { left = input 0; right = opposite (input 0) }) → ⊥
+  pub of_itself : IsGate 2 0 (record { left = gate 0; right = input 0 }) → ⊥
+  pub with_itself : IsGate 2 0 (record { left = input 0; right = gate 0 }) → ⊥
+  pub of_no_input : IsGate 2 0 (record { left = input 2; right = input 0 }) → ⊥
+
+-- the values of both circuits
+pub record WorkedCircuits : Type 0 where
+  pub both_true : value_of both (true ∷ true ∷ []) (gate 0) ≡ true
+  pub first_false : value_of both (false ∷ true ∷ []) (gate 0) ≡ false
+  pub second_false : value_of both (true ∷ false ∷ []) (gate 0) ≡ false
+  pub not_both : value_of both (true ∷ false ∷ []) (opposite (gate 0)) ≡ true
+  pub second_input : value_of both (false ∷ true ∷ []) (input 1) ≡ true
+  pub always_false : value_of both (true ∷ true ∷ []) zero ≡ false
+  pub always_true : value_of both (true ∷ true ∷ []) one ≡ true
+  pub either_of_none : value_of either (false ∷ false ∷ []) (gate 2) ≡ false
+  pub either_of_first : value_of either (true ∷ false ∷ []) (gate 2) ≡ true
+  pub either_of_second : value_of either (false ∷ true ∷ []) (gate 2) ≡ true
+  pub either_of_both : value_of either (true ∷ true ∷ []) (gate 2) ≡ false
+
+-- outputs have the circuit's values, all other variables those that they had
+pub record WorkedStrategies : Type 0 where
+  pub output_rises : values_of conjunction (λ x. not (x == 3)) 3 ≡ true
+  pub output_falls : values_of conjunction (λ x. x == 1) 3 ≡ false
+  pub input_stays : values_of conjunction (λ x. x == 1) 1 ≡ true
+  pub other_input_stays : values_of conjunction (λ x. x == 1) 2 ≡ false
+  pub other_stays : values_of conjunction (λ x. x == 4) 4 ≡ true

@@ -1,0 +1,22 @@
+//! Worked values of the definitions, each proved.
+ghost use Rattle.aig.specs.Worked.{WorkedCircuits, WorkedGates, WorkedNumbers, WorkedStrategies};
+
+/// The numbers of edges.
+pub fn worked_numbers()
+    ensures { WorkedNumbers }
+{}
+
+/// What is a gate and what is none.
+pub fn worked_gates()
+    ensures { WorkedGates }
+{}
+
+/// The values of a conjunction and of an exclusive disjunction.
+pub fn worked_circuits()
+    ensures { WorkedCircuits }
+{}
+
+/// What a strategy makes of values.
+pub fn worked_strategies()
+    ensures { WorkedStrategies }
+{}
