@@ -1,14 +1,10 @@
--- Worked answers and lines, which are computed.
-use Rattle.std.specs.Prelude.{◌≡◌, ℕ, true, false, [], ◌∷◌, codes, refl}
+-- Worked answers, which are computed.
+use Rattle.std.specs.Prelude.{◌≡◌, true, false, [], ◌∷◌, refl}
 use Rattle.prefix.specs.declared.quant.Quant.{Quant}
 use Rattle.prefix.specs.declared.quant.Quant.TheVariants.{Exists, Forall}
 use Rattle.truth.specs.declared.formula.Formula.{Formula}
 use Rattle.session.specs.declared.answer.Answer.TheVariants.{Sat, Unsat, Unknown}
 use Rattle.session.specs.Solve.{answer_to}
-use Rattle.qdimacs.specs.declared.refusal.Quantity.TheVariants.{Scopes}
-use Rattle.session.specs.declared.ending.Ending.TheVariants.{Refused, Limit}
-use Rattle.qbf_cli.specs.declared.ending.RunEnding.TheVariants.{Worked}
-use Rattle.qbf_cli.specs.Run.{line_of}
 
 -- 2 differs from 1, with these quantifiers of 1 and 2 in that order.
 abbrev pub differs : Quant → Quant → Formula
@@ -30,10 +26,3 @@ one_less = refl
 -- It tries both values of 1, and of 2 the one and the other.
 turned : answer_to 6 (differs Exists Forall) ≡ Unsat
 turned = refl
-
--- The lines of the error output.
-refused_on_two : line_of (Worked (Refused 12 2)) ≡ codes "qbf: line 2: refused 12\n"
-refused_on_two = refl
-
-limit_on_one : line_of (Worked (Limit Scopes 1)) ≡ codes "qbf: line 1: limit scopes\n"
-limit_on_one = refl
