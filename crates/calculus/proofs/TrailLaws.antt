@@ -1,5 +1,5 @@
 -- What a trail's lists give: values, causes, cuts, and the reasons of propagated variables.
-use Rattle.std.proofs.Common.{◌≡◌, ℕ, ◌<◌, ◌≤◌, Bool, true, cond, List, [], ◌∷◌, ◌++◌, Contains, Option, Some, None, is_some, sym, refl, ap, ◌∙◌, inl, inr, ⊎_elim, arith, nat_eq, nat_le, append_assoc, ap₂, length, AllPairs, filter, is_none}
+use Rattle.std.proofs.Common.{◌≡◌, ℕ, ◌<◌, ◌≤◌, Bool, true, cond, List, [], ◌∷◌, ◌++◌, Contains, Option, Some, None, is_some, sym, refl, ap, ◌∙◌, inl, inr, ⊎_elim, arith, nat_eq, nat_le, append_assoc, ap₂, AllPairs, filter, is_none}
 use Rattle.std.proofs.lemmas.Bool.{cases_Bool, cases_lt, cond_both, cond-true, cond-false, eqb-true, eq-eqb, le-leb, lt-leb, false≢true, true≢false, or_left}
 use Rattle.prefix.specs.declared.quant.Quant.{Quant}
 use Rattle.prefix.specs.Literal.{Literal, negation}
@@ -13,7 +13,7 @@ use Rattle.calculus.proofs.Lists.{contains_cons, contains_nil, pairs_nil, pairs_
 use Rattle.calculus.proofs.Levels.{assumption_of}
 use Rattle.calculus.proofs.Searching.{IsReason, bad_assigned, unblocked_clean}
 use Rattle.calculus.proofs.Trails.{value_here, value_past, cause_here, cause_past, level_here, level_past, now_least, level_least}
-use Rattle.calculus.proofs.TrailMoves.{value_front, place_front, front_has, value_new}
+use Rattle.calculus.proofs.TrailMoves.{value_front, place_front, front_has}
 use Rattle.std.proofs.lemmas.List.{append-nil}
 use Rattle.std.specs.List.{list_any}
 
@@ -128,19 +128,6 @@ cut_ordered scopes earlier before b [] ordered = tt
 cut_ordered scopes earlier before b (p ∷ rest) ordered =
     let now = level_after before p in
     cond_both (nat_le now b) (p ∷ cut_from now b rest) [] (IsOrderedAfter scopes earlier) (λ t. (ordered.0, ordered.1, ordered.2, cut_ordered scopes (earlier ++ p ∷ []) now b rest ordered.3)) (λ f. tt)
-
--- rows that are clean but for a literal
-pub clean_push : (pivot : Quant) (trail : Trail) (kept : Literal) (row : Row) (p : Placed) → p.literal.variable ≡ kept.variable → value_on trail kept.variable ≡ None → IsCleanBut pivot trail kept row → IsCleanBut pivot (trail ++ p ∷ []) kept row
-clean_push pivot trail kept row p at fresh clean l i =
-    ⊎_elim inl
-    (λ r.
-    let l_in = bad_assigned pivot (value_on trail l.variable) l r.0 in
-    let s = place_front trail (p ∷ []) l.variable l_in in
-    let none : value_on trail p.literal.variable ≡ None = ap (value_on trail) at ∙ fresh in
-    let new : place_on (trail ++ p ∷ []) kept.variable ≡ length trail = ap (place_on (trail ++ p ∷ [])) (sym at) ∙ (value_new trail p none).1 in
-    let low = s.1 in let same = s.0 in
-    inr (ap (λ o. is_bad_if pivot o l) (value_front trail (p ∷ []) l.variable l_in) ∙ r.0, λ a. omega arith))
-    (clean l i)
 
 pub clean_grows : (pivot : Quant) (front back : Trail) (kept : Literal) (row : Row) → is_some (value_on front kept.variable) ≡ true → IsCleanBut pivot front kept row → IsCleanBut pivot (front ++ back) kept row
 clean_grows pivot front back kept row a clean l i =

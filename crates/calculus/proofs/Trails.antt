@@ -131,22 +131,6 @@ decision_level_least before (p ∷ rest) x e =
     rw (level_past p rest x before f) (let h : now p rest x before < level_from_start (now p rest x before) rest x = decision_level_least (now p rest x before) rest x (sym (cause_past p rest x f) ∙ e) in omega arith))
     (cases_Bool (nat_eq p.literal.variable x))
 
-pub levels_rise : (before : ℕ) (trail : Trail) (y z : ℕ) → is_some (value_on trail y) ≡ true → is_some (value_on trail z) ≡ true → place_on trail y < place_on trail z → level_from_start before trail y ≤ level_from_start before trail z
-levels_rise before [] y z a b below = absurd (false≢true a)
-levels_rise before (p ∷ rest) y z a b below =
-    ⊎_elim
-    (λ tz. absurd (let m = place_here p rest z tz in omega arith))
-    (λ fz.
-    let z_level = level_past p rest z before fz in
-    ⊎_elim
-    (λ ty. let y_level = level_here p rest y before ty in let least : now p rest z before ≤ level_from_start (now p rest z before) rest z = level_least (now p rest z before) rest z in omega arith)
-    (λ fy. let y_level = level_past p rest y before fy in
-    let m = place_past p rest y fy in let n = place_past p rest z fz in
-    let h : level_from_start (now p rest y before) rest y ≤ level_from_start (now p rest y before) rest z = levels_rise (now p rest y before) rest y z (ap is_some (sym (value_past p rest y fy)) ∙ a) (ap is_some (sym (value_past p rest z fz)) ∙ b) (omega arith) in
-    omega arith)
-    (cases_Bool (nat_eq p.literal.variable y)))
-    (cases_Bool (nat_eq p.literal.variable z))
-
 pub levels_rise_at : (before : ℕ) (trail : Trail) (y z : ℕ) → is_some (value_on trail y) ≡ true → cause_on trail z ≡ Some Decided → place_on trail y < place_on trail z → level_from_start before trail y < level_from_start before trail z
 levels_rise_at before [] y z a e below = absurd (false≢true a)
 levels_rise_at before (p ∷ rest) y z a e below =

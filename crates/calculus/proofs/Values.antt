@@ -11,10 +11,9 @@ use Rattle.calculus.specs.Derivations.{Inference}
 use Rattle.calculus.specs.Plays.{AgreeBefore, Follows, first_forced, literals_of}
 use Rattle.calculus.specs.Rows.{Assignment, Row, depth_of}
 use Rattle.calculus.specs.Verdicts.{AreOuter}
-use Rattle.calculus.proofs.Levels.{level_from, depth_at_least}
+use Rattle.calculus.proofs.Levels.{level_from, depth_at_least, outer_level, level_at_least, depth_counted}
 use Rattle.calculus.proofs.Sound.{AreSoundSteps, IsSound}
 use Rattle.calculus.proofs.Lists.{contains_cons, contains_nil, contains_head, contains_tail, among_at, among_from}
-use Rattle.calculus.proofs.Levels.{outer_level, level_at_least, depth_counted, depth_at_least, level_from}
 use Rattle.calculus.proofs.Strategy.{same_quantifier_cases}
 use Rattle.calculus.proofs.Locality.{first_forced_same}
 use Rattle.calculus.proofs.Verdict.{following_decides, strategy_decides, option_cases, override, override_assumed, override_free, override_same, play_of, play_local}

@@ -3,11 +3,11 @@ use Rattle.std.proofs.Common.{◌≡◌, ℕ, ◌<◌, ◌⊎◌, Bool, true, fa
 use mathlib.Core.Path.{fun_ext}
 use Rattle.std.specs.List.{list_any}
 use Rattle.prefix.specs.Literal.{Literal}
-use Rattle.prefix.specs.Scopes.{AreDistinct, Scope, all_variables, quantifier_of}
+use Rattle.prefix.specs.Scopes.{AreDistinct, Scope, all_variables, quantifier_of, is_among, prefix_order, variables_of}
 use Rattle.prefix.specs.Sides.{bad_of}
 use Rattle.prefix.specs.declared.quant.Quant.{Quant}
 use Rattle.prefix.specs.declared.quant.Quant.TheVariants.{Exists, Forall}
-use Rattle.truth.specs.Matrix.{same as same_bool}
+use Rattle.truth.specs.Matrix.{same as same_bool, matrix_true, literal_true, clause_true, is_true_of, no_values, Values}
 use Rattle.truth.specs.Truth.{assumed_value, truth_under}
 use Rattle.calculus.specs.Derivations.{Inference, IsInput}
 use Rattle.calculus.specs.Plays.{Follows, IsAllowed, first_forced}
@@ -19,8 +19,6 @@ use Rattle.std.proofs.lemmas.List.Elements.{Contains-append_right}
 use Rattle.calculus.proofs.Lists.{among_at, among_from, contains_nil, contains_head, all_at, all_from, any_at, any_from}
 use Rattle.calculus.proofs.Levels.{order_ordered, outer_level, bound_quantifier, bound_among}
 use Rattle.truth.proofs.OrderLemmas.{variables_of-prefix_order}
-use Rattle.prefix.specs.Scopes.{is_among, prefix_order, variables_of}
-use Rattle.truth.specs.Matrix.{matrix_true, literal_true, clause_true, is_true_of, no_values, same as same_bool, Values}
 use Rattle.calculus.proofs.Strategy.{decided, same_quantifier_cases, Plays, within, within_in, within_none}
 use Rattle.calculus.proofs.Leaf.{bad_input}
 use Rattle.calculus.proofs.Locality.{first_forced_same}

@@ -1,9 +1,8 @@
 -- Rows: bad literals, reduction, resolution and clash.
 -- A side is named by its pivot quantifier: Exists for clauses, Forall for cubes.
-use Rattle.std.specs.Prelude.{ℕ, ◌+◌, ◌==◌, Bool, true, false, not, ◌&&◌, ◌||◌, if◌then◌else◌, nat_lt, List, [], ◌∷◌, Option, Some, None, map, length, filter, unwrap_or, Contains}
+use Rattle.std.specs.Prelude.{ℕ, ◌==◌, Bool, not, ◌&&◌, ◌||◌, if◌then◌else◌, nat_lt, List, [], ◌∷◌, Option, Some, None, map, filter, Contains}
 use Rattle.std.specs.List.{list_any, list_all}
 use Rattle.prefix.specs.declared.quant.Quant.{Quant}
-use Rattle.prefix.specs.declared.quant.Quant.TheVariants.{Exists, Forall}
 use Rattle.prefix.specs.Literal.{Literal}
 use Rattle.prefix.specs.Scopes.{Scope, all_variables, IsAscending}
 use Rattle.prefix.specs.Sides.{bad_of}
@@ -46,7 +45,8 @@ pub record IsRow (scopes : List Scope) (row : Row) : Type 0 where
 
 -- each clause is over variables of the prefix
 abbrev pub AreOverPrefix : List Scope → List Row → Type 0
-AreOverPrefix scopes clauses = (clause : Row) (literal : Literal) → Contains clauses clause → Contains clause literal → Contains (all_variables scopes) literal.variable
+AreOverPrefix scopes clauses = (clause : Row) (literal : Literal) → Contains clauses clause → Contains clause literal
+    → Contains (all_variables scopes) literal.variable
 
 -- the literal of a row over a variable
 abbrev pub literal_over : Row → ℕ → Option Literal
@@ -55,7 +55,9 @@ literal_over (literal ∷ literals) x = if literal.variable == x then Some liter
 
 -- whether the row has a pivot-type literal of a later scope
 abbrev pub is_blocked : Quant → List Scope → Row → Literal → Bool
-is_blocked pivot scopes row literal = list_any (λ p. is_pivot pivot scopes p && nat_lt (depth_of scopes literal.variable) (depth_of scopes p.variable)) row
+is_blocked pivot scopes row literal =
+    list_any (λ p. is_pivot pivot scopes p
+    && nat_lt (depth_of scopes literal.variable) (depth_of scopes p.variable)) row
 
 -- whether reduction leaves a literal
 abbrev pub stays : Quant → List Scope → Row → Literal → Bool
@@ -74,7 +76,9 @@ same_literal a b = a.variable == b.variable && same a.positive b.positive
 -- a literal and the merge of what follows it, merged with a row
 abbrev pub merge_literal : Literal → (Row → Row) → Row → Row
 merge_literal l rest [] = l ∷ rest []
-merge_literal l rest (m ∷ ms) = if nat_lt l.variable m.variable then l ∷ rest (m ∷ ms) else (if same_literal l m then l ∷ rest ms else m ∷ merge_literal l rest ms)
+merge_literal l rest (m ∷ ms) =
+    if nat_lt l.variable m.variable then l ∷ rest (m ∷ ms)
+    else (if same_literal l m then l ∷ rest ms else m ∷ merge_literal l rest ms)
 
 -- two ascending rows merged
 abbrev pub merge : Row → Row → Row
@@ -91,7 +95,8 @@ resolve a b x = merge (without x a) (without x b)
 
 -- whether the opposite of a literal stands in a row
 abbrev pub opposes : Literal → Row → Bool
-opposes literal row = list_any (λ (m : Literal). literal.variable == m.variable && not (same literal.positive m.positive)) row
+opposes literal row =
+    list_any (λ (m : Literal). literal.variable == m.variable && not (same literal.positive m.positive)) row
 
 -- whether a variable other than the one resolved on stands with opposite signs
 abbrev pub clashes : Row → Row → ℕ → Bool

@@ -1,15 +1,16 @@
 -- Worked values: small formulas, rows and proofs whose answers are known.
-use Rattle.std.specs.Prelude.{◌≡◌, ℕ, Bool, true, false, not, List, [], ◌∷◌, Some, ◌==◌}
+use Rattle.std.specs.Prelude.{◌≡◌, ℕ, Bool, true, false, not, List, [], ◌∷◌, Some, None, ◌==◌}
 use Rattle.prefix.specs.declared.quant.Quant.TheVariants.{Exists, Forall}
 use Rattle.prefix.specs.Literal.{Literal}
 use Rattle.prefix.specs.Scopes.{Scope}
 use Rattle.truth.specs.Truth.{truth, truth_under, plain_steps}
 use Rattle.calculus.specs.Rows.{Row, depth_of, reduce, resolve, clashes}
-use Rattle.calculus.specs.Derivations.{Inference}
+use Rattle.calculus.specs.Derivations.{Inference, IsLegal}
 use Rattle.calculus.specs.Derivations.Reason.{Input, One, Two}
 use Rattle.calculus.specs.Verdicts.{IsProof, relevant_of, finish_steps}
 use Rattle.calculus.specs.Plays.{played, first_forced, total}
-use Rattle.calculus.specs.Limits.{gate_weight}
+use Rattle.steps.specs.Counter.{step_limit}
+use Rattle.calculus.specs.Limits.{assignment_limit, restarted_step_limit, gate_weight, removal_bound, weight_bound}
 use Rattle.calculus.specs.Weights.{trail_weight}
 use Rattle.truth.specs.Matrix.{matrix_true}
 
@@ -57,7 +58,8 @@ pub record WorkedRows : Type 0 where
   pub absent_goes : reduce Exists universal_first (plus 2 ∷ plus 9 ∷ []) ≡ plus 2 ∷ []
   pub other_pair_clashes : clashes (plus 1 ∷ plus 2 ∷ []) (minus 1 ∷ minus 2 ∷ []) 2 ≡ true
   pub pivot_alone_does_not : clashes (plus 1 ∷ plus 2 ∷ []) (plus 1 ∷ minus 2 ∷ []) 2 ≡ false
-  pub resolvent : resolve (plus 1 ∷ plus 2 ∷ plus 5 ∷ []) (minus 2 ∷ plus 3 ∷ plus 5 ∷ []) 2 ≡ plus 1 ∷ plus 3 ∷ plus 5 ∷ []
+  pub resolvent : resolve (plus 1 ∷ plus 2 ∷ plus 5 ∷ []) (minus 2 ∷ plus 3 ∷ plus 5 ∷ []) 2
+      ≡ plus 1 ∷ plus 3 ∷ plus 5 ∷ []
 
 -- weights over three variables: a decision and another assignment; another assignment; three of them
 pub record WorkedWeights : Type 0 where
@@ -72,11 +74,16 @@ pub record WorkedTruths : Type 0 where
   pub existential_then_universal_is_false : truth existential_first differ ≡ false
   pub empty_formula_is_true : truth [] [] ≡ true
   pub empty_clause_is_false : truth [] ([] ∷ []) ≡ false
-  pub tautologies_are_no_matter : truth universal_first ((plus 1 ∷ minus 1 ∷ plus 2 ∷ []) ∷ (plus 2 ∷ plus 2 ∷ []) ∷ []) ≡ true
-  pub assumed_universal : truth_under (plus 1 ∷ []) universal_first ((plus 1 ∷ plus 2 ∷ []) ∷ (plus 1 ∷ minus 2 ∷ []) ∷ []) ≡ true
-  pub unassumed_universal : truth_under [] universal_first ((plus 1 ∷ plus 2 ∷ []) ∷ (plus 1 ∷ minus 2 ∷ []) ∷ []) ≡ false
-  pub assumed_against : truth_under (minus 1 ∷ []) universal_first ((plus 1 ∷ plus 2 ∷ []) ∷ (plus 1 ∷ minus 2 ∷ []) ∷ []) ≡ false
-  pub conjunction_gate : truth (universal (1 ∷ 2 ∷ []) ∷ existential (3 ∷ []) ∷ []) ((minus 3 ∷ plus 1 ∷ []) ∷ (minus 3 ∷ plus 2 ∷ []) ∷ (plus 3 ∷ minus 1 ∷ minus 2 ∷ []) ∷ []) ≡ true
+  pub tautologies_are_no_matter
+      : truth universal_first ((plus 1 ∷ minus 1 ∷ plus 2 ∷ []) ∷ (plus 2 ∷ plus 2 ∷ []) ∷ []) ≡ true
+  pub assumed_universal
+      : truth_under (plus 1 ∷ []) universal_first ((plus 1 ∷ plus 2 ∷ []) ∷ (plus 1 ∷ minus 2 ∷ []) ∷ []) ≡ true
+  pub unassumed_universal
+      : truth_under [] universal_first ((plus 1 ∷ plus 2 ∷ []) ∷ (plus 1 ∷ minus 2 ∷ []) ∷ []) ≡ false
+  pub assumed_against
+      : truth_under (minus 1 ∷ []) universal_first ((plus 1 ∷ plus 2 ∷ []) ∷ (plus 1 ∷ minus 2 ∷ []) ∷ []) ≡ false
+  pub conjunction_gate : truth (universal (1 ∷ 2 ∷ []) ∷ existential (3 ∷ []) ∷ [])
+      ((minus 3 ∷ plus 1 ∷ []) ∷ (minus 3 ∷ plus 2 ∷ []) ∷ (plus 3 ∷ minus 1 ∷ minus 2 ∷ []) ∷ []) ≡ true
   pub steps_tried : plain_steps universal_first differ ≡ 5
 
 -- a refutation under e 2, a 1: 1 2 and -1 -2 reduce to 2 and -2, whose resolvent is empty
@@ -112,9 +119,11 @@ pub record WorkedModel : Type 0 where
   pub decides : truth_under [] universal_first differ ≡ true
   pub opposes : (b : Bool) → played Forall universal_first [] model (λ x. b) 2 ≡ not b
 
--- under e 1 2 with -1 and 2 assumed the clause 1 is an end row, and its own proof: nothing is left to remove, and -1 alone is relevant
+-- under e 1 2 with -1 and 2 assumed the clause 1 is an end row, and its own proof: nothing is left to remove, and -1
+-- alone is relevant
 pub record WorkedAssumptions : Type 0 where
-  pub proof : IsProof Exists (existential (1 ∷ 2 ∷ []) ∷ []) ((plus 1 ∷ []) ∷ []) (minus 1 ∷ plus 2 ∷ []) (record { row = plus 1 ∷ []; reason = Input } ∷ [])
+  pub proof : IsProof Exists (existential (1 ∷ 2 ∷ []) ∷ []) ((plus 1 ∷ []) ∷ []) (minus 1 ∷ plus 2 ∷ [])
+      (record { row = plus 1 ∷ []; reason = Input } ∷ [])
   pub no_finish : finish_steps (minus 1 ∷ plus 2 ∷ []) (plus 1 ∷ []) ≡ []
   pub relevant : relevant_of (minus 1 ∷ plus 2 ∷ []) (plus 1 ∷ []) ≡ minus 1 ∷ []
 
@@ -138,9 +147,44 @@ chained_scopes = existential (1 ∷ 2 ∷ []) ∷ universal (3 ∷ []) ∷ []
 abbrev pub chained_clauses : List Row
 chained_clauses = (plus 1 ∷ plus 3 ∷ []) ∷ (minus 1 ∷ plus 2 ∷ minus 3 ∷ []) ∷ (minus 2 ∷ []) ∷ []
 
--- where 1 and 2 are false both reductions have a false result: the first makes 3 false, which falsifies 1 3; the last would make it true, which falsifies nothing; where 1 alone is true, the second one counts
+-- where 1 and 2 are false both reductions have a false result: the first makes 3 false, which falsifies 1 3; the last
+-- would make it true, which falsifies nothing; where 1 alone is true, the second one counts; where both are true
+-- nothing is forced, and 3 is false
 pub record WorkedFirst : Type 0 where
   pub proof : IsProof Exists chained_scopes chained_clauses [] chained
   pub first_counts : first_forced Exists (λ x. false) 3 chained ≡ Some false
   pub falsifies : matrix_true (total (played Exists chained_scopes [] chained (λ x. false))) chained_clauses ≡ false
   pub then_second : played Exists chained_scopes [] chained (λ x. x == 1) 3 ≡ true
+  pub nothing_forced : first_forced Exists (λ x. true) 3 chained ≡ None
+  pub then_false : played Exists chained_scopes [] chained (λ x. true) 3 ≡ false
+  pub falsifies_too : matrix_true (total (played Exists chained_scopes [] chained (λ x. true))) chained_clauses ≡ false
+
+-- under e 1 2 the clauses 1, -1 and 2: the empty clause follows from the first two
+abbrev pub with_unused : List Inference
+with_unused =
+    record { row = plus 1 ∷ []; reason = Input }
+    ∷ record { row = plus 2 ∷ []; reason = Input }
+    ∷ record { row = minus 1 ∷ []; reason = Input }
+    ∷ record { row = []; reason = Two (plus 1 ∷ []) (minus 1 ∷ []) 1 }
+    ∷ []
+
+-- the list is legal, but no proof, since nothing rests on 2
+pub record WorkedUnused : Type 0 where
+  pub legal : IsLegal Exists (existential (1 ∷ 2 ∷ []) ∷ [])
+      ((plus 1 ∷ []) ∷ (minus 1 ∷ []) ∷ (plus 2 ∷ []) ∷ []) with_unused
+  pub no_proof : IsProof Exists (existential (1 ∷ 2 ∷ []) ∷ [])
+      ((plus 1 ∷ []) ∷ (minus 1 ∷ []) ∷ (plus 2 ∷ []) ∷ []) [] with_unused → ⊥
+
+-- limits for up to four variables; the removals of 3 clauses and 2 solves over one variable, with a budget below its
+-- step limit and one above; and the gates of the first
+pub record WorkedLimits : Type 0 where
+  pub one : step_limit 1 ≡ 32
+  pub two : step_limit 2 ≡ 96
+  pub three : step_limit 3 ≡ 256
+  pub four : step_limit 4 ≡ 640
+  pub assigned : assignment_limit 0 3 ≡ 16
+  pub assigned_twice_anew : assignment_limit 2 3 ≡ 48
+  pub once_anew : restarted_step_limit 1 2 ≡ 192
+  pub removals : removal_bound 3 2 5 1 ≡ 16
+  pub capped : removal_bound 3 2 50 1 ≡ 70
+  pub weight : weight_bound 3 2 5 1 ≡ 32

@@ -1,5 +1,5 @@
 //! Plays, circuits and their size.
-ghost use Rattle.calculus.specs.Theorems.{CircuitsWin, GatesAreBounded, GatesAreFew, LastStepsDecide, PlaysExist, PlaysLookBack, PlaysWin, WinningDecides};
+ghost use Rattle.calculus.specs.PlayTheorems.{CircuitsWin, GatesAreBounded, GatesAreFew, LastStepsDecide, PlaysExist, PlaysLookBack, PlaysWin, WinningDecides};
 
 /// Values that follow a proof decide the matrix against all allowed values of the loser.
 pub fn plays_win()
@@ -38,7 +38,8 @@ pub fn gates_are_bounded()
     ensures { GatesAreBounded }
 {}
 
-/// A circuit that wins, and whose outputs depend on earlier inputs alone, decides the truth: such a circuit is a certificate.
+/// A circuit that wins, and whose outputs depend on earlier inputs alone, decides the truth: such a circuit is a
+/// certificate.
 pub fn winning_decides()
     ensures { WinningDecides }
 {}

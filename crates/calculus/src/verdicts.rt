@@ -1,7 +1,8 @@
 //! Verdicts.
-ghost use Rattle.calculus.specs.Theorems.{EndRowsDecide, EndRowsGiveProofs, FirstValuesDecide, ProofsDecide, RelevantOnesDecide};
+ghost use Rattle.calculus.specs.VerdictTheorems.{EndRowsDecide, EndRowsGiveProofs, FirstValuesDecide, ProofsDecide, RelevantOnesDecide};
 
-/// An end row of a legal derivation decides the truth under the assumptions: an end clause makes the formula false, an end cube true.
+/// An end row of a legal derivation decides the truth under the assumptions: an end clause makes the formula false,
+/// an end cube true.
 ///
 /// Q-resolution is sound (Kleine Büning, Karpinski, Flögel 1995), here for both sides at once and under assumptions.
 pub fn end_rows_decide()
@@ -23,7 +24,8 @@ pub fn first_values_decide()
     ensures { FirstValuesDecide }
 {}
 
-/// An end row with its core, inputs first, and its finish where something goes, is a proof.
+/// An end row with its core, inputs first, and its finish where something goes, is a proof, whose last row is the
+/// finish.
 pub fn end_rows_give_proofs()
     ensures { EndRowsGiveProofs }
 {}

@@ -6,10 +6,9 @@ use Rattle.std.specs.Option.{option_map}
 use Rattle.std.proofs.lemmas.Bool.{cond-false, ne_eqb}
 use Rattle.std.proofs.lemmas.List.{append-nil, append_assoc, map-append, get_or-map}
 use Rattle.prefix.specs.declared.quant.Quant.{Quant}
-use Rattle.prefix.specs.Scopes.{Scope, all_variables, quantifier_at, variables_at}
+use Rattle.prefix.specs.Scopes.{Scope, all_variables, quantifier_at, variables_at, BoundVariable, variables_of, bound_by, prefix_order}
 use Rattle.truth.specs.declared.order.BoundVar.{BoundVar}
 use Rattle.truth.specs.Order.{bound_of, bounds_of}
-use Rattle.prefix.specs.Scopes.{BoundVariable, variables_of, bound_by, prefix_order}
 
 -- the quantifier and the variables at a place from 0
 quantifier_from : (ss : List Scope) (s : ℕ) → quantifier_at ss (s + 1) ≡ option_map (λ (c : Scope). c.quantifier) (slice_get ss s)

@@ -4,11 +4,10 @@ use Rattle.std.proofs.lemmas.List.{length-map}
 use Rattle.std.proofs.Math.Nat.{mul-le-mul_right}
 use Rattle.std.proofs.lemmas.Grind.{pow_more}
 use Rattle.prefix.specs.Literal.{Literal}
-use Rattle.prefix.specs.Scopes.{Scope, all_variables}
+use Rattle.prefix.specs.Scopes.{Scope, all_variables, BoundVariable, prefix_order}
 use Rattle.steps.specs.Counter.{step_limit}
 use Rattle.truth.specs.Matrix.{Values, no_values, with_value}
 use Rattle.truth.specs.Truth.{truth_from, plain_steps_from, settles, plain_steps}
-use Rattle.prefix.specs.Scopes.{BoundVariable, prefix_order}
 use Rattle.truth.proofs.OrderLemmas.{variables_of-prefix_order}
 
 -- the values tried for what is left

@@ -3,11 +3,11 @@ use Rattle.std.proofs.Common.{◌≡◌, ℕ, zero, suc, ◌+◌, ◌<◌, Bool,
 use Rattle.std.specs.Prelude.{slice_get}
 use Rattle.std.specs.Option.{option_map}
 use Rattle.std.proofs.lemmas.Bool.{cond-true, cond-false}
-use Rattle.std.proofs.lemmas.List.{length_push, drop_all}
+use Rattle.std.proofs.lemmas.List.{length_push}
 use Rattle.prefix.specs.declared.quant.Quant.{Quant}
 use Rattle.prefix.specs.declared.quant.Quant.TheVariants.{Exists, Forall}
 use Rattle.prefix.specs.Literal.{Literal}
-use Rattle.truth.specs.Matrix.{Values, no_values, with_value, matrix_true}
+use Rattle.truth.specs.Matrix.{Values, no_values, with_value}
 use Rattle.truth.specs.Truth.{truth_from, plain_steps_from, joined, settles}
 use Rattle.prefix.specs.Scopes.{BoundVariable}
 use Rattle.truth.specs.Search.{assigned, Tried}
@@ -112,12 +112,6 @@ pub outcome_chosen : (s : Tried) (cs : Clauses) → length s.values < length s.o
 outcome_chosen s cs h =
     let more : length (s.values ++ false ∷ []) ≡ suc (length s.values) = length_push s.values false ∙ omega arith in
     resume_chosen s.order s.values cs no_values h ∙ ap (λ n. one_more (resume s.order (s.values ++ false ∷ []) cs no_values (whole (drop n s.order) cs (assigned s.order (s.values ++ false ∷ []) no_values)))) (sym more)
-
--- every variable has a value
-pub outcome_full : (s : Tried) (cs : Clauses) → length s.values ≡ length s.order → outcome s cs None ≡ outcome s cs (Some (matrix_true (assigned s.order s.values no_values) cs))
-outcome_full s cs h =
-    let none : drop (length s.values) s.order ≡ [] = drop_all (length s.values) s.order (omega arith) in
-    ap (λ xs. resume s.order s.values cs no_values (whole xs cs (assigned s.order s.values no_values))) none
 
 -- the last value is taken back
 pub outcome_settled : (old new : Tried) (t b : Bool) (q : Quant) (cs : Clauses) → old.order ≡ new.order → old.values ≡ new.values ++ t ∷ [] → option_map (λ (x : BoundVariable). x.quantifier) (slice_get new.order (length new.values)) ≡ Some q → (t ≡ false → settles q b ≡ true) → outcome old cs (Some b) ≡ outcome new cs (Some b)

@@ -4,9 +4,8 @@ use Rattle.std.specs.Prelude.{◌==◌, ◌||◌}
 use Rattle.std.specs.List.{AllByRecursion}
 use Rattle.std.proofs.lemmas.Bool.{cond-true, cond-false, eq-eqb, ne_eqb, cases_eq, or_parts, eqb-true, eqb-false}
 use Rattle.std.proofs.lemmas.List.{get_or-set_same, get_or-set_other, length-set, length-map, length_push, take-map, get_or-map}
-use Rattle.prefix.specs.Scopes.{is_among, AreDistinct}
+use Rattle.prefix.specs.Scopes.{is_among, AreDistinct, BoundVariable, variables_of}
 use Rattle.truth.specs.Matrix.{Values, no_values, with_value}
-use Rattle.prefix.specs.Scopes.{BoundVariable, variables_of}
 use Rattle.truth.specs.Search.{assigned, values_of, IsSearch}
 
 -- one value more

@@ -26,6 +26,7 @@ abbrev pub is_true_of : Option Bool → Bool → Bool
 is_true_of None positive = false
 is_true_of (Some b) positive = same b positive
 
+-- the same of a literal under an assignment
 abbrev pub literal_true : Values → Literal → Bool
 literal_true σ l = is_true_of (σ l.variable) l.positive
 

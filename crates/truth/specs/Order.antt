@@ -7,5 +7,6 @@ use Rattle.prefix.specs.Scopes.{BoundVariable}
 abbrev pub bound_of : BoundVar → BoundVariable
 bound_of b = record { quantifier = b.quant; variable = b.var }
 
+-- and of a list of them
 abbrev pub bounds_of : List BoundVar → List BoundVariable
 bounds_of order = map bound_of order

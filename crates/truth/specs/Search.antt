@@ -1,9 +1,8 @@
 -- What the decider keeps: the variables in order, and the values tried for the first of them.
 use Rattle.std.specs.Prelude.{◌≡◌, ℕ, ◌<◌, ◌≤◌, Bool, List, [], ◌∷◌, length, Option, None, slice_index_or}
 use Rattle.std.specs.List.{AllByRecursion}
-use Rattle.prefix.specs.Scopes.{AreDistinct}
+use Rattle.prefix.specs.Scopes.{AreDistinct, BoundVariable, variables_of}
 use Rattle.truth.specs.Matrix.{Values, no_values, with_value}
-use Rattle.prefix.specs.Scopes.{BoundVariable, variables_of}
 
 -- the variables, and the values of the first of them
 pub record Tried : Type 0 where

@@ -1,4 +1,5 @@
--- The truth of a closed formula in prenex form, by recursion over its variables in prefix order, as the textbooks and QDIMACS 1.1 define it; and how many values this recursion tries.
+-- The truth of a closed formula in prenex form, by recursion over its variables in prefix order, as the textbooks and
+-- QDIMACS 1.1 define it; and how many values this recursion tries.
 use Rattle.std.specs.Prelude.{ℕ, ◌+◌, Bool, true, false, not, ◌==◌, ◌||◌, ◌&&◌, if◌then◌else◌, List, [], ◌∷◌, Option, Some, None}
 use Rattle.prefix.specs.declared.quant.Quant.{Quant}
 use Rattle.prefix.specs.declared.quant.Quant.TheVariants.{Exists, Forall}
@@ -14,7 +15,9 @@ joined Forall a b = a && b
 -- the truth of what is left, under the values so far
 abbrev pub truth_from : List BoundVariable → List (List Literal) → Values → Bool
 truth_from [] cs σ = matrix_true σ cs
-truth_from (x ∷ xs) cs σ = joined x.quantifier (truth_from xs cs (with_value x.variable false σ)) (truth_from xs cs (with_value x.variable true σ))
+truth_from (x ∷ xs) cs σ =
+    joined x.quantifier (truth_from xs cs (with_value x.variable false σ))
+    (truth_from xs cs (with_value x.variable true σ))
 
 -- whether the answer at one value settles a variable
 abbrev pub settles : Quant → Bool → Bool
@@ -42,7 +45,9 @@ joined_under (Some b) q f = f b
 -- the truth where assumed variables take their assumed value alone
 abbrev pub truth_under_from : List Literal → List BoundVariable → List (List Literal) → Values → Bool
 truth_under_from asm [] cs σ = matrix_true σ cs
-truth_under_from asm (x ∷ xs) cs σ = joined_under (assumed_value asm x.variable) x.quantifier (λ b. truth_under_from asm xs cs (with_value x.variable b σ))
+truth_under_from asm (x ∷ xs) cs σ =
+    joined_under (assumed_value asm x.variable) x.quantifier
+    (λ b. truth_under_from asm xs cs (with_value x.variable b σ))
 
 -- the truth of a formula: of all its variables in prefix order, where none has a value yet
 abbrev pub truth : List Scope → List (List Literal) → Bool

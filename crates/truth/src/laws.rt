@@ -11,5 +11,6 @@ pub fn no_assumptions()
 
 /// A law: over n variables the plain recursion tries at most 2^(n + 1) - 2 values.
 pub fn plain_steps_are_bounded()
-    ensures { (scopes : List Scope) (clauses : List (List Literal)) → plain_steps scopes clauses + 2 ≤ 2 ^ (length (all_variables scopes) + 1) }
+    ensures { (scopes : List Scope) (clauses : List (List Literal))
+        → plain_steps scopes clauses + 2 ≤ 2 ^ (length (all_variables scopes) + 1) }
 {}

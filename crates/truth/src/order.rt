@@ -1,14 +1,12 @@
 //! The variables of a prefix in order.
 ghost use Rattle.std.specs.Prelude.{◌≡◌, ◌∷◌, ◌++◌, map, OnOk, OnErr, IfOk};
-ghost use Rattle.prefix.specs.Scopes.{bound_by, prefix_order};
-ghost use Rattle.prefix.specs.Scopes.{AreDistinct};
+ghost use Rattle.prefix.specs.Scopes.{bound_by, prefix_order, AreDistinct, variables_of};
 ghost use Rattle.truth.specs.Order.{bounds_of};
-ghost use Rattle.prefix.specs.Scopes.{variables_of};
 
 use prefix::{Prefix, Quant, Var};
 use std::alloc::{AllocError, Global};
 
-/// A variable with its quantifier.
+// A variable with its quantifier.
 #[derive(Debug, Drop)]
 pub(crate) struct BoundVar {
     pub(crate) quant: Quant,

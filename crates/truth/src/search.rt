@@ -13,7 +13,7 @@ use prefix::{LitList, Prefix, Quant};
 use std::alloc::{AllocError, Global};
 use std::marker::Model;
 
-/// The variables of a prefix in order, and the values of the first of them.
+// The variables of a prefix in order, and the values of the first of them.
 #[derive(Debug, Drop)]
 pub(crate) struct Search {
     order: Vec<BoundVar>,
@@ -35,7 +35,7 @@ impl Model for Search {
 }
 
 impl Search {
-    /// No value is tried yet.
+    // No value is tried yet.
     pub(crate) fn new(alloc: Global, prefix: &Prefix) -> Result<Self, AllocError>
         ensures { IfOk result (λ search. search ≡ record { order = prefix_order prefix.now; values = [] }) }
     {
@@ -48,7 +48,7 @@ impl Search {
         })
     }
 
-    /// Whether every variable has a value.
+    // Whether every variable has a value.
     pub(crate) fn is_full(&self) -> bool
         ensures full { IsTrue result ↔ (length self.now.values ≡ length self.now.order) }
         ensures open { result ≡ false → length self.now.values < length self.now.order }
@@ -56,14 +56,14 @@ impl Search {
         self.tried.len() == self.order.len()
     }
 
-    /// Whether every clause is true under the values.
+    // Whether every clause is true under the values.
     pub(crate) fn satisfies(&self, clauses: &[LitList]) -> bool
         ensures { result ≡ matrix_true (assigned self.now.order self.now.values no_values) clauses.now }
     {
         is_matrix_true(&self.table, clauses)
     }
 
-    /// Gives the next variable a value.
+    // Gives the next variable a value.
     pub(crate) fn choose(&mut self, value: bool) -> Result<(), AllocError>
         requires { length self.old.values < length self.old.order }
         ensures ok { OnOk result (self.new ≡ record self.old { values = self.old.values ++ value ∷ [] }) }
@@ -75,13 +75,15 @@ impl Search {
         Ok(())
     }
 
-    /// Takes back the last value, with the quantifier of its variable.
+    // Takes back the last value, with the quantifier of its variable.
     pub(crate) fn take_back(&mut self) -> Option<(Quant, bool)>
         ensures none { result ≡ None → self.new ≡ self.old }
         ensures first { result ≡ None → self.old.values ≡ [] }
         ensures order { self.new.order ≡ self.old.order }
         ensures some { IfSome result (λ r. self.old.values ≡ self.new.values ++ r.1 ∷ []) }
-        ensures quantifier { IfSome result (λ r. option_map (λ (x : BoundVariable). x.quantifier) (slice_get self.new.order (length self.new.values)) ≡ Some r.0) }
+        ensures quantifier { IfSome result (λ r.
+            option_map (λ (x : BoundVariable). x.quantifier) (slice_get self.new.order (length self.new.values))
+            ≡ Some r.0) }
     {
         let value = self.tried.pop()?;
         let bound = &self.order[self.tried.len()];
@@ -93,7 +95,8 @@ impl Search {
 // A table without values, with a place for each variable.
 fn empty_table(alloc: Global, order: &[BoundVar]) -> Result<Vec<Option<bool>>, AllocError>
     ensures empty { IfOk result (λ table. (v : ℕ) → values_of table.items v ≡ no_values v) }
-    ensures covers { IfOk result (λ table. AllByRecursion (λ (x : BoundVariable). x.variable < length table.items) (bounds_of order.now)) }
+    ensures covers { IfOk result (λ table.
+        AllByRecursion (λ (x : BoundVariable). x.variable < length table.items) (bounds_of order.now)) }
 {
     let mut table = Vec::new(alloc);
     for bound in order {
