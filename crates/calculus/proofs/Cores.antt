@@ -12,8 +12,8 @@ use Rattle.calculus.specs.Rows.{Row, IsRow}
 use Rattle.calculus.specs.Derivations.{Reason, Inference, Step, Why, IsInference, IsLegal, IsLegalAfter, IsLegalStep, IsDerivation, IsCoreOf, RestsOn, rows_of, core_order, inference_of, inferences_of, reason_of, row_at, is_input}
 use Rattle.calculus.specs.Derivations.Reason.{Input, One, Two}
 use Rattle.calculus.specs.Derivations.Why.{Given, ReducedFrom, ResolvedFrom, FinishedFrom}
-use Rattle.calculus.specs.Verdicts.{IsEndRow, IsProofStep, IsProof, IsAntecedent, IsUsedIn, AreUsed, is_assumed, finish_of, finish_steps}
-use Rattle.calculus.proofs.Lists.{contains_cons, contains_nil, contains_head, contains_tail, filter_at, filter_from, all_at, all_from, pairs_head, pairs_tail, pairs_nil, pairs_cons}
+use Rattle.calculus.specs.Verdicts.{IsEndRow, IsProofStep, EndsInFinish, core_proof, last_reason, IsAntecedent, IsUsedIn, AreUsed, is_assumed, finish_of, finish_steps}
+use Rattle.calculus.proofs.Lists.{contains_cons, contains_nil, contains_head, contains_tail, filter_all, filter_at, filter_from, all_at, all_from, pairs_head, pairs_tail, pairs_nil, pairs_cons}
 use Rattle.calculus.proofs.Levels.{contains_map_of}
 use Rattle.calculus.proofs.RowLemmas.{some_from}
 use Rattle.calculus.proofs.EndRows.{filter_row}
@@ -182,39 +182,47 @@ legal_last pivot scopes clauses assumptions earlier more (s ∷ front) last with
     legal.2
 
 -- an end row of assumed variables alone is the last row
-assumed_last : (pivot : Quant) (scopes : List Scope) (clauses : List Row) (assumptions : List Literal) (front : List Inference) (last : Inference) → IsLegal pivot scopes clauses (front ++ last ∷ []) → IsEndRow pivot scopes assumptions last.row → list_all (is_assumed assumptions) last.row ≡ true → AreUsed front last → IsProof pivot scopes clauses assumptions (front ++ last ∷ [])
-assumed_last pivot scopes clauses assumptions front last legal ends all used =
-    let r = legal_last pivot scopes clauses assumptions [] (rows_of front) front last (λ r i. absurd (contains_nil r i)) (λ r i. i) legal in
+assumed_last : (pivot : Quant) (scopes : List Scope) (clauses : List Row) (assumptions : List Literal) (steps : List Step) (end : Step) (front : List Inference) → core_order (inferences_of steps) ++ finish_steps assumptions end.row ≡ front ++ inference_of steps end ∷ [] → IsLegal pivot scopes clauses (front ++ inference_of steps end ∷ []) → IsEndRow pivot scopes assumptions end.row → list_all (is_assumed assumptions) end.row ≡ true → AreUsed front (inference_of steps end) → EndsInFinish pivot scopes clauses assumptions (core_proof steps end assumptions) end.row (last_reason steps end assumptions)
+assumed_last pivot scopes clauses assumptions steps end front parts legal ends all used =
+    let r = legal_last pivot scopes clauses assumptions [] (rows_of front) front (inference_of steps end) (λ r i. absurd (contains_nil r i)) (λ r i. i) legal in
     record {
-      front = front;
-      last = last;
-      parts = refl;
-      legal = legal_front pivot scopes clauses [] front (last ∷ []) legal;
-      last_row = r.0;
-      last_step = r.1;
-      decided = λ l i.
-          let v = some_from (assumed_value assumptions l.variable) (all_at (is_assumed assumptions) last.row all l i) in
-          (v.0, v.1, ends.bad l v.0 i v.1);
-      used = used;
+      proof = record {
+        front = front;
+        last = inference_of steps end;
+        parts = parts;
+        legal = legal_front pivot scopes clauses [] front (inference_of steps end ∷ []) legal;
+        last_row = r.0;
+        last_step = r.1;
+        decided = λ l i.
+            let v = some_from (assumed_value assumptions l.variable) (all_at (is_assumed assumptions) end.row all l i) in
+            (v.0, v.1, ends.bad l v.0 i v.1);
+        used = used;
+      };
+      last_row = sym (filter_all (is_assumed assumptions) end.row (all_at (is_assumed assumptions) end.row all));
+      last_reason = sym (cond-true (list_all (is_assumed assumptions) end.row) (reason_of steps end.why) (One end.row) all);
     }
 
 row_in : (steps : List Inference) (s : Inference) → Contains steps s → Contains (rows_of steps) s.row
 row_in steps s i = contains_map_of (λ (t : Inference). t.row) steps s i
 
 -- else a finish is the last step
-finish_last : (pivot : Quant) (scopes : List Scope) (clauses : List Row) (assumptions : List Literal) (front : List Inference) (end : Inference) → IsLegal pivot scopes clauses front → Contains front end → IsRow scopes end.row → IsEndRow pivot scopes assumptions end.row → list_all (is_assumed assumptions) end.row ≡ false → AreUsed front (finish_of assumptions end.row) → IsProof pivot scopes clauses assumptions (front ++ finish_of assumptions end.row ∷ [])
-finish_last pivot scopes clauses assumptions front end legal i is_row ends some used = record {
-  front = front;
-  last = finish_of assumptions end.row;
-  parts = refl;
-  legal = legal;
-  last_row = filter_row scopes (is_assumed assumptions) end.row is_row;
-  last_step = (row_in front end i, (λ e. true≢false (sym (all_from (is_assumed assumptions) end.row (λ l j. (filter_at (is_assumed assumptions) end.row l (rw e j)).1)) ∙ some)), inr (ends, refl));
-  decided = λ l j.
-      let kept = filter_at (is_assumed assumptions) end.row l j in
-      let v = some_from (assumed_value assumptions l.variable) kept.1 in
-      (v.0, v.1, ends.bad l v.0 kept.0 v.1);
-  used = used;
+finish_last : (pivot : Quant) (scopes : List Scope) (clauses : List Row) (assumptions : List Literal) (steps : List Step) (end : Step) → IsLegal pivot scopes clauses (core_order (inferences_of steps)) → Contains (core_order (inferences_of steps)) (inference_of steps end) → IsRow scopes end.row → IsEndRow pivot scopes assumptions end.row → list_all (is_assumed assumptions) end.row ≡ false → AreUsed (core_order (inferences_of steps)) (finish_of assumptions end.row) → EndsInFinish pivot scopes clauses assumptions (core_proof steps end assumptions) end.row (last_reason steps end assumptions)
+finish_last pivot scopes clauses assumptions steps end legal i is_row ends some used = record {
+  proof = record {
+    front = core_order (inferences_of steps);
+    last = finish_of assumptions end.row;
+    parts = ap (λ xs. core_order (inferences_of steps) ++ xs) (cond-false (list_all (is_assumed assumptions) end.row) [] (finish_of assumptions end.row ∷ []) some);
+    legal = legal;
+    last_row = filter_row scopes (is_assumed assumptions) end.row is_row;
+    last_step = (row_in (core_order (inferences_of steps)) (inference_of steps end) i, (λ e. true≢false (sym (all_from (is_assumed assumptions) end.row (λ l j. (filter_at (is_assumed assumptions) end.row l (rw e j)).1)) ∙ some)), inr (ends, refl));
+    decided = λ l j.
+        let kept = filter_at (is_assumed assumptions) end.row l j in
+        let v = some_from (assumed_value assumptions l.variable) kept.1 in
+        (v.0, v.1, ends.bad l v.0 kept.0 v.1);
+    used = used;
+  };
+  last_row = refl;
+  last_reason = sym (cond-false (list_all (is_assumed assumptions) end.row) (reason_of steps end.why) (One end.row) some);
 }
 
 in_core_order : (steps : List Inference) (s : Inference) → Contains steps s → Contains (core_order steps) s
@@ -286,9 +294,9 @@ module _ (pivot : Quant) (scopes : List Scope) (clauses : List Row) (assumptions
   end_first front parts (ResolvedFrom a b x) e = inl refl
   end_first front parts (FinishedFrom a) e = inl refl
 
-  pub core_proof : IsProof pivot scopes clauses assumptions (core_order (inferences_of steps) ++ finish_steps assumptions end.row)
+  pub core_gives : EndsInFinish pivot scopes clauses assumptions (core_proof steps end assumptions) end.row (last_reason steps end assumptions)
   unfolding last
-  core_proof =
+  core_gives =
       let legal : IsLegal pivot scopes clauses (core_order (inferences_of steps)) = core_order_legal pivot scopes clauses (inferences_of steps) (inferences_legal pivot scopes clauses steps d one) in
       ⊎_elim
       (λ all.
@@ -298,9 +306,8 @@ module _ (pivot : Quant) (scopes : List Scope) (clauses : List Row) (assumptions
       let used = used_all scopes clauses steps d r.0 last (pairs_front Rises r.0 (end ∷ []) (rw r.1 at d.ascending_ids)) (λ s i. rw r.1 (Contains-append_left r.0 (end ∷ []) s i)) (front_used r.0 r.1) in
       let none : finish_steps assumptions end.row ≡ [] = cond-true (list_all (is_assumed assumptions) end.row) [] (finish_of assumptions end.row ∷ []) all in
       let whole : core_order (inferences_of steps) ++ finish_steps assumptions end.row ≡ core_order (map (inference_of steps) r.0) ++ last ∷ [] = ap (λ xs. core_order (inferences_of steps) ++ xs) none ∙ (append-nil (core_order (inferences_of steps)) ∙ order) in
-      rw whole (assumed_last pivot scopes clauses assumptions (core_order (map (inference_of steps) r.0)) last (rw order at legal) ends all used))
+      assumed_last pivot scopes clauses assumptions steps end (core_order (map (inference_of steps) r.0)) whole (rw order at legal) ends all used)
       (λ some.
-      let one_more : finish_steps assumptions end.row ≡ finish_of assumptions end.row ∷ [] = cond-false (list_all (is_assumed assumptions) end.row) [] (finish_of assumptions end.row ∷ []) some in
       let used = used_all scopes clauses steps d steps (finish_of assumptions end.row) d.ascending_ids (λ s i. i) (λ s i. ⊎_elim (λ e. inl (ap (λ (t : Step). t.row) (sym e))) inr (core s i)) in
-      rw one_more (finish_last pivot scopes clauses assumptions (core_order (inferences_of steps)) last legal (in_core_order (inferences_of steps) last (contains_map_of (inference_of steps) steps end stands)) (d.rows end stands) ends some used))
+      finish_last pivot scopes clauses assumptions steps end legal (in_core_order (inferences_of steps) last (contains_map_of (inference_of steps) steps end stands)) (d.rows end stands) ends some used)
       (cases_Bool (list_all (is_assumed assumptions) end.row))

@@ -1,10 +1,10 @@
 -- Derivations of Q-resolution and of its dual for cubes, in two forms: as they are kept, with ids and of both sides; and of one side, with rows in place of ids.
-use Rattle.std.specs.Prelude.{◌≡◌, ◌≢◌, ℕ, ◌<◌, ◌⊎◌, ◌==◌, Bool, true, false, not, ⊤, List, [], ◌∷◌, ◌++◌, map, filter, if◌then◌else◌, nat_lt, Contains, AllPairs, IsFalse, Some}
+use Rattle.std.specs.Prelude.{◌≡◌, ◌≢◌, ℕ, ◌<◌, ◌⊎◌, ◌==◌, Bool, true, false, not, ◌&&◌, ◌||◌, ⊤, List, [], ◌∷◌, ◌++◌, map, filter, if◌then◌else◌, nat_lt, Contains, AllPairs, IsFalse, Some}
 use Rattle.prefix.specs.declared.quant.Quant.{Quant}
 use Rattle.prefix.specs.declared.quant.Quant.TheVariants.{Exists, Forall}
 use Rattle.prefix.specs.Literal.{Literal}
 use Rattle.prefix.specs.Scopes.{Scope, quantifier_of, all_variables}
-use Rattle.calculus.specs.Rows.{Row, same_quantifier, depth_of, IsRow, reduce, resolve, clashes}
+use Rattle.calculus.specs.Rows.{Row, same_quantifier, depth_of, IsRow, reduce, resolve, clashes, variables_in}
 
 -- input rows
 
@@ -122,6 +122,10 @@ pub record IsDerivation (scopes : List Scope) (clauses : List Row) (steps : List
   pub rows : (s : Step) → Contains steps s → IsRow scopes s.row
   pub legal : (s : Step) → Contains steps s → IsLegalStep scopes clauses steps s s.why
 
+-- each input step is one for these clauses
+abbrev pub AreInputs : List Row → List Step → Type 0
+AreInputs clauses steps = (s : Step) → Contains steps s → s.why ≡ Given → IsInput s.side clauses s.row
+
 -- the row of a step, by its id
 abbrev pub row_at : List Step → ℕ → Row
 row_at [] id = []
@@ -146,12 +150,32 @@ inferences_of steps = map (inference_of steps) steps
 abbrev pub of_side : Quant → List Step → List Step
 of_side side steps = filter (λ s. same_quantifier s.side side) steps
 
--- whether a step rests on the one with this id
+-- a step rests on the one with this id
 abbrev pub RestsOn : Why → ℕ → Type 0
 RestsOn Given id = ⊥
 RestsOn (ReducedFrom a) id = a ≡ id
 RestsOn (ResolvedFrom a b x) id = (a ≡ id) ⊎ (b ≡ id)
 RestsOn (FinishedFrom a) id = a ≡ id
+
+-- whether a step rests on the one with this id
+abbrev pub rests_on : Why → ℕ → Bool
+rests_on Given id = false
+rests_on (ReducedFrom a) id = a == id
+rests_on (ResolvedFrom a b x) id = a == id || b == id
+rests_on (FinishedFrom a) id = a == id
+
+-- whether the step with an id is needed for the one whose id is end: it is that one, or a later step that is needed rests on it
+abbrev pub needed : List Step → ℕ → ℕ → Bool
+needed [] end id = id == end
+needed (s ∷ steps) end id = needed steps end id || (needed steps end s.id && rests_on s.why id)
+
+-- the core of the step whose id is end: the steps that are needed for it
+abbrev pub core_of : List Step → ℕ → List Step
+core_of steps end = filter (λ (s : Step). needed steps end s.id) steps
+
+-- the core of a step in a derivation: the steps of its side that it needs
+abbrev pub side_core : List Step → Step → List Step
+side_core steps end = core_of (of_side end.side steps) end.id
 
 -- what a kept step rests on is kept
 abbrev pub IsClosed : (Step → Bool) → List Step → Type 0
@@ -166,3 +190,13 @@ pub record Extends (old new : List Scope) : Type 0 where
   pub has : (x : ℕ) → Contains (all_variables old) x → Contains (all_variables new) x
   pub quantifiers : (x : ℕ) → Contains (all_variables old) x → quantifier_of old x ≡ quantifier_of new x
   pub depths : (x y : ℕ) → Contains (all_variables old) x → Contains (all_variables old) y → nat_lt (depth_of old x) (depth_of old y) ≡ nat_lt (depth_of new x) (depth_of new y)
+
+-- two prefixes agree on some variables: the new one has them, with their quantifiers and the order of their scopes
+pub record AgreeOn (old new : List Scope) (variables : ℕ → Type 0) : Type 0 where
+  pub has : (x : ℕ) → variables x → Contains (all_variables new) x
+  pub quantifiers : (x : ℕ) → variables x → quantifier_of old x ≡ quantifier_of new x
+  pub depths : (x y : ℕ) → variables x → variables y → nat_lt (depth_of old x) (depth_of old y) ≡ nat_lt (depth_of new x) (depth_of new y)
+
+-- a variable stands in the row of a step
+abbrev pub StandsIn : List Step → ℕ → Type 0
+StandsIn steps x = (s : Step) × Contains steps s × Contains (variables_in s.row) x

@@ -1,9 +1,15 @@
+pub mod DerivationTheorems
 pub mod Derivations
 pub mod Limits
+pub mod PlayTheorems
 pub mod Plays
+pub mod RowTheorems
 pub mod Rows
 pub mod Search
-pub mod Theorems
+pub mod SearchTheorems
+pub mod TrailTheorems
+pub mod VerdictTheorems
 pub mod Verdicts
+pub mod WeightTheorems
 pub mod Weights
 pub mod Worked

@@ -1,9 +1,23 @@
--- How many gates a proof costs at most, and how many a script's proofs do.
-use Rattle.std.specs.Prelude.{ℕ, ◌+◌, ◌*◌, ◌-◌, Bool, true, false, if◌then◌else◌, min, List, [], ◌∷◌, length}
+-- How many assignments and steps a search needs, how many gates a proof costs at most, and how many a script's proofs do.
+use Rattle.std.specs.Prelude.{ℕ, ◌+◌, ◌*◌, ◌-◌, ◌^◌, ◌≤◌, Bool, true, false, if◌then◌else◌, min, List, [], ◌∷◌, length}
 use Rattle.steps.specs.Counter.{step_limit}
 use Rattle.calculus.specs.Rows.{Row}
 use Rattle.calculus.specs.Derivations.{Reason, Inference}
 use Rattle.calculus.specs.Derivations.Reason.{Input, One, Two}
+
+-- a search over n variables that begins anew this many times makes fewer assignments than this
+abbrev pub assignment_limit : ℕ → ℕ → ℕ
+assignment_limit restarts n = (restarts + 1) * 2 ^ (n + 1)
+
+-- a number of steps that suffices for it: with each assignment go at most 4 n + 3 resolutions; without restarts it is the step limit
+abbrev pub restarted_step_limit : ℕ → ℕ → ℕ
+restarted_step_limit restarts n = (4 * n + 4) * assignment_limit restarts n
+
+-- at most n resolutions clean the reason of each assignment, one that is under way too, and 2 n make each lesson
+pub record HasFewResolutions (n assigned cleaning lessons resolved : ℕ) : Type 0 where
+  pub cleaning_few : cleaning ≤ (assigned + 1) * n
+  pub lessons_few : lessons ≤ assigned + 1
+  pub resolved_few : resolved ≤ lessons * (2 * n)
 
 -- what a step with one antecedent costs in gates at most: for each removed literal one more than the literals left
 abbrev pub gates_of : Row → Reason → ℕ

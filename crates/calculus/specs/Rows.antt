@@ -1,9 +1,8 @@
 -- Rows: bad literals, reduction, resolution and clash.
 -- A side is named by its pivot quantifier: Exists for clauses, Forall for cubes.
-use Rattle.std.specs.Prelude.{ℕ, ◌+◌, ◌==◌, Bool, true, false, not, ◌&&◌, ◌||◌, if◌then◌else◌, nat_lt, List, [], ◌∷◌, Option, Some, None, map, length, filter, unwrap_or, Contains}
+use Rattle.std.specs.Prelude.{ℕ, ◌==◌, Bool, not, ◌&&◌, ◌||◌, if◌then◌else◌, nat_lt, List, [], ◌∷◌, Option, Some, None, map, filter, Contains}
 use Rattle.std.specs.List.{list_any, list_all}
 use Rattle.prefix.specs.declared.quant.Quant.{Quant}
-use Rattle.prefix.specs.declared.quant.Quant.TheVariants.{Exists, Forall}
 use Rattle.prefix.specs.Literal.{Literal}
 use Rattle.prefix.specs.Scopes.{Scope, all_variables, IsAscending}
 use Rattle.prefix.specs.Sides.{bad_of}

@@ -1,12 +1,12 @@
 -- Rows under a partial assignment, trails, and what cleaning and analysis look for.
-use Rattle.std.specs.Prelude.{◌≡◌, ◌≢◌, ℕ, suc, ◌<◌, ◌≤◌, ◌⊎◌, ◌==◌, ⊤, Bool, true, false, is_some, is_none, if◌then◌else◌, nat_le, map, IsTrue, IsFalse, List, [], ◌∷◌, ◌++◌, Option, Some, None, Contains}
+use Rattle.std.specs.Prelude.{◌≡◌, ◌≢◌, ℕ, suc, ◌<◌, ◌≤◌, ◌⊎◌, ◌==◌, ⊤, Bool, true, false, is_some, is_none, if◌then◌else◌, nat_le, nat_lt, not, ◌&&◌, ◌||◌, map, IsTrue, IsFalse, List, [], ◌∷◌, ◌++◌, Option, Some, None, Contains}
 use Rattle.prefix.specs.declared.quant.Quant.{Quant}
 use Rattle.prefix.specs.declared.quant.Quant.TheVariants.{Exists}
-use Rattle.prefix.specs.Literal.{Literal}
+use Rattle.prefix.specs.Literal.{Literal, negation}
 use Rattle.prefix.specs.Scopes.{Scope, level_of, quantifier_of, all_variables}
 use Rattle.truth.specs.Matrix.{Values}
 use Rattle.truth.specs.Truth.{assumed_value}
-use Rattle.calculus.specs.Rows.{Row, depth_of, is_pivot, is_bad_at, resolve, clashes}
+use Rattle.calculus.specs.Rows.{Row, IsRow, depth_of, is_pivot, is_bad_at, reduce, resolve, clashes}
 use Rattle.calculus.specs.Derivations.{Step}
 
 -- rows under a partial assignment
@@ -107,6 +107,11 @@ abbrev pub place_on : Trail → ℕ → ℕ
 place_on [] x = 0
 place_on (p ∷ rest) x = if p.literal.variable == x then 0 else suc (place_on rest x)
 
+-- the part of a trail before the place of a variable
+abbrev pub before_on : Trail → ℕ → Trail
+before_on [] x = []
+before_on (p ∷ rest) x = if p.literal.variable == x then [] else p ∷ before_on rest x
+
 -- why a variable stands on the trail
 abbrev pub cause_on : Trail → ℕ → Option Cause
 cause_on [] x = None
@@ -196,12 +201,30 @@ HaveReasonsAfter scopes steps earlier (p ∷ rest) = HasReason scopes steps earl
 abbrev pub HasUnitReasons : List Scope → List Step → Trail → Type 0
 HasUnitReasons scopes steps trail = HaveReasonsAfter scopes steps [] trail
 
--- the part of a trail before the place of a variable
-abbrev pub before_on : Trail → ℕ → Trail
-before_on [] x = []
-before_on (p ∷ rest) x = if p.literal.variable == x then [] else p ∷ before_on rest x
+-- what a reason says against a bad literal: a live step of the side, with this id, whose row was unit in the opposite literal
+pub record Opposes (pivot : Quant) (scopes : List Scope) (steps : List Step) (earlier : Trail) (bad : Literal) (id : ℕ) : Type 0 where
+  pub step : Step
+  pub stands : Contains steps step
+  pub is : step.id ≡ id
+  pub of_side : step.side ≡ pivot
+  pub unit : IsUnitIn pivot scopes (value_on earlier) step.row (negation bad)
 
--- the assumed places of a trail are the assumptions
+-- each bad pivot-type literal that was propagated has such a reason, from before its place: the rows that analysis resolves with
+abbrev pub HaveOpposites : Quant → List Scope → List Step → Trail → Type 0
+HaveOpposites pivot scopes steps trail = (bad : Literal) (id : ℕ) → IsTrue (is_pivot pivot scopes bad)
+    → IsTrue (is_bad_now pivot (value_on trail) bad) → cause_on trail bad.variable ≡ Some (Propagated id)
+    → Opposes pivot scopes steps (before_on trail bad.variable) bad id
+
+-- a literal as an assumption on the trail
+abbrev pub assumed : Literal → Placed
+assumed literal = record { literal = literal; cause = Assumed }
+
+-- the assumed places of a trail are the assumptions, and nothing but: what is assumed stands as assumed; the invariant, which assignments and cuts keep
+pub record AreTheAssumptions (trail : Trail) (assumptions : List Literal) : Type 0 where
+  pub entries : (x : ℕ) → cause_on trail x ≡ Some Assumed → IsTrue (is_some (assumed_value assumptions x))
+  pub stand : (x : ℕ) (b : Bool) → assumed_value assumptions x ≡ Some b → (value_on trail x ≡ Some b) × (cause_on trail x ≡ Some Assumed)
+
+-- each assumed place is an assumption, and each assumption has its value, from whatever cause; a premise alone, since an assumption that was decided is lost by a cut
 pub record HasAssumptions (trail : Trail) (assumptions : List Literal) : Type 0 where
   pub entries : (x : ℕ) → cause_on trail x ≡ Some Assumed → IsTrue (is_some (assumed_value assumptions x))
   pub values : (x : ℕ) (b : Bool) → assumed_value assumptions x ≡ Some b → value_on trail x ≡ Some b
@@ -227,6 +250,39 @@ pub record IsLastBlocker (pivot : Quant) (scopes : List Scope) (trail : Trail) (
   pub blocked : Literal
   pub blocks : Blocks pivot scopes (value_on trail) row f blocked
   pub last : (g u : Literal) → Blocks pivot scopes (value_on trail) row g u → place_on trail g.variable ≤ place_on trail f.variable
+
+-- a row and the reason of one of its literals, a row that is clean but for the opposite literal
+pub record MayResolve (pivot : Quant) (scopes : List Scope) (trail : Trail) (row reason : Row) (e : Literal) : Type 0 where
+  pub row_is : IsRow scopes row
+  pub reason_is : IsRow scopes reason
+  pub clean : IsCleanBut pivot trail (negation e) reason
+
+-- their resolvent, reduced
+abbrev pub turned : Quant → List Scope → Row → Row → Literal → Row
+turned pivot scopes row reason e = reduce pivot scopes (resolved_with row reason e)
+
+-- cleaning goes on: the result is a row that is still pending and keeps the literal to keep, and what blocks in it stood before the blocker
+pub record GoesOn (pivot : Quant) (scopes : List Scope) (trail : Trail) (kept : Option Literal) (row reason : Row) (f : Literal) : Type 0 where
+  pub no_clash : IsFalse (clashes_with row reason f)
+  pub is_row : IsRow scopes (turned pivot scopes row reason f)
+  pub pending : IsPending pivot scopes (value_on trail) kept (turned pivot scopes row reason f)
+  pub earlier : (g u : Literal) → Blocks pivot scopes (value_on trail) (turned pivot scopes row reason f) g u
+      → place_on trail g.variable < place_on trail f.variable
+  pub keeps : (k : Literal) → kept ≡ Some k → Contains row k → IsTrue (is_pivot pivot scopes k)
+      → Contains (turned pivot scopes row reason f) k
+
+-- analysis goes on: the result is a clean row, and its pivot-type literals stood before the one that was resolved away
+pub record StaysClean (pivot : Quant) (scopes : List Scope) (trail : Trail) (row reason : Row) (e : Literal) : Type 0 where
+  pub no_clash : IsFalse (clashes_with row reason e)
+  pub is_row : IsRow scopes (turned pivot scopes row reason e)
+  pub clean : IsClean pivot (value_on trail) (turned pivot scopes row reason e)
+  pub earlier : (l : Literal) → Contains (turned pivot scopes row reason e) l → IsTrue (is_pivot pivot scopes l)
+      → place_on trail l.variable < place_on trail e.variable
+
+-- whether a literal must stay bad where another one is to be unit: it is over another variable, and pivot-type or of an earlier scope
+abbrev pub must_stay : Quant → List Scope → Literal → Literal → Bool
+must_stay pivot scopes unit literal = not (literal.variable == unit.variable)
+    && (is_pivot pivot scopes literal || nat_lt (depth_of scopes literal.variable) (depth_of scopes unit.variable))
 
 -- propagation
 

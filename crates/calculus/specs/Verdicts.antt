@@ -6,7 +6,7 @@ use Rattle.prefix.specs.Literal.{Literal}
 use Rattle.prefix.specs.Scopes.{Scope, level_of}
 use Rattle.truth.specs.Truth.{assumed_value}
 use Rattle.calculus.specs.Rows.{Row, is_pivot, is_bad_at, literal_over, reduce, IsRow}
-use Rattle.calculus.specs.Derivations.{Reason, Inference, IsInput, IsResolution, IsLegal, rows_of}
+use Rattle.calculus.specs.Derivations.{Reason, Inference, Step, IsInput, IsResolution, IsLegal, rows_of, core_order, inferences_of, reason_of, side_core}
 use Rattle.calculus.specs.Derivations.Reason.{Input, One, Two}
 
 -- assumptions name variables of the first scope
@@ -75,6 +75,25 @@ pub record IsProof (pivot : Quant) (scopes : List Scope) (clauses : List Row) (a
   pub last_step : IsProofStep pivot scopes clauses assumptions (rows_of front) last.row last.reason
   pub decided : IsDecided pivot assumptions last.row
   pub used : AreUsed front last
+
+-- the proof from a core of a step with an end row: its steps, inputs first, and the finish where something goes
+abbrev pub core_proof : List Step → Step → List Literal → List Inference
+core_proof core end assumptions = core_order (inferences_of core) ++ finish_steps assumptions end.row
+
+-- the proof of a verdict that ends in a step with an end row
+abbrev pub proof_of : List Step → Step → List Literal → List Inference
+proof_of steps end assumptions = core_proof (side_core steps end) end assumptions
+
+-- why the last row of such a proof stands: as the end's own where it is left whole, else as the finish of the end
+abbrev pub last_reason : List Step → Step → List Literal → Reason
+last_reason core end assumptions = if list_all (is_assumed assumptions) end.row then reason_of core end.why else One end.row
+
+-- a list is a proof whose last row is the finish of an end row, with this reason
+pub record EndsInFinish (pivot : Quant) (scopes : List Scope) (clauses : List Row) (assumptions : List Literal)
+    (steps : List Inference) (end : Row) (reason : Reason) : Type 0 where
+  pub proof : IsProof pivot scopes clauses assumptions steps
+  pub last_row : proof.last.row ≡ finished assumptions end
+  pub last_reason : proof.last.reason ≡ reason
 
 -- whether a row has a literal over the variable
 abbrev pub mentions : Row → ℕ → Bool

@@ -11,3 +11,8 @@ pub data Search (n : ℕ) : List Bool → ℕ → Type 0 where
   starts : Search n [] 0
   assigns : {trail : List Bool} {assigned : ℕ} → Search n trail assigned → (is_decision : Bool) → length trail < n → Search n (trail ++ is_decision ∷ []) (suc assigned)
   turns : {assigned : ℕ} (front back : List Bool) → Search n (front ++ true ∷ back) assigned → Search n (front ++ false ∷ []) (suc assigned)
+
+-- a search that begins anew, each time from an empty trail; with how often it did, and the number of assignments of all its parts
+pub data RestartedSearch (n : ℕ) : ℕ → ℕ → Type 0 where
+  first : {assigned : ℕ} (trail : List Bool) → Search n trail assigned → RestartedSearch n 0 assigned
+  again : {restarts assigned more : ℕ} (trail : List Bool) → RestartedSearch n restarts assigned → Search n trail more → RestartedSearch n (suc restarts) (assigned + more)

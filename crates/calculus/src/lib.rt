@@ -23,23 +23,27 @@ mod derivations;
 mod plays;
 mod rows;
 mod search;
+mod trail;
 mod verdicts;
 mod weights;
 mod worked;
 
 pub use derivations::{
     additions_are_legal, changes_are_legal, drops_are_legal, inputs_may_come_first, prefixes_grow,
-    sides_are_legal,
+    removals_of_variables_are_legal, sides_are_legal, steps_have_cores,
 };
 pub use plays::{
     circuits_win, gates_are_bounded, gates_are_few, last_steps_decide, plays_exist,
     plays_look_back, plays_win, winning_decides,
 };
-pub use rows::{prefix_laws, row_laws};
+pub use rows::{prefix_laws, reductions_keep_unit, reductions_stay, row_laws, value_laws};
 pub use search::{
     assumptions_end, blockers_resolve, blockers_were_propagated, decisions_make_unit,
-    lasts_resolve, no_pivots_end, propagation_refutes, reasons_are_unit, reasons_stay, trail_laws,
-    trails_are_short, unblocked_are_clean, value_laws,
+    lasts_resolve, lower_levels_make_unit, no_pivots_end, propagation_refutes, unblocked_are_clean,
+};
+pub use trail::{
+    assumption_moves, cuts, cuts_lose_assumptions, places, reason_moves, reasons_are_unit,
+    reasons_oppose, reasons_stay, trail_laws, trails_are_short,
 };
 pub use verdicts::{
     end_rows_decide, end_rows_give_proofs, first_values_decide, proofs_decide, relevant_ones_decide,

@@ -1,5 +1,5 @@
 //! Plays, circuits and their size.
-ghost use Rattle.calculus.specs.Theorems.{CircuitsWin, GatesAreBounded, GatesAreFew, LastStepsDecide, PlaysExist, PlaysLookBack, PlaysWin, WinningDecides};
+ghost use Rattle.calculus.specs.PlayTheorems.{CircuitsWin, GatesAreBounded, GatesAreFew, LastStepsDecide, PlaysExist, PlaysLookBack, PlaysWin, WinningDecides};
 
 /// Values that follow a proof decide the matrix against all allowed values of the loser.
 pub fn plays_win()

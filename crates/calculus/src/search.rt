@@ -1,25 +1,5 @@
-//! Trails, cleaning, analysis and propagation.
-ghost use Rattle.calculus.specs.Theorems.{AssumptionsEnd, BlockersResolve, BlockersWerePropagated, DecisionsMakeUnit, LastsResolve, NoPivotsEnd, PropagationRefutes, ReasonsAreUnit, ReasonsStay, TrailLaws, TrailsAreShort, UnblockedAreClean, ValueLaws};
-
-/// What holds of total values against partial ones.
-pub fn value_laws()
-    ensures { ValueLaws }
-{}
-
-/// What a trail's lists give: its values, those of a cut, and the order that additions and cuts keep.
-pub fn trail_laws()
-    ensures { TrailLaws }
-{}
-
-/// A propagated variable's reason was unit before its place.
-pub fn reasons_are_unit()
-    ensures { ReasonsAreUnit }
-{}
-
-/// A row that is clean but for its kept literal stays so where that literal is assigned next, where the trail grows after it, and where it is cut after it.
-pub fn reasons_stay()
-    ensures { ReasonsStay }
-{}
+//! Cleaning, analysis and propagation.
+ghost use Rattle.calculus.specs.SearchTheorems.{AssumptionsEnd, BlockersResolve, BlockersWerePropagated, DecisionsMakeUnit, LastsResolve, LowerLevelsMakeUnit, NoPivotsEnd, PropagationRefutes, UnblockedAreClean};
 
 /// A literal that keeps an open one from reduction was propagated.
 pub fn blockers_were_propagated()
@@ -46,6 +26,11 @@ pub fn decisions_make_unit()
     ensures { DecisionsMakeUnit }
 {}
 
+/// A clean row makes its literal unit at a lower level, also where that literal was propagated.
+pub fn lower_levels_make_unit()
+    ensures { LowerLevelsMakeUnit }
+{}
+
 /// A clean row whose last pivot-type literal was assumed is an end row.
 pub fn assumptions_end()
     ensures { AssumptionsEnd }
@@ -59,9 +44,4 @@ pub fn no_pivots_end()
 /// Where propagation refutes the clauses, no values that are quiet for their reductions hold its literals without decisions.
 pub fn propagation_refutes()
     ensures { PropagationRefutes }
-{}
-
-/// An ordered trail has at most one literal for each variable of the prefix, so that its weight is bounded.
-pub fn trails_are_short()
-    ensures { TrailsAreShort }
 {}

@@ -1,5 +1,5 @@
 //! Verdicts.
-ghost use Rattle.calculus.specs.Theorems.{EndRowsDecide, EndRowsGiveProofs, FirstValuesDecide, ProofsDecide, RelevantOnesDecide};
+ghost use Rattle.calculus.specs.VerdictTheorems.{EndRowsDecide, EndRowsGiveProofs, FirstValuesDecide, ProofsDecide, RelevantOnesDecide};
 
 /// An end row of a legal derivation decides the truth under the assumptions: an end clause makes the formula false, an end cube true.
 ///
@@ -23,7 +23,7 @@ pub fn first_values_decide()
     ensures { FirstValuesDecide }
 {}
 
-/// An end row with its core, inputs first, and its finish where something goes, is a proof.
+/// An end row with its core, inputs first, and its finish where something goes, is a proof, whose last row is the finish.
 pub fn end_rows_give_proofs()
     ensures { EndRowsGiveProofs }
 {}

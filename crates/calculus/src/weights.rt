@@ -1,12 +1,12 @@
 //! Weights of trails and numbers of steps.
-ghost use Rattle.calculus.specs.Theorems.{LimitsSuffice, SearchesEnd, StepsAreFew, WeightLaws};
+ghost use Rattle.calculus.specs.WeightTheorems.{LimitsSuffice, SearchesEnd, StepsAreFew, WeightLaws};
 
 /// An assignment raises the weight, and so does a cut at a decision with an assignment that is none in its place; the weight is bounded.
 pub fn weight_laws()
     ensures { WeightLaws }
 {}
 
-/// A search over n variables makes fewer than 2 ^ (n + 1) - 1 assignments.
+/// A search over n variables makes fewer assignments than the assignment limit, also where it begins anew.
 pub fn searches_end()
     ensures { SearchesEnd }
 {}
@@ -16,7 +16,7 @@ pub fn steps_are_few()
     ensures { StepsAreFew }
 {}
 
-/// So a search with few resolutions stays below the step limit.
+/// So with few assignments the steps stay below the step limit, and below that of so many restarts.
 pub fn limits_suffice()
     ensures { LimitsSuffice }
 {}

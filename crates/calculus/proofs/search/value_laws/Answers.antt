@@ -1,7 +1,0 @@
-use Rattle.std.proofs.Common.{refl}
-use Rattle.calculus.proofs.TrailLaws.{extended_bad}
-use Rattle.calculus.proofs.Badness.{extended_true, bad_clause, bad_cube, clean_clause, clean_cube}
-use Rattle.calculus.proofs.search.value_laws.Goals as goal
-
-pub returns : goal.returns
-returns c = record { extended_bad = extended_bad; extended_true = extended_true; bad_clause = bad_clause; bad_cube = bad_cube; clean_clause = clean_clause; clean_cube = clean_cube; total_bad = λ pivot values l. refl }
