@@ -1,8 +1,8 @@
 //! What to do with a row whose literals have these values.
-ghost use Rattle.std.specs.Prelude.{◌≡◌, not, ◌&&◌, ◌||◌, nat_lt};
-ghost use Rattle.calculus.specs.Rows.{depth_of, is_pivot as is_pivot_type, same_literal};
+ghost use Rattle.std.specs.Prelude.{◌≡◌};
+ghost use Rattle.calculus.specs.Rows.{same_literal};
 ghost use Rattle.calculus.specs.Search.{is_bad_now, value_on};
-ghost use Rattle.watch.specs.Pairs.{IsFound, is_free_pivot, is_good_now, is_partner};
+ghost use Rattle.watch.specs.Pairs.{IsFound, is_free_pivot, is_good_now, is_partner, joins};
 ghost use Rattle.watch.specs.Events.{IsChoice};
 
 use prefix::{Lit, Prefix, Side};
@@ -85,7 +85,7 @@ fn is_match<S: Side>(prefix: &Prefix, trail: &Trail, lit: Lit, first: Lit) -> bo
 
 // Whether a literal is pivot-type, or of an earlier scope than another one.
 fn may_join<S: Side>(prefix: &Prefix, lit: Lit, first: Lit) -> bool
-    ensures { result ≡ (is_pivot_type S.PIVOT prefix.now lit || nat_lt (depth_of prefix.now lit.variable) (depth_of prefix.now first.variable)) }
+    ensures { result ≡ joins S.PIVOT prefix.now first lit }
 {
     prefix.is_pivot::<S>(lit) || prefix.depth(lit.var()) < prefix.depth(first.var())
 }
