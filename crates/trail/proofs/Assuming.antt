@@ -1,5 +1,5 @@
 -- Assumptions, one after the other.
-use Rattle.std.proofs.Common.{◌≡◌, ◌≢◌, ℕ, zero, suc, ◌+◌, ◌<◌, ◌≤◌, true, List, [], ◌∷◌, ◌++◌, length, map, take, get_or, Contains, None, refl, sym, ap, ◌∙◌, ⊎_elim, arith, nat_eq}
+use Rattle.std.proofs.Common.{Bool, false, ◌≡◌, ◌≢◌, ℕ, zero, suc, ◌+◌, ◌<◌, ◌≤◌, true, List, [], ◌∷◌, ◌++◌, length, map, take, get_or, Contains, None, refl, sym, ap, ◌∙◌, ⊎_elim, arith, nat_eq}
 use Rattle.std.proofs.lemmas.Bool.{eq-eqb, ne_eqb, or_left, or_right, true≢false}
 use Rattle.std.proofs.lemmas.List.{take_more, length_push, map-append}
 use Rattle.prefix.specs.Literal.{Literal}
@@ -12,7 +12,7 @@ use Rattle.calculus.proofs.Lists.{contains_cons, contains_nil}
 use Rattle.calculus.proofs.Trails.{value_past}
 use Rattle.trail.specs.declared.allowed.Allowed.{Allowed}
 use Rattle.trail.specs.declared.allowed.Allowed.TheVariants.{Anything}
-use Rattle.trail.specs.State.{TrailState, MayFollow, IsTrailFor, assumed, allowed_after, counted, with_assumed, with_literal}
+use Rattle.trail.specs.State.{TrailState, MayFollow, IsTrailFor, assumed, allowed_after, counted, unmarked, with_assumed, with_literal}
 
 -- some literals were assumed, with a step for each
 pub record HasAssumed (scopes : List Scope) (old now : TrailState) (literals : List Literal) (first then : Counter) (i : ℕ) : Type 0 where
@@ -57,20 +57,26 @@ assumed_more scopes t ls l =
     let depth : Literal → ℕ = λ (m : Literal). depth_of scopes m.variable in
     let placed : map assumed ls ++ assumed l ∷ [] ≡ map assumed (ls ++ l ∷ []) = sym (map-append assumed ls (l ∷ [])) in
     let depths : map depth ls ++ depth l ∷ [] ≡ map depth (ls ++ l ∷ []) = sym (map-append depth ls (l ∷ [])) in
+    let marks : map unmarked ls ++ false ∷ [] ≡ map unmarked (ls ++ l ∷ []) = sym (map-append unmarked ls (l ∷ [])) in
     let longer : suc (length ls) ≡ length (ls ++ l ∷ []) = (let h = length_push ls l in omega arith) in
     let number : counted (counted t.assigned (length ls)) 1 ≡ counted t.assigned (length (ls ++ l ∷ [])) = counted_more t.assigned (length ls) ∙ ap (counted t.assigned) longer in
     let next = allowed_anything ls l t.allowed in
-    λ i. record { placed = placed i; depths = depths i; assigned = number i; room = t.room; allowed = next i }
+    λ i. record { placed = placed i; depths = depths i; marks = marks i; assigned = number i; room = t.room; allowed = next i }
 
 pub assumed_next : (scopes : List Scope) (t : TrailState) (ls : List Literal) (i : ℕ) (l : Literal) → i < length ls → l ≡ get_or ls i l → with_literal scopes (with_assumed scopes t (take i ls)) l Assumed ≡ with_assumed scopes t (take (i + 1) ls)
 assumed_next scopes t ls i l below is =
     assumed_more scopes t (take i ls) l ∙ ap (with_assumed scopes t) (ap (λ m. take i ls ++ m ∷ []) is ∙ sym (take_more ls i l below))
 
+nothing : (bs : List Bool) → length bs ≡ 0 → bs ≡ []
+nothing [] e = refl
+nothing (b ∷ bs) e = absurd (let long : length (b ∷ bs) ≡ suc (length bs) = refl in omega arith)
+
 -- none is assumed yet
 pub assumed_none : (scopes : List Scope) (t : TrailState) → IsTrailFor scopes t → t.placed ≡ [] → t ≡ with_assumed scopes t []
 assumed_none scopes t kept empty =
     let none : t.depths ≡ [] = kept.numbered ∙ ap (map (λ (p : Placed). depth_of scopes p.literal.variable)) empty in
-    λ i. record { placed = empty i; depths = none i; assigned = t.assigned; room = t.room; allowed = t.allowed }
+    let bare : t.marks ≡ [] = nothing t.marks (kept.marked ∙ ap length empty) in
+    λ i. record { placed = empty i; depths = none i; marks = bare i; assigned = t.assigned; room = t.room; allowed = t.allowed }
 
 -- steps
 pub after_none : (c : Counter) → c ≡ after c 0

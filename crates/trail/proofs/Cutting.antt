@@ -1,5 +1,5 @@
 -- A trail that is cut to a decision level, literal by literal.
-use Rattle.std.proofs.Common.{◌≡◌, ℕ, zero, suc, ◌+◌, ◌-◌, ◌<◌, ◌≤◌, true, List, [], ◌∷◌, ◌++◌, length, take, refl, sym, ap, ◌∙◌, ⊎_elim, arith, nat_le}
+use Rattle.std.proofs.Common.{Bool, ap₂, ◌≡◌, ℕ, zero, suc, ◌+◌, ◌-◌, ◌<◌, ◌≤◌, true, List, [], ◌∷◌, ◌++◌, length, take, refl, sym, ap, ◌∙◌, ⊎_elim, arith, nat_le}
 use Rattle.std.proofs.lemmas.Bool.{cond_both, cond-true, cond-false, cases_lt, le-leb, lt-leb, cases_Bool}
 use Rattle.std.proofs.lemmas.List.{length_push}
 use Rattle.calculus.specs.Search.{Placed, Trail, cut_from, cut_trail, is_decision, last_level, last_level_from, level_after}
@@ -88,10 +88,10 @@ level_long b [] high = absurd (let h : b < 0 = high in omega arith)
 level_long b (p ∷ trail) high = omega arith
 
 pub undone_low : (b : ℕ) (t : TrailState) → last_level t.placed ≤ b → undone_to b t ≡ t
-undone_low b t low = cond-true (nat_le (last_level t.placed) b) t (record { placed = cut_trail b t.placed; depths = take (length (cut_trail b t.placed)) t.depths; assigned = t.assigned; room = t.room; allowed = NoDecision }) (le-leb (last_level t.placed) b low)
+undone_low b t low = cond-true (nat_le (last_level t.placed) b) t (record { placed = cut_trail b t.placed; depths = take (length (cut_trail b t.placed)) t.depths; marks = take (length (cut_trail b t.placed)) t.marks; assigned = t.assigned; room = t.room; allowed = NoDecision }) (le-leb (last_level t.placed) b low)
 
-pub undone_high : (b : ℕ) (t : TrailState) → b < last_level t.placed → undone_to b t ≡ record { placed = cut_trail b t.placed; depths = take (length (cut_trail b t.placed)) t.depths; assigned = t.assigned; room = t.room; allowed = NoDecision }
-undone_high b t high = cond-false (nat_le (last_level t.placed) b) t (record { placed = cut_trail b t.placed; depths = take (length (cut_trail b t.placed)) t.depths; assigned = t.assigned; room = t.room; allowed = NoDecision }) (lt-leb (last_level t.placed) b high)
+pub undone_high : (b : ℕ) (t : TrailState) → b < last_level t.placed → undone_to b t ≡ record { placed = cut_trail b t.placed; depths = take (length (cut_trail b t.placed)) t.depths; marks = take (length (cut_trail b t.placed)) t.marks; assigned = t.assigned; room = t.room; allowed = NoDecision }
+undone_high b t high = cond-false (nat_le (last_level t.placed) b) t (record { placed = cut_trail b t.placed; depths = take (length (cut_trail b t.placed)) t.depths; marks = take (length (cut_trail b t.placed)) t.marks; assigned = t.assigned; room = t.room; allowed = NoDecision }) (lt-leb (last_level t.placed) b high)
 
 -- a front of a front
 pub take_take : {X : Type 0} (m n : ℕ) (xs : List X) → m ≤ n → take m (take n xs) ≡ take m xs
@@ -114,18 +114,18 @@ undone_less b t high =
     let last = last_split t.placed (level_long b t.placed high) in
     let top : b < last_level (front ++ last.0 ∷ []) = rw (← last.1) high in
     let same : cut_trail b t.placed ≡ cut_trail b front = ap (cut_trail b) last.1 ∙ cut_more 0 b front last.0 top in
-    let cut : Trail → List ℕ → TrailState = λ trail depths. record { placed = trail; depths = depths; assigned = t.assigned; room = t.room; allowed = NoDecision } in
+    let cut : Trail → List ℕ → List Bool → TrailState = λ trail depths marks. record { placed = trail; depths = depths; marks = marks; assigned = t.assigned; room = t.room; allowed = NoDecision } in
     let long : length t.placed ≡ length front + 1 = ap length last.1 ∙ length_push front last.0 in
     ⊎_elim
     (λ (above : b < last_level front).
     let short : length (cut_trail b front) ≤ length front = cut_short 0 b front in
     undone_high b (without_last t) above
-    ∙ (ap (cut (cut_trail b front)) (take_take (length (cut_trail b front)) (length t.placed - 1) t.depths (omega arith))
-    ∙ (ap (λ trail. cut trail (take (length trail) t.depths)) (sym same) ∙ sym (undone_high b t high))))
+    ∙ (ap₂ (cut (cut_trail b front)) (take_take (length (cut_trail b front)) (length t.placed - 1) t.depths (omega arith)) (take_take (length (cut_trail b front)) (length t.placed - 1) t.marks (omega arith))
+    ∙ (ap (λ trail. cut trail (take (length trail) t.depths) (take (length trail) t.marks)) (sym same) ∙ sym (undone_high b t high))))
     (λ (low : last_level front ≤ b).
     let all : cut_trail b t.placed ≡ front = same ∙ cut_all 0 b front low in
     let number : length t.placed - 1 ≡ length (cut_trail b t.placed) = (let h : length (cut_trail b t.placed) ≡ length front = ap length all in omega arith) in
     undone_low b (without_last t) low
-    ∙ (ap (λ n. cut front (take n t.depths)) number
-    ∙ (ap (λ trail. cut trail (take (length (cut_trail b t.placed)) t.depths)) (sym all) ∙ sym (undone_high b t high))))
+    ∙ (ap (λ n. cut front (take n t.depths) (take n t.marks)) number
+    ∙ (ap (λ trail. cut trail (take (length (cut_trail b t.placed)) t.depths) (take (length (cut_trail b t.placed)) t.marks)) (sym all) ∙ sym (undone_high b t high))))
     (cases_lt b (last_level front))

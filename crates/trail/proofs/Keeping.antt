@@ -1,7 +1,7 @@
 -- What a trail keeps for its prefix: its order, and a count of assignments within its weight.
-use Rattle.std.proofs.Common.{◌≡◌, ℕ, suc, ◌+◌, ◌^◌, ◌<◌, ◌≤◌, true, false, List, [], ◌∷◌, ◌++◌, length, map, take, Contains, None, refl, sym, ap, ◌∙◌, ⊎_elim, arith, append_assoc, length-append}
+use Rattle.std.proofs.Common.{Bool, ◌≡◌, ℕ, suc, ◌+◌, ◌^◌, ◌<◌, ◌≤◌, true, false, List, [], ◌∷◌, ◌++◌, length, map, take, Contains, None, refl, sym, ap, ◌∙◌, ⊎_elim, arith, append_assoc, length-append}
 use Rattle.std.proofs.lemmas.Bool.{cases_lt}
-use Rattle.std.proofs.lemmas.List.{length-map, map-append, length_push}
+use Rattle.std.proofs.lemmas.List.{length-take-le, length-map, map-append, length_push}
 use Rattle.prefix.specs.Literal.{Literal}
 use Rattle.prefix.specs.Scopes.{Scope, all_variables}
 use Rattle.calculus.specs.Search.{Cause, Placed, Trail, MayStand, cut_trail, decisions_on, is_decision, last_level, value_on}
@@ -15,7 +15,7 @@ use Rattle.calculus.proofs.TrailLaws.{cut_ordered}
 use Rattle.trail.specs.declared.allowed.Allowed.{Allowed}
 use Rattle.trail.specs.declared.allowed.Allowed.TheVariants.{Anything, NoDecision, Nothing}
 use Rattle.trail.specs.State.{TrailState, MayFollow, IsWeighed, IsTrailFor, counted, with_literal, undone_to, cleared}
-use Rattle.trail.proofs.Cutting.{IsCutAt, cut_at, undone_low, undone_high}
+use Rattle.trail.proofs.Cutting.{IsCutAt, cut_at, cut_short, undone_low, undone_high}
 
 decisions_length : (trail : Trail) → length (decisions_on trail) ≡ length trail
 decisions_length trail = length-map trail (λ (p : Placed). is_decision p.cause)
@@ -65,6 +65,7 @@ kept_more scopes t l cause kept known fresh order may =
     record {
       ordered = ordered_more scopes [] t.placed p kept.ordered known fresh order;
       numbered = ap (λ (ds : List ℕ). ds ++ depth_of scopes l.variable ∷ []) kept.numbered ∙ sym (map-append (λ (q : Placed). depth_of scopes q.literal.variable) t.placed (p ∷ []));
+      marked = (let one : length (t.marks ++ false ∷ []) ≡ length t.marks + 1 = length_push t.marks false in let two : length (t.placed ++ p ∷ []) ≡ length t.placed + 1 = length_push t.placed p in let was = kept.marked in omega arith);
       weighed = weighed_more (length (all_variables scopes)) t.allowed t.placed t.assigned p kept.weighed may;
     }
 
@@ -119,25 +120,32 @@ numbered_cut scopes b t high kept =
     let long : length (map depth front) ≡ length front = length-map front depth in
     ap (take (length front)) parts ∙ (ap (λ n. take n (map depth front ++ map depth back)) (sym long) ∙ take-append_seam (map depth front) (map depth back))
 
+marked_cut : (b : ℕ) (t : TrailState) → length t.marks ≡ length t.placed → length (take (length (cut_trail b t.placed)) t.marks) ≡ length (cut_trail b t.placed)
+marked_cut b t marked =
+    let short = cut_short 0 b t.placed in
+    length-take-le (length (cut_trail b t.placed)) t.marks (omega arith)
+
 pub kept_cut : (scopes : List Scope) (b : ℕ) (t : TrailState) → IsTrailFor scopes t → IsTrailFor scopes (undone_to b t)
 kept_cut scopes b t kept =
     ⊎_elim
     (λ (high : b < last_level t.placed). rw (undone_high b t high) (record {
       ordered = cut_ordered scopes [] 0 b t.placed kept.ordered;
       numbered = numbered_cut scopes b t high kept;
+      marked = marked_cut b t kept.marked;
       weighed = weighed_cut (length (all_variables scopes)) b t.allowed t.placed t.assigned (trail_length scopes t.placed kept.ordered) high kept.weighed;
     }))
     (λ (low : last_level t.placed ≤ b). rw (undone_low b t low) kept)
     (cases_lt b (last_level t.placed))
 
 pub kept_cleared : (scopes : List Scope) (t : TrailState) → IsTrailFor scopes (cleared t)
-kept_cleared scopes t = record { ordered = tt; numbered = refl; weighed = omega arith }
+kept_cleared scopes t = record { ordered = tt; numbered = refl; marked = refl; weighed = omega arith }
 
 -- assumptions that are given up
-pub kept_given_up : (scopes : List Scope) (t : TrailState) (placed : Trail) (depths : List ℕ) (assigned room : ℕ) → IsTrailFor scopes t → placed ≡ [] → depths ≡ [] → assigned ≡ t.assigned → IsTrailFor scopes (record { placed = placed; depths = depths; assigned = assigned; room = room; allowed = Nothing })
-kept_given_up scopes t placed depths assigned room kept empty none same =
+pub kept_given_up : (scopes : List Scope) (t : TrailState) (placed : Trail) (depths : List ℕ) (marks : List Bool) (assigned room : ℕ) → IsTrailFor scopes t → placed ≡ [] → depths ≡ [] → marks ≡ [] → assigned ≡ t.assigned → IsTrailFor scopes (record { placed = placed; depths = depths; marks = marks; assigned = assigned; room = room; allowed = Nothing })
+kept_given_up scopes t placed depths marks assigned room kept empty none unmarked same =
     record {
       ordered = rw empty tt;
       numbered = none ∙ ap (map (λ (p : Placed). depth_of scopes p.literal.variable)) (sym empty);
+      marked = ap length unmarked ∙ sym (ap length empty);
       weighed = (empty, rw same (assigned_few scopes t kept));
     }

@@ -2,6 +2,7 @@ pub mod Assuming
 pub mod Counting
 pub mod Cutting
 pub mod Keeping
+pub mod Marking
 pub mod Opening
 pub mod Placing
 pub mod Tables

@@ -1,12 +1,12 @@
 -- The table of a trail stays one.
-use Rattle.std.proofs.Common.{◌≡◌, ℕ, zero, suc, ◌+◌, ◌-◌, ◌<◌, ◌≤◌, Bool, true, cond, List, [], ◌∷◌, ◌++◌, length, take, set, get_or, Option, Some, None, is_some, refl, sym, ap, ◌∙◌, ⊎_elim, arith, nat_eq}
+use Rattle.std.proofs.Common.{◌≡◌, ℕ, zero, suc, ◌+◌, ◌-◌, ◌<◌, ◌≤◌, Bool, true, cond, List, [], ◌∷◌, ◌++◌, length, take, set, get_or, All, Option, Some, None, is_some, refl, sym, ap, ◌∙◌, ⊎_elim, arith, nat_eq}
 use Rattle.std.specs.Prelude.{slice_get, count_by}
 use Rattle.std.specs.Option.{option_map}
-use Rattle.std.proofs.lemmas.Bool.{cond_both, cases_Bool, cases_eq, cases_lt, false≢true}
+use Rattle.std.proofs.lemmas.Bool.{cond_both, cases_Bool, cases_eq, cases_lt, eq-eqb, false≢true}
 use Rattle.std.proofs.lemmas.List.{length_push, length-map, length-set, length-take-le, map-append, get_or-set_same, get_or-set_other, get_or_past}
 use Rattle.std.proofs.lemmas.List.Sums.{sum_by-set, count_by-le-length}
 use Rattle.std.proofs.Math.Seq.{take-length, take-suc}
-use Rattle.calculus.specs.Search.{Trail, cut_trail, cause_on, is_decision, last_level, last_level_from, literals_on, level_after, level_from_start, place_on, value_on}
+use Rattle.calculus.specs.Search.{Placed, Trail, cut_trail, cause_on, is_decision, last_level, last_level_from, literals_on, level_after, level_from_start, place_on, value_on}
 use Rattle.calculus.proofs.Trails.{value_here, value_past, place_here, place_past, cause_here, cause_past, level_here, level_past}
 use Rattle.trail.specs.declared.trail.Entry.{Entry}
 use Rattle.trail.specs.declared.trail.Spot.{Spot}
@@ -273,3 +273,27 @@ cut_length_none level entries len before low =
     let none : len ≡ 0 = omega arith in
     let empty : length (cut_trail level (trail_of (take len entries))) ≡ 0 = ap (λ n. length (cut_trail level (trail_of (take n entries)))) none in
     none ∙ (sym empty ∙ before.same)
+
+-- each placed variable has a value
+value_some : (trail : Trail) (k : ℕ) (d : Placed) → k < length trail → is_some (value_on trail (get_or trail k d).literal.variable) ≡ true
+value_some [] k d below = absurd (omega arith)
+value_some (p ∷ rest) zero d below = ap is_some (value_here p rest p.literal.variable (eq-eqb p.literal.variable p.literal.variable refl))
+value_some (p ∷ rest) (suc k) d below =
+    let x = (get_or rest k d).literal.variable in
+    ⊎_elim (λ t. ap is_some (value_here p rest x t)) (λ f. ap is_some (value_past p rest x f) ∙ value_some rest k d (omega arith)) (cases_Bool (nat_eq p.literal.variable x))
+
+-- there is room for what is on a table
+pub table_room : (entries : List Entry) (spots : List (Option Spot)) (capacity : ℕ) → IsTable entries spots capacity → (length (trail_of entries) ≤ length spots) × All (λ (p : Placed). p.literal.variable ≤ length spots) (trail_of entries)
+table_room entries spots capacity table =
+    let filled = table.filled in
+    let most : count_by is_some spots ≤ length spots = count_by-le-length is_some spots in
+    let long : length (trail_of entries) ≡ length entries = length-map entries placed_of in
+    (omega arith, λ k d below. within (get_or (trail_of entries) k d).literal.variable (value_on (trail_of entries) (get_or (trail_of entries) k d).literal.variable) refl (value_some (trail_of entries) k d below))
+  where
+    spotted : (x : ℕ) (s : Spot) → spot_at spots x ≡ Some s → x ≤ length spots
+    spotted zero s e = omega arith
+    spotted (suc i) s e = let h : i < length spots = spot_within spots i s e in omega arith
+
+    within : (x : ℕ) (o : Option Bool) → value_on (trail_of entries) x ≡ o → is_some o ≡ true → x ≤ length spots
+    within x None e t = absurd (false≢true t)
+    within x (Some b) e t = spotted x (record { value = b; place = place_on (trail_of entries) x }) (table.found x ∙ ap (option_map (λ c. record { value = c; place = place_on (trail_of entries) x })) e)

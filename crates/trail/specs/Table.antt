@@ -1,5 +1,5 @@
 -- How a trail is kept: its literals in order, each with its level, and where each variable stands.
-use Rattle.std.specs.Prelude.{◌≡◌, ℕ, zero, suc, ◌+◌, ◌<◌, ◌≤◌, ◌==◌, if◌then◌else◌, ⊤, map, length, count_by, is_some, List, [], ◌∷◌, Option, Some, None, slice_get, slice_index, slice_index_or}
+use Rattle.std.specs.Prelude.{Bool, ◌≡◌, ℕ, zero, suc, ◌+◌, ◌<◌, ◌≤◌, ◌==◌, if◌then◌else◌, ⊤, map, length, count_by, is_some, List, [], ◌∷◌, Option, Some, None, slice_get, slice_index, slice_index_or}
 use Rattle.std.specs.Option.{option_map}
 use Rattle.trail.specs.declared.trail.Entry.{Entry}
 use Rattle.trail.specs.declared.trail.Spot.{Spot}
@@ -39,6 +39,10 @@ pub record IsTable (entries : List Entry) (spots : List (Option Spot)) (capacity
 -- the scope of each entry, by its number less 1
 abbrev pub scopes_in : List Entry → List ℕ
 scopes_in entries = map (λ (e : Entry). e.scope) entries
+
+-- the marks of clean reasons
+abbrev pub marks_of : List Entry → List Bool
+marks_of entries = map (λ (e : Entry). e.clean) entries
 
 -- the numbers of the scopes
 abbrev pub depths_of : List Entry → List ℕ

@@ -6,7 +6,7 @@ use Rattle.prefix.specs.declared.quant.Quant.TheVariants.{Exists}
 use Rattle.calculus.specs.Search.{cause_on, decision_level_on, decisions_on, place_on, value_on}
 use Rattle.calculus.specs.Search.Cause.{Decided, Propagated}
 use Rattle.calculus.specs.Weights.{trail_weight}
-use Rattle.trail.specs.State.{TrailState, new_trail, undone_to, with_literal}
+use Rattle.trail.specs.State.{TrailState, is_marked, new_trail, undone_to, with_clean, with_literal}
 
 -- a variable as a literal
 abbrev pub plus : ℕ → Literal
@@ -32,6 +32,14 @@ turned = with_literal three_variables (undone_to 0 decided_first) (minus 1) (Pro
 abbrev pub propagated : TrailState
 propagated = with_literal three_variables (with_literal three_variables (with_literal three_variables new_trail (plus 1) (Propagated 0)) (plus 2) (Propagated 1)) (plus 3) (Propagated 2)
 
+-- step 9 is the reason of the second literal, and clean
+abbrev pub cleaned : TrailState
+cleaned = with_clean decided_first 2 9
+
+-- both are undone, and -2 is propagated from step 9
+abbrev pub cleaned_before : TrailState
+cleaned_before = with_literal three_variables (undone_to 0 cleaned) (minus 2) (Propagated 9)
+
 -- the weight of a trail over three variables
 abbrev pub weight_of : TrailState → ℕ
 weight_of t = trail_weight 3 (decisions_on t.placed)
@@ -47,3 +55,10 @@ pub record WorkedTrails : Type 0 where
   pub turn_weighs_more : weight_of turned ≡ 8
   pub undone_ones_count : turned.assigned ≡ 3
   pub propagated_thrice : weight_of propagated ≡ 14
+  pub unmarked_at_first : is_marked decided_first 2 ≡ false
+  pub marked : is_marked cleaned 2 ≡ true
+  pub first_stays_unmarked : is_marked cleaned 1 ≡ false
+  pub clean_reason : cause_on cleaned.placed 2 ≡ Some (Propagated 9)
+  pub first_cause_stays : cause_on cleaned.placed 1 ≡ Some Decided
+  pub clean_value : value_on cleaned.placed 2 ≡ Some false
+  pub mark_is_forgotten : is_marked cleaned_before 2 ≡ false

@@ -60,6 +60,21 @@ fn decide(trail: &mut Trail, prefix: &Prefix, lit: Lit, steps: &mut Steps) -> Re
     Ok(())
 }
 
+// Puts a step in the place of the reason of a variable and marks it as clean, once it is seen that it has a reason.
+fn set_clean(trail: &mut Trail, prefix: &Prefix, v: Var, reason: usize) -> Result<(), Fail>
+    requires kept { IsTrailFor prefix.now trail.old }
+    ensures kept { IsTrailFor prefix.now trail.new }
+    ensures allowed { trail.new.allowed ≡ trail.old.allowed }
+{
+    match trail.why(v) {
+        Some(Why::Propagated(_)) => {
+            trail.set_clean(v, reason);
+            Ok(())
+        }
+        _ => Err("without a reason")?,
+    }
+}
+
 // Assumes two literals, once it is seen that they may be assumed.
 fn assume(
     trail: &mut Trail,
@@ -105,11 +120,45 @@ fn look_ups_answer_by_the_list(rt: HostRuntime) -> Result<(), Fail> {
         assert_eq!(rt; trail.why(v), Some(why), "variable {number}");
     }
     assert_eq!(rt; (trail.len(), trail.level(), trail.assigned()), (3, 1, 3));
+    assert_eq!(rt; trail.room(), 3);
     assert_eq!(rt; (trail.len_to(0), trail.len_to(1)), (1, 3));
     trail.undo_to(0);
     assert_eq!(rt; (trail.len(), trail.level(), trail.assigned()), (1, 0, 3));
     assert_eq!(rt; (trail.value(var(1)?), trail.place(var(3)?)), (None, None));
     assert_eq!(rt; (trail.level_of(var(3)?), trail.why(var(3)?)), (None, None));
+    Ok(())
+}
+
+#[test]
+fn marks_of_clean_reasons_go_with_their_literals(rt: HostRuntime) -> Result<(), Fail> {
+    let prefix = two_scopes(rt.alloc())?;
+    let mut steps = Steps::new(10);
+    let mut trail = Trail::new(rt.alloc());
+    decide(&mut trail, &prefix, lit(1, true)?, &mut steps)?;
+    propagate(&mut trail, &prefix, lit(2, true)?, &mut steps)?;
+    propagate(&mut trail, &prefix, lit(3, true)?, &mut steps)?;
+    assert_eq!(rt; trail.is_clean(var(2)?), false, "before it is set");
+    set_clean(&mut trail, &prefix, var(2)?, 9)?;
+    for (number, clean, why) in [
+        (1, false, Why::Decided),
+        (2, true, Why::Propagated(9)),
+        (3, false, Why::Propagated(7)),
+    ] {
+        let v = var(number)?;
+        assert_eq!(rt;
+            (trail.is_clean(v), trail.why(v)),
+            (clean, Some(why)),
+            "variable {number}"
+        );
+    }
+    assert_eq!(rt;
+        (trail.value(var(2)?), trail.place(var(2)?)),
+        (Some(true), Some(1))
+    );
+    trail.undo_to(0);
+    assert_eq!(rt; trail.is_clean(var(2)?), false, "undone");
+    propagate(&mut trail, &prefix, lit(2, true)?, &mut steps)?;
+    assert_eq!(rt; trail.is_clean(var(2)?), false, "assigned again");
     Ok(())
 }
 

@@ -13,7 +13,7 @@ ghost use Rattle.trail.specs.declared.allowed.Allowed.TheVariants.{Anything};
 ghost use Rattle.trail.specs.Causes.{cause_of};
 ghost use Rattle.trail.specs.Open.{is_assigned, AreAssigned, AreAssignedBefore, IsFirstOpen};
 ghost use Rattle.trail.specs.Table.{spot_on, AreFloored, IsTallied, floor_from};
-ghost use Rattle.trail.specs.State.{new_trail, without_last, with_room, with_literal, with_assumed, given_up, undone_to, cleared, counted, MayFollow, IsTrailFor};
+ghost use Rattle.trail.specs.State.{new_trail, without_last, with_room, with_literal, with_assumed, given_up, undone_to, cleared, counted, HasRoom, is_marked, with_clean, IsPropagated, MayFollow, IsTrailFor};
 
 use super::Why;
 use super::allowed::Allowed;
@@ -22,8 +22,8 @@ use std::alloc::{AllocError, Global};
 use std::marker::Model;
 use steps::{NoMemory, Spent, Steps};
 
-// A literal on the trail, with its cause, its decision level, the number less 1 of its variable's scope, and the number of
-// the scope of the last decision up to it, or 1.
+// A literal on the trail, with its cause, its decision level, the number less 1 of its variable's scope, the number of the
+// scope of the last decision up to it, or 1, and whether its reason is marked as clean.
 #[derive(Debug, Drop)]
 struct Entry {
     lit: Lit,
@@ -31,6 +31,7 @@ struct Entry {
     level: usize,
     scope: usize,
     floor: usize,
+    clean: bool,
 }
 
 // Where a variable stands: its value, and its place among the entries.
@@ -63,9 +64,9 @@ impl Model for Trail {
 
     ghost Value = { TrailState };
 
-    ghost use Rattle.trail.specs.Table.{trail_of, depths_of, IsTable, IsTallied};
+    ghost use Rattle.trail.specs.Table.{trail_of, depths_of, marks_of, IsTable, IsTallied};
 
-    ghost view = { λ t. record { placed = trail_of t.entries.items; depths = depths_of t.entries.items; assigned = t.assigned; room = length t.spots.items; allowed = t.allowed } };
+    ghost view = { λ t. record { placed = trail_of t.entries.items; depths = depths_of t.entries.items; marks = marks_of t.entries.items; assigned = t.assigned; room = length t.spots.items; allowed = t.allowed } };
 
     ghost invariant = { λ t. IsTable t.entries.items t.spots.items (vec_capacity t.entries) × IsTallied t.entries.items t.tallies.items };
 }
@@ -173,6 +174,36 @@ impl Trail {
         Some(self.entries[self.place(v)?].why)
     }
 
+    /// Whether the reason of a variable is marked as clean; only that of a propagated one can be.
+    pub fn is_clean(&self, v: Var) -> bool
+        ensures { result ≡ is_marked self.now v }
+    {
+        match self.place(v) {
+            Some(place) => self.entries[place].clean,
+            None => false,
+        }
+    }
+
+    /// Puts the step with this id in the place of the reason of a propagated variable, and marks it as clean; nothing else
+    /// changes. The mark goes with the literal, when it is undone. What a clean reason is, the caller says. This takes no
+    /// memory.
+    pub fn set_clean(&mut self, v: Var, reason: usize)
+        requires propagated { IsPropagated self.old.placed v }
+        ensures value { self.new ≡ with_clean self.old v reason }
+        ensures kept { (scopes : List Scope) → IsTrailFor scopes self.old → IsTrailFor scopes self.new }
+    {
+        if let Some(place) = self.place(v) {
+            let entry = &mut self.entries[place];
+            entry.why = Why::Propagated(reason);
+            entry.clean = true;
+        }
+    }
+
+    /// The allocator of the trail's tables.
+    pub fn alloc(&self) -> Global {
+        *self.entries.allocator()
+    }
+
     /// The literal at a place, from 0.
     pub fn at(&self, place: usize) -> Lit
         requires { place < length self.now.placed }
@@ -186,6 +217,15 @@ impl Trail {
         ensures { result ≡ length self.now.placed }
     {
         self.entries.len()
+    }
+
+    /// The greatest number of a variable that there is room for. Each assigned variable's number is at most that, and so is
+    /// the number of assigned literals.
+    pub fn room(&self) -> usize
+        ensures value { result ≡ self.now.room }
+        ensures reserved { HasRoom self.now }
+    {
+        self.spots.len()
     }
 
     /// Whether nothing is assigned.
@@ -245,7 +285,7 @@ impl Trail {
         ensures raised { OnOk result ((n : ℕ) → trail_weight n (decisions_on self.old.placed) < trail_weight n (decisions_on self.new.placed)) }
     {
         steps.tick()?;
-        self.push(lit, why, depth(prefix, lit.var()) - 1);
+        self.push(lit, why, prefix.depth(lit.var()) - 1);
         Ok(())
     }
 
@@ -389,7 +429,7 @@ impl Trail {
     fn spot(&self, v: Var) -> Option<Spot>
         ensures { result ≡ spot_on self.now.placed v }
     {
-        *self.spots.get(index(v))?
+        *self.spots.get(v.index())?
     }
 
     // Puts a literal on the trail, with the number less 1 of its scope.
@@ -397,7 +437,7 @@ impl Trail {
         requires unassigned { value_on self.old.placed lit.variable ≡ None }
         requires room { lit.variable ≤ self.old.room }
         requires small { scope < 2 ^ 63 }
-        ensures { self.new ≡ record { placed = self.old.placed ++ record { literal = lit; cause = cause_of why } ∷ []; depths = self.old.depths ++ (scope + 1) ∷ []; assigned = counted self.old.assigned 1; room = self.old.room; allowed = Anything } }
+        ensures { self.new ≡ record { placed = self.old.placed ++ record { literal = lit; cause = cause_of why } ∷ []; depths = self.old.depths ++ (scope + 1) ∷ []; marks = self.old.marks ++ false ∷ []; assigned = counted self.old.assigned 1; room = self.old.room; allowed = Anything } }
     {
         let place = self.entries.len();
         let entry = Entry {
@@ -406,6 +446,7 @@ impl Trail {
             level: why.level_after(self.level()),
             scope,
             floor: why.floor_after(last_floor(&self.entries), scope),
+            clean: false,
         };
         let spot = Spot {
             value: lit.is_positive(),
@@ -413,7 +454,7 @@ impl Trail {
         };
         // There is room for it.
         let _ = self.entries.push(entry);
-        self.spots[index(lit.var())] = Some(spot);
+        self.spots[lit.var().index()] = Some(spot);
         count_up(&mut self.tallies, scope);
         self.assigned = self.assigned.saturating_add(1);
         self.allowed = Allowed::Anything;
@@ -425,7 +466,7 @@ impl Trail {
         ensures { self.new ≡ without_last self.old }
     {
         if let Some(entry) = self.entries.pop() {
-            self.spots[index(entry.lit.var())] = None;
+            self.spots[entry.lit.var().index()] = None;
             count_down(&mut self.tallies, entry.scope);
             self.allowed = Allowed::NoDecision;
         }
@@ -435,6 +476,7 @@ impl Trail {
     fn undo_all(&mut self)
         ensures placed { self.new.placed ≡ [] }
         ensures depths { self.new.depths ≡ [] }
+        ensures marks { self.new.marks ≡ [] }
         ensures assigned { self.new.assigned ≡ self.old.assigned }
         ensures room { self.new.room ≡ self.old.room }
     {
@@ -460,23 +502,6 @@ impl Trail {
         }
         Ok(())
     }
-}
-
-// The place of a variable in the table.
-fn index(v: Var) -> usize
-    ensures place { result + 1 ≡ v }
-    ensures bound { result < 1048576 }
-{
-    v.number() as usize - 1
-}
-
-// The number of a variable's scope, or one that is past the last.
-fn depth(prefix: &Prefix, v: Var) -> usize
-    ensures value { result ≡ depth_of prefix.now v }
-    ensures positive { 1 ≤ result }
-    ensures small { result ≤ 65537 }
-{
-    prefix.level(v).unwrap_or(prefix.scopes() + 1)
 }
 
 // The number of the scope of the last decision, or 1.

@@ -16,4 +16,11 @@ returns c =
       turn_weighs_more = refl;
       undone_ones_count = refl;
       propagated_thrice = refl;
+      unmarked_at_first = refl;
+      marked = refl;
+      first_stays_unmarked = refl;
+      clean_reason = refl;
+      first_cause_stays = refl;
+      clean_value = refl;
+      mark_is_forgotten = refl;
     }

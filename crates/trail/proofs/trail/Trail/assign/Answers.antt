@@ -1,4 +1,4 @@
-use Rattle.std.proofs.Common.{◌≡◌, ◌+◌, ◌-◌, ap, ◌∙◌, arith, ◌++◌, ◌∷◌, []}
+use Rattle.std.proofs.Common.{false, ◌≡◌, ◌+◌, ◌-◌, ap, ◌∙◌, arith, ◌++◌, ◌∷◌, []}
 use Rattle.calculus.specs.Rows.{depth_of}
 use Rattle.trail.specs.declared.allowed.Allowed.TheVariants.{Anything}
 use Rattle.trail.specs.Causes.{cause_of}
@@ -12,7 +12,7 @@ pushed c =
     let positive = c.depth.ensures.positive in
     let back : c.depth.result - 1 + 1 ≡ c.depth.result = omega arith in
     let depth : c.depth.result - 1 + 1 ≡ depth_of c.args.prefix.now c.args.lit.variable = back ∙ (c.depth.ensures.value ∙ ap (depth_of c.args.prefix.now) c.var.ensures) in
-    c.push.ensures ∙ (λ i. record { placed = t.placed ++ record { literal = c.args.lit; cause = cause_of c.args.why } ∷ []; depths = t.depths ++ depth i ∷ []; assigned = counted t.assigned 1; room = t.room; allowed = Anything })
+    c.push.ensures ∙ (λ i. record { placed = t.placed ++ record { literal = c.args.lit; cause = cause_of c.args.why } ∷ []; depths = t.depths ++ depth i ∷ []; marks = t.marks ++ false ∷ []; assigned = counted t.assigned 1; room = t.room; allowed = Anything })
 
 pub returns-clause-ok : goal.returns-clause-ok
 returns-clause-ok c = pushed c

@@ -1,4 +1,4 @@
-use Rattle.std.proofs.Common.{◌≡◌, suc, ◌+◌, ◌<◌, ◌≤◌, ◌++◌, ◌∷◌, [], length, set, get_or, Some, None, vec_capacity, is_ok, sym, ap, ◌∙◌, arith}
+use Rattle.std.proofs.Common.{false, ◌≡◌, suc, ◌+◌, ◌<◌, ◌≤◌, ◌++◌, ◌∷◌, [], length, set, get_or, Some, None, vec_capacity, is_ok, sym, ap, ◌∙◌, arith}
 use Rattle.std.proofs.lemmas.Bool.{cond-true}
 use Rattle.std.proofs.lemmas.List.{length-map, length-set, map-append}
 use Rattle.calculus.specs.Search.{last_level, level_after, value_on}
@@ -6,7 +6,7 @@ use Rattle.trail.specs.declared.trail.Entry.{Entry}
 use Rattle.trail.specs.declared.trail.Spot.{Spot}
 use Rattle.trail.specs.declared.allowed.Allowed.TheVariants.{Anything}
 use Rattle.trail.specs.State.{TrailState}
-use Rattle.trail.specs.Table.{IsTable, IsTallied, depths_of, floor_after, floor_from, placed_of, trail_of, spot_at}
+use Rattle.trail.specs.Table.{IsTable, IsTallied, depths_of, marks_of, floor_after, floor_from, placed_of, trail_of, spot_at}
 use Rattle.trail.proofs.Placing.{spot_none}
 use Rattle.trail.proofs.Tables.{level_few, room_left, table_pushed}
 use Rattle.trail.proofs.Tallies.{count_few, tallied_more}
@@ -45,7 +45,7 @@ count_up-requires c =
     omega arith
 
 abbrev entry : (c : goal.After-index) → Entry
-entry c = record { lit = c.args.lit; why = c.args.why; level = c.level_after.result; scope = c.args.scope; floor = c.floor_after.result }
+entry c = record { lit = c.args.lit; why = c.args.why; level = c.level_after.result; scope = c.args.scope; floor = c.floor_after.result; clean = false }
 
 fresh : (c : goal.After-index) → value_on (trail_of c.self.inside.entries.items) c.args.lit.variable ≡ None
 fresh c = ap (λ (t : TrailState). value_on t.placed c.args.lit.variable) c.self.view_is ∙ c.requires.unassigned
@@ -83,5 +83,6 @@ returns c =
     let spot : Spot = record { value = c.is_positive.result; place = c.len-place.result } in
     let placed : trail_of c.push.new.self.items ≡ trail_of items ++ placed_of (entry b) ∷ [] = ap trail_of (grown b) ∙ map-append placed_of items (entry b ∷ []) in
     let depths : depths_of c.push.new.self.items ≡ depths_of items ++ (c.args.scope + 1) ∷ [] = ap depths_of (grown b) ∙ map-append (λ (e : Entry). e.scope + 1) items (entry b ∷ []) in
+    let marks : marks_of c.push.new.self.items ≡ marks_of items ++ false ∷ [] = ap marks_of (grown b) ∙ map-append (λ (e : Entry). e.clean) items (entry b ∷ []) in
     let room : length (set c.self.inside.spots.items c.index.result (Some spot)) ≡ length c.self.inside.spots.items = length-set c.self.inside.spots.items c.index.result (Some spot) in
-    rw (← c.self.view_is) (λ i. record { placed = placed i; depths = depths i; assigned = c.saturating_add-self-inside.ensures i; room = room i; allowed = Anything })
+    rw (← c.self.view_is) (λ i. record { placed = placed i; depths = depths i; marks = marks i; assigned = c.saturating_add-self-inside.ensures i; room = room i; allowed = Anything })
