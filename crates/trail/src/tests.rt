@@ -232,3 +232,46 @@ fn scopes_without_variables_are_passed_over(rt: HostRuntime) -> Result<(), Fail>
     assert_eq!(rt; trail.first_open(&prefix), None);
     Ok(())
 }
+
+#[test]
+fn full_scopes_are_passed_over_until_they_are_undone(rt: HostRuntime) -> Result<(), Fail> {
+    let mut prefix = Prefix::new(rt.alloc());
+    for number in 1..=300 {
+        prefix.add_scope(Quant::Exists, None)?;
+        prefix.add_var(number, number)?;
+    }
+    let mut steps = Steps::new(1000);
+    let mut trail = Trail::new(rt.alloc());
+    for number in 2..=250 {
+        propagate(&mut trail, &prefix, lit(number, true)?, &mut steps)?;
+    }
+    assert_eq!(rt; trail.first_open(&prefix), Some(1));
+    decide(&mut trail, &prefix, lit(1, true)?, &mut steps)?;
+    assert_eq!(rt; trail.first_open(&prefix), Some(251));
+    decide(&mut trail, &prefix, lit(251, true)?, &mut steps)?;
+    propagate(&mut trail, &prefix, lit(252, true)?, &mut steps)?;
+    assert_eq!(rt; trail.first_open(&prefix), Some(253));
+    trail.undo_to(1);
+    propagate(&mut trail, &prefix, lit(252, false)?, &mut steps)?;
+    assert_eq!(rt; trail.first_open(&prefix), Some(251), "undone");
+    trail.undo_to(0);
+    propagate(&mut trail, &prefix, lit(1, false)?, &mut steps)?;
+    assert_eq!(rt; trail.first_open(&prefix), Some(251), "level 0 stays");
+    trail.clear();
+    assert_eq!(rt; trail.first_open(&prefix), Some(1), "cleared");
+    Ok(())
+}
+
+#[test]
+fn a_half_assigned_scope_is_open(rt: HostRuntime) -> Result<(), Fail> {
+    let prefix = two_scopes(rt.alloc())?;
+    let mut steps = Steps::new(10);
+    let mut trail = Trail::new(rt.alloc());
+    propagate(&mut trail, &prefix, lit(1, true)?, &mut steps)?;
+    assert_eq!(rt; trail.first_open(&prefix), Some(1));
+    decide(&mut trail, &prefix, lit(2, true)?, &mut steps)?;
+    assert_eq!(rt; trail.first_open(&prefix), Some(2));
+    trail.undo_to(0);
+    assert_eq!(rt; trail.first_open(&prefix), Some(1));
+    Ok(())
+}
