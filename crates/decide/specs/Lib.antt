@@ -1,3 +1,2 @@
 pub mod Decision
 pub mod Memory
-pub mod Stored

@@ -1,5 +1,5 @@
 //! The decider.
-ghost use Rattle.std.specs.Prelude.{◌≡◌, ◌↔◌, ℕ, ◌+◌, ◌≤◌, ◌<◌, [], length, drop, IsNone, IsSome, IfSome, OnOk, OnErr, Some, None};
+ghost use Rattle.std.specs.Prelude.{◌≡◌, ◌↔◌, ℕ, ◌++◌, ◌≤◌, [], length, drop, replicate, IsNone, IsSome, IfSome, OnOk, OnErr, None};
 ghost use Rattle.prefix.specs.Scopes.{Scope, level_of};
 ghost use Rattle.calculus.specs.Search.{literals_on, value_on};
 ghost use Rattle.trail.specs.Open.{AreAssigned, IsFirstOpen};
@@ -7,19 +7,12 @@ ghost use Rattle.trail.specs.State.{IsTrailFor};
 ghost use Rattle.decide.specs.Memory.{phase_of, saved, sign_of, with_phase};
 ghost use Rattle.decide.specs.Decision.{IsDecision, IsOpenIn};
 
-use super::waiting::{Waiting, first, new_tree, write};
+use super::waiting::{Waiting, WaitingList};
 use prefix::{Lit, Prefix, Quant, Var};
 use std::alloc::Global;
 use std::marker::Model;
 use steps::NoMemory;
 use trail::Trail;
-
-// What is kept of a variable: the sign that it had last, and its priority among those of its scope.
-#[derive(Clone, Copy, Debug)]
-struct Slot {
-    phase: Option<bool>,
-    score: u64,
-}
 
 /// Chooses decisions. Contracts see it as the list of the signs that the variables had last, for as many variables as there
 /// is room for.
@@ -29,23 +22,21 @@ struct Slot {
 /// told since; where a variable of the scope wasn't told, it looks at all variables of the scope once.
 #[derive(Debug, Drop)]
 pub struct Decider {
-    // What is kept of each variable, at its number less 1.
-    slots: Vec<Slot>,
-    // The variables that wait, as a tree over as many leaves as there are slots.
-    tree: Vec<Option<Waiting>>,
+    // The sign that each variable had last, at its number less 1.
+    phases: Vec<Option<bool>>,
+    // The variables that wait, each at its number less 1, with their priorities.
+    waiting: WaitingList,
 }
 
 impl Model for Decider {
-    ghost use Rattle.std.specs.Prelude.{◌≡◌, ◌*◌, length};
+    ghost use Rattle.std.specs.Prelude.{◌≤◌, length};
     ghost use Rattle.decide.specs.Memory.{Memory};
 
     ghost Value = { Memory };
 
-    ghost use Rattle.decide.specs.Stored.{phases_of};
+    ghost view = { λ d. d.phases.items };
 
-    ghost view = { λ d. phases_of d.slots.items };
-
-    ghost invariant = { λ d. length d.tree.items ≡ 2 * length d.slots.items };
+    ghost invariant = { λ d. length d.phases.items ≤ d.waiting };
 }
 
 impl Decider {
@@ -54,45 +45,41 @@ impl Decider {
         ensures { result ≡ [] }
     {
         Self {
-            slots: Vec::new(alloc),
-            tree: Vec::new(alloc),
+            phases: Vec::new(alloc),
+            waiting: WaitingList::new(alloc),
         }
     }
 
-    /// Makes room for the variables of numbers up to `vars` at least. With no memory the decider stays as it was.
+    /// Makes room for the variables of numbers up to `vars` at least. It only grows: the signs stay, and what is new has
+    /// none. With no memory the decider stays as it was.
     pub fn reserve(&mut self, vars: usize) -> Result<(), NoMemory>
         ensures ok { OnOk result (vars ≤ length self.new) }
+        ensures grown { (more : ℕ) × (self.new ≡ self.old ++ replicate more None) }
         ensures phases { (x : ℕ) → phase_of self.new x ≡ phase_of self.old x }
         ensures err { OnErr result (self.new ≡ self.old) }
     {
-        if self.slots.len() < vars {
-            let count = vars.max(2 * self.slots.len());
-            let tree = new_tree(*self.tree.allocator(), count)?;
-            let none = Slot {
-                phase: None,
-                score: 0,
-            };
-            self.slots.resize(count, none)?;
-            self.tree = tree;
+        let count = self.phases.len();
+        if count < vars {
+            let more = vars.max(2 * count);
+            self.waiting.reserve(more)?;
+            self.phases.resize(more, None)?;
         }
         Ok(())
     }
 
-    /// Raises the priority of a variable. This takes no memory.
+    /// Raises the priority of a variable, by more the more often `decay` was called. This takes no memory.
     pub fn bump(&mut self, v: Var)
         ensures { self.new ≡ self.old }
     {
-        let i = index(v);
-        let count = self.slots.len();
-        if i < count {
-            let slot = &mut self.slots[i];
-            slot.score = slot.score.saturating_add(1);
-            let score = slot.score;
-            if let Some(waiting) = self.tree[count + i] {
-                let raised = Waiting { score, ..waiting };
-                write(&mut self.tree, count, i, Some(raised));
-            }
-        }
+        self.waiting.bump(v.index());
+    }
+
+    /// Lets later calls of `bump` count more: each call by a sixteenth. This takes no memory; one call in several hundred
+    /// looks at all variables.
+    pub fn decay(&mut self)
+        ensures { self.new ≡ self.old }
+    {
+        self.waiting.decay();
     }
 
     /// Tells that the literals from place `keep` on are about to be undone: their variables come back, each with the sign
@@ -142,8 +129,8 @@ impl Decider {
         ensures some { IfSome result (IsOpenIn prefix.now trail.now.placed scope) }
         ensures phases { self.new ≡ self.old }
     {
-        for _ in 0..self.slots.len() {
-            let waiting = first(&self.tree)?;
+        for _ in 0..self.room() {
+            let waiting = self.first()?;
             let v = Var::new(waiting.number)?;
             if trail.value(v).is_none() {
                 if prefix.level(v) == Some(scope) {
@@ -190,17 +177,16 @@ impl Decider {
     fn phase(&self, v: Var) -> Option<bool>
         ensures { result ≡ phase_of self.now v }
     {
-        self.slots.get(index(v))?.phase
+        *self.phases.get(v.index())?
     }
 
     // Saves the sign of a literal.
     fn save(&mut self, lit: Lit)
         ensures { self.new ≡ with_phase self.old lit }
     {
-        let i = index(lit.var());
-        if i < self.slots.len() {
-            let slot = &mut self.slots[i];
-            slot.phase = Some(lit.is_positive());
+        let i = lit.var().index();
+        if i < self.phases.len() {
+            self.phases[i] = Some(lit.is_positive());
         }
     }
 
@@ -214,37 +200,27 @@ impl Decider {
         }
     }
 
+    // How many variables there is room for.
+    fn room(&self) -> usize {
+        self.phases.len()
+    }
+
+    // What comes first of all that wait.
+    fn first(&self) -> Option<Waiting> {
+        self.waiting.first()
+    }
+
     // Lets a variable of a scope wait.
     fn put(&mut self, v: Var, scope: usize)
         ensures { self.new ≡ self.old }
     {
-        let i = index(v);
-        let count = self.slots.len();
-        if i < count {
-            let waiting = Waiting {
-                scope,
-                score: self.slots[i].score,
-                number: v.number(),
-            };
-            write(&mut self.tree, count, i, Some(waiting));
-        }
+        self.waiting.put(v.index(), scope, v.number());
     }
 
     // Lets a variable wait no longer.
     fn take_out(&mut self, v: Var)
         ensures { self.new ≡ self.old }
     {
-        let i = index(v);
-        let count = self.slots.len();
-        if i < count {
-            write(&mut self.tree, count, i, None);
-        }
+        self.waiting.take_out(v.index());
     }
-}
-
-// The place of a variable in the tables.
-fn index(v: Var) -> usize
-    ensures { result + 1 ≡ v }
-{
-    v.number() as usize - 1
 }

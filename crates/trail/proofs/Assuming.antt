@@ -1,18 +1,22 @@
 -- Assumptions, one after the other.
-use Rattle.std.proofs.Common.{Bool, false, ◌≡◌, ◌≢◌, ℕ, zero, suc, ◌+◌, ◌<◌, ◌≤◌, true, List, [], ◌∷◌, ◌++◌, length, map, take, get_or, Contains, None, refl, sym, ap, ◌∙◌, ⊎_elim, arith, nat_eq}
+use Rattle.std.proofs.Common.{Bool, false, append-nil, append_assoc, replicate, Result, Ok, Err, ◌≡◌, ◌≢◌, ℕ, zero, suc, ◌+◌, ◌<◌, ◌≤◌, true, List, [], ◌∷◌, ◌++◌, length, map, take, get_or, Contains, None, refl, sym, ap, ◌∙◌, ⊎_elim, arith, nat_eq}
 use Rattle.std.proofs.lemmas.Bool.{eq-eqb, ne_eqb, or_left, or_right, true≢false}
-use Rattle.std.proofs.lemmas.List.{take_more, length_push, map-append}
+use Rattle.std.proofs.lemmas.List.{length-take-le, take_more, length_push, map-append}
 use Rattle.prefix.specs.Literal.{Literal}
 use Rattle.prefix.specs.Scopes.{Scope, is_among, AreDistinct}
 use Rattle.steps.specs.Counter.{Counter, after, left}
 use Rattle.calculus.specs.Rows.{depth_of, variables_in}
-use Rattle.calculus.specs.Search.{Placed, value_on}
+use Rattle.calculus.specs.Search.{Placed, Trail, value_on}
 use Rattle.calculus.specs.Search.Cause.{Assumed}
 use Rattle.calculus.proofs.Lists.{contains_cons, contains_nil}
 use Rattle.calculus.proofs.Trails.{value_past}
 use Rattle.trail.specs.declared.allowed.Allowed.{Allowed}
-use Rattle.trail.specs.declared.allowed.Allowed.TheVariants.{Anything}
-use Rattle.trail.specs.State.{TrailState, MayFollow, IsTrailFor, assumed, allowed_after, counted, unmarked, with_assumed, with_literal}
+use Rattle.trail.specs.declared.allowed.Allowed.TheVariants.{Anything, Nothing}
+use Rattle.trail.proofs.Finishing.{with_length}
+use Rattle.trail.specs.Open.{finished_after, finished_assumed, is_finished}
+use Rattle.trail.specs.State.{TrailState, MayFollow, IsTrailFor, assumed, allowed_after, counted, given_up, unmarked, with_assumed, with_literal}
+use Rattle.trail.specs.Finished.{emptied}
+use Rattle.std.specs.Result.{OnErr}
 
 -- some literals were assumed, with a step for each
 pub record HasAssumed (scopes : List Scope) (old now : TrailState) (literals : List Literal) (first then : Counter) (i : ℕ) : Type 0 where
@@ -51,6 +55,21 @@ allowed_anything : (ls : List Literal) (l : Literal) (allowed : Allowed) → Any
 allowed_anything [] l allowed = refl
 allowed_anything (m ∷ ls) l allowed = refl
 
+-- the scopes known to be all assigned, after one more
+finished_more : (scopes : List Scope) (earlier : Trail) (ls : List Literal) (l : Literal) (finished : List Bool) → finished_assumed scopes earlier (ls ++ l ∷ []) finished ≡ finished_after scopes (earlier ++ map assumed ls) l Assumed (finished_assumed scopes earlier ls finished)
+finished_more scopes earlier [] l finished = ap (λ t. finished_after scopes t l Assumed finished) (sym (append-nil earlier))
+finished_more scopes earlier (m ∷ ls) l finished =
+    let now : List Bool = finished_after scopes earlier m Assumed finished in
+    let more : Trail = earlier ++ assumed m ∷ [] in
+    finished_more scopes more ls l now
+    ∙ ap (λ t. finished_after scopes t l Assumed (finished_assumed scopes more ls now)) (append_assoc earlier (assumed m ∷ []) (map assumed ls))
+
+pub assumed_length : (scopes : List Scope) (earlier : Trail) (ls : List Literal) (finished : List Bool) → length (finished_assumed scopes earlier ls finished) ≡ length finished
+assumed_length scopes earlier [] finished = refl
+assumed_length scopes earlier (l ∷ ls) finished =
+    assumed_length scopes (earlier ++ assumed l ∷ []) ls (finished_after scopes earlier l Assumed finished)
+    ∙ with_length (is_finished scopes (earlier ++ assumed l ∷ []) (depth_of scopes l.variable)) false (depth_of scopes l.variable) finished
+
 -- one more assumption
 pub assumed_more : (scopes : List Scope) (t : TrailState) (ls : List Literal) (l : Literal) → with_literal scopes (with_assumed scopes t ls) l Assumed ≡ with_assumed scopes t (ls ++ l ∷ [])
 assumed_more scopes t ls l =
@@ -60,8 +79,9 @@ assumed_more scopes t ls l =
     let marks : map unmarked ls ++ false ∷ [] ≡ map unmarked (ls ++ l ∷ []) = sym (map-append unmarked ls (l ∷ [])) in
     let longer : suc (length ls) ≡ length (ls ++ l ∷ []) = (let h = length_push ls l in omega arith) in
     let number : counted (counted t.assigned (length ls)) 1 ≡ counted t.assigned (length (ls ++ l ∷ [])) = counted_more t.assigned (length ls) ∙ ap (counted t.assigned) longer in
+    let finished = sym (finished_more scopes [] ls l t.finished) in
     let next = allowed_anything ls l t.allowed in
-    λ i. record { placed = placed i; depths = depths i; marks = marks i; assigned = number i; room = t.room; allowed = next i }
+    λ i. record { placed = placed i; depths = depths i; marks = marks i; finished = finished i; assigned = number i; room = t.room; allowed = next i }
 
 pub assumed_next : (scopes : List Scope) (t : TrailState) (ls : List Literal) (i : ℕ) (l : Literal) → i < length ls → l ≡ get_or ls i l → with_literal scopes (with_assumed scopes t (take i ls)) l Assumed ≡ with_assumed scopes t (take (i + 1) ls)
 assumed_next scopes t ls i l below is =
@@ -76,7 +96,7 @@ pub assumed_none : (scopes : List Scope) (t : TrailState) → IsTrailFor scopes 
 assumed_none scopes t kept empty =
     let none : t.depths ≡ [] = kept.numbered ∙ ap (map (λ (p : Placed). depth_of scopes p.literal.variable)) empty in
     let bare : t.marks ≡ [] = nothing t.marks (kept.marked ∙ ap length empty) in
-    λ i. record { placed = empty i; depths = none i; marks = bare i; assigned = t.assigned; room = t.room; allowed = t.allowed }
+    λ i. record { placed = empty i; depths = none i; marks = bare i; finished = t.finished; assigned = t.assigned; room = t.room; allowed = t.allowed }
 
 -- steps
 pub after_none : (c : Counter) → c ≡ after c 0
@@ -97,3 +117,17 @@ all_left first then i e same =
     let spent : then.spent ≡ first.spent + i = ap (λ (c : Counter). c.spent) e in
     let budget : then.budget ≡ first.budget = ap (λ (c : Counter). c.budget) e in
     omega arith
+
+-- assumptions that are given up
+pub given_up_is : (scopes : List Scope) (t now : TrailState) (ls : List Literal) (left : ℕ) (placed : Trail) (depths : List ℕ) (marks finished : List Bool) (assigned room : ℕ) → placed ≡ [] → depths ≡ [] → marks ≡ [] → finished ≡ emptied now.finished → assigned ≡ now.assigned → room ≡ now.room → now ≡ with_assumed scopes t (take left ls) → left < length ls → record { placed = placed; depths = depths; marks = marks; finished = finished; assigned = assigned; room = room; allowed = Nothing } ≡ given_up t left
+given_up_is scopes t now ls left placed depths marks finished assigned room empty none unmarked known same kept is fewer =
+    let long : length now.finished ≡ length t.finished = ap (λ (u : TrailState). length u.finished) is ∙ assumed_length scopes [] (take left ls) t.finished in
+    let gone : finished ≡ emptied t.finished = known ∙ ap (λ n. replicate n false) long in
+    let taken : length (take left ls) ≡ left = length-take-le left ls (omega arith) in
+    let count : assigned ≡ counted t.assigned left = same ∙ (ap (λ (u : TrailState). u.assigned) is ∙ ap (counted t.assigned) taken) in
+    let wide : room ≡ t.room = kept ∙ ap (λ (u : TrailState). u.room) is in
+    λ i. record { placed = empty i; depths = none i; marks = unmarked i; finished = gone i; assigned = count i; room = wide i; allowed = Nothing }
+
+pub on_err_both : {T E P Q R : Type 0} (r : Result T E) → OnErr r P → OnErr r Q → (P → Q → R) → OnErr r R
+on_err_both (Ok v) p q f = tt
+on_err_both (Err e) p q f = f p q

@@ -10,7 +10,7 @@ use Rattle.calculus.specs.Search.{Placed, Trail, IsOrderedAfter, IsOrderedTrail,
 use Rattle.calculus.proofs.Levels.{IsDistinct, distinct_from, level_from, level_at_least, depth_counted}
 use Rattle.calculus.proofs.Lists.{among_at, among_from, contains_cons, contains_nil, contains_head, contains_tail}
 use Rattle.calculus.proofs.TrailMoves.{value_new}
-use Rattle.trail.specs.declared.trail.Entry.{Entry}
+use Rattle.trail.specs.declared.entry.Entry.{Entry}
 use Rattle.trail.specs.Open.{is_assigned}
 use Rattle.trail.specs.State.{TrailState, IsTrailFor}
 use Rattle.trail.specs.Table.{depths_of, placed_of, scopes_in, trail_of}

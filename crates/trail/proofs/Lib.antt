@@ -1,6 +1,8 @@
 pub mod Assuming
+pub mod Blocks
 pub mod Counting
 pub mod Cutting
+pub mod Finishing
 pub mod Keeping
 pub mod Marking
 pub mod Opening

@@ -1,5 +1,5 @@
 -- A reason that is marked as clean.
-use Rattle.std.proofs.Common.{◌≡◌, ℕ, zero, suc, ◌+◌, ◌<◌, ◌≤◌, Bool, true, false, List, [], ◌∷◌, ◌++◌, length, map, set, get_or, Contains, Option, Some, None, is_some, refl, sym, subst, ap, ap₂, ◌∙◌, ⊎_elim, arith, nat_eq}
+use Rattle.std.proofs.Common.{◌*◌, ◌^◌, ◌≡◌, ℕ, zero, suc, ◌+◌, ◌<◌, ◌≤◌, Bool, true, false, List, [], ◌∷◌, ◌++◌, length, map, set, get_or, Contains, Option, Some, None, is_some, refl, sym, subst, ap, ap₂, ◌∙◌, ⊎_elim, arith, nat_eq}
 use Rattle.std.specs.Prelude.{slice_get, cond, count_by}
 use Rattle.std.specs.Option.{option_map}
 use Rattle.std.proofs.lemmas.Bool.{cases_Bool, cond-true, cond-false, false≢true}
@@ -15,11 +15,12 @@ use Rattle.calculus.specs.Search.Cause.{Assumed, Decided, Propagated}
 use Rattle.calculus.proofs.Trails.{value_here, value_past, cause_here, cause_past, place_here, place_past}
 use Rattle.trail.specs.declared.allowed.Allowed.{Allowed}
 use Rattle.trail.specs.declared.allowed.Allowed.TheVariants.{Anything, NoDecision, Nothing}
-use Rattle.trail.specs.declared.trail.Entry.{Entry}
-use Rattle.trail.specs.declared.trail.Spot.{Spot}
+use Rattle.trail.specs.declared.entry.Entry.{Entry}
+use Rattle.trail.specs.declared.entry.Spot.{Spot}
 use Rattle.trail.specs.declared.why.Why.TheVariants.{Propagated as propagated_from}
 use Rattle.trail.specs.Causes.{cause_of}
 use Rattle.trail.specs.State.{TrailState, IsPropagated, IsTrailFor, IsWeighed, with_clean, with_reason}
+use Rattle.trail.specs.Open.{AreFinished}
 use Rattle.trail.specs.Table.{AreFloored, AreLeveled, IsTable, IsTallied, depths_of, marks_of, placed_of, scopes_in, spot_on, trail_of}
 
 -- the trail
@@ -117,10 +118,13 @@ ordered_reason scopes earlier (p ∷ rest) x id was cause ordered =
     ))
     (cases_Bool (nat_eq p.literal.variable x))
 
-weighed_same : (n : ℕ) (allowed : Allowed) (trail other : Trail) (assigned : ℕ) → decisions_on other ≡ decisions_on trail → length other ≡ length trail → (trail ≡ [] → ⊥) → IsWeighed n allowed trail assigned → IsWeighed n allowed other assigned
-weighed_same n Anything trail other assigned same long some h = subst (λ (ds : List Bool). assigned ≤ trail_weight n ds) (sym same) h
-weighed_same n NoDecision trail other assigned same long some h = (let short : length trail < n = h.0 in omega arith, subst (λ (ds : List Bool). assigned < trail_weight n (ds ++ false ∷ [])) (sym same) h.1)
-weighed_same n Nothing trail other assigned same long some h = absurd (some h.0)
+weighed_same : (n restarts : ℕ) (allowed : Allowed) (trail other : Trail) (assigned : ℕ) → decisions_on other ≡ decisions_on trail → length other ≡ length trail → (trail ≡ [] → ⊥) → IsWeighed n restarts allowed trail assigned → IsWeighed n restarts allowed other assigned
+weighed_same n restarts Anything trail other assigned same long some h = subst (λ (ds : List Bool). assigned ≤ restarts * 2 ^ (n + 1) + trail_weight n ds) (sym same) h
+weighed_same n restarts NoDecision trail other assigned same long some h = (let short : length trail < n = h.0 in omega arith, subst (λ (ds : List Bool). assigned < restarts * 2 ^ (n + 1) + trail_weight n (ds ++ false ∷ [])) (sym same) h.1)
+weighed_same n restarts Nothing trail other assigned same long some h = absurd (some h.0)
+
+finished_same : (scopes : List Scope) (trail other : Trail) (finished : List Bool) → literals_on other ≡ literals_on trail → AreFinished scopes trail finished → AreFinished scopes other finished
+finished_same scopes trail other finished same h x i known depth marked = ap (λ (ls : List Literal). is_some (assumed_value ls x)) same ∙ h x i known depth marked
 
 pub kept_clean : (scopes : List Scope) (t : TrailState) (x id : ℕ) → IsPropagated t.placed x → IsTrailFor scopes t → IsTrailFor scopes (with_clean t x id)
 kept_clean scopes t x id is kept =
@@ -129,7 +133,8 @@ kept_clean scopes t x id is kept =
       ordered = ordered_reason scopes [] t.placed x id was is.1 kept.ordered;
       numbered = kept.numbered ∙ sym (map_reason x id was (λ (p : Placed). depth_of scopes p.literal.variable) t.placed (λ l. refl) is.1);
       marked = length-set t.marks (place_on t.placed x) true ∙ (kept.marked ∙ sym (length_stays x id was t.placed is.1));
-      weighed = weighed_same (length (all_variables scopes)) t.allowed t.placed (with_reason t.placed x id) t.assigned (decisions_stay x id was t.placed is.1) (length_stays x id was t.placed is.1) (λ e. no_cause was (sym (ap (λ (p : Trail). cause_on p x) e) ∙ is.1)) kept.weighed;
+      all_assigned = finished_same scopes t.placed (with_reason t.placed x id) t.finished (literals_stay x id was t.placed is.1) kept.all_assigned;
+      weighed = weighed_same (length (all_variables scopes)) 0 t.allowed t.placed (with_reason t.placed x id) t.assigned (decisions_stay x id was t.placed is.1) (length_stays x id was t.placed is.1) (λ e. no_cause was (sym (ap (λ (p : Trail). cause_on p x) e) ∙ is.1)) kept.weighed;
     }
 
 -- the entries
@@ -192,8 +197,7 @@ spot_same trail other y same =
 once_same : (trail other : Trail) → literals_on other ≡ literals_on trail → ((i : ℕ) (p : Placed) → slice_get trail i ≡ Some p → place_on trail p.literal.variable ≡ i) → (i : ℕ) (p : Placed) → slice_get other i ≡ Some p → place_on other p.literal.variable ≡ i
 once_same trail other same once i p at =
     let found = read trail other same i p at in
-    let variable : p.literal.variable ≡ found.0.literal.variable = ap (λ (l : Literal). l.variable) (sym found.2) in
-    places_same other trail p.literal.variable same ∙ (ap (place_on trail) variable ∙ once i found.0 found.1)
+    places_same other trail p.literal.variable same ∙ subst (λ (l : Literal). place_on trail l.variable ≡ i) found.2 (once i found.0 found.1)
   where
     read : (trail other : Trail) → literals_on other ≡ literals_on trail → (i : ℕ) (p : Placed) → slice_get other i ≡ Some p → (q : Placed) × (slice_get trail i ≡ Some q) × (q.literal ≡ p.literal)
     read trail [] same i p at = absurd (let g : None ≡ Some p = at in cc)

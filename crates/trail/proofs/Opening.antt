@@ -1,23 +1,24 @@
 -- The first scope with an unassigned variable.
 use Rattle.std.proofs.Common.{◌≡◌, ℕ, suc, ◌+◌, ◌-◌, ◌<◌, ◌≤◌, Bool, true, false, List, [], ◌∷◌, ◌++◌, length, Contains, Option, Some, None, is_some, refl, sym, ap, ◌∙◌, ⊎_elim, arith, nat_eq, append_assoc, append-nil}
 use Rattle.std.specs.Prelude.{count_by}
-use Rattle.std.proofs.lemmas.Bool.{cases_lt, true≢false, cond-true, cond-false}
+use Rattle.std.proofs.lemmas.Bool.{cases_lt, cond-false, cond-true, eq-eqb, eqb-true, true≢false}
+use Rattle.std.proofs.lemmas.List.Sums.{count_by-le-length}
 use Rattle.prefix.specs.Scopes.{Scope, all_variables, variables_at, AreDistinct}
 use Rattle.calculus.specs.Rows.{depth_of}
 use Rattle.calculus.specs.Search.{Cause, Trail, IsOrderedAfter, IsOrderedTrail, MayStand, is_decision, value_on}
 use Rattle.calculus.specs.Search.Cause.{Assumed, Decided, Propagated}
 use Rattle.calculus.proofs.TrailMoves.{value_front}
 use Rattle.calculus.proofs.Levels.{depth_at_least, distinct_from}
-use Rattle.trail.specs.declared.trail.Entry.{Entry}
+use Rattle.trail.specs.declared.entry.Entry.{Entry}
 use Rattle.trail.specs.Causes.{cause_of}
-use Rattle.trail.specs.Open.{is_assigned, AreAssigned, AreAssignedBefore, IsFirstOpen}
+use Rattle.trail.specs.Open.{is_assigned, is_finished, AreAssigned, AreAssignedBefore, IsFirstOpen}
 use Rattle.trail.specs.Table.{IsTallied, floor_after, floor_from, placed_of, scopes_in, trail_of}
 use Rattle.trail.proofs.Counting.{AreNumbered, all_pass, count_scope, depth_at, depth_most, depth_stands, one_fails, variables_before, variables_in, variables_within}
 
 -- the floor
 
 -- a variable that is assigned early is assigned later too
-still_assigned : (front back : Trail) (x : ℕ) → is_assigned front x ≡ true → is_assigned (front ++ back) x ≡ true
+pub still_assigned : (front back : Trail) (x : ℕ) → is_assigned front x ≡ true → is_assigned (front ++ back) x ≡ true
 still_assigned front back x h = ap is_some (value_front front back x h) ∙ h
 
 floor_step : (scopes : List Scope) (earlier : Trail) (before : ℕ) (e : Entry) → AreAssignedBefore scopes earlier before → e.scope + 1 ≡ depth_of scopes e.lit.variable → (c : Cause) → cause_of e.why ≡ c → MayStand scopes earlier e.lit.variable c → AreAssignedBefore scopes earlier (floor_after before e)
@@ -69,13 +70,22 @@ assigned_through scopes trail scope first known all x i below =
 pub assigned_all : (scopes : List Scope) (trail : Trail) (scope : ℕ) → length scopes < scope → AreAssignedBefore scopes trail scope → AreAssigned scopes trail
 assigned_all scopes trail scope past known x i = let most = depth_most scopes x i in known x i (omega arith)
 
+pub full_scope : (scopes : List Scope) (trail : Trail) (scope : ℕ) → is_finished scopes trail scope ≡ true → length (variables_at scopes scope) ≤ count_by (is_assigned trail) (variables_at scopes scope)
+full_scope scopes trail scope full = let all = eqb-true (count_by (is_assigned trail) (variables_at scopes scope)) (length (variables_at scopes scope)) full in omega arith
+
 -- a scope with an unassigned variable
 none_from : (o : Option Bool) → is_some o ≡ false → o ≡ None
 none_from None e = refl
 none_from (Some b) e = absurd (true≢false e)
 
-pub open_here : (scopes : List Scope) (trail : Trail) (scope : ℕ) → 1 ≤ scope → scope ≤ length scopes → AreAssignedBefore scopes trail scope → count_by (is_assigned trail) (variables_at scopes scope) < length (variables_at scopes scope) → IsFirstOpen scopes trail scope
-open_here scopes trail scope first last known fewer =
+pub open_here : (scopes : List Scope) (trail : Trail) (scope : ℕ) → 1 ≤ scope → scope ≤ length scopes → AreAssignedBefore scopes trail scope → is_finished scopes trail scope ≡ false → IsFirstOpen scopes trail scope
+open_here scopes trail scope first last known unfinished =
+    let xs = variables_at scopes scope in
+    let most = count_by-le-length (is_assigned trail) xs in
+    let fewer : count_by (is_assigned trail) xs < length xs = ⊎_elim
+    (λ (below : count_by (is_assigned trail) xs < length xs). below)
+    (λ (all : length xs ≤ count_by (is_assigned trail) xs). absurd (true≢false (sym (eq-eqb (count_by (is_assigned trail) xs) (length xs) (omega arith)) ∙ unfinished)))
+    (cases_lt (count_by (is_assigned trail) xs) (length xs)) in
     let open_one = one_fails (is_assigned trail) (variables_at scopes scope) fewer in
     record {
       first = first;

@@ -2,13 +2,13 @@
 use Rattle.std.proofs.Common.{◌≡◌, ℕ, zero, suc, ◌<◌, ◌≤◌, ◌⊎◌, Bool, true, List, [], ◌∷◌, ◌++◌, length, Option, Some, None, is_some, refl, sym, ap, ◌∙◌, inl, inr, ⊎_elim, arith, nat_eq, append-nil}
 use Rattle.std.specs.Prelude.{slice_get}
 use Rattle.std.specs.Option.{option_map}
-use Rattle.std.proofs.lemmas.Bool.{cases_Bool, cases_lt, ne_eqb}
+use Rattle.std.proofs.lemmas.Bool.{cases_Bool, cases_lt, eq-eqb, ne_eqb}
 use Rattle.std.proofs.lemmas.Option.{slice_get_within}
 use Rattle.std.proofs.lemmas.List.{length_push}
 use Rattle.calculus.specs.Search.{Placed, Trail, place_on, value_on}
-use Rattle.calculus.proofs.Trails.{value_here, value_past}
+use Rattle.calculus.proofs.Trails.{place_here, place_past, value_here, value_past}
 use Rattle.calculus.proofs.TrailMoves.{place_front, front_has, value_new}
-use Rattle.trail.specs.declared.trail.Spot.{Spot}
+use Rattle.trail.specs.declared.entry.Spot.{Spot}
 use Rattle.trail.specs.Table.{spot_on}
 
 -- reading a list with one more element
@@ -118,3 +118,17 @@ spot_place trail x s e = by_value (value_on trail x) refl e
         let place : s.place ≡ place_on trail x = ap (λ (t : Spot). t.place) same in
         let below = (place_front trail [] x known).1 in
         omega arith
+
+-- the value of the variable that stands at its place
+pub value_at : (trail : Trail) (i : ℕ) (p : Placed) → slice_get trail i ≡ Some p → place_on trail p.literal.variable ≡ i → value_on trail p.literal.variable ≡ Some p.literal.positive
+value_at [] i p at place = absurd (let g : None ≡ Some p = at in cc)
+value_at (q ∷ trail) zero p at place =
+    let same : q ≡ p = (let g : Some q ≡ Some p = at in cc) in
+    value_here q trail p.literal.variable (eq-eqb q.literal.variable p.literal.variable (ap (λ (r : Placed). r.literal.variable) same)) ∙ ap (λ (r : Placed). Some r.literal.positive) same
+value_at (q ∷ trail) (suc i) p at place =
+    ⊎_elim
+    (λ t. absurd (let here = place_here q trail p.literal.variable t in omega arith))
+    (λ f.
+    let past = place_past q trail p.literal.variable f in
+    value_past q trail p.literal.variable f ∙ value_at trail i p at (omega arith))
+    (cases_Bool (nat_eq q.literal.variable p.literal.variable))

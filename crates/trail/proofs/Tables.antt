@@ -8,8 +8,8 @@ use Rattle.std.proofs.lemmas.List.Sums.{sum_by-set, count_by-le-length}
 use Rattle.std.proofs.Math.Seq.{take-length, take-suc}
 use Rattle.calculus.specs.Search.{Placed, Trail, cut_trail, cause_on, is_decision, last_level, last_level_from, literals_on, level_after, level_from_start, place_on, value_on}
 use Rattle.calculus.proofs.Trails.{value_here, value_past, place_here, place_past, cause_here, cause_past, level_here, level_past}
-use Rattle.trail.specs.declared.trail.Entry.{Entry}
-use Rattle.trail.specs.declared.trail.Spot.{Spot}
+use Rattle.trail.specs.declared.entry.Entry.{Entry}
+use Rattle.trail.specs.declared.entry.Spot.{Spot}
 use Rattle.trail.specs.Causes.{cause_of}
 use Rattle.trail.specs.Table.{placed_of, trail_of, AreLeveled, spot_at, spot_on, IsTable}
 use Rattle.trail.proofs.Cutting.{cut_all, cut_more}
@@ -227,6 +227,11 @@ pub literal_at : (entries : List Entry) (k : ℕ) (e : Entry) → k < length ent
 literal_at [] k e h at = absurd (omega arith)
 literal_at (x ∷ entries) zero e h at = ap (λ (y : Entry). Some y.lit) (sym at)
 literal_at (x ∷ entries) (suc k) e h at = literal_at entries k e (omega arith) at
+
+pub placed_at : (entries : List Entry) (k : ℕ) (e : Entry) → k < length entries → e ≡ get_or entries k e → slice_get (trail_of entries) k ≡ Some (placed_of e)
+placed_at [] k e h at = absurd (omega arith)
+placed_at (x ∷ entries) zero e h at = ap (λ (y : Entry). Some (placed_of y)) (sym at)
+placed_at (x ∷ entries) (suc k) e h at = placed_at entries k e (omega arith) at
 
 -- the level at a place is that of the trail up to it
 level_at_place : (before : ℕ) (entries : List Entry) (j : ℕ) (d : Entry) → AreLeveled before entries → j < length entries → (get_or entries j d).level ≡ last_level_from before (trail_of (take (suc j) entries))

@@ -1,11 +1,11 @@
 -- The counts of scopes, and the scope of the last decision, stay right.
-use Rattle.std.proofs.Common.{◌≡◌, ℕ, zero, suc, ◌+◌, ◌-◌, ◌<◌, ◌≤◌, cond, List, [], ◌∷◌, ◌++◌, length, take, set, get_or, replicate, Some, None, refl, sym, ap, ◌∙◌, ⊎_elim, arith, nat_eq}
+use Rattle.std.proofs.Common.{◌≡◌, ℕ, zero, suc, ◌+◌, ◌-◌, ◌<◌, ◌≤◌, Bool, cond, List, [], ◌∷◌, ◌++◌, length, take, set, get_or, Some, None, refl, sym, ap, ◌∙◌, ⊎_elim, arith, nat_eq}
 use Rattle.std.specs.Prelude.{count_by, slice_get}
 use Rattle.std.proofs.lemmas.Bool.{cases_eq, cases_lt, eq-eqb, ne_eqb}
-use Rattle.std.proofs.lemmas.List.{length-map, length-set, map-append, get_or-set_same, get_or-set_other, get_or_past}
+use Rattle.std.proofs.lemmas.List.{length-map, length-set, map-append, get_or-set_same, get_or-set_other, get_or_past, take_all, take_more}
 use Rattle.std.proofs.lemmas.List.Sums.{sum_by_push, count_by-le-length}
-use Rattle.trail.specs.declared.trail.Entry.{Entry}
-use Rattle.trail.specs.Table.{AreFloored, IsTallied, floor_after, floor_from, scopes_in}
+use Rattle.trail.specs.declared.entry.Entry.{Entry}
+use Rattle.trail.specs.Table.{AreCounted, AreFloored, HavePlaces, IsTallied, entries_of, floor_after, floor_from, scopes_in}
 
 -- the scope of the last decision
 
@@ -45,11 +45,11 @@ count_push entries e i =
     ∙ sum_by_push (λ s. cond (nat_eq s i) 1 0) (scopes_in entries) e.scope
 
 -- a count is at most the number of entries
-pub count_few : (entries : List Entry) (tallies : List ℕ) (i : ℕ) → IsTallied entries tallies → get_or tallies i 0 ≤ length entries
+pub count_few : (entries : List Entry) (tallies : List ℕ) (i : ℕ) → AreCounted entries tallies → get_or tallies i 0 ≤ length entries
 count_few entries tallies i tallied =
     ⊎_elim
     (λ (below : i < length tallies).
-    let is : get_or tallies i 0 ≡ count_by (λ s. nat_eq s i) (scopes_in entries) = tallied.tallied i below in
+    let is : get_or tallies i 0 ≡ count_by (λ s. nat_eq s i) (scopes_in entries) = tallied i below in
     let most : count_by (λ s. nat_eq s i) (scopes_in entries) ≤ length (scopes_in entries) = count_by-le-length (λ s. nat_eq s i) (scopes_in entries) in
     let long : length (scopes_in entries) ≡ length entries = length-map entries (λ (x : Entry). x.scope) in
     omega arith)
@@ -103,33 +103,85 @@ tallied_less all entries e tallies parts whole =
       },
     )
 
--- lists of zeros
-abbrev AreZero : List ℕ → Type 0
-AreZero xs = (i : ℕ) → get_or xs i 0 ≡ 0
+-- the counts while those of more scopes are made: the old ones are right, the new ones for the first entries
+pub record AreCountedFrom (entries : List Entry) (old n : ℕ) (tallies : List ℕ) (k : ℕ) : Type 0 where
+  pub long : length tallies ≡ n
+  pub before : (i : ℕ) → i < old → i < length tallies → get_or tallies i 0 ≡ entries_of entries i
+  pub after : (i : ℕ) → old ≤ i → i < length tallies → get_or tallies i 0 ≡ entries_of (take k entries) i
 
-zero_take : (n : ℕ) (xs : List ℕ) → AreZero xs → AreZero (take n xs)
-zero_take zero xs h i = refl
-zero_take (suc n) [] h i = refl
-zero_take (suc n) (x ∷ xs) h zero = h zero
-zero_take (suc n) (x ∷ xs) h (suc i) = zero_take n xs (λ j. h (suc j)) i
+pub counted_first : (entries : List Entry) (old more : List ℕ) (n : ℕ) → AreCounted entries old → length old ≤ n → length more ≡ n → ((i : ℕ) → i < length old → get_or more i 0 ≡ get_or old i 0) → ((i : ℕ) → length old ≤ i → i < n → get_or more i 0 ≡ 0) → AreCountedFrom entries (length old) n more 0
+counted_first entries old more n counted grows long same none = record {
+  long = long;
+  before = λ i low below. same i low ∙ counted i low;
+  after = λ i high below. none i high (omega arith);
+}
 
-zero_append : (xs ys : List ℕ) → AreZero xs → AreZero ys → AreZero (xs ++ ys)
-zero_append [] ys h k i = k i
-zero_append (x ∷ xs) ys h k zero = h zero
-zero_append (x ∷ xs) ys h k (suc i) = zero_append xs ys (λ j. h (suc j)) k i
+count_next : (entries : List Entry) (k : ℕ) (e : Entry) (i : ℕ) → k < length entries → e ≡ get_or entries k e → entries_of (take (k + 1) entries) i ≡ entries_of (take k entries) i + cond (nat_eq e.scope i) 1 0
+count_next entries k e i below is = ap (λ (es : List Entry). entries_of es i) (take_more entries k e below ∙ ap (λ (x : Entry). take k entries ++ x ∷ []) (sym is)) ∙ count_push (take k entries) e i
 
-zero_replicate : (n : ℕ) → AreZero (replicate n 0)
-zero_replicate zero i = refl
-zero_replicate (suc n) zero = refl
-zero_replicate (suc n) (suc i) = zero_replicate n i
+-- the next entry is of an old scope
+pub counted_passed : (entries : List Entry) (old n : ℕ) (tallies : List ℕ) (k : ℕ) (e : Entry) → AreCountedFrom entries old n tallies k → k < length entries → e ≡ get_or entries k e → e.scope < old → AreCountedFrom entries old n tallies (k + 1)
+counted_passed entries old n tallies k e h below is low = record {
+  long = h.long;
+  before = h.before;
+  after = λ i high within.
+      let none : cond {A = ℕ} (nat_eq e.scope i) 1 0 ≡ 0 = rw (ne_eqb e.scope i (λ same. (omega arith))) refl in
+      let next = count_next entries k e i below is in
+      let now = h.after i high within in
+      omega (arith, none, next, now);
+}
 
--- an empty trail's counts are all 0, with more places too
-pub tallied_wider : (tallies more : List ℕ) (n : ℕ) → IsTallied [] tallies → more ≡ take n tallies ++ replicate (n - length tallies) 0 → IsTallied [] more
-tallied_wider tallies more n before parts =
+-- or of a new one
+pub counted_one : (entries : List Entry) (old n : ℕ) (tallies : List ℕ) (k : ℕ) (e : Entry) → AreCountedFrom entries old n tallies k → k < length entries → e ≡ get_or entries k e → old ≤ e.scope → AreCountedFrom entries old n (set tallies e.scope (get_or tallies e.scope 0 + 1)) (k + 1)
+counted_one entries old n tallies k e h below is new =
+    let long = length-set tallies e.scope (get_or tallies e.scope 0 + 1) in
     record {
-      tallied = λ i below. ap (λ xs. get_or xs i 0) parts ∙ zero_append (take n tallies) (replicate (n - length tallies) 0) (zero_take n tallies zeros) (zero_replicate (n - length tallies)) i;
-      floored = tt;
+      long = long ∙ h.long;
+      before = λ i low within. get_or-set_other tallies e.scope i (get_or tallies e.scope 0 + 1) 0 (λ same. (omega arith)) ∙ h.before i low (omega arith);
+      after = λ i high within.
+          let there : i < length tallies = omega arith in
+          let next = count_next entries k e i below is in
+          let now = h.after i high there in
+          ⊎_elim
+          (λ (same : e.scope ≡ i).
+          let one : cond {A = ℕ} (nat_eq e.scope i) 1 0 ≡ 1 = rw (eq-eqb e.scope i same) refl in
+          let more : get_or (set tallies e.scope (get_or tallies e.scope 0 + 1)) i 0 ≡ get_or tallies i 0 + 1 = rw same (get_or-set_same tallies i (get_or tallies i 0 + 1) 0 there) in
+          omega (arith, one, next, now, more))
+          (λ differs.
+          let none : cond {A = ℕ} (nat_eq e.scope i) 1 0 ≡ 0 = rw (ne_eqb e.scope i differs) refl in
+          let other : get_or (set tallies e.scope (get_or tallies e.scope 0 + 1)) i 0 ≡ get_or tallies i 0 = get_or-set_other tallies e.scope i (get_or tallies e.scope 0 + 1) 0 (λ same. differs (sym same)) in
+          omega (arith, none, next, now, other))
+          (cases_eq e.scope i);
     }
+
+-- a count is at most the number of entries so far
+pub counted_few : (entries : List Entry) (old n : ℕ) (tallies : List ℕ) (k i : ℕ) → AreCountedFrom entries old n tallies k → old ≤ i → get_or tallies i 0 ≤ length entries
+counted_few entries old n tallies k i h high =
+    ⊎_elim
+    (λ (below : i < length tallies).
+    let is = h.after i high below in
+    let most : entries_of (take k entries) i ≤ length (scopes_in (take k entries)) = count_by-le-length (λ s. nat_eq s i) (scopes_in (take k entries)) in
+    let long : length (scopes_in (take k entries)) ≡ length (take k entries) = length-map (take k entries) (λ (x : Entry). x.scope) in
+    let short : length (take k entries) ≤ length entries = length-take-most k entries in
+    omega arith)
+    (λ (past : length tallies ≤ i). let none : get_or tallies i 0 ≡ 0 = get_or_past tallies i 0 past in omega arith)
+    (cases_lt i (length tallies))
   where
-    zeros : AreZero tallies
-    zeros i = ⊎_elim (λ (below : i < length tallies). before.tallied i below) (λ (past : length tallies ≤ i). get_or_past tallies i 0 past) (cases_lt i (length tallies))
+    length-take-most : (m : ℕ) (es : List Entry) → length (take m es) ≤ length es
+    length-take-most zero es = omega arith
+    length-take-most (suc m) [] = omega arith
+    length-take-most (suc m) (x ∷ es) = let later = length-take-most m es in omega arith
+
+pub counted_all : (entries : List Entry) (old n : ℕ) (tallies : List ℕ) (k : ℕ) → AreCountedFrom entries old n tallies k → length entries ≤ k → AreCounted entries tallies
+counted_all entries old n tallies k h end i within =
+    ⊎_elim
+    (λ (low : i < old). h.before i low within)
+    (λ (high : old ≤ i). h.after i high within ∙ ap (λ (es : List Entry). entries_of es i) (take_all k entries end))
+    (cases_lt i old)
+
+-- tables of the same lengths
+pub places_same : (room more : ℕ) (tallies wider : List ℕ) (finished known : List Bool) → more ≡ room → length wider ≡ length tallies → length known ≡ length finished → HavePlaces room tallies finished → HavePlaces more wider known
+places_same room more tallies wider finished known same alike equal h =
+    let t = h.tallies_long in
+    let f = h.finished_long in
+    record { tallies_long = omega arith; finished_long = omega arith }

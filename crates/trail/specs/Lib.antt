@@ -1,4 +1,5 @@
 pub mod Causes
+pub mod Finished
 pub mod Open
 pub mod State
 pub mod Table

@@ -1,8 +1,8 @@
 -- How a trail is kept: its literals in order, each with its level, and where each variable stands.
 use Rattle.std.specs.Prelude.{Bool, ◌≡◌, ℕ, zero, suc, ◌+◌, ◌<◌, ◌≤◌, ◌==◌, if◌then◌else◌, ⊤, map, length, count_by, is_some, List, [], ◌∷◌, Option, Some, None, slice_get, slice_index, slice_index_or}
 use Rattle.std.specs.Option.{option_map}
-use Rattle.trail.specs.declared.trail.Entry.{Entry}
-use Rattle.trail.specs.declared.trail.Spot.{Spot}
+use Rattle.trail.specs.declared.entry.Entry.{Entry}
+use Rattle.trail.specs.declared.entry.Spot.{Spot}
 use Rattle.trail.specs.Causes.{cause_of}
 use Rattle.calculus.specs.Search.{Placed, Trail, is_decision, level_after, place_on, value_on}
 
@@ -62,7 +62,20 @@ abbrev pub floor_from : ℕ → List Entry → ℕ
 floor_from before [] = before
 floor_from before (entry ∷ rest) = floor_from (floor_after before entry) rest
 
--- how many entries are of each scope that has a place in the table, at its number less 1; before any decision the last one is as if in scope 1
+-- how many entries are of the scope with this number less 1
+abbrev pub entries_of : List Entry → ℕ → ℕ
+entries_of entries i = count_by (λ s. s == i) (scopes_in entries)
+
+-- the counts of the scopes that have a place in the table
+abbrev pub AreCounted : List Entry → List ℕ → Type 0
+AreCounted entries tallies = (i : ℕ) → i < length tallies → slice_index tallies i ≡ entries_of entries i
+
+-- the scopes' counts, and the scope of the last decision up to each entry; before any decision it is as if in scope 1
 pub record IsTallied (entries : List Entry) (tallies : List ℕ) : Type 0 where
-  pub tallied : (i : ℕ) → i < length tallies → slice_index tallies i ≡ count_by (λ s. s == i) (scopes_in entries)
+  pub tallied : AreCounted entries tallies
   pub floored : AreFloored 1 entries
+
+-- the tables of scopes have places for as many as there is room for variables
+pub record HavePlaces (room : ℕ) (tallies : List ℕ) (finished : List Bool) : Type 0 where
+  pub tallies_long : room ≤ length tallies
+  pub finished_long : length finished ≡ room

@@ -1,12 +1,12 @@
--- Worked values: trails over three variables.
+-- Worked values: trails over three variables, in one scope and in three.
 use Rattle.std.specs.Prelude.{◌≡◌, ℕ, true, false, List, [], ◌∷◌, Some, None}
 use Rattle.prefix.specs.Literal.{Literal}
 use Rattle.prefix.specs.Scopes.{Scope}
-use Rattle.prefix.specs.declared.quant.Quant.TheVariants.{Exists}
+use Rattle.prefix.specs.declared.quant.Quant.TheVariants.{Exists, Forall}
 use Rattle.calculus.specs.Search.{cause_on, decision_level_on, decisions_on, place_on, value_on}
 use Rattle.calculus.specs.Search.Cause.{Decided, Propagated}
 use Rattle.calculus.specs.Weights.{trail_weight}
-use Rattle.trail.specs.State.{TrailState, is_marked, new_trail, undone_to, with_clean, with_literal}
+use Rattle.trail.specs.State.{TrailState, cleared, is_marked, new_trail, undone_to, with_assumed, with_clean, with_literal, with_room}
 
 -- a variable as a literal
 abbrev pub plus : ℕ → Literal
@@ -40,6 +40,22 @@ cleaned = with_clean decided_first 2 9
 abbrev pub cleaned_before : TrailState
 cleaned_before = with_literal three_variables (undone_to 0 cleaned) (minus 2) (Propagated 9)
 
+-- e 1, a scope without variables, and e 3
+abbrev pub with_empty_scope : List Scope
+with_empty_scope =
+    record { quantifier = Exists; variables = 1 ∷ [] }
+    ∷ record { quantifier = Forall; variables = [] }
+    ∷ record { quantifier = Exists; variables = 3 ∷ [] }
+    ∷ []
+
+-- room for three variables, and 1 propagated
+abbrev pub first_filled : TrailState
+first_filled = with_literal with_empty_scope (with_room new_trail 3) (plus 1) (Propagated 7)
+
+-- then 3 is decided
+abbrev pub all_filled : TrailState
+all_filled = with_literal with_empty_scope first_filled (plus 3) Decided
+
 -- the weight of a trail over three variables
 abbrev pub weight_of : TrailState → ℕ
 weight_of t = trail_weight 3 (decisions_on t.placed)
@@ -61,4 +77,12 @@ pub record WorkedTrails : Type 0 where
   pub clean_reason : cause_on cleaned.placed 2 ≡ Some (Propagated 9)
   pub first_cause_stays : cause_on cleaned.placed 1 ≡ Some Decided
   pub clean_value : value_on cleaned.placed 2 ≡ Some false
+  pub room_is_of_open_scopes : (with_room new_trail 3).finished ≡ false ∷ false ∷ false ∷ []
+  pub half_assigned_scope : (with_literal three_variables (with_room new_trail 3) (plus 1) Decided).finished ≡ false ∷ false ∷ false ∷ []
+  pub filled_scope : first_filled.finished ≡ true ∷ false ∷ false ∷ []
+  pub decision_passes_empty_scopes : all_filled.finished ≡ true ∷ true ∷ true ∷ []
+  pub undone_scope_is_open : (undone_to 0 all_filled).finished ≡ true ∷ true ∷ false ∷ []
+  pub scopes_past_the_room : (with_literal with_empty_scope new_trail (plus 1) Decided).finished ≡ []
+  pub assumed_scope : (with_assumed with_empty_scope (with_room new_trail 1) (minus 1 ∷ [])).finished ≡ true ∷ []
+  pub emptied : (cleared all_filled).finished ≡ false ∷ false ∷ false ∷ []
   pub mark_is_forgotten : is_marked cleaned_before 2 ≡ false

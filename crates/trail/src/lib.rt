@@ -2,12 +2,17 @@
 #![tactic(auto)]
 
 mod allowed;
+mod entry;
+mod finished;
+mod stopped;
+mod tally;
 #[cfg(test)]
 mod tests;
 mod trail;
 mod why;
 mod worked;
 
-pub use trail::{Stopped, Trail};
+pub use stopped::Stopped;
+pub use trail::Trail;
 pub use why::Why;
 pub use worked::worked_trails;

@@ -16,6 +16,25 @@ fn lit(number: u32, positive: bool) -> Result<Lit, Fail> {
     Ok(Lit::new(var(number)?, positive))
 }
 
+// Value, place, level and cause of a variable.
+type Looked = (Option<bool>, Option<usize>, Option<usize>, Option<Why>);
+
+fn look_up(trail: &Trail, number: u32) -> Result<Looked, Fail> {
+    let v = var(number)?;
+    Ok((
+        trail.value(v),
+        trail.place(v),
+        trail.level_of(v),
+        trail.why(v),
+    ))
+}
+
+// Whether the reason of a variable is marked as clean, and why it is assigned.
+fn clean_reason(trail: &Trail, number: u32) -> Result<(bool, Option<Why>), Fail> {
+    let v = var(number)?;
+    Ok((trail.is_clean(v), trail.why(v)))
+}
+
 // The existential variables 1 and 2, then the universal variable 3.
 fn two_scopes(alloc: Global) -> Result<Prefix, Fail> {
     let mut prefix = Prefix::new(alloc);
@@ -39,6 +58,25 @@ fn propagate(trail: &mut Trail, prefix: &Prefix, lit: Lit, steps: &mut Steps) ->
         return Err("not to be propagated")?;
     }
     trail.assign(prefix, lit, Why::Propagated(7), steps)?;
+    Ok(())
+}
+
+// Propagates the variables of numbers from one up to another, each positively.
+fn propagate_all(
+    trail: &mut Trail,
+    prefix: &Prefix,
+    first: u32,
+    last: u32,
+    steps: &mut Steps,
+) -> Result<(), Fail>
+    requires kept { IsTrailFor prefix.now trail.old }
+    requires allowed { trail.old.allowed ≢ Nothing }
+    ensures kept { IsTrailFor prefix.now trail.new }
+    ensures ok { OnOk result (trail.new.allowed ≢ Nothing) }
+{
+    for number in first..last {
+        propagate(trail, prefix, lit(number, true)?, steps)?;
+    }
     Ok(())
 }
 
@@ -108,24 +146,24 @@ fn look_ups_answer_by_the_list(rt: HostRuntime) -> Result<(), Fail> {
     assert_eq!(rt; trail.first_open(&prefix), Some(2));
     propagate(&mut trail, &prefix, lit(3, true)?, &mut steps)?;
     assert_eq!(rt; trail.first_open(&prefix), None);
-    for (number, value, place, level, why) in [
-        (1, false, 1, 1, Why::Decided),
-        (2, true, 0, 0, Why::Propagated(7)),
-        (3, true, 2, 1, Why::Propagated(7)),
-    ] {
-        let v = var(number)?;
-        assert_eq!(rt; trail.value(v), Some(value), "variable {number}");
-        assert_eq!(rt; trail.place(v), Some(place), "variable {number}");
-        assert_eq!(rt; trail.level_of(v), Some(level), "variable {number}");
-        assert_eq!(rt; trail.why(v), Some(why), "variable {number}");
-    }
+    assert_eq!(rt;
+        look_up(&trail, 1)?,
+        (Some(false), Some(1), Some(1), Some(Why::Decided))
+    );
+    assert_eq!(rt;
+        look_up(&trail, 2)?,
+        (Some(true), Some(0), Some(0), Some(Why::Propagated(7)))
+    );
+    assert_eq!(rt;
+        look_up(&trail, 3)?,
+        (Some(true), Some(2), Some(1), Some(Why::Propagated(7)))
+    );
     assert_eq!(rt; (trail.len(), trail.level(), trail.assigned()), (3, 1, 3));
     assert_eq!(rt; trail.room(), 3);
     assert_eq!(rt; (trail.len_to(0), trail.len_to(1)), (1, 3));
     trail.undo_to(0);
     assert_eq!(rt; (trail.len(), trail.level(), trail.assigned()), (1, 0, 3));
-    assert_eq!(rt; (trail.value(var(1)?), trail.place(var(3)?)), (None, None));
-    assert_eq!(rt; (trail.level_of(var(3)?), trail.why(var(3)?)), (None, None));
+    assert_eq!(rt; look_up(&trail, 3)?, (None, None, None, None));
     Ok(())
 }
 
@@ -137,28 +175,19 @@ fn marks_of_clean_reasons_go_with_their_literals(rt: HostRuntime) -> Result<(), 
     decide(&mut trail, &prefix, lit(1, true)?, &mut steps)?;
     propagate(&mut trail, &prefix, lit(2, true)?, &mut steps)?;
     propagate(&mut trail, &prefix, lit(3, true)?, &mut steps)?;
-    assert_eq!(rt; trail.is_clean(var(2)?), false, "before it is set");
+    assert_eq!(rt; clean_reason(&trail, 2)?, (false, Some(Why::Propagated(7))));
     set_clean(&mut trail, &prefix, var(2)?, 9)?;
-    for (number, clean, why) in [
-        (1, false, Why::Decided),
-        (2, true, Why::Propagated(9)),
-        (3, false, Why::Propagated(7)),
-    ] {
-        let v = var(number)?;
-        assert_eq!(rt;
-            (trail.is_clean(v), trail.why(v)),
-            (clean, Some(why)),
-            "variable {number}"
-        );
-    }
-    assert_eq!(rt;
-        (trail.value(var(2)?), trail.place(var(2)?)),
-        (Some(true), Some(1))
-    );
+    assert_eq!(rt; clean_reason(&trail, 1)?, (false, Some(Why::Decided)));
+    assert_eq!(rt; clean_reason(&trail, 2)?, (true, Some(Why::Propagated(9))));
+    assert_eq!(rt; clean_reason(&trail, 3)?, (false, Some(Why::Propagated(7))));
     trail.undo_to(0);
-    assert_eq!(rt; trail.is_clean(var(2)?), false, "undone");
+    assert_eq!(rt; clean_reason(&trail, 2)?, (false, None), "undone");
     propagate(&mut trail, &prefix, lit(2, true)?, &mut steps)?;
-    assert_eq!(rt; trail.is_clean(var(2)?), false, "assigned again");
+    assert_eq!(rt;
+        clean_reason(&trail, 2)?,
+        (false, Some(Why::Propagated(7))),
+        "again"
+    );
     Ok(())
 }
 
@@ -230,5 +259,50 @@ fn scopes_without_variables_are_passed_over(rt: HostRuntime) -> Result<(), Fail>
     assert_eq!(rt; trail.first_open(&prefix), Some(8));
     decide(&mut trail, &prefix, lit(2, true)?, &mut steps)?;
     assert_eq!(rt; trail.first_open(&prefix), None);
+    Ok(())
+}
+
+// Existential scopes of one variable each, as many.
+fn single_scopes(alloc: Global, count: u64) -> Result<Prefix, Fail> {
+    let mut prefix = Prefix::new(alloc);
+    for number in 0..count {
+        prefix.add_scope(Quant::Exists, None)?;
+        prefix.add_var(number + 1, number + 1)?;
+    }
+    Ok(prefix)
+}
+
+#[test]
+fn full_scopes_are_passed_over_until_they_are_undone(rt: HostRuntime) -> Result<(), Fail> {
+    let prefix = single_scopes(rt.alloc(), 300)?;
+    let mut steps = Steps::new(1000);
+    let mut trail = Trail::new(rt.alloc());
+    propagate_all(&mut trail, &prefix, 2, 250, &mut steps)?;
+    propagate(&mut trail, &prefix, lit(250, true)?, &mut steps)?;
+    assert_eq!(rt; trail.first_open(&prefix), Some(1));
+    decide(&mut trail, &prefix, lit(1, true)?, &mut steps)?;
+    assert_eq!(rt; trail.first_open(&prefix), Some(251));
+    decide(&mut trail, &prefix, lit(251, true)?, &mut steps)?;
+    propagate(&mut trail, &prefix, lit(252, true)?, &mut steps)?;
+    assert_eq!(rt; trail.first_open(&prefix), Some(253));
+    trail.undo_to(0);
+    propagate(&mut trail, &prefix, lit(1, false)?, &mut steps)?;
+    assert_eq!(rt; trail.first_open(&prefix), Some(251), "undone");
+    trail.clear();
+    assert_eq!(rt; trail.first_open(&prefix), Some(1), "cleared");
+    Ok(())
+}
+
+#[test]
+fn a_half_assigned_scope_is_open(rt: HostRuntime) -> Result<(), Fail> {
+    let prefix = two_scopes(rt.alloc())?;
+    let mut steps = Steps::new(10);
+    let mut trail = Trail::new(rt.alloc());
+    propagate(&mut trail, &prefix, lit(1, true)?, &mut steps)?;
+    assert_eq!(rt; trail.first_open(&prefix), Some(1));
+    decide(&mut trail, &prefix, lit(2, true)?, &mut steps)?;
+    assert_eq!(rt; trail.first_open(&prefix), Some(2));
+    trail.undo_to(0);
+    assert_eq!(rt; trail.first_open(&prefix), Some(1));
     Ok(())
 }

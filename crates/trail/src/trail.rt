@@ -1,45 +1,30 @@
 //! The trail.
-ghost use Rattle.std.specs.Prelude.{◌≡◌, ◌↔◌, ℕ, [], ◌∷◌, ◌++◌, ◌+◌, ◌-◌, ◌^◌, ◌<◌, ◌≤◌, length, map, take, slice_get, slice_index, slice_set, is_some, count_by, false, All, IfSome, IsNone, IsTrue, IsErr, OnOk, OnErr, List, Contains, Some, None, vec_len, vec_capacity};
+ghost use Rattle.std.specs.Prelude.{◌≡◌, ◌↔◌, ℕ, [], ◌∷◌, ◌++◌, ◌+◌, ◌^◌, ◌<◌, ◌≤◌, ◌==◌, length, take, slice_get, count_by, false, All, IfSome, IsNone, IsTrue, IsErr, OnOk, OnErr, List, Contains, Some, None};
 ghost use Rattle.std.specs.Option.{option_map};
 ghost use Rattle.prefix.specs.Literal.{Literal};
-ghost use Rattle.prefix.specs.Scopes.{Scope, all_variables, variables_at, AreDistinct, IsPrefix};
+ghost use Rattle.prefix.specs.Scopes.{Scope, all_variables, depth_of, variables_at, AreDistinct, IsPrefix};
 ghost use Rattle.steps.specs.Counter.{after, left};
-ghost use Rattle.calculus.specs.Search.{MayStand, value_on, place_on, cause_on, cut_trail, decision_level_on, decisions_on, last_level, literals_on};
+ghost use Rattle.calculus.specs.Search.{MayStand, value_on, place_on, cause_on, cut_trail, decision_level_on, is_decision, last_level, literals_on};
 ghost use Rattle.calculus.specs.Search.Cause.{Assumed as assumed_cause};
-ghost use Rattle.calculus.specs.Rows.{depth_of, variables_in};
-ghost use Rattle.calculus.specs.Weights.{trail_weight};
+ghost use Rattle.calculus.specs.Rows.{variables_in};
+ghost use Rattle.calculus.specs.Limits.{assignment_limit};
 ghost use Rattle.calculus.specs.Verdicts.{AreOuter};
-ghost use Rattle.trail.specs.declared.allowed.Allowed.TheVariants.{Anything};
+ghost use Rattle.trail.specs.declared.allowed.Allowed.TheVariants.{Anything, NoDecision};
 ghost use Rattle.trail.specs.Causes.{cause_of};
-ghost use Rattle.trail.specs.Open.{is_assigned, AreAssigned, AreAssignedBefore, IsFirstOpen};
-ghost use Rattle.trail.specs.Table.{spot_on, AreFloored, IsTallied, floor_from};
-ghost use Rattle.trail.specs.State.{new_trail, without_last, with_room, with_literal, with_assumed, given_up, undone_to, cleared, counted, HasRoom, is_marked, with_clean, IsPropagated, MayFollow, IsTrailFor};
+ghost use Rattle.trail.specs.Finished.{emptied};
+ghost use Rattle.trail.specs.Open.{is_assigned, is_finished, AreAssigned, AreAssignedBefore, IsFirstOpen};
+ghost use Rattle.trail.specs.Table.{spot_on};
+ghost use Rattle.trail.specs.State.{new_trail, without_last, with_room, with_placed, with_finished, with_literal, with_assumed, given_up, undone_to, cleared, HasRoom, is_marked, with_clean, IsPropagated, MayFollow, IsTrailFor, Outweighs, OutweighsWithOne};
 
-use super::Why;
 use super::allowed::Allowed;
+use super::entry::{Entry, Spot, last_floor};
+use super::finished::Finished;
+use super::tally::{count_down, count_up, widen};
+use super::{Stopped, Why};
 use prefix::{Lit, Prefix, Var};
-use std::alloc::{AllocError, Global};
+use std::alloc::Global;
 use std::marker::Model;
 use steps::{NoMemory, Spent, Steps};
-
-// A literal on the trail, with its cause, its decision level, the number less 1 of its variable's scope, the number of the
-// scope of the last decision up to it, or 1, and whether its reason is marked as clean.
-#[derive(Debug, Drop)]
-struct Entry {
-    lit: Lit,
-    why: Why,
-    level: usize,
-    scope: usize,
-    floor: usize,
-    clean: bool,
-}
-
-// Where a variable stands: its value, and its place among the entries.
-#[derive(Clone, Copy, Debug)]
-struct Spot {
-    value: bool,
-    place: usize,
-}
 
 /// An assignment trail: the assigned literals, oldest first, each with its cause. Contracts see it as that list, with the
 /// number of assignments, the room, and what may be assigned next.
@@ -54,6 +39,8 @@ pub struct Trail {
     spots: Vec<Option<Spot>>,
     // How many entries are of each scope, at its number less 1; scopes of greater numbers than its length aren't counted.
     tallies: Vec<usize>,
+    // The scopes that are known to be all assigned, of those that are counted.
+    finished: Finished,
     assigned: u64,
     allowed: Allowed,
 }
@@ -64,56 +51,22 @@ impl Model for Trail {
 
     ghost Value = { TrailState };
 
-    ghost use Rattle.trail.specs.Table.{trail_of, depths_of, marks_of, IsTable, IsTallied};
+    ghost use Rattle.trail.specs.Table.{trail_of, depths_of, marks_of, IsTable, IsTallied, HavePlaces};
 
-    ghost view = { λ t. record { placed = trail_of t.entries.items; depths = depths_of t.entries.items; marks = marks_of t.entries.items; assigned = t.assigned; room = length t.spots.items; allowed = t.allowed } };
+    ghost view = { λ t. record {
+      placed = trail_of t.entries.items;
+      depths = depths_of t.entries.items;
+      marks = marks_of t.entries.items;
+      finished = t.finished;
+      assigned = t.assigned;
+      room = length t.spots.items;
+      allowed = t.allowed;
+    } };
 
-    ghost invariant = { λ t. IsTable t.entries.items t.spots.items (vec_capacity t.entries) × IsTallied t.entries.items t.tallies.items };
-}
-
-/// What is told of a search that stopped because its budget was spent. `Trail::stop` alone makes one, and it is never
-/// copied.
-#[derive(Debug, Drop)]
-pub struct Stopped {
-    budget: u64,
-    vars: usize,
-    assigned: u64,
-}
-
-impl Model for Stopped {
-    ghost use Rattle.std.specs.Prelude.{◌+◌, ◌^◌, ◌<◌};
-    ghost use Rattle.trail.specs.State.{Account};
-
-    ghost Value = { Account };
-
-    ghost view = { λ s. record { budget = s.budget; vars = s.vars; assigned = s.assigned } };
-
-    ghost invariant = { λ s. s.assigned + 1 < 2 ^ (s.vars + 1) };
-}
-
-impl Stopped {
-    /// The budget that was spent.
-    pub fn budget(&self) -> u64
-        ensures { result ≡ self.now.budget }
-    {
-        self.budget
-    }
-
-    /// The number of the prefix's variables.
-    pub fn vars(&self) -> usize
-        ensures { result ≡ self.now.vars }
-    {
-        self.vars
-    }
-
-    /// How many literals were assigned, undone ones too; at 2^64 - 1 the count stays. Each assignment raised the weight of
-    /// the trail, so they are few.
-    pub fn assigned(&self) -> u64
-        ensures value { result ≡ self.now.assigned }
-        ensures few { self.now.assigned + 1 < 2 ^ (self.now.vars + 1) }
-    {
-        self.assigned
-    }
+    ghost invariant = { λ t.
+        IsTable t.entries.items t.spots.items (vec_capacity t.entries)
+        × IsTallied t.entries.items t.tallies.items
+        × HavePlaces (length t.spots.items) t.tallies.items t.finished };
 }
 
 impl Trail {
@@ -126,12 +79,14 @@ impl Trail {
             entries: Vec::new(alloc),
             spots: Vec::new(alloc),
             tallies: Vec::new(alloc),
+            finished: Finished::new(alloc),
             assigned: 0,
             allowed: Allowed::Anything,
         }
     }
 
-    /// Makes room for the variables of numbers up to `vars`. With no memory the trail stays as it was.
+    /// Makes room for the variables of numbers up to `vars`, and counts the scopes of numbers up to that. With no memory the
+    /// trail stays as it was.
     pub fn reserve(&mut self, vars: usize) -> Result<(), NoMemory>
         ensures ok { OnOk result (self.new ≡ with_room self.old vars) }
         ensures err { OnErr result (self.new ≡ self.old) }
@@ -140,7 +95,10 @@ impl Trail {
         if self.spots.len() < vars {
             self.entries.reserve(vars - self.entries.len())?;
             widen(&mut self.tallies, &self.entries, vars)?;
-            self.spots.resize(vars, None)?;
+            self.spots.reserve(vars - self.spots.len())?;
+            self.finished.widen(vars)?;
+            // There is room for them.
+            let _ = self.spots.resize(vars, None);
         }
         Ok(())
     }
@@ -207,7 +165,9 @@ impl Trail {
     /// The literal at a place, from 0.
     pub fn at(&self, place: usize) -> Lit
         requires { place < length self.now.placed }
-        ensures { slice_get (literals_on self.now.placed) place ≡ Some result }
+        ensures literal { slice_get (literals_on self.now.placed) place ≡ Some result }
+        ensures place { place_on self.now.placed result.variable ≡ place }
+        ensures value { value_on self.now.placed result.variable ≡ Some result.positive }
     {
         self.entries[place].lit
     }
@@ -249,7 +209,7 @@ impl Trail {
     /// assignment raised the weight of the trail, so they are few.
     pub fn assigned(&self) -> u64
         ensures value { result ≡ self.now.assigned }
-        ensures few { (scopes : List Scope) → IsTrailFor scopes self.now → self.now.assigned + 1 < 2 ^ (length (all_variables scopes) + 1) }
+        ensures few { (scopes : List Scope) → IsTrailFor scopes self.now → self.now.assigned + 1 < assignment_limit 0 (length (all_variables scopes)) }
     {
         self.assigned
     }
@@ -281,11 +241,19 @@ impl Trail {
         ensures within { steps.old.spent ≤ steps.old.budget }
         ensures kept { IsTrailFor prefix.now self.new }
 
+        // A count of assignments that isn't above that of the steps rises by one, and stays so.
+        ensures one { OnOk result (self.old.assigned ≤ steps.old.spent → self.new.assigned ≡ self.old.assigned + 1) }
+        ensures below { OnOk result (self.old.assigned ≤ steps.old.spent → self.new.assigned ≤ steps.new.spent) }
+
         // Each assignment raises the weight.
-        ensures raised { OnOk result ((n : ℕ) → trail_weight n (decisions_on self.old.placed) < trail_weight n (decisions_on self.new.placed)) }
+        ensures raised { OnOk result (Outweighs self.new.placed self.old.placed) }
     {
+        // The budget is a u64: a count within it doesn't reach the end of its type.
+        let _ = steps.budget();
         steps.tick()?;
-        self.push(lit, why, prefix.depth(lit.var()) - 1);
+        let depth = prefix.depth(lit.var());
+        self.push(lit, why, depth - 1);
+        self.mark_finished(prefix, depth, why);
         Ok(())
     }
 
@@ -326,9 +294,14 @@ impl Trail {
     pub fn undo_to(&mut self, level: usize)
         ensures cut { self.new ≡ undone_to level self.old }
         ensures kept { (scopes : List Scope) → IsTrailFor scopes self.old → IsTrailFor scopes self.new }
+        ensures placed { level < last_level self.old.placed → self.new.placed ≡ cut_trail level self.old.placed }
+        ensures allowed { level < last_level self.old.placed → self.new.allowed ≡ NoDecision }
+        ensures same { last_level self.old.placed ≤ level → self.new ≡ self.old }
+        ensures assigned { self.new.assigned ≡ self.old.assigned }
+        ensures room { self.new.room ≡ self.old.room }
 
         // What is assigned after a cut raises the weight over that of the whole trail before it.
-        ensures raised { (n : ℕ) → length self.old.placed ≤ n → level < last_level self.old.placed → trail_weight n (decisions_on self.old.placed) < trail_weight n (decisions_on self.new.placed ++ false ∷ []) }
+        ensures raised { level < last_level self.old.placed → OutweighsWithOne self.new.placed self.old.placed }
     {
         while self.level() > level {
             self.pop();
@@ -354,26 +327,29 @@ impl Trail {
         ensures cleared { self.new ≡ cleared self.old }
         ensures kept { (scopes : List Scope) → IsTrailFor scopes self.new }
     {
-        let stopped = Stopped {
-            budget: steps.budget(),
-            vars: prefix.len(),
-            assigned: self.assigned(),
-        };
+        let stopped = Stopped::new(steps.budget(), prefix.len(), self.assigned());
         self.clear();
         stopped
     }
 
     /// The first scope with an unassigned variable, for the prefix of the calls since the last `clear` or `stop`; none
-    /// exactly where every variable is assigned. This looks at the scopes from that of the last decision on.
+    /// exactly where every variable is assigned.
+    ///
+    /// Scopes that are known to be all assigned are passed over in constant time: those that an assignment filled, and all
+    /// before a decision, up to the first literal of theirs that is undone. Else this looks at a scope without variables,
+    /// and at the scopes of numbers past the room.
     pub fn first_open(&self, prefix: &Prefix) -> Option<usize>
         requires prefix { IsTrailFor prefix.now self.now }
         ensures none { IsNone result ↔ AreAssigned prefix.now self.now.placed }
         ensures some { IfSome result (IsFirstOpen prefix.now self.now.placed) }
     {
-        for scope in self.floor()..prefix.scopes() + 1 {
-            if self.assigned_in(prefix, scope) < prefix.vars_of(scope).len() {
+        let floor = self.floor().min(prefix.scopes() + 1);
+        let mut scope = self.next_unfinished(prefix, floor);
+        while scope <= prefix.scopes() {
+            if !self.is_full(prefix, scope) {
                 return Some(scope);
             }
+            scope = self.next_unfinished(prefix, scope + 1);
         }
         None
     }
@@ -387,6 +363,28 @@ impl Trail {
             len -= 1;
         }
         len
+    }
+
+    // The number of a scope from this one on, up to which all from there on are assigned.
+    fn next_unfinished(&self, prefix: &Prefix, scope: usize) -> usize
+        requires prefix { IsTrailFor prefix.now self.now }
+        requires first { 1 ≤ scope }
+        requires small { scope < 2 ^ 32 }
+        requires earlier { AreAssignedBefore prefix.now self.now.placed scope }
+        ensures least { scope ≤ result }
+        ensures earlier { AreAssignedBefore prefix.now self.now.placed result }
+    {
+        self.finished.next_outside(scope - 1) + 1
+    }
+
+    // Whether every variable of a scope is assigned.
+    fn is_full(&self, prefix: &Prefix, scope: usize) -> bool
+        requires prefix { IsTrailFor prefix.now self.now }
+        requires first { 1 ≤ scope }
+        requires last { scope ≤ length prefix.now }
+        ensures { result ≡ is_finished prefix.now self.now.placed scope }
+    {
+        scope <= prefix.scopes() && self.assigned_in(prefix, scope) == prefix.vars_of(scope).len()
     }
 
     // How many variables of a scope are assigned. This takes constant time, but for a scope without a place in the table.
@@ -437,7 +435,7 @@ impl Trail {
         requires unassigned { value_on self.old.placed lit.variable ≡ None }
         requires room { lit.variable ≤ self.old.room }
         requires small { scope < 2 ^ 63 }
-        ensures { self.new ≡ record { placed = self.old.placed ++ record { literal = lit; cause = cause_of why } ∷ []; depths = self.old.depths ++ (scope + 1) ∷ []; marks = self.old.marks ++ false ∷ []; assigned = counted self.old.assigned 1; room = self.old.room; allowed = Anything } }
+        ensures { self.new ≡ with_placed self.old lit (cause_of why) (scope + 1) }
     {
         let place = self.entries.len();
         let entry = Entry {
@@ -460,6 +458,18 @@ impl Trail {
         self.allowed = Allowed::Anything;
     }
 
+    // Marks the scope with this number where all its variables are assigned, and each earlier one once it is decided in it.
+    fn mark_finished(&mut self, prefix: &Prefix, scope: usize, why: Why)
+        requires prefix { IsTrailFor prefix.now self.old }
+        requires first { 1 ≤ scope }
+        requires last { scope ≤ length prefix.now }
+        requires small { scope < 2 ^ 32 }
+        ensures { self.new ≡ with_finished self.old (is_finished prefix.now self.old.placed scope) (is_decision (cause_of why)) scope }
+    {
+        let is_full = self.is_full(prefix, scope);
+        self.finished.note(is_full, why.is_decision(), scope);
+    }
+
     // Takes the last literal off.
     fn pop(&mut self)
         requires { 0 < length self.old.placed }
@@ -468,21 +478,24 @@ impl Trail {
         if let Some(entry) = self.entries.pop() {
             self.spots[entry.lit.var().index()] = None;
             count_down(&mut self.tallies, entry.scope);
+            self.finished.take_out(entry.scope);
             self.allowed = Allowed::NoDecision;
         }
     }
 
-    // Takes all literals off.
+    // Takes all literals off, and lets no scope be known as all assigned.
     fn undo_all(&mut self)
         ensures placed { self.new.placed ≡ [] }
         ensures depths { self.new.depths ≡ [] }
         ensures marks { self.new.marks ≡ [] }
+        ensures finished { self.new.finished ≡ emptied self.old.finished }
         ensures assigned { self.new.assigned ≡ self.old.assigned }
         ensures room { self.new.room ≡ self.old.room }
     {
         while !self.entries.is_empty() {
             self.pop();
         }
+        self.finished.clear();
     }
 
     // Assumes literals up to the first one for which no step is left.
@@ -493,55 +506,17 @@ impl Trail {
         requires different { AreDistinct (variables_in lits.now) }
         requires room { All (λ l. l.variable ≤ self.old.room) lits.now }
         requires allowed { MayFollow self.old.allowed assumed_cause }
-        ensures ok { OnOk result ((self.new ≡ with_assumed prefix.now self.old lits.now) × (steps.new ≡ after steps.old (length lits.now)) × (length lits.now ≤ left steps.old)) }
-        ensures err { OnErr result ((self.new ≡ with_assumed prefix.now self.old (take (left steps.old) lits.now)) × (steps.new ≡ after steps.old (left steps.old)) × (left steps.old < length lits.now)) }
+        ensures ok { OnOk result (self.new ≡ with_assumed prefix.now self.old lits.now) }
+        ensures counted { OnOk result (steps.new ≡ after steps.old (length lits.now)) }
+        ensures enough { OnOk result (length lits.now ≤ left steps.old) }
+        ensures err { OnErr result (self.new ≡ with_assumed prefix.now self.old (take (left steps.old) lits.now)) }
+        ensures uncounted { OnErr result (steps.new ≡ after steps.old (left steps.old)) }
+        ensures fewer { OnErr result (left steps.old < length lits.now) }
         ensures kept { IsTrailFor prefix.now self.new }
     {
         for &lit in lits {
             self.assign(prefix, lit, Why::Assumed, steps)?;
         }
         Ok(())
-    }
-}
-
-// The number of the scope of the last decision, or 1.
-fn last_floor(entries: &[Entry]) -> usize
-    requires { AreFloored 1 entries.now }
-    ensures { result ≡ floor_from 1 entries.now }
-{
-    match entries.last() {
-        None => 1,
-        Some(entry) => entry.floor,
-    }
-}
-
-// Makes places for scopes of greater numbers, where no entry stands.
-fn widen(tallies: &mut Vec<usize>, entries: &[Entry], scopes: usize) -> Result<(), AllocError>
-    requires { IsTallied entries.now tallies.old.items }
-    ensures { IsTallied entries.now tallies.new.items }
-{
-    if entries.is_empty() {
-        tallies.resize(scopes, 0)?;
-    }
-    Ok(())
-}
-
-// Counts one more of a scope that has a place in the table.
-fn count_up(tallies: &mut Vec<usize>, scope: usize)
-    requires { slice_index tallies.old.items scope < 2 ^ 63 }
-    ensures { tallies.new.items ≡ slice_set tallies.old.items scope (slice_index tallies.old.items scope + 1) }
-{
-    if scope < tallies.len() {
-        tallies[scope] += 1;
-    }
-}
-
-// Counts one less of a scope that has a place in the table.
-fn count_down(tallies: &mut Vec<usize>, scope: usize)
-    requires { scope < length tallies.old.items → 1 ≤ slice_index tallies.old.items scope }
-    ensures { tallies.new.items ≡ slice_set tallies.old.items scope (slice_index tallies.old.items scope - 1) }
-{
-    if scope < tallies.len() {
-        tallies[scope] -= 1;
     }
 }

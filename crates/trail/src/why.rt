@@ -13,16 +13,19 @@ pub enum Why {
 }
 
 impl Why {
+    // Whether it is a decision.
+    pub(crate) fn is_decision(self) -> bool
+        ensures { result ≡ is_decision (cause_of self) }
+    {
+        matches!(self, Self::Decided)
+    }
+
     // The decision level of a literal that comes after this level.
     pub(crate) fn level_after(self, level: usize) -> usize
         requires { level < 2 ^ 63 }
         ensures { result ≡ (if is_decision (cause_of self) then suc level else level) }
     {
-        if matches!(self, Self::Decided) {
-            level + 1
-        } else {
-            level
-        }
+        if self.is_decision() { level + 1 } else { level }
     }
 
     // The number of the scope of the last decision, with the one before a literal of the scope with this number less 1.
@@ -30,10 +33,6 @@ impl Why {
         requires { scope < 2 ^ 63 }
         ensures { result ≡ (if is_decision (cause_of self) then scope + 1 else floor) }
     {
-        if matches!(self, Self::Decided) {
-            scope + 1
-        } else {
-            floor
-        }
+        if self.is_decision() { scope + 1 } else { floor }
     }
 }

@@ -22,5 +22,13 @@ returns c =
       clean_reason = refl;
       first_cause_stays = refl;
       clean_value = refl;
+      room_is_of_open_scopes = refl;
+      half_assigned_scope = refl;
+      filled_scope = refl;
+      decision_passes_empty_scopes = refl;
+      undone_scope_is_open = refl;
+      scopes_past_the_room = refl;
+      assumed_scope = refl;
+      emptied = refl;
       mark_is_forgotten = refl;
     }

@@ -1,14 +1,34 @@
-use Rattle.std.proofs.Common.{ap, ◌∙◌}
+use Rattle.std.proofs.Common.{ap, length, ◌∙◌}
+use Rattle.steps.specs.Counter.{left}
 use Rattle.trail.specs.State.{TrailState}
 use Rattle.trail.specs.Table.{depths_of, marks_of, trail_of}
-use Rattle.std.specs.Prelude.{length}
+use Rattle.trail.proofs.Assuming.{given_up_is, on_err_both}
 use Rattle.trail.proofs.Keeping.{kept_given_up}
 use Rattle.trail.proofs.trail.Trail.assume_all.Goals as goal
 
+pub returns-then-is_err-clause-err : goal.returns-then-is_err-clause-err
+returns-then-is_err-clause-err c =
+    let items = c.self.inside.entries.items in
+    let now = c.assume_each-assumed.new.self in
+    let is = c.self.view_is in
+    let undone = c.undo_all.ensures in
+    on_err_both c.assume_each-assumed.result c.assume_each-assumed.ensures.err c.assume_each-assumed.ensures.fewer
+    (given_up_is c.args.prefix.now c.args.self.now now c.args.lits.now (left c.args.steps.now) (trail_of items) (depths_of items) (marks_of items) c.self.inside.finished c.self.inside.assigned (length c.self.inside.spots.items)
+    (ap (λ (t : TrailState). t.placed) is ∙ undone.placed)
+    (ap (λ (t : TrailState). t.depths) is ∙ undone.depths)
+    (ap (λ (t : TrailState). t.marks) is ∙ undone.marks)
+    (ap (λ (t : TrailState). t.finished) is ∙ undone.finished)
+    (ap (λ (t : TrailState). t.assigned) is ∙ undone.assigned)
+    (ap (λ (t : TrailState). t.room) is ∙ undone.room))
+
 pub returns-then-is_err-clause-kept : goal.returns-then-is_err-clause-kept
 returns-then-is_err-clause-kept c =
-    kept_given_up c.args.prefix.now c.assume_each-assumed.new.self (trail_of c.self.inside.entries.items) (depths_of c.self.inside.entries.items) (marks_of c.self.inside.entries.items) c.self.inside.assigned (length c.self.inside.spots.items) c.assume_each-assumed.ensures.kept
-    (ap (λ (t : TrailState). t.placed) c.self.view_is ∙ c.undo_all.ensures.placed)
-    (ap (λ (t : TrailState). t.depths) c.self.view_is ∙ c.undo_all.ensures.depths)
-    (ap (λ (t : TrailState). t.marks) c.self.view_is ∙ c.undo_all.ensures.marks)
-    (ap (λ (t : TrailState). t.assigned) c.self.view_is ∙ c.undo_all.ensures.assigned)
+    let items = c.self.inside.entries.items in
+    let is = c.self.view_is in
+    let undone = c.undo_all.ensures in
+    kept_given_up c.args.prefix.now c.assume_each-assumed.new.self (trail_of items) (depths_of items) (marks_of items) c.self.inside.finished c.self.inside.assigned (length c.self.inside.spots.items) c.assume_each-assumed.ensures.kept
+    (ap (λ (t : TrailState). t.placed) is ∙ undone.placed)
+    (ap (λ (t : TrailState). t.depths) is ∙ undone.depths)
+    (ap (λ (t : TrailState). t.marks) is ∙ undone.marks)
+    (ap (λ (t : TrailState). t.finished) is ∙ undone.finished)
+    (ap (λ (t : TrailState). t.assigned) is ∙ undone.assigned)

@@ -55,20 +55,32 @@ loop-lit-preserved c = record {
   kept = c.assign.ensures.kept;
 }
 
+all : (c : goal.After-from_residual) → c.loop-lit.lit-index ≡ left c.args.steps.now
+all c = all_left c.args.steps.now c.loop-lit.steps c.loop-lit.lit-index c.loop-lit.invariant.steps (c.in_err-assign.ensures.spent.0 refl)
+
 pub returns-in_err-assign-clause-err : goal.returns-in_err-assign-clause-err
 returns-in_err-assign-clause-err c =
     let err = err_from_is_err_and c.from_residual.result c.from_residual.ensures.1 in
-    let all : c.loop-lit.lit-index ≡ left c.args.steps.now = all_left c.args.steps.now c.loop-lit.steps c.loop-lit.lit-index c.loop-lit.invariant.steps (c.in_err-assign.ensures.spent.0 refl) in
-    rw err.1 (
-      c.in_err-assign.ensures.err ∙ (c.loop-lit.invariant.trail ∙ ap (λ n. with_assumed c.args.prefix.now c.args.self.now (take n c.args.lits.now)) all),
-      c.in_err-assign.ensures.uncounted ∙ (c.loop-lit.invariant.steps ∙ ap (after c.args.steps.now) all),
-      rw (← all) c.loop-lit-test.true,
-    )
+    rw err.1 (c.in_err-assign.ensures.err ∙ (c.loop-lit.invariant.trail ∙ ap (λ n. with_assumed c.args.prefix.now c.args.self.now (take n c.args.lits.now)) (all c)))
+
+pub returns-in_err-assign-clause-uncounted : goal.returns-in_err-assign-clause-uncounted
+returns-in_err-assign-clause-uncounted c =
+    let err = err_from_is_err_and c.from_residual.result c.from_residual.ensures.1 in
+    rw err.1 (c.in_err-assign.ensures.uncounted ∙ (c.loop-lit.invariant.steps ∙ ap (after c.args.steps.now) (all c)))
+
+pub returns-in_err-assign-clause-fewer : goal.returns-in_err-assign-clause-fewer
+returns-in_err-assign-clause-fewer c =
+    let err = err_from_is_err_and c.from_residual.result c.from_residual.ensures.1 in
+    rw err.1 (rw (← all c) c.loop-lit-test.true)
+
+end : (c : goal.After-loop-lit) → c.loop-lit.lit-index ≡ length c.args.lits.now
+end c = (let below = c.loop-lit.auto.lit-index-end in let past = c.loop-lit-test.false in omega arith)
 
 pub returns-clause-ok : goal.returns-clause-ok
-returns-clause-ok c =
-    let end : c.loop-lit.lit-index ≡ length c.args.lits.now = (let below = c.loop-lit.auto.lit-index-end in let past = c.loop-lit-test.false in omega arith) in (
-      c.loop-lit.invariant.trail ∙ ap (with_assumed c.args.prefix.now c.args.self.now) (take_all c.loop-lit.lit-index c.args.lits.now c.loop-lit-test.false),
-      c.loop-lit.invariant.steps ∙ ap (after c.args.steps.now) end,
-      rw (← end) c.loop-lit.invariant.few,
-    )
+returns-clause-ok c = c.loop-lit.invariant.trail ∙ ap (with_assumed c.args.prefix.now c.args.self.now) (take_all c.loop-lit.lit-index c.args.lits.now c.loop-lit-test.false)
+
+pub returns-clause-counted : goal.returns-clause-counted
+returns-clause-counted c = c.loop-lit.invariant.steps ∙ ap (after c.args.steps.now) (end c)
+
+pub returns-clause-enough : goal.returns-clause-enough
+returns-clause-enough c = rw (← end c) c.loop-lit.invariant.few

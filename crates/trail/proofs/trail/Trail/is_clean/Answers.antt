@@ -1,6 +1,6 @@
 use Rattle.std.proofs.Common.{◌≡◌, ◌∙◌, sym, ap, is_some, get_or, None}
 use Rattle.calculus.specs.Search.{place_on, value_on, Trail}
-use Rattle.trail.specs.declared.trail.Entry.{Entry}
+use Rattle.trail.specs.declared.entry.Entry.{Entry}
 use Rattle.trail.specs.State.{TrailState, is_marked}
 use Rattle.trail.specs.Table.{trail_of}
 use Rattle.trail.proofs.Tables.{map_some, none_map}

@@ -1,7 +1,7 @@
 use Rattle.std.proofs.Common.{◌≡◌, ◌∙◌, sym, ap, true, is_some, get_or}
 use Rattle.calculus.specs.Search.{place_on, value_on, decision_level_on, Trail}
 use Rattle.trail.specs.State.{TrailState}
-use Rattle.trail.specs.declared.trail.Entry.{Entry}
+use Rattle.trail.specs.declared.entry.Entry.{Entry}
 use Rattle.trail.specs.Table.{trail_of}
 use Rattle.trail.proofs.Tables.{entry_at, place_within, map_some, some_map}
 use Rattle.trail.proofs.trail.Trail.level_of.Goals as goal

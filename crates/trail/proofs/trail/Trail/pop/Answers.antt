@@ -1,7 +1,8 @@
-use Rattle.std.proofs.Common.{◌≡◌, suc, ◌-◌, ◌<◌, ◌≤◌, length, set, get_or, None, vec_capacity, sym, ◌∙◌, arith}
-use Rattle.trail.specs.Table.{IsTable, IsTallied}
+use Rattle.std.proofs.Common.{◌≡◌, suc, ◌-◌, ◌<◌, ◌≤◌, length, set, get_or, false, None, vec_capacity, sym, ◌∙◌, arith}
+use Rattle.std.proofs.lemmas.List.{length-set}
+use Rattle.trail.specs.Table.{HavePlaces, IsTable, IsTallied}
 use Rattle.trail.proofs.Tables.{table_popped}
-use Rattle.trail.proofs.Tallies.{tallied_less}
+use Rattle.trail.proofs.Tallies.{places_same, tallied_less}
 use Rattle.trail.proofs.trail.Trail.pop.Goals as goal
 
 next : (c : goal.After-index) → c.in-Some.entry.lit.variable ≡ suc c.index.result
@@ -19,5 +20,12 @@ tallied c = tallied_less c.self.inside.entries.items c.pop.new.self.items c.in-S
 pub count_down-requires : goal.count_down-requires
 count_down-requires c = (tallied c.before.before.before).0
 
+places : (c : goal.After-index) → HavePlaces (length (set c.self.inside.spots.items c.index.result None)) (set c.self.inside.tallies.items c.in-Some.entry.scope (get_or c.self.inside.tallies.items c.in-Some.entry.scope 0 - 1)) (set c.self.inside.finished c.in-Some.entry.scope false)
+places c =
+    places_same (length c.self.inside.spots.items) (length (set c.self.inside.spots.items c.index.result None)) c.self.inside.tallies.items (set c.self.inside.tallies.items c.in-Some.entry.scope (get_or c.self.inside.tallies.items c.in-Some.entry.scope 0 - 1)) c.self.inside.finished (set c.self.inside.finished c.in-Some.entry.scope false)
+    (length-set c.self.inside.spots.items c.index.result None) (length-set c.self.inside.tallies.items c.in-Some.entry.scope (get_or c.self.inside.tallies.items c.in-Some.entry.scope 0 - 1)) (length-set c.self.inside.finished c.in-Some.entry.scope false) c.self.invariant.2
+
 pub invariant_of-self : goal.invariant_of-self
-invariant_of-self c = ((less c.before.before.before.before.before).1, rw c.count_down.ensures (tallied c.before.before.before.before.before).1)
+invariant_of-self c =
+    let b = c.before.before.before.before.before.before.before in
+    ((less b).1, rw c.count_down.ensures (tallied b).1, rw (c.count_down.ensures, c.take_out.ensures) (places b))

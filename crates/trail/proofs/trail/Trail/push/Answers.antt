@@ -1,15 +1,15 @@
-use Rattle.std.proofs.Common.{false, ◌≡◌, suc, ◌+◌, ◌<◌, ◌≤◌, ◌++◌, ◌∷◌, [], length, set, get_or, Some, None, vec_capacity, is_ok, sym, ap, ◌∙◌, arith}
+use Rattle.std.proofs.Common.{false, ◌≡◌, suc, ◌+◌, ◌<◌, ◌≤◌, ◌++◌, ◌∷◌, [], length, set, get_or, Some, None, vec_capacity, is_ok, refl, sym, ap, ◌∙◌, arith}
 use Rattle.std.proofs.lemmas.Bool.{cond-true}
 use Rattle.std.proofs.lemmas.List.{length-map, length-set, map-append}
 use Rattle.calculus.specs.Search.{last_level, level_after, value_on}
-use Rattle.trail.specs.declared.trail.Entry.{Entry}
-use Rattle.trail.specs.declared.trail.Spot.{Spot}
+use Rattle.trail.specs.declared.entry.Entry.{Entry}
+use Rattle.trail.specs.declared.entry.Spot.{Spot}
 use Rattle.trail.specs.declared.allowed.Allowed.TheVariants.{Anything}
 use Rattle.trail.specs.State.{TrailState}
-use Rattle.trail.specs.Table.{IsTable, IsTallied, depths_of, marks_of, floor_after, floor_from, placed_of, trail_of, spot_at}
+use Rattle.trail.specs.Table.{HavePlaces, IsTable, IsTallied, depths_of, marks_of, floor_after, floor_from, placed_of, trail_of, spot_at}
 use Rattle.trail.proofs.Placing.{spot_none}
 use Rattle.trail.proofs.Tables.{level_few, room_left, table_pushed}
-use Rattle.trail.proofs.Tallies.{count_few, tallied_more}
+use Rattle.trail.proofs.Tallies.{count_few, places_same, tallied_more}
 use Rattle.trail.proofs.trail.Trail.push.Goals as goal
 
 pub level_after-requires : goal.level_after-requires
@@ -39,7 +39,7 @@ index_mut-requires c = rw c.self.inside.spots.ok.0 (within c)
 
 pub count_up-requires : goal.count_up-requires
 count_up-requires c =
-    let few = count_few c.self.inside.entries.items c.self.inside.tallies.items c.args.scope c.self.invariant.1 in
+    let few = count_few c.self.inside.entries.items c.self.inside.tallies.items c.args.scope c.self.invariant.1.tallied in
     let fits = c.self.inside.entries.ok in
     let small = c.self.inside.entries.small in
     omega arith
@@ -73,8 +73,16 @@ tallied c =
     let floor : c.floor_after.result ≡ floor_after (floor_from 1 items) (entry c) = c.floor_after.ensures ∙ ap (λ n. floor_after n (entry c)) (c.last_floor.ensures ∙ ap (floor_from 1) c.deref.ensures.value) in
     tallied_more c.push.new.self.items items (entry c) c.self.inside.tallies.items (grown c) c.self.invariant.1 floor
 
+places : (c : goal.After-index) → HavePlaces (length (set c.self.inside.spots.items c.index.result (Some (record { value = c.is_positive.result; place = c.len-place.result })))) (set c.self.inside.tallies.items c.args.scope (get_or c.self.inside.tallies.items c.args.scope 0 + 1)) c.self.inside.finished
+places c =
+    let spot : Spot = record { value = c.is_positive.result; place = c.len-place.result } in
+    places_same (length c.self.inside.spots.items) (length (set c.self.inside.spots.items c.index.result (Some spot))) c.self.inside.tallies.items (set c.self.inside.tallies.items c.args.scope (get_or c.self.inside.tallies.items c.args.scope 0 + 1)) c.self.inside.finished c.self.inside.finished
+    (length-set c.self.inside.spots.items c.index.result (Some spot)) (length-set c.self.inside.tallies.items c.args.scope (get_or c.self.inside.tallies.items c.args.scope 0 + 1)) refl c.self.invariant.2
+
 pub invariant_of-self : goal.invariant_of-self
-invariant_of-self c = (table c.before.before.before.before.before.before.before, rw c.count_up.ensures (tallied c.before.before.before.before.before.before.before))
+invariant_of-self c =
+    let b = c.before.before.before.before.before.before.before in
+    (table b, rw c.count_up.ensures (tallied b), rw c.count_up.ensures (places b))
 
 pub returns : goal.returns
 returns c =
@@ -85,4 +93,4 @@ returns c =
     let depths : depths_of c.push.new.self.items ≡ depths_of items ++ (c.args.scope + 1) ∷ [] = ap depths_of (grown b) ∙ map-append (λ (e : Entry). e.scope + 1) items (entry b ∷ []) in
     let marks : marks_of c.push.new.self.items ≡ marks_of items ++ false ∷ [] = ap marks_of (grown b) ∙ map-append (λ (e : Entry). e.clean) items (entry b ∷ []) in
     let room : length (set c.self.inside.spots.items c.index.result (Some spot)) ≡ length c.self.inside.spots.items = length-set c.self.inside.spots.items c.index.result (Some spot) in
-    rw (← c.self.view_is) (λ i. record { placed = placed i; depths = depths i; marks = marks i; assigned = c.saturating_add-self-inside.ensures i; room = room i; allowed = Anything })
+    rw (← c.self.view_is) (λ i. record { placed = placed i; depths = depths i; marks = marks i; finished = c.self.inside.finished; assigned = c.saturating_add-self-inside.ensures i; room = room i; allowed = Anything })

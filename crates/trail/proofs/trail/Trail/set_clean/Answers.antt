@@ -1,7 +1,7 @@
 use Rattle.std.proofs.Common.{◌≡◌, Bool, subst, ap₂, ℕ, ◌∙◌, List, true, sym, ap, set, get_or, length, vec_capacity, None}
 use Rattle.std.proofs.lemmas.List.{length-set}
 use Rattle.calculus.specs.Search.{cause_on, place_on, value_on, Trail}
-use Rattle.trail.specs.declared.trail.Entry.{Entry}
+use Rattle.trail.specs.declared.entry.Entry.{Entry}
 use Rattle.trail.specs.State.{TrailState, IsTrailFor, with_clean, with_reason}
 use Rattle.trail.specs.Table.{depths_of, marks_of, trail_of}
 use Rattle.trail.proofs.Tables.{cause_none, map_some, none_map}
@@ -36,23 +36,25 @@ marked c =
 pub invariant_of-self : goal.invariant_of-self
 invariant_of-self c =
     let items = c.self.inside.entries.items in
-    table_marked items (entries c) c.self.inside.spots.items c.self.inside.tallies.items (vec_capacity c.self.inside.entries) c.args.v c.args.reason c.in-Some.place c.requires.propagated.0
+    let both = table_marked items (entries c) c.self.inside.spots.items c.self.inside.tallies.items (vec_capacity c.self.inside.entries) c.args.v c.args.reason c.in-Some.place c.requires.propagated.0
     (ap (λ (t : Trail). cause_on t c.args.v) (same c) ∙ c.requires.propagated.1)
     (length-set items c.in-Some.place (cleaned c.index_mut-entry.result.now c.args.reason))
     (marked c)
-    c.self.invariant
+    (c.self.invariant.0, c.self.invariant.1) in
+    (both.0, both.1, c.self.invariant.2)
 
-is_value : (c : goal.After-self-1) → record { placed = trail_of (entries c); depths = depths_of (entries c); marks = marks_of (entries c); assigned = c.self.inside.assigned; room = length c.self.inside.spots.items; allowed = c.self.inside.allowed } ≡ with_clean c.args.self.now c.args.v c.args.reason
+is_value : (c : goal.After-self-1) → record { placed = trail_of (entries c); depths = depths_of (entries c); marks = marks_of (entries c); finished = c.self.inside.finished; assigned = c.self.inside.assigned; room = length c.self.inside.spots.items; allowed = c.self.inside.allowed } ≡ with_clean c.args.self.now c.args.v c.args.reason
 is_value c =
     let t = c.args.self.now in
     let is = marked c in
     let placed : trail_of (entries c) ≡ with_reason t.placed c.args.v c.args.reason = is.trail ∙ ap (λ (r : Trail). with_reason r c.args.v c.args.reason) (same c) in
     let depths : depths_of (entries c) ≡ t.depths = is.depths ∙ ap (λ (s : TrailState). s.depths) c.self.view_is in
     let marks : marks_of (entries c) ≡ set t.marks (place_on t.placed c.args.v) true = is.marks ∙ ap₂ (λ (bs : List Bool) (n : ℕ). set bs n true) (ap (λ (s : TrailState). s.marks) c.self.view_is) (place c) in
+    let finished : c.self.inside.finished ≡ t.finished = ap (λ (s : TrailState). s.finished) c.self.view_is in
     let assigned : c.self.inside.assigned ≡ t.assigned = ap (λ (s : TrailState). s.assigned) c.self.view_is in
     let room : length c.self.inside.spots.items ≡ t.room = ap (λ (s : TrailState). s.room) c.self.view_is in
     let allowed : c.self.inside.allowed ≡ t.allowed = ap (λ (s : TrailState). s.allowed) c.self.view_is in
-    λ i. record { placed = placed i; depths = depths i; marks = marks i; assigned = assigned i; room = room i; allowed = allowed i }
+    λ i. record { placed = placed i; depths = depths i; marks = marks i; finished = finished i; assigned = assigned i; room = room i; allowed = allowed i }
 
 pub returns-in-Some-clause-value : goal.returns-in-Some-clause-value
 returns-in-Some-clause-value c = is_value c

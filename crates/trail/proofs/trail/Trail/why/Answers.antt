@@ -1,7 +1,7 @@
 use Rattle.std.proofs.Common.{◌≡◌, ◌∙◌, sym, ap, true, is_some, get_or, Some}
 use Rattle.std.specs.Option.{option_map}
 use Rattle.calculus.specs.Search.{place_on, value_on, cause_on, Trail}
-use Rattle.trail.specs.declared.trail.Entry.{Entry}
+use Rattle.trail.specs.declared.entry.Entry.{Entry}
 use Rattle.trail.specs.Causes.{cause_of}
 use Rattle.trail.specs.State.{TrailState}
 use Rattle.trail.specs.Table.{trail_of}
