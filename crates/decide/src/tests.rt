@@ -64,6 +64,26 @@ fn decide_four(
     Ok([first, second, third, fourth])
 }
 
+// Decides four times, and undoes it all: who was assigned waits then.
+fn decide_and_undo(
+    decider: &mut Decider,
+    trail: &mut Trail,
+    prefix: &Prefix,
+    turned: bool,
+    steps: &mut Steps,
+) -> Result<[i32; 4], Fail>
+    requires kept { IsTrailFor prefix.now trail.old }
+    requires allowed { trail.old.allowed ≡ Anything }
+    ensures kept { IsTrailFor prefix.now trail.new }
+    ensures ok { OnOk result (trail.new.allowed ≡ Anything) }
+{
+    let numbers = decide_four(decider, trail, prefix, turned, steps)?;
+    decider.undoing(trail, prefix, 0);
+    trail.clear();
+    Ok(numbers)
+}
+
+// Without a bump variable 2 comes first here; so each test of a bump bumps variable 1.
 #[test]
 fn decisions_go_from_scope_to_scope(rt: HostRuntime) -> Result<(), Fail> {
     let prefix = two_scopes(rt.alloc())?;
@@ -71,13 +91,77 @@ fn decisions_go_from_scope_to_scope(rt: HostRuntime) -> Result<(), Fail> {
     let mut trail = Trail::new(rt.alloc());
     let mut decider = Decider::new(rt.alloc());
     decider.reserve(3)?;
-    decider.bump(Var::new(2).ok_or("range")?);
-    let numbers = decide_four(&mut decider, &mut trail, &prefix, true, &mut steps)?;
-    assert_eq!(rt; numbers, [-2, 1, 3, 0]);
+    let first = decide_and_undo(&mut decider, &mut trail, &prefix, true, &mut steps)?;
+    let then = decide_four(&mut decider, &mut trail, &prefix, false, &mut steps)?;
+    assert_eq!(rt;
+        (first, then),
+        ([-2, 1, 3, 0], [-2, 1, 3, 0]),
+        "with the saved signs"
+    );
+    Ok(())
+}
+
+// Of a variable that nobody put in before: it comes in with its scope.
+#[test]
+fn a_bump_counts_for_who_comes_in_with_the_scope(rt: HostRuntime) -> Result<(), Fail> {
+    let prefix = two_scopes(rt.alloc())?;
+    let mut steps = Steps::new(100);
+    let mut trail = Trail::new(rt.alloc());
+    let mut decider = Decider::new(rt.alloc());
+    decider.reserve(3)?;
+    decider.bump(Var::new(1).ok_or("range")?);
+    let numbers = decide_four(&mut decider, &mut trail, &prefix, false, &mut steps)?;
+    assert_eq!(rt; numbers, [-1, -2, 3, 0]);
+    Ok(())
+}
+
+#[test]
+fn a_bump_counts_for_who_is_undone_later(rt: HostRuntime) -> Result<(), Fail> {
+    let prefix = two_scopes(rt.alloc())?;
+    let mut steps = Steps::new(100);
+    let mut trail = Trail::new(rt.alloc());
+    let mut decider = Decider::new(rt.alloc());
+    decider.reserve(3)?;
+    decide_four(&mut decider, &mut trail, &prefix, false, &mut steps)?;
+    decider.bump(Var::new(1).ok_or("range")?);
     decider.undoing(&trail, &prefix, 0);
     trail.clear();
     let numbers = decide_four(&mut decider, &mut trail, &prefix, false, &mut steps)?;
-    assert_eq!(rt; numbers, [-2, 1, 3, 0], "with the saved signs");
+    assert_eq!(rt; numbers, [-1, -2, 3, 0]);
+    Ok(())
+}
+
+#[test]
+fn a_bump_counts_for_who_waits_already(rt: HostRuntime) -> Result<(), Fail> {
+    let prefix = two_scopes(rt.alloc())?;
+    let mut steps = Steps::new(100);
+    let mut trail = Trail::new(rt.alloc());
+    let mut decider = Decider::new(rt.alloc());
+    decider.reserve(3)?;
+    decide_and_undo(&mut decider, &mut trail, &prefix, false, &mut steps)?;
+    decider.bump(Var::new(1).ok_or("range")?);
+    let numbers = decide_four(&mut decider, &mut trail, &prefix, false, &mut steps)?;
+    assert_eq!(rt; numbers, [-1, -2, 3, 0]);
+    Ok(())
+}
+
+#[test]
+fn later_bumps_count_more(rt: HostRuntime) -> Result<(), Fail> {
+    let prefix = two_scopes(rt.alloc())?;
+    let mut steps = Steps::new(100);
+    let mut trail = Trail::new(rt.alloc());
+    let mut decider = Decider::new(rt.alloc());
+    decider.reserve(3)?;
+    decide_and_undo(&mut decider, &mut trail, &prefix, false, &mut steps)?;
+    for _ in 0..3 {
+        decider.bump(Var::new(2).ok_or("range")?);
+    }
+    for _ in 0..1000 {
+        decider.decay();
+    }
+    decider.bump(Var::new(1).ok_or("range")?);
+    let numbers = decide_four(&mut decider, &mut trail, &prefix, false, &mut steps)?;
+    assert_eq!(rt; numbers, [-1, -2, 3, 0]);
     Ok(())
 }
 
@@ -87,22 +171,14 @@ fn what_was_not_told_is_found_all_the_same(rt: HostRuntime) -> Result<(), Fail> 
     let mut steps = Steps::new(100);
     let mut trail = Trail::new(rt.alloc());
     let mut decider = Decider::new(rt.alloc());
-    let numbers = decide_four(&mut decider, &mut trail, &prefix, true, &mut steps)?;
-    assert_eq!(rt;
-        (numbers[2], numbers[3], trail.len()),
-        (3, 0, 3),
-        "without room"
-    );
+    let first = decide_four(&mut decider, &mut trail, &prefix, true, &mut steps)?;
     trail.clear();
     decider.reserve(3)?;
-    let numbers = decide_four(&mut decider, &mut trail, &prefix, false, &mut steps)?;
+    let then = decide_four(&mut decider, &mut trail, &prefix, false, &mut steps)?;
     assert_eq!(rt;
-        (numbers[2], numbers[3], trail.len()),
-        (3, 0, 3),
-        "with room"
+        (first[2], first[3], then[2], then[3]),
+        (3, 0, 3, 0),
+        "without room, and with room"
     );
-    trail.clear();
-    let numbers = decide_four(&mut decider, &mut trail, &prefix, false, &mut steps)?;
-    assert_eq!(rt; (numbers[2], numbers[3], trail.len()), (3, 0, 3), "again");
     Ok(())
 }

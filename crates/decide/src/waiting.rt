@@ -153,12 +153,7 @@ fn new_tree(alloc: Global, places: usize) -> Result<Vec<Option<Waiting>>, AllocE
 }
 
 // Writes what waits at a place, and what comes first above it.
-fn write_up(
-    nodes: &mut Vec<Option<Waiting>>,
-    places: usize,
-    place: usize,
-    waiting: Option<Waiting>,
-)
+fn write_up(nodes: &mut Vec<Option<Waiting>>, places: usize, place: usize, waiting: Option<Waiting>)
     requires size { length nodes.old.items ≡ 2 * places }
     requires within { place < places }
     ensures { length nodes.new.items ≡ length nodes.old.items }
