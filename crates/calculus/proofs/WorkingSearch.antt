@@ -1,4 +1,4 @@
--- The worked rows of the search, literal by literal, for either side.
+-- The worked values of the search, literal by literal, for either side.
 use Rattle.std.proofs.Common.{◌≡◌, ℕ, ◌<◌, ◌⊎◌, true, false, not, [], ◌∷◌, Contains, Option, Some, None, is_some, refl, sym, subst, inl, inr, ⊎_elim, arith, ap, ◌∙◌, is_none}
 use Rattle.std.specs.Prelude.{IsTrue, IsFalse}
 use Rattle.std.proofs.lemmas.Bool.{true≢false, false≢true}

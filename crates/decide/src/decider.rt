@@ -14,12 +14,12 @@ use std::marker::Model;
 use steps::NoMemory;
 use trail::Trail;
 
-/// Chooses decisions. Contracts see it as the list of the signs that the variables had last, for as many variables as there
-/// is room for.
+/// Chooses decisions. Contracts see it as the list of the signs that the variables had last, for as many variables as
+/// there is room for.
 ///
 /// A decision is over a variable of the first scope that isn't all assigned, one of the greatest priority as far as
-/// `undoing` told which variables come back. A call takes the logarithm of the room for each variable that was assigned or
-/// told since; where a variable of the scope wasn't told, it looks at all variables of the scope once.
+/// `undoing` told which variables come back. A call takes the logarithm of the room for each variable that was
+/// assigned or told since; where a variable of the scope wasn't told, it looks at all variables of the scope once.
 #[derive(Debug, Drop)]
 pub struct Decider {
     // The sign that each variable had last, at its number less 1.
@@ -50,8 +50,8 @@ impl Decider {
         }
     }
 
-    /// Makes room for the variables of numbers up to `vars` at least. It only grows: the signs stay, and what is new has
-    /// none. With no memory the decider stays as it was.
+    /// Makes room for the variables of numbers up to `vars` at least. It only grows: the signs stay, and what is new
+    /// has none. With no memory the decider stays as it was.
     pub fn reserve(&mut self, vars: usize) -> Result<(), NoMemory>
         ensures ok { OnOk result (vars ≤ length self.new) }
         ensures grown { (more : ℕ) × (self.new ≡ self.old ++ replicate more None) }
@@ -74,16 +74,16 @@ impl Decider {
         self.waiting.bump(v.index());
     }
 
-    /// Lets later calls of `bump` count more: each call by a sixteenth. This takes no memory; one call in several hundred
-    /// looks at all variables.
+    /// Lets later calls of `bump` count more: each call by a sixteenth. This takes no memory; one call in several
+    /// hundred looks at all variables.
     pub fn decay(&mut self)
         ensures { self.new ≡ self.old }
     {
         self.waiting.decay();
     }
 
-    /// Tells that the literals from place `keep` on are about to be undone: their variables come back, each with the sign
-    /// that it had. To be told serves the choice and its speed alone. This takes no memory.
+    /// Tells that the literals from place `keep` on are about to be undone: their variables come back, each with the
+    /// sign that it had. To be told serves the choice and its speed alone. This takes no memory.
     pub fn undoing(&mut self, trail: &Trail, prefix: &Prefix, keep: usize)
         ensures { self.new ≡ saved (drop keep (literals_on trail.now.placed)) self.old }
     {
@@ -92,9 +92,9 @@ impl Decider {
         }
     }
 
-    /// The next decision: none exactly where every variable is assigned; else a literal over an unassigned variable of the
-    /// first scope that has one, with the sign that the variable had last, or at first false for an existential and true
-    /// for a universal one. The prefix is that of the trail's calls. This takes no memory.
+    /// The next decision: none exactly where every variable is assigned; else a literal over an unassigned variable
+    /// of the first scope that has one, with the sign that the variable had last, or at first false for an
+    /// existential and true for a universal one. The prefix is that of the trail's calls. This takes no memory.
     pub fn next_decision(&mut self, trail: &Trail, prefix: &Prefix) -> Option<Lit>
         requires { IsTrailFor prefix.now trail.now }
         ensures none { IsNone result ↔ AreAssigned prefix.now trail.now.placed }
@@ -124,7 +124,8 @@ impl Decider {
         }
     }
 
-    // The variable that comes first of those that wait, where it is unassigned and of this scope. What waits before it goes.
+    // The variable that comes first of those that wait, where it is unassigned and of this scope. What waits before
+    // it goes.
     fn first_waiting(&mut self, trail: &Trail, prefix: &Prefix, scope: usize) -> Option<Var>
         ensures some { IfSome result (IsOpenIn prefix.now trail.now.placed scope) }
         ensures phases { self.new ≡ self.old }

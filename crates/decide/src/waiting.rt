@@ -28,8 +28,8 @@ impl Waiting {
 // The variables that wait, at most one at each place, and the priority of each place. Contracts see it as the number of
 // places.
 //
-// The nodes are a tree: the children of node i are nodes 2 i and 2 i + 1, the places are the last half of the nodes, and
-// node 1 has what comes first of all.
+// The nodes are a tree: the children of node i are nodes 2 i and 2 i + 1, the places are the last half of the nodes,
+// and node 1 has what comes first of all.
 #[derive(Debug, Drop)]
 pub(crate) struct WaitingList {
     nodes: Vec<Option<Waiting>>,
@@ -59,7 +59,8 @@ impl WaitingList {
         }
     }
 
-    // Makes as many places, each new one of the least priority; no one waits then. It never has fewer places than before.
+    // Makes as many places, each new one of the least priority; no one waits then. It never has fewer places than
+    // before.
     pub(crate) fn reserve(&mut self, places: usize) -> Result<(), AllocError>
         ensures ok { OnOk result (places ≤ self.new) }
         ensures grown { self.old ≤ self.new }

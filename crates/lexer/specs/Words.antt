@@ -89,8 +89,8 @@ is_digit b = nat_le 48 b && nat_le b 57
 abbrev pub are_digits : List ℕ → Bool
 are_digits bs = nat_lt 0 (length bs) && list_all is_digit bs
 
--- Decimal digits are a number (QDIMACS 1.1, input format), and so are a minus and digits whose value isn't 0: whether it
--- is positive, and its magnitude.
+-- Decimal digits are a number (QDIMACS 1.1, input format), and so are a minus and digits whose value isn't 0: whether
+-- it is positive, and its magnitude.
 abbrev pub number_of : List ℕ → Option (Bool × ℕ)
 number_of [] = None
 number_of (b ∷ bs) =

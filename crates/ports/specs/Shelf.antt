@@ -23,7 +23,7 @@ abbrev pub HasRoom : Shelf → ℕ → Type 0
 HasRoom sink n = (sink.calls.failing ≡ []) × (length sink.bytes + n ≤ sink.room)
 
 -- the bytes fit the room, the room was taken, a write takes some, and those flushed are a front of the bytes
-pub record IsKept (len capacity room greatest flushed : ℕ) : Type 0 where
+pub record IsStored (len capacity room greatest flushed : ℕ) : Type 0 where
   pub fits : len ≤ room
   pub taken : room ≤ capacity
   pub some : 0 < greatest

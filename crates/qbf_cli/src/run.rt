@@ -17,9 +17,9 @@ use std::alloc::Global;
 /// `out`. What else happens is said on `err`.
 ///
 /// Answers the exit status: 10 for a true formula, 20 for a false one, and 0 where the budget was spent; 2 where the
-/// input is malformed and 6 where it goes beyond a limit, each with its line; 3 for a read fault; 4 for a write fault of
-/// `out`; 5 for want of memory, which may come at any time; 7 for other words. The first of these events decides. A
-/// failing `err` changes none.
+/// input is malformed and 6 where it goes beyond a limit, each with its line; 3 for a read fault; 4 for a write fault
+/// of `out`; 5 for want of memory, which may come at any time; 7 for other words. The first of these events decides.
+/// A failing `err` changes none.
 pub fn run<D: Desk, O: Sink, E: Sink>(
     alloc: Global,
     words: &[String],

@@ -1,5 +1,6 @@
 -- The rules of the text: what may follow what has been read, and what refuses each other word. The grammar is that of
--- QDIMACS 1.1, input format (preamble, prefix, matrix); the limits, the numbers of the refusals and their order are own.
+-- QDIMACS 1.1, input format (preamble, prefix, matrix); the limits, the numbers of the refusals and their order are
+-- own.
 use Rattle.std.specs.Prelude.{ℕ, suc, zero, ◌^◌, ℤ, pos, negsuc, nat_abs, Bool, true, false, not, ◌&&◌, ◌==◌, nat_lt, nat_le, if◌then◌else◌, List, [], ◌∷◌, ◌++◌, length, codes, Option, Some, None}
 use Rattle.std.specs.Str.{bytes_eq}
 use Rattle.lexer.specs.declared.token.Word.{Word}

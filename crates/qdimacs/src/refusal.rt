@@ -46,10 +46,11 @@ pub(crate) const BAD_WORD: u8 = 18;
 /// Why a text is no formula. Lines are numbered from 1; that of the end is 1 plus the number of all line ends.
 #[derive(Clone, Copy, Debug, PartialEq, Eq, Error)]
 pub enum ReadRefusal {
-    /// The text is refused, at the word, the header or the end on this line: 7 is a byte of a word that is none of 33 to
-    /// 126, 8 a number whose magnitude is above 2^63 - 1, 10 no header, 11 a malformed header, 12 a variable that
-    /// isn't declared, 13 a variable that stands in a set already, 14 a set behind a clause, 15 a set or clause without
-    /// its 0, 16 fewer clauses than declared, 17 more clauses than declared, 18 a word that doesn't belong there.
+    /// The text is refused, at the word, the header or the end on this line: 7 is a byte of a word that is none of 33
+    /// to 126, 8 a number whose magnitude is above 2^63 - 1, 10 no header, 11 a malformed header, 12 a variable that
+    /// isn't declared, 13 a variable that stands in a set already, 14 a set behind a clause, 15 a set or clause
+    /// without its 0, 16 fewer clauses than declared, 17 more clauses than declared, 18 a word that doesn't belong
+    /// there.
     #[error("line {line}: refused with number {number}")]
     Refused { number: u8, line: u32 },
     /// The text goes beyond a limit on this line.

@@ -197,8 +197,11 @@ spot_same trail other y same =
 once_same : (trail other : Trail) → literals_on other ≡ literals_on trail → ((i : ℕ) (p : Placed) → slice_get trail i ≡ Some p → place_on trail p.literal.variable ≡ i) → (i : ℕ) (p : Placed) → slice_get other i ≡ Some p → place_on other p.literal.variable ≡ i
 once_same trail other same once i p at =
     let found = read trail other same i p at in
-    places_same other trail p.literal.variable same ∙ subst (λ (l : Literal). place_on trail l.variable ≡ i) found.2 (once i found.0 found.1)
+    places_same other trail p.literal.variable same ∙ moved found.0.literal p.literal found.2 (once i found.0 found.1)
   where
+    moved : (l m : Literal) → l ≡ m → place_on trail l.variable ≡ i → place_on trail m.variable ≡ i
+    moved l m e h = subst (λ (k : Literal). place_on trail k.variable ≡ i) e h
+
     read : (trail other : Trail) → literals_on other ≡ literals_on trail → (i : ℕ) (p : Placed) → slice_get other i ≡ Some p → (q : Placed) × (slice_get trail i ≡ Some q) × (q.literal ≡ p.literal)
     read trail [] same i p at = absurd (let g : None ≡ Some p = at in cc)
     read [] (r ∷ other) same i p at = absurd (let e : length (literals_on (r ∷ other)) ≡ length (literals_on []) = ap length same in let n : length {A = Literal} [] ≡ 0 = refl in let m : length (literals_on (r ∷ other)) ≡ suc (length (literals_on other)) = refl in omega arith)

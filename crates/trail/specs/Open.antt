@@ -31,16 +31,21 @@ pub record IsFirstOpen (scopes : List Scope) (trail : Trail) (scope : ℕ) : Typ
 -- every variable of the scopes in a set is assigned
 abbrev pub AreFinished : List Scope → Trail → List Bool → Type 0
 AreFinished scopes trail finished =
-    (x i : ℕ) → Contains (all_variables scopes) x → depth_of scopes x ≡ suc i → is_in finished i ≡ true → IsTrue (is_assigned trail x)
+    (x i : ℕ) → Contains (all_variables scopes) x → depth_of scopes x ≡ suc i → is_in finished i ≡ true
+    → IsTrue (is_assigned trail x)
 
 -- whether the scope of this number has as many assigned variables as it has variables
 abbrev pub is_finished : List Scope → Trail → ℕ → Bool
-is_finished scopes trail scope = count_by (is_assigned trail) (variables_at scopes scope) == length (variables_at scopes scope)
+is_finished scopes trail scope =
+    count_by (is_assigned trail) (variables_at scopes scope) == length (variables_at scopes scope)
 
--- the scopes known to be all assigned, once a literal of the scope of this number is: that scope too where it is full, and where the literal is a decision each earlier one
+-- the scopes known to be all assigned, once a literal of the scope of this number is: that scope too where it is
+-- full, and where the literal is a decision each earlier one
 abbrev pub finished_with : Bool → Bool → ℕ → List Bool → List Bool
 finished_with is_full is_decided depth finished =
-    if is_decided then with_before (depth - 1) (with_place_if is_full (depth - 1) finished) else with_place_if is_full (depth - 1) finished
+    if is_decided
+    then with_before (depth - 1) (with_place_if is_full (depth - 1) finished)
+    else with_place_if is_full (depth - 1) finished
 
 -- a trail with one more literal
 abbrev pub placed_with : Trail → Literal → Cause → Trail
@@ -56,7 +61,8 @@ finished_after scopes trail literal cause finished =
 abbrev pub finished_assumed : List Scope → Trail → List Literal → List Bool → List Bool
 finished_assumed scopes earlier [] finished = finished
 finished_assumed scopes earlier (literal ∷ literals) finished =
-    finished_assumed scopes (placed_with earlier literal Assumed) literals (finished_after scopes earlier literal Assumed finished)
+    finished_assumed scopes (placed_with earlier literal Assumed) literals
+    (finished_after scopes earlier literal Assumed finished)
 
 -- the same, once literals of the scopes of these numbers are undone
 abbrev pub finished_without : List ℕ → List Bool → List Bool

@@ -12,7 +12,10 @@ use Rattle.calculus.specs.Weights.{trail_weight}
 use Rattle.trail.specs.Open.{AreFinished, finished_assumed, finished_with, finished_without, is_finished, placed_with}
 use Rattle.trail.specs.Finished.{emptied}
 
--- the assigned literals with their causes, oldest first; the number of each one's scope, by the prefix of its assignment, and whether its reason is marked as clean; the scopes that are known to be all assigned, by their numbers less 1; how many were assigned since the last clear or stop, undone ones too; the greatest number of a variable that there is room for; and what may be assigned next
+-- the assigned literals with their causes, oldest first; the number of each one's scope, by the prefix of its
+-- assignment, and whether its reason is marked as clean; the scopes that are known to be all assigned, by their
+-- numbers less 1; how many were assigned since the last clear or stop, undone ones too; the greatest number of a
+-- variable that there is room for; and what may be assigned next
 pub record TrailState : Type 0 where
   pub placed : Trail
   pub depths : List ℕ
@@ -39,7 +42,8 @@ abbrev pub counted : ℕ → ℕ → ℕ
 counted assigned zero = assigned
 counted assigned (suc more) = min (assigned + suc more) (2 ^ 64 - 1)
 
--- a literal of this cause may be assigned: no decision comes first after a cut, and nothing after assumptions were given up
+-- a literal of this cause may be assigned: no decision comes first after a cut, and nothing after assumptions were
+-- given up
 abbrev pub MayFollow : Allowed → Cause → Type 0
 MayFollow Anything cause = ⊤
 MayFollow NoDecision cause = IsFalse (is_decision cause)
@@ -140,7 +144,9 @@ without_last t = with_front (take (length t.placed - 1) t.placed) (length t.plac
 -- a trail that is cut to a decision level; where that takes literals off no decision comes next
 abbrev pub undone_to : ℕ → TrailState → TrailState
 undone_to level t =
-    if nat_le (last_level t.placed) level then t else with_front (cut_trail level t.placed) (length (cut_trail level t.placed)) t
+    if nat_le (last_level t.placed) level
+    then t
+    else with_front (cut_trail level t.placed) (length (cut_trail level t.placed)) t
 
 -- an empty trail, with the count begun anew
 abbrev pub cleared : TrailState → TrailState
@@ -166,7 +172,9 @@ IsPropagated trail x = (id : ℕ) × (cause_on trail x ≡ Some (Propagated id))
 abbrev pub with_reason : Trail → ℕ → ℕ → Trail
 with_reason [] x id = []
 with_reason (p ∷ rest) x id =
-    if p.literal.variable == x then record { literal = p.literal; cause = Propagated id } ∷ rest else p ∷ with_reason rest x id
+    if p.literal.variable == x
+    then record { literal = p.literal; cause = Propagated id } ∷ rest
+    else p ∷ with_reason rest x id
 
 -- that step as the reason of a variable, and its mark; nothing else changes
 abbrev pub with_clean : TrailState → ℕ → ℕ → TrailState
@@ -185,14 +193,18 @@ pub record HasRoom (t : TrailState) : Type 0 where
   pub count : length t.placed ≤ t.room
   pub variables : All (λ (p : Placed). p.literal.variable ≤ t.room) t.placed
 
--- the count of assignments, after this number of restarts, is at most the weight of the trail on top of the greatest weight of each round before; after a cut it is below the weight that any assignment but a decision gives; once assumptions were given up the trail is empty, and the count below the limit
+-- the count of assignments, after this number of restarts, is at most the weight of the trail on top of the greatest
+-- weight of each round before; after a cut it is below the weight that any assignment but a decision gives; once
+-- assumptions were given up the trail is empty, and the count below the limit
 abbrev pub IsWeighed : ℕ → ℕ → Allowed → Trail → ℕ → Type 0
 IsWeighed n restarts Anything trail assigned = assigned ≤ restarts * 2 ^ (n + 1) + trail_weight n (decisions_on trail)
 IsWeighed n restarts NoDecision trail assigned =
     (length trail < n) × (assigned < restarts * 2 ^ (n + 1) + trail_weight n (decisions_on trail ++ false ∷ []))
 IsWeighed n restarts Nothing trail assigned = (trail ≡ []) × (assigned + 1 < assignment_limit restarts n)
 
--- what a trail keeps for the prefix that its calls were given since the last clear or stop: its order, the scopes' numbers, a mark for each literal, that the scopes known to be all assigned are, and that each assignment raised the weight; so far no call restarts a search
+-- what a trail keeps for the prefix that its calls were given since the last clear or stop: its order, the scopes'
+-- numbers, a mark for each literal, that the scopes known to be all assigned are, and that each assignment raised the
+-- weight; so far no call restarts a search
 pub record IsTrailFor (scopes : List Scope) (t : TrailState) : Type 0 where
   pub ordered : IsOrderedTrail scopes t.placed
   pub numbered : t.depths ≡ map (λ (p : Placed). depth_of scopes p.literal.variable) t.placed
@@ -200,11 +212,16 @@ pub record IsTrailFor (scopes : List Scope) (t : TrailState) : Type 0 where
   pub all_assigned : AreFinished scopes t.placed t.finished
   pub weighed : IsWeighed (length (all_variables scopes)) 0 t.allowed t.placed t.assigned
 
+-- fewer literals were assigned than the limit for the prefix, and 2 more
+abbrev pub IsFew : List Scope → TrailState → Type 0
+IsFew scopes t = t.assigned + 1 < assignment_limit 0 (length (all_variables scopes))
+
 -- a trail outweighs another one, whatever the number of variables
 abbrev pub Outweighs : Trail → Trail → Type 0
 Outweighs more less = (n : ℕ) → trail_weight n (decisions_on less) < trail_weight n (decisions_on more)
 
--- a trail with any assignment but a decision after it outweighs another one that has at most as many literals as there are variables
+-- a trail with any assignment but a decision after it outweighs another one that has at most as many literals as
+-- there are variables
 abbrev pub OutweighsWithOne : Trail → Trail → Type 0
 OutweighsWithOne more less =
     (n : ℕ) → length less ≤ n → trail_weight n (decisions_on less) < trail_weight n (decisions_on more ++ false ∷ [])
@@ -214,3 +231,7 @@ pub record Account : Type 0 where
   pub budget : ℕ
   pub vars : ℕ
   pub assigned : ℕ
+
+-- what a stop of a trail tells
+abbrev pub account_of : List Scope → TrailState → ℕ → Account
+account_of scopes t budget = record { budget = budget; vars = length (all_variables scopes); assigned = t.assigned }

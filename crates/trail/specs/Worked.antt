@@ -30,7 +30,10 @@ turned = with_literal three_variables (undone_to 0 decided_first) (minus 1) (Pro
 
 -- all three variables are propagated
 abbrev pub propagated : TrailState
-propagated = with_literal three_variables (with_literal three_variables (with_literal three_variables new_trail (plus 1) (Propagated 0)) (plus 2) (Propagated 1)) (plus 3) (Propagated 2)
+propagated =
+    let one = with_literal three_variables new_trail (plus 1) (Propagated 0) in
+    let two = with_literal three_variables one (plus 2) (Propagated 1) in
+    with_literal three_variables two (plus 3) (Propagated 2)
 
 -- step 9 is the reason of the second literal, and clean
 abbrev pub cleaned : TrailState
@@ -78,7 +81,8 @@ pub record WorkedTrails : Type 0 where
   pub first_cause_stays : cause_on cleaned.placed 1 ≡ Some Decided
   pub clean_value : value_on cleaned.placed 2 ≡ Some false
   pub room_is_of_open_scopes : (with_room new_trail 3).finished ≡ false ∷ false ∷ false ∷ []
-  pub half_assigned_scope : (with_literal three_variables (with_room new_trail 3) (plus 1) Decided).finished ≡ false ∷ false ∷ false ∷ []
+  pub half_assigned_scope :
+      (with_literal three_variables (with_room new_trail 3) (plus 1) Decided).finished ≡ false ∷ false ∷ false ∷ []
   pub filled_scope : first_filled.finished ≡ true ∷ false ∷ false ∷ []
   pub decision_passes_empty_scopes : all_filled.finished ≡ true ∷ true ∷ true ∷ []
   pub undone_scope_is_open : (undone_to 0 all_filled).finished ≡ true ∷ true ∷ false ∷ []

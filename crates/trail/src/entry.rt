@@ -5,8 +5,8 @@ ghost use Rattle.trail.specs.Table.{AreFloored, floor_from};
 use super::Why;
 use prefix::Lit;
 
-// A literal on the trail, with its cause, its decision level, the number less 1 of its variable's scope, the number of the
-// scope of the last decision up to it, or 1, and whether its reason is marked as clean.
+// A literal on the trail, with its cause, its decision level, the number less 1 of its variable's scope, the number
+// of the scope of the last decision up to it, or 1, and whether its reason is marked as clean.
 #[derive(Debug, Drop)]
 pub(crate) struct Entry {
     pub lit: Lit,

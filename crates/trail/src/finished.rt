@@ -9,10 +9,11 @@ use std::marker::Model;
 // How many places a block has, and how many blocks a region.
 const BLOCK: usize = 64;
 
-/// A set of scopes by their numbers less 1. Contracts see it as the list that says of each place whether it is in the set.
+/// A set of scopes by their numbers less 1. Contracts see it as the list that says of each place whether it is in the
+/// set.
 ///
-/// The places of a block of 64 that is marked are all in the set, and so are the blocks of a region of 64. So to pass over
-/// up to 2^18 places looks at no more than 320 marks.
+/// The places of a block of 64 that is marked are all in the set, and so are the blocks of a region of 64. So to pass
+/// over up to 2^18 places looks at no more than 320 marks.
 #[derive(Debug, Drop)]
 pub(crate) struct Finished {
     places: Vec<bool>,
@@ -117,7 +118,8 @@ impl Finished {
         self.places.fill(false);
     }
 
-    // A place from `from` on, up to which all from there on are in the set: the next one that isn't, in up to 2^18 places.
+    // A place from `from` on, up to which all from there on are in the set: the next one that isn't, in up to 2^18
+    // places.
     pub(crate) fn next_outside(&self, from: usize) -> usize
         requires { from < 2 ^ 32 }
         ensures least { from ≤ result }

@@ -52,8 +52,8 @@ impl Stopped {
         self.vars
     }
 
-    /// How many literals were assigned, undone ones too; at 2^64 - 1 the count stays. Each assignment raised the weight of
-    /// the trail, so they are few.
+    /// How many literals were assigned, undone ones too; at 2^64 - 1 the count stays. Each assignment raised the
+    /// weight of the trail, so they are few.
     pub fn assigned(&self) -> u64
         ensures value { result ≡ self.now.assigned }
         ensures few { self.now.assigned + 1 < assignment_limit 0 self.now.vars }

@@ -7,14 +7,13 @@ ghost use Rattle.steps.specs.Counter.{after, left};
 ghost use Rattle.calculus.specs.Search.{MayStand, value_on, place_on, cause_on, cut_trail, decision_level_on, is_decision, last_level, literals_on};
 ghost use Rattle.calculus.specs.Search.Cause.{Assumed as assumed_cause};
 ghost use Rattle.calculus.specs.Rows.{variables_in};
-ghost use Rattle.calculus.specs.Limits.{assignment_limit};
 ghost use Rattle.calculus.specs.Verdicts.{AreOuter};
 ghost use Rattle.trail.specs.declared.allowed.Allowed.TheVariants.{Anything, NoDecision};
 ghost use Rattle.trail.specs.Causes.{cause_of};
 ghost use Rattle.trail.specs.Finished.{emptied};
 ghost use Rattle.trail.specs.Open.{is_assigned, is_finished, AreAssigned, AreAssignedBefore, IsFirstOpen};
 ghost use Rattle.trail.specs.Table.{spot_on};
-ghost use Rattle.trail.specs.State.{new_trail, without_last, with_room, with_placed, with_finished, with_literal, with_assumed, given_up, undone_to, cleared, HasRoom, is_marked, with_clean, IsPropagated, MayFollow, IsTrailFor, Outweighs, OutweighsWithOne};
+ghost use Rattle.trail.specs.State.{new_trail, without_last, with_room, with_placed, with_finished, with_literal, with_assumed, given_up, undone_to, cleared, account_of, HasRoom, IsFew, is_marked, with_clean, IsPropagated, MayFollow, IsTrailFor, Outweighs, OutweighsWithOne};
 
 use super::allowed::Allowed;
 use super::entry::{Entry, Spot, last_floor};
@@ -26,18 +25,19 @@ use std::alloc::Global;
 use std::marker::Model;
 use steps::{NoMemory, Spent, Steps};
 
-/// An assignment trail: the assigned literals, oldest first, each with its cause. Contracts see it as that list, with the
-/// number of assignments, the room, and what may be assigned next.
+/// An assignment trail: the assigned literals, oldest first, each with its cause. Contracts see it as that list, with
+/// the number of assignments, the room, and what may be assigned next.
 ///
-/// Level 0 has the assumed literals and what is propagated before the first decision; each decision opens a level. Every
-/// look-up takes constant time, and to undo costs what is undone. The trail keeps its order for the prefix that its calls
-/// were given since the last `clear` or `stop`.
+/// Level 0 has the assumed literals and what is propagated before the first decision; each decision opens a level.
+/// Every look-up takes constant time, and to undo costs what is undone. The trail keeps its order for the prefix that
+/// its calls were given since the last `clear` or `stop`.
 #[derive(Debug, Drop)]
 pub struct Trail {
     entries: Vec<Entry>,
     // Where each variable stands, at its number less 1.
     spots: Vec<Option<Spot>>,
-    // How many entries are of each scope, at its number less 1; scopes of greater numbers than its length aren't counted.
+    // How many entries are of each scope, at its number less 1; scopes of greater numbers than its length aren't
+    // counted.
     tallies: Vec<usize>,
     // The scopes that are known to be all assigned, of those that are counted.
     finished: Finished,
@@ -85,8 +85,8 @@ impl Trail {
         }
     }
 
-    /// Makes room for the variables of numbers up to `vars`, and counts the scopes of numbers up to that. With no memory the
-    /// trail stays as it was.
+    /// Makes room for the variables of numbers up to `vars`, and counts the scopes of numbers up to that. With no
+    /// memory the trail stays as it was.
     pub fn reserve(&mut self, vars: usize) -> Result<(), NoMemory>
         ensures ok { OnOk result (self.new ≡ with_room self.old vars) }
         ensures err { OnErr result (self.new ≡ self.old) }
@@ -142,9 +142,9 @@ impl Trail {
         }
     }
 
-    /// Puts the step with this id in the place of the reason of a propagated variable, and marks it as clean; nothing else
-    /// changes. The mark goes with the literal, when it is undone. What a clean reason is, the caller says. This takes no
-    /// memory.
+    /// Puts the step with this id in the place of the reason of a propagated variable, and marks it as clean; nothing
+    /// else changes. The mark goes with the literal, when it is undone. What a clean reason is, the caller says. This
+    /// takes no memory.
     pub fn set_clean(&mut self, v: Var, reason: usize)
         requires propagated { IsPropagated self.old.placed v }
         ensures value { self.new ≡ with_clean self.old v reason }
@@ -179,8 +179,8 @@ impl Trail {
         self.entries.len()
     }
 
-    /// The greatest number of a variable that there is room for. Each assigned variable's number is at most that, and so is
-    /// the number of assigned literals.
+    /// The greatest number of a variable that there is room for. Each assigned variable's number is at most that, and
+    /// so is the number of assigned literals.
     pub fn room(&self) -> usize
         ensures value { result ≡ self.now.room }
         ensures reserved { HasRoom self.now }
@@ -205,19 +205,19 @@ impl Trail {
         }
     }
 
-    /// How many literals were assigned since the last `clear` or `stop`, undone ones too; at 2^64 - 1 the count stays. Each
-    /// assignment raised the weight of the trail, so they are few.
+    /// How many literals were assigned since the last `clear` or `stop`, undone ones too; at 2^64 - 1 the count
+    /// stays. Each assignment raised the weight of the trail, so they are few.
     pub fn assigned(&self) -> u64
         ensures value { result ≡ self.now.assigned }
-        ensures few { (scopes : List Scope) → IsTrailFor scopes self.now → self.now.assigned + 1 < assignment_limit 0 (length (all_variables scopes)) }
+        ensures few { (scopes : List Scope) → IsTrailFor scopes self.now → IsFew scopes self.now }
     {
         self.assigned
     }
 
     /// Assigns a literal, which counts a step. The prefix is that of the calls since the last `clear` or `stop`; the
     /// variable is one of it, unassigned, and there is room for it. `Assumed` is for literals of the first scope while
-    /// all others are assumed, `Decided` for variables of the first scope that isn't all assigned, and not for the first
-    /// assignment after a cut that took literals off.
+    /// all others are assumed, `Decided` for variables of the first scope that isn't all assigned, and not for the
+    /// first assignment after a cut that took literals off.
     ///
     /// Spent comes exactly where the budget is spent, and changes nothing. This takes no memory.
     pub fn assign(
@@ -260,8 +260,8 @@ impl Trail {
     /// Assumes literals of the first scope over different variables, on an empty trail. The conditions are those of
     /// `assign` for each.
     ///
-    /// Spent comes exactly where fewer steps are left than there are literals. What was assigned before it came is undone
-    /// then, and nothing is assigned before a `clear` or `stop`. This takes no memory.
+    /// Spent comes exactly where fewer steps are left than there are literals. What was assigned before it came is
+    /// undone then, and nothing is assigned before a `clear` or `stop`. This takes no memory.
     pub fn assume_all(
         &mut self,
         prefix: &Prefix,
@@ -289,8 +289,8 @@ impl Trail {
         assumed
     }
 
-    /// Cuts the trail to a decision level: what was assigned later goes. A level that isn't below that of the trail changes
-    /// nothing; after any other one the first assignment is no decision. This takes no memory.
+    /// Cuts the trail to a decision level: what was assigned later goes. A level that isn't below that of the trail
+    /// changes nothing; after any other one the first assignment is no decision. This takes no memory.
     pub fn undo_to(&mut self, level: usize)
         ensures cut { self.new ≡ undone_to level self.old }
         ensures kept { (scopes : List Scope) → IsTrailFor scopes self.old → IsTrailFor scopes self.new }
@@ -323,7 +323,7 @@ impl Trail {
     pub fn stop(&mut self, prefix: &Prefix, steps: &Steps) -> Stopped
         requires prefix { IsTrailFor prefix.now self.old }
         requires spent { steps.now.spent ≡ steps.now.budget }
-        ensures stopped { result ≡ record { budget = steps.now.budget; vars = length (all_variables prefix.now); assigned = self.old.assigned } }
+        ensures stopped { result ≡ account_of prefix.now self.old steps.now.budget }
         ensures cleared { self.new ≡ cleared self.old }
         ensures kept { (scopes : List Scope) → IsTrailFor scopes self.new }
     {
@@ -335,9 +335,9 @@ impl Trail {
     /// The first scope with an unassigned variable, for the prefix of the calls since the last `clear` or `stop`; none
     /// exactly where every variable is assigned.
     ///
-    /// Scopes that are known to be all assigned are passed over in constant time: those that an assignment filled, and all
-    /// before a decision, up to the first literal of theirs that is undone. Else this looks at a scope without variables,
-    /// and at the scopes of numbers past the room.
+    /// Scopes that are known to be all assigned are passed over in constant time: those that an assignment filled,
+    /// and all before a decision, up to the first literal of theirs that is undone. Else this looks at a scope
+    /// without variables, and at the scopes of numbers past the room.
     pub fn first_open(&self, prefix: &Prefix) -> Option<usize>
         requires prefix { IsTrailFor prefix.now self.now }
         ensures none { IsNone result ↔ AreAssigned prefix.now self.now.placed }
@@ -387,7 +387,8 @@ impl Trail {
         scope <= prefix.scopes() && self.assigned_in(prefix, scope) == prefix.vars_of(scope).len()
     }
 
-    // How many variables of a scope are assigned. This takes constant time, but for a scope without a place in the table.
+    // How many variables of a scope are assigned. This takes constant time, but for a scope without a place in the
+    // table.
     fn assigned_in(&self, prefix: &Prefix, scope: usize) -> usize
         requires prefix { IsTrailFor prefix.now self.now }
         requires valid { IsPrefix prefix.now }
@@ -458,7 +459,8 @@ impl Trail {
         self.allowed = Allowed::Anything;
     }
 
-    // Marks the scope with this number where all its variables are assigned, and each earlier one once it is decided in it.
+    // Marks the scope with this number where all its variables are assigned, and each earlier one once it is decided
+    // in it.
     fn mark_finished(&mut self, prefix: &Prefix, scope: usize, why: Why)
         requires prefix { IsTrailFor prefix.now self.old }
         requires first { 1 ≤ scope }

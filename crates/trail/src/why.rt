@@ -3,8 +3,8 @@ ghost use Rattle.std.specs.Prelude.{◌≡◌, suc, ◌+◌, ◌^◌, ◌<◌, i
 ghost use Rattle.calculus.specs.Search.{is_decision};
 ghost use Rattle.trail.specs.Causes.{cause_of};
 
-/// Why a literal stands on the trail: it was assumed, it was decided, or it was propagated from the row of the step with
-/// this id.
+/// Why a literal stands on the trail: it was assumed, it was decided, or it was propagated from the row of the step
+/// with this id.
 #[derive(Clone, Copy, Debug, PartialEq, Eq)]
 pub enum Why {
     Assumed,
