@@ -1,19 +1,16 @@
 ghost use Rattle.std.specs.Prelude.{IsTrue};
-ghost use Rattle.derive.specs.State.{has_rows, is_step};
+ghost use Rattle.derive.specs.State.{has_rows, is_live, is_step};
 
-use super::{Derivation, Step};
+use super::{Derivation, Step, StepId};
 use prefix::{Lit, Prefix, Quant, Var};
 use std::alloc::Global;
+use std::marker::Model;
 use std::process::Abort;
 use std::test::Fail;
 
 fn literal(number: i32) -> Result<Lit, Fail> {
     let v = Var::new(number.unsigned_abs()).ok_or("range")?;
     Ok(Lit::new(v, number > 0))
-}
-
-fn var(number: u32) -> Result<Var, Fail> {
-    Ok(Var::new(number).ok_or("range")?)
 }
 
 fn row(alloc: Global, numbers: &[i32]) -> Result<Vec<Lit>, Fail> {
@@ -34,106 +31,184 @@ fn one_then_two(alloc: Global, outer: Quant, inner: Quant) -> Result<Prefix, Fai
     Ok(prefix)
 }
 
-#[test]
-fn a_frame_takes_what_rests_on_it(rt: HostRuntime) -> Result<(), Fail> {
-    let prefix = one_then_two(rt.alloc(), Quant::Exists, Quant::Forall)?;
-    let mut derivation = Derivation::new(rt.alloc());
-    assert_eq!(rt;
-        derivation.input_clause(&prefix, &row(rt.alloc(), &[1])?, 0)?,
-        (0, 0)
-    );
-    assert_eq!(rt;
-        derivation.input_clause(&prefix, &row(rt.alloc(), &[-1])?, 1)?,
-        (1, 1)
-    );
-    assert_eq!(rt; derivation.resolve(&prefix, 0, 1, var(1)?)?, 2);
-    assert_eq!(rt; derivation.lits(2).len(), 0);
-    for (id, tag) in [(0, 0), (1, 1), (2, 1)] {
-        assert!(rt; derivation.is_live(id), "step {id}");
-        assert_eq!(rt; derivation.tag(id), tag, "step {id}");
-    }
-    let resolved = Step::Resolved {
-        a: 0,
-        b: 1,
-        pivot: var(1)?,
-    };
-    assert_eq!(rt; derivation.step(2), resolved);
-    derivation.drop_frame(1);
-    for (id, live) in [(0, true), (1, false), (2, false), (3, false)] {
-        assert_eq!(rt; derivation.is_live(id), live, "step {id}");
-    }
-    assert_eq!(rt; derivation.next_id(), 3);
-    Ok(())
+// A derivation that has its rows, and the prefix of its calls.
+#[derive(Debug, Drop)]
+struct Workshop {
+    alloc: Global,
+    prefix: Prefix,
+    derivation: Derivation,
 }
 
-// Puts in the clause of variable 1 alone.
-fn put_clause(
-    alloc: Global,
-    derivation: &mut Derivation,
-    prefix: &Prefix,
-    frame: usize,
-) -> Result<usize, Fail>
-    requires rows { IsTrue (has_rows derivation.old) }
-    ensures rows { IsTrue (has_rows derivation.new) }
+impl Model for Workshop {
+    ghost use Rattle.std.specs.Prelude.{IsTrue};
+    ghost use Rattle.derive.specs.State.{State, has_rows};
+
+    ghost Value = { State };
+
+    ghost view = { λ w. w.derivation };
+
+    ghost invariant = { λ w. IsTrue (has_rows w.derivation) };
+}
+
+impl Workshop {
+    fn new(alloc: Global, outer: Quant, inner: Quant) -> Result<Self, Fail> {
+        Ok(Self {
+            alloc,
+            prefix: one_then_two(alloc, outer, inner)?,
+            derivation: Derivation::new(alloc),
+        })
+    }
+
+    fn clause(&mut self, numbers: &[i32], frame: usize) -> Result<(StepId, StepId), Fail> {
+        let lits = row(self.alloc, numbers)?;
+        Ok(self.derivation.input_clause(&self.prefix, &lits, frame)?)
+    }
+
+    fn cube(&mut self, numbers: &[i32]) -> Result<StepId, Fail> {
+        let lits = row(self.alloc, numbers)?;
+        Ok(self.derivation.input_cube(&lits)?)
+    }
+
+    fn reduce(&mut self, a: StepId) -> Result<StepId, Fail> {
+        if !is_usable(&self.derivation, a) {
+            return Err("not to be reduced")?;
+        }
+        Ok(self.derivation.reduce(&self.prefix, a)?)
+    }
+
+    fn resolve(&mut self, a: StepId, b: StepId, pivot: u32) -> Result<StepId, Fail> {
+        let pivot = Var::new(pivot).ok_or("range")?;
+        if !is_usable(&self.derivation, a) || !is_usable(&self.derivation, b) {
+            return Err("not to be resolved")?;
+        }
+        if self.derivation.side(a) != self.derivation.side(b) {
+            return Err("not of one side")?;
+        }
+        Ok(self.derivation.resolve(&self.prefix, a, b, pivot)?)
+    }
+
+    fn drop_frame(&mut self, frame: usize) {
+        self.derivation.drop_frame(frame);
+    }
+
+    fn cut_to(&mut self, first: StepId) {
+        self.derivation.cut_to(first);
+    }
+
+    // Whether such a step is live, with this tag and these literals.
+    fn has(&self, id: StepId, step: Step, tag: usize, numbers: &[i32]) -> Result<bool, Fail> {
+        let lits = row(self.alloc, numbers)?;
+        if !self.derivation.is_live(id) {
+            return Ok(false);
+        }
+        Ok(
+            self.derivation.step(id) == step
+                && self.derivation.tag(id) == tag
+                && self.derivation.lits(id) == lits.as_slice(),
+        )
+    }
+
+    // Whether of the ids from 0 on exactly these are live.
+    fn lives(&self, table: &[bool]) -> bool {
+        let mut id: StepId = 0;
+        for live in table {
+            if self.derivation.is_live(id) != *live {
+                return false;
+            }
+            id = id.saturating_add(1);
+        }
+        self.derivation.next_id() <= id
+    }
+}
+
+// Whether a live step stands under an id that is no finish.
+fn is_usable(derivation: &Derivation, id: StepId) -> bool
+    ensures step { IsTrue result → IsTrue (is_step derivation.now id) }
+    ensures live { IsTrue result → IsTrue (is_live derivation.now id) }
 {
-    let clause = row(alloc, &[1])?;
-    Ok(derivation.input_clause(prefix, &clause, frame)?.0)
+    derivation.is_live(id) && !matches!(derivation.step(id), Step::Finished(_))
+}
+
+#[test]
+fn a_frame_takes_what_rests_on_it(rt: HostRuntime) -> Result<(), Fail> {
+    let mut shop = Workshop::new(rt.alloc(), Quant::Exists, Quant::Forall)?;
+    let first = shop.clause(&[1], 0)?;
+    let second = shop.clause(&[-1], 1)?;
+    assert_eq!(rt; (first, second), ((0, 0), (1, 1)));
+    let pivot = Var::new(1).ok_or("range")?;
+    assert_eq!(rt; shop.resolve(0, 1, 1)?, 2);
+    assert!(rt; shop.has(0, Step::InputClause, 0, &[1])?);
+    assert!(rt; shop.has(2, Step::Resolved { a: 0, b: 1, pivot }, 1, &[])?);
+    shop.drop_frame(1);
+    assert!(rt; shop.lives(&[true, false, false]));
+    Ok(())
 }
 
 // Frames may be opened in any order, dropped and opened again.
 #[test]
 fn frames_begin_at_their_first_clause(rt: HostRuntime) -> Result<(), Fail> {
-    let alloc = rt.alloc();
-    let prefix = one_then_two(alloc, Quant::Exists, Quant::Forall)?;
-    let mut derivation = Derivation::new(alloc);
-    assert_eq!(rt; put_clause(alloc, &mut derivation, &prefix, 0)?, 0);
-    assert_eq!(rt; put_clause(alloc, &mut derivation, &prefix, 3)?, 1);
-    assert_eq!(rt; put_clause(alloc, &mut derivation, &prefix, 1)?, 2);
-    derivation.drop_frame(3);
-    assert_eq!(rt; put_clause(alloc, &mut derivation, &prefix, 3)?, 3);
-    derivation.drop_frame(1);
-    derivation.drop_frame(9);
-    for (id, live) in [(0, true), (1, false), (2, false), (3, true)] {
-        assert_eq!(rt; derivation.is_live(id), live, "step {id}");
+    let mut shop = Workshop::new(rt.alloc(), Quant::Exists, Quant::Forall)?;
+    for frame in [0, 3, 1] {
+        shop.clause(&[1], frame)?;
     }
+    shop.drop_frame(3);
+    assert_eq!(rt; shop.clause(&[1], 3)?, (3, 3));
+    shop.drop_frame(1);
+    shop.drop_frame(9);
+    assert!(rt; shop.lives(&[true, false, false, true]));
     Ok(())
 }
 
 #[test]
 fn a_clause_comes_with_its_reduction(rt: HostRuntime) -> Result<(), Fail> {
-    let prefix = one_then_two(rt.alloc(), Quant::Exists, Quant::Forall)?;
-    let mut derivation = Derivation::new(rt.alloc());
-    assert_eq!(rt;
-        derivation.input_clause(&prefix, &row(rt.alloc(), &[1, 2])?, 3)?,
-        (0, 1)
-    );
-    assert_eq!(rt; derivation.step(0), Step::InputClause);
-    assert_eq!(rt; derivation.step(1), Step::Reduced(0));
-    assert_eq!(rt; derivation.lits(0), row(rt.alloc(), &[1, 2])?.as_slice());
-    assert_eq!(rt; derivation.lits(1), row(rt.alloc(), &[1])?.as_slice());
-    assert_eq!(rt; (derivation.tag(0), derivation.tag(1)), (3, 3));
-    assert_eq!(rt; derivation.reduce(&prefix, 0)?, 2);
-    assert_eq!(rt; derivation.reduce(&prefix, 2)?, 2);
-    derivation.cut_to(1);
-    assert_eq!(rt;
-        (
-            derivation.is_live(0),
-            derivation.is_live(1),
-            derivation.is_live(2)
-        ),
-        (true, false, false)
-    );
-    assert_eq!(rt; derivation.next_id(), 3);
+    let mut shop = Workshop::new(rt.alloc(), Quant::Exists, Quant::Forall)?;
+    assert_eq!(rt; shop.clause(&[1, 2], 3)?, (0, 1));
+    assert!(rt; shop.has(0, Step::InputClause, 3, &[1, 2])?);
+    assert!(rt; shop.has(1, Step::Reduced(0), 3, &[1])?);
+    assert_eq!(rt; (shop.reduce(0)?, shop.reduce(1)?), (2, 1));
+    shop.cut_to(1);
+    assert!(rt; shop.lives(&[true, false, false]));
     Ok(())
 }
 
-// What nothing blocks goes, and else the step itself is the answer: with variable 1 before 2, and the side's pivot
-// quantifier first or last.
+// The literals that are left of a clause and of a cube, where 1 stands before 2 and is of the side's pivot quantifier
+// or not.
+fn reductions(
+    alloc: Global,
+    pivot_first: bool,
+    numbers: &[i32],
+    want: &[i32],
+) -> Result<bool, Fail> {
+    let (outer, inner) = if pivot_first {
+        (Quant::Exists, Quant::Forall)
+    } else {
+        (Quant::Forall, Quant::Exists)
+    };
+    let mut clauses = Workshop::new(alloc, outer, inner)?;
+    let (input, clause) = clauses.clause(numbers, 0)?;
+    let mut cubes = Workshop::new(alloc, inner, outer)?;
+    let cube = cubes.cube(numbers)?;
+    let reduced = cubes.reduce(cube)?;
+    let same = numbers.len() == want.len();
+    let want = row(alloc, want)?;
+    Ok(
+        (input == clause) == same
+            && (cube == reduced) == same
+            && is_row(&clauses.derivation, clause, &want)
+            && is_row(&cubes.derivation, reduced, &want),
+    )
+}
+
+// Whether a step has these literals.
+fn is_row(derivation: &Derivation, id: StepId, lits: &[Lit]) -> bool
+    requires { IsTrue (has_rows derivation.now) }
+{
+    derivation.is_live(id) && derivation.lits(id) == lits
+}
+
+// What nothing blocks goes, and else the step itself is the answer.
 #[test]
 fn reductions_on_both_sides(rt: HostRuntime) -> Result<(), Fail> {
-    let alloc = rt.alloc();
-    let exists_first = one_then_two(alloc, Quant::Exists, Quant::Forall)?;
-    let forall_first = one_then_two(alloc, Quant::Forall, Quant::Exists)?;
     for (pivot_first, numbers, want) in [
         (true, [1, 2].as_slice(), [1].as_slice()),
         (true, [-1, -2].as_slice(), [-1].as_slice()),
@@ -142,50 +217,22 @@ fn reductions_on_both_sides(rt: HostRuntime) -> Result<(), Fail> {
         (false, [1].as_slice(), [1].as_slice()),
         (false, [].as_slice(), [].as_slice()),
     ] {
-        let lits = row(alloc, numbers)?;
-        let want = row(alloc, want)?;
-        let (clauses, cubes) = if pivot_first {
-            (&exists_first, &forall_first)
-        } else {
-            (&forall_first, &exists_first)
-        };
-        let mut derivation = Derivation::new(alloc);
-        let (_, clause) = derivation.input_clause(clauses, &lits, 0)?;
-        assert_eq!(rt; derivation.lits(clause), want.as_slice(), "a clause");
-        let cube = derivation.input_cube(&lits)?;
-        let reduced = derivation.reduce(cubes, cube)?;
-        assert_eq!(rt; derivation.lits(reduced), want.as_slice(), "a cube");
-        assert_eq!(rt; reduced == cube, want.len() == lits.len());
+        assert!(rt; reductions(rt.alloc(), pivot_first, numbers, want)?);
     }
     Ok(())
 }
 
 #[test]
 fn a_clause_takes_the_cubes(rt: HostRuntime) -> Result<(), Fail> {
-    let prefix = one_then_two(rt.alloc(), Quant::Forall, Quant::Exists)?;
-    let mut derivation = Derivation::new(rt.alloc());
-    assert_eq!(rt; derivation.input_cube(&row(rt.alloc(), &[1, 2])?)?, 0);
-    assert_eq!(rt; derivation.input_cube(&row(rt.alloc(), &[-1, 2])?)?, 1);
-    assert_eq!(rt; derivation.step(1), Step::InputCube);
-    assert_eq!(rt; derivation.reduce(&prefix, 0)?, 2);
-    assert_eq!(rt; derivation.lits(2), row(rt.alloc(), &[1])?.as_slice());
-    assert_eq!(rt; derivation.resolve(&prefix, 2, 1, var(1)?)?, 3);
-    assert_eq!(rt; derivation.lits(3), row(rt.alloc(), &[2])?.as_slice());
-    assert_eq!(rt; derivation.tag(3), 0);
-    assert_eq!(rt;
-        derivation.input_clause(&prefix, &row(rt.alloc(), &[1, 2])?, 5)?,
-        (4, 4)
-    );
-    for id in 0..4 {
-        assert!(rt; !derivation.is_live(id), "step {id}");
-    }
-    assert!(rt; derivation.is_live(4));
-    assert_eq!(rt; derivation.input_cube(&row(rt.alloc(), &[2])?)?, 5);
-    derivation.drop_cubes_missing(&row(rt.alloc(), &[-2])?);
-    assert_eq!(rt;
-        (derivation.is_live(4), derivation.is_live(5)),
-        (true, false)
-    );
+    let mut shop = Workshop::new(rt.alloc(), Quant::Forall, Quant::Exists)?;
+    assert_eq!(rt; (shop.cube(&[1, 2])?, shop.cube(&[-1, 2])?), (0, 1));
+    assert_eq!(rt; (shop.reduce(0)?, shop.resolve(2, 1, 1)?), (2, 3));
+    assert!(rt; shop.has(1, Step::InputCube, 0, &[-1, 2])?);
+    assert!(rt; shop.has(2, Step::Reduced(0), 0, &[1])?);
+    let pivot = Var::new(1).ok_or("range")?;
+    assert!(rt; shop.has(3, Step::Resolved { a: 2, b: 1, pivot }, 0, &[2])?);
+    assert_eq!(rt; shop.clause(&[1, 2], 5)?, (4, 4));
+    assert!(rt; shop.lives(&[false, false, false, false, true]));
     Ok(())
 }
 

@@ -1,4 +1,4 @@
-//! A set of scopes, in which the next scope outside it is found in constant time.
+//! A set of scopes, in which the next scope outside it is found without walking those in it.
 ghost use Rattle.std.specs.Prelude.{◌≡◌, ℕ, ◌+◌, ◌-◌, ◌*◌, ◌^◌, ◌<◌, ◌≤◌, [], ◌++◌, length, true, false, replicate, slice_set, IsTrue, OnOk, OnErr};
 ghost use Rattle.trail.specs.Finished.{emptied, is_in, with_before, AreIn};
 ghost use Rattle.trail.specs.Open.{finished_with};

@@ -1,10 +1,11 @@
-ghost use Rattle.std.specs.Prelude.{◌≡◌, ◌≢◌, IfOk, OnOk};
+ghost use Rattle.std.specs.Prelude.{◌≡◌, ◌≢◌, OnOk};
 ghost use Rattle.trail.specs.declared.allowed.Allowed.TheVariants.{Anything, Nothing};
 ghost use Rattle.trail.specs.State.{IsTrailFor};
 
 use super::{Trail, Why};
 use prefix::{Lit, Prefix, Quant, Var};
 use std::alloc::Global;
+use std::marker::Model;
 use std::test::Fail;
 use steps::{Spent, Steps};
 
@@ -12,38 +13,60 @@ fn var(number: u32) -> Result<Var, Fail> {
     Ok(Var::new(number).ok_or("range")?)
 }
 
-fn lit(number: u32, positive: bool) -> Result<Lit, Fail> {
-    Ok(Lit::new(var(number)?, positive))
+// What a test does to a trail.
+#[derive(Debug, Clone, Copy)]
+enum Turn {
+    Decide(u32, bool),
+    // From step 7.
+    Propagate(u32, bool),
+    // Step 9 becomes the reason, and is clean.
+    Clean(u32),
+    Undo(usize),
+    Clear,
 }
 
-// Value, place, level and cause of a variable.
-type Looked = (Option<bool>, Option<usize>, Option<usize>, Option<Why>);
-
-fn look_up(trail: &Trail, number: u32) -> Result<Looked, Fail> {
-    let v = var(number)?;
-    Ok((
-        trail.value(v),
-        trail.place(v),
-        trail.level_of(v),
-        trail.why(v),
-    ))
-}
-
-// Whether the reason of a variable is marked as clean, and why it is assigned.
-fn clean_reason(trail: &Trail, number: u32) -> Result<(bool, Option<Why>), Fail> {
-    let v = var(number)?;
-    Ok((trail.is_clean(v), trail.why(v)))
-}
-
-// The existential variables 1 and 2, then the universal variable 3.
-fn two_scopes(alloc: Global) -> Result<Prefix, Fail> {
+// Scopes that have so many variables each, numbered from 1 on; every other one is universal.
+fn alternating(alloc: Global, scopes: &[u32]) -> Result<Prefix, Fail> {
     let mut prefix = Prefix::new(alloc);
-    prefix.add_scope(Quant::Exists, None)?;
-    prefix.add_var(1, 1)?;
-    prefix.add_var(2, 1)?;
-    prefix.add_scope(Quant::Forall, None)?;
-    prefix.add_var(3, 2)?;
+    for count in scopes {
+        let is_even = prefix.scopes() % 2 == 0;
+        prefix.add_scope(
+            if is_even {
+                Quant::Exists
+            } else {
+                Quant::Forall
+            },
+            None,
+        )?;
+        for _ in 0..*count {
+            prefix.add_var(prefix.len() as u64 + 1, prefix.scopes() as u64)?;
+        }
+    }
     Ok(prefix)
+}
+
+// A trail with the prefix and the counter of its calls.
+#[derive(Debug, Drop)]
+struct Game {
+    prefix: Prefix,
+    trail: Trail,
+    steps: Steps,
+    may_decide: bool,
+}
+
+impl Model for Game {
+    ghost use Rattle.std.specs.Prelude.{◌≡◌, ◌≢◌, IsTrue};
+    ghost use Rattle.trail.specs.declared.allowed.Allowed.TheVariants.{Anything, Nothing};
+    ghost use Rattle.trail.specs.State.{IsTrailFor, TrailState};
+
+    ghost Value = { TrailState };
+
+    ghost view = { λ g. g.trail };
+
+    ghost invariant = { λ g.
+        IsTrailFor g.prefix g.trail
+        × (g.trail.allowed ≢ Nothing)
+        × (IsTrue g.may_decide → g.trail.allowed ≡ Anything) };
 }
 
 // Propagates a literal from step 7, once it is seen that it may be assigned.
@@ -58,25 +81,6 @@ fn propagate(trail: &mut Trail, prefix: &Prefix, lit: Lit, steps: &mut Steps) ->
         return Err("not to be propagated")?;
     }
     trail.assign(prefix, lit, Why::Propagated(7), steps)?;
-    Ok(())
-}
-
-// Propagates the variables of numbers from one up to another, each positively.
-fn propagate_all(
-    trail: &mut Trail,
-    prefix: &Prefix,
-    first: u32,
-    last: u32,
-    steps: &mut Steps,
-) -> Result<(), Fail>
-    requires kept { IsTrailFor prefix.now trail.old }
-    requires allowed { trail.old.allowed ≢ Nothing }
-    ensures kept { IsTrailFor prefix.now trail.new }
-    ensures ok { OnOk result (trail.new.allowed ≢ Nothing) }
-{
-    for number in first..last {
-        propagate(trail, prefix, lit(number, true)?, steps)?;
-    }
     Ok(())
 }
 
@@ -98,19 +102,237 @@ fn decide(trail: &mut Trail, prefix: &Prefix, lit: Lit, steps: &mut Steps) -> Re
     Ok(())
 }
 
-// Puts a step in the place of the reason of a variable and marks it as clean, once it is seen that it has a reason.
-fn set_clean(trail: &mut Trail, prefix: &Prefix, v: Var, reason: usize) -> Result<(), Fail>
-    requires kept { IsTrailFor prefix.now trail.old }
-    ensures kept { IsTrailFor prefix.now trail.new }
-    ensures allowed { trail.new.allowed ≡ trail.old.allowed }
-{
-    match trail.why(v) {
-        Some(Why::Propagated(_)) => {
-            trail.set_clean(v, reason);
-            Ok(())
-        }
-        _ => Err("without a reason")?,
+impl Game {
+    // An empty trail over scopes that have so many variables each, numbered from 1 on; every other one is universal.
+    fn new(alloc: Global, scopes: &[u32], budget: u64) -> Result<Self, Fail> {
+        Ok(Self {
+            prefix: alternating(alloc, scopes)?,
+            trail: Trail::new(alloc),
+            steps: Steps::new(budget),
+            may_decide: true,
+        })
     }
+
+    fn play(self, turns: &[Turn]) -> Result<Self, Fail> {
+        let mut game = self;
+        for turn in turns {
+            game = game.after(*turn)?;
+        }
+        Ok(game)
+    }
+
+    fn after(self, turn: Turn) -> Result<Self, Fail> {
+        match turn {
+            Turn::Decide(number, positive) => self.decided(Lit::new(var(number)?, positive)),
+            Turn::Propagate(number, positive) => self.propagated(Lit::new(var(number)?, positive)),
+            Turn::Clean(number) => self.cleaned(var(number)?),
+            Turn::Undo(level) => Ok(self.undone(level)),
+            Turn::Clear => Ok(self.cleared()),
+        }
+    }
+
+    fn decided(self, lit: Lit) -> Result<Self, Fail> {
+        let Self {
+            prefix,
+            mut trail,
+            mut steps,
+            may_decide,
+        } = self;
+        if !may_decide {
+            return Err("not after an undoing")?;
+        }
+        decide(&mut trail, &prefix, lit, &mut steps)?;
+        Ok(Self {
+            prefix,
+            trail,
+            steps,
+            may_decide: true,
+        })
+    }
+
+    fn propagated(self, lit: Lit) -> Result<Self, Fail> {
+        let Self {
+            prefix,
+            mut trail,
+            mut steps,
+            ..
+        } = self;
+        propagate(&mut trail, &prefix, lit, &mut steps)?;
+        Ok(Self {
+            prefix,
+            trail,
+            steps,
+            may_decide: true,
+        })
+    }
+
+    fn cleaned(self, v: Var) -> Result<Self, Fail> {
+        let Self {
+            prefix,
+            mut trail,
+            steps,
+            may_decide,
+        } = self;
+        match trail.why(v) {
+            Some(Why::Propagated(_)) => trail.set_clean(v, 9),
+            _ => return Err("without a reason")?,
+        }
+        Ok(Self {
+            prefix,
+            trail,
+            steps,
+            may_decide,
+        })
+    }
+
+    fn undone(self, level: usize) -> Self {
+        let Self {
+            prefix,
+            mut trail,
+            steps,
+            ..
+        } = self;
+        trail.undo_to(level);
+        Self {
+            prefix,
+            trail,
+            steps,
+            may_decide: false,
+        }
+    }
+
+    fn cleared(self) -> Self {
+        let Self {
+            prefix,
+            mut trail,
+            steps,
+            ..
+        } = self;
+        trail.clear();
+        Self {
+            prefix,
+            trail,
+            steps,
+            may_decide: true,
+        }
+    }
+}
+
+// Value, place, level and cause of a variable, and whether its reason is clean.
+type Looked = (
+    Option<bool>,
+    Option<usize>,
+    Option<usize>,
+    Option<Why>,
+    bool,
+);
+
+const UNASSIGNED: Looked = (None, None, None, None, false);
+
+// A literal that stands with such a value, at that place and level.
+fn standing(value: bool, place: usize, level: usize, why: Why) -> Looked {
+    (Some(value), Some(place), Some(level), Some(why), false)
+}
+
+impl Game {
+    fn look_up(&self, v: Var) -> Looked {
+        (
+            self.trail.value(v),
+            self.trail.place(v),
+            self.trail.level_of(v),
+            self.trail.why(v),
+            self.trail.is_clean(v),
+        )
+    }
+
+    // Whether the variables from 1 on look so, in their order.
+    fn looks(&self, table: &[Looked]) -> Result<bool, Fail> {
+        let mut number: u32 = 0;
+        for looked in table {
+            number = number.saturating_add(1);
+            if self.look_up(var(number)?) != *looked {
+                return Ok(false);
+            }
+        }
+        Ok(true)
+    }
+
+    // The length, the last level, and how often a literal was assigned.
+    fn counts(&self) -> (usize, usize, u64) {
+        (self.trail.len(), self.trail.level(), self.trail.assigned())
+    }
+
+    fn first_open(&self) -> Option<usize> {
+        self.trail.first_open(&self.prefix)
+    }
+}
+
+#[test]
+fn look_ups_answer_by_the_list(rt: HostRuntime) -> Result<(), Fail> {
+    let game = Game::new(rt.alloc(), &[2, 1], 10)?.play(&[
+        Turn::Propagate(2, true),
+        Turn::Decide(1, false),
+        Turn::Propagate(3, true),
+    ])?;
+    let table = [
+        standing(false, 1, 1, Why::Decided),
+        standing(true, 0, 0, Why::Propagated(7)),
+        standing(true, 2, 1, Why::Propagated(7)),
+    ];
+    assert!(rt; game.looks(&table)?);
+    assert_eq!(rt; (game.counts(), game.trail.room()), ((3, 1, 3), 3));
+    assert_eq!(rt; (game.trail.len_to(0), game.trail.len_to(1)), (1, 3));
+    let game = game.play(&[Turn::Undo(0)])?;
+    assert_eq!(rt; game.counts(), (1, 0, 3));
+    assert!(rt; game.looks(&[UNASSIGNED, table[1], UNASSIGNED])?);
+    Ok(())
+}
+
+#[test]
+fn marks_of_clean_reasons_go_with_their_literals(rt: HostRuntime) -> Result<(), Fail> {
+    let game = Game::new(rt.alloc(), &[2, 1], 10)?.play(&[
+        Turn::Decide(1, true),
+        Turn::Propagate(2, true),
+        Turn::Propagate(3, true),
+        Turn::Clean(2),
+    ])?;
+    let first = standing(true, 0, 1, Why::Decided);
+    let clean = (Some(true), Some(1), Some(1), Some(Why::Propagated(9)), true);
+    assert!(rt; game.looks(&[first, clean, standing(true, 2, 1, Why::Propagated(7))])?);
+    let game = game.play(&[Turn::Undo(0)])?;
+    assert!(rt; game.looks(&[UNASSIGNED, UNASSIGNED])?, "undone");
+    let game = game.play(&[Turn::Propagate(2, true)])?;
+    assert!(rt;
+        game.looks(&[UNASSIGNED, standing(true, 0, 0, Why::Propagated(7))])?,
+        "again"
+    );
+    Ok(())
+}
+
+#[test]
+fn a_stop_tells_what_was_assigned(rt: HostRuntime) -> Result<(), Fail> {
+    let game = Game::new(rt.alloc(), &[2, 1], 2)?.play(&[
+        Turn::Decide(1, true),
+        Turn::Propagate(2, true),
+        Turn::Undo(0),
+    ])?;
+    assert_eq!(rt; game.counts(), (0, 0, 2));
+    let Game {
+        prefix,
+        mut trail,
+        steps,
+        ..
+    } = game;
+    if steps.spent() != steps.budget() {
+        return Err("steps are left")?;
+    }
+    let stopped = trail.stop(&prefix, &steps);
+    assert_eq!(rt;
+        (stopped.budget(), stopped.vars(), stopped.assigned()),
+        (2, 3, 2)
+    );
+    assert_eq!(rt; (trail.is_empty(), trail.assigned()), (true, 0));
+    Ok(())
 }
 
 // Assumes two literals, once it is seen that they may be assumed.
@@ -123,8 +345,6 @@ fn assume(
 ) -> Result<Result<(), Spent>, Fail>
     requires kept { IsTrailFor prefix.now trail.old }
     requires allowed { trail.old.allowed ≢ Nothing }
-    ensures kept { IsTrailFor prefix.now trail.new }
-    ensures ok { IfOk result (λ r. OnOk r (trail.new.allowed ≡ Anything)) }
 {
     trail.reserve(first.var().number() as usize)?;
     trail.reserve(second.var().number() as usize)?;
@@ -135,108 +355,26 @@ fn assume(
     Ok(trail.assume_all(prefix, &[first, second], steps))
 }
 
-#[test]
-fn look_ups_answer_by_the_list(rt: HostRuntime) -> Result<(), Fail> {
-    let prefix = two_scopes(rt.alloc())?;
-    let mut steps = Steps::new(10);
-    let mut trail = Trail::new(rt.alloc());
-    assert_eq!(rt; trail.first_open(&prefix), Some(1));
-    propagate(&mut trail, &prefix, lit(2, true)?, &mut steps)?;
-    decide(&mut trail, &prefix, lit(1, false)?, &mut steps)?;
-    assert_eq!(rt; trail.first_open(&prefix), Some(2));
-    propagate(&mut trail, &prefix, lit(3, true)?, &mut steps)?;
-    assert_eq!(rt; trail.first_open(&prefix), None);
-    assert_eq!(rt;
-        look_up(&trail, 1)?,
-        (Some(false), Some(1), Some(1), Some(Why::Decided))
-    );
-    assert_eq!(rt;
-        look_up(&trail, 2)?,
-        (Some(true), Some(0), Some(0), Some(Why::Propagated(7)))
-    );
-    assert_eq!(rt;
-        look_up(&trail, 3)?,
-        (Some(true), Some(2), Some(1), Some(Why::Propagated(7)))
-    );
-    assert_eq!(rt; (trail.len(), trail.level(), trail.assigned()), (3, 1, 3));
-    assert_eq!(rt; trail.room(), 3);
-    assert_eq!(rt; (trail.len_to(0), trail.len_to(1)), (1, 3));
-    trail.undo_to(0);
-    assert_eq!(rt; (trail.len(), trail.level(), trail.assigned()), (1, 0, 3));
-    assert_eq!(rt; look_up(&trail, 3)?, (None, None, None, None));
-    Ok(())
-}
-
-#[test]
-fn marks_of_clean_reasons_go_with_their_literals(rt: HostRuntime) -> Result<(), Fail> {
-    let prefix = two_scopes(rt.alloc())?;
-    let mut steps = Steps::new(10);
-    let mut trail = Trail::new(rt.alloc());
-    decide(&mut trail, &prefix, lit(1, true)?, &mut steps)?;
-    propagate(&mut trail, &prefix, lit(2, true)?, &mut steps)?;
-    propagate(&mut trail, &prefix, lit(3, true)?, &mut steps)?;
-    assert_eq!(rt; clean_reason(&trail, 2)?, (false, Some(Why::Propagated(7))));
-    set_clean(&mut trail, &prefix, var(2)?, 9)?;
-    assert_eq!(rt; clean_reason(&trail, 1)?, (false, Some(Why::Decided)));
-    assert_eq!(rt; clean_reason(&trail, 2)?, (true, Some(Why::Propagated(9))));
-    assert_eq!(rt; clean_reason(&trail, 3)?, (false, Some(Why::Propagated(7))));
-    trail.undo_to(0);
-    assert_eq!(rt; clean_reason(&trail, 2)?, (false, None), "undone");
-    propagate(&mut trail, &prefix, lit(2, true)?, &mut steps)?;
-    assert_eq!(rt;
-        clean_reason(&trail, 2)?,
-        (false, Some(Why::Propagated(7))),
-        "again"
-    );
-    Ok(())
-}
-
-#[test]
-fn undone_assignments_are_counted(rt: HostRuntime) -> Result<(), Fail> {
-    let prefix = two_scopes(rt.alloc())?;
-    let mut steps = Steps::new(2);
-    let mut trail = Trail::new(rt.alloc());
-    decide(&mut trail, &prefix, lit(1, true)?, &mut steps)?;
-    propagate(&mut trail, &prefix, lit(2, true)?, &mut steps)?;
-    trail.undo_to(0);
-    assert_eq!(rt; (trail.is_empty(), trail.assigned()), (true, 2));
-    if steps.spent() == steps.budget() {
-        let stopped = trail.stop(&prefix, &steps);
-        assert_eq!(rt;
-            (stopped.budget(), stopped.vars(), stopped.assigned()),
-            (2, 3, 2)
-        );
-    }
-    assert_eq!(rt; (trail.is_empty(), trail.assigned()), (true, 0));
-    Ok(())
+// What assuming 1 and not 2 answers where the budget is this, and the trail after it.
+fn assume_two(alloc: Global, budget: u64) -> Result<(Result<(), Spent>, Trail), Fail> {
+    let prefix = alternating(alloc, &[2, 1])?;
+    let mut steps = Steps::new(budget);
+    let mut trail = Trail::new(alloc);
+    let first = Lit::new(var(1)?, true);
+    let second = Lit::new(var(2)?, false);
+    let answer = assume(&mut trail, &prefix, first, second, &mut steps)?;
+    Ok((answer, trail))
 }
 
 #[test]
 fn assumptions_that_cant_all_be_paid_are_undone(rt: HostRuntime) -> Result<(), Fail> {
-    let prefix = two_scopes(rt.alloc())?;
-    let mut trail = Trail::new(rt.alloc());
-    let mut steps = Steps::new(1);
-    let spent = assume(
-        &mut trail,
-        &prefix,
-        lit(1, true)?,
-        lit(2, false)?,
-        &mut steps,
-    )?;
+    let (answer, trail) = assume_two(rt.alloc(), 1)?;
     assert_eq!(rt;
-        (spent, trail.is_empty(), trail.assigned()),
+        (answer, trail.is_empty(), trail.assigned()),
         (Err(Spent), true, 1)
     );
-    trail.clear();
-    let mut steps = Steps::new(2);
-    let paid = assume(
-        &mut trail,
-        &prefix,
-        lit(1, true)?,
-        lit(2, false)?,
-        &mut steps,
-    )?;
-    assert_eq!(rt; (paid, trail.len(), trail.level()), (Ok(()), 2, 0));
+    let (answer, trail) = assume_two(rt.alloc(), 2)?;
+    assert_eq!(rt; (answer, trail.len(), trail.level()), (Ok(()), 2, 0));
     assert_eq!(rt;
         (trail.value(var(2)?), trail.why(var(2)?)),
         (Some(false), Some(Why::Assumed))
@@ -246,63 +384,40 @@ fn assumptions_that_cant_all_be_paid_are_undone(rt: HostRuntime) -> Result<(), F
 
 #[test]
 fn scopes_without_variables_are_passed_over(rt: HostRuntime) -> Result<(), Fail> {
-    let mut prefix = Prefix::new(rt.alloc());
-    for _ in 0..9 {
-        prefix.add_scope(Quant::Exists, None)?;
-    }
-    prefix.add_var(1, 2)?;
-    prefix.add_var(2, 8)?;
-    let mut steps = Steps::new(10);
-    let mut trail = Trail::new(rt.alloc());
-    assert_eq!(rt; trail.first_open(&prefix), Some(2));
-    decide(&mut trail, &prefix, lit(1, true)?, &mut steps)?;
-    assert_eq!(rt; trail.first_open(&prefix), Some(8));
-    decide(&mut trail, &prefix, lit(2, true)?, &mut steps)?;
-    assert_eq!(rt; trail.first_open(&prefix), None);
+    let game = Game::new(rt.alloc(), &[0, 1, 0, 0, 0, 0, 0, 1, 0], 10)?;
+    assert_eq!(rt; game.first_open(), Some(2));
+    let game = game.play(&[Turn::Decide(1, true)])?;
+    assert_eq!(rt; game.first_open(), Some(8));
+    let game = game.play(&[Turn::Decide(2, true)])?;
+    assert_eq!(rt; game.first_open(), None);
     Ok(())
-}
-
-// Existential scopes of one variable each, as many.
-fn single_scopes(alloc: Global, count: u64) -> Result<Prefix, Fail> {
-    let mut prefix = Prefix::new(alloc);
-    for number in 0..count {
-        prefix.add_scope(Quant::Exists, None)?;
-        prefix.add_var(number + 1, number + 1)?;
-    }
-    Ok(prefix)
 }
 
 #[test]
 fn full_scopes_are_passed_over_until_they_are_undone(rt: HostRuntime) -> Result<(), Fail> {
-    let prefix = single_scopes(rt.alloc(), 300)?;
-    let mut steps = Steps::new(1000);
-    let mut trail = Trail::new(rt.alloc());
-    propagate_all(&mut trail, &prefix, 2, 250, &mut steps)?;
-    propagate(&mut trail, &prefix, lit(250, true)?, &mut steps)?;
-    assert_eq!(rt; trail.first_open(&prefix), Some(1));
-    decide(&mut trail, &prefix, lit(1, true)?, &mut steps)?;
-    assert_eq!(rt; trail.first_open(&prefix), Some(251));
-    decide(&mut trail, &prefix, lit(251, true)?, &mut steps)?;
-    propagate(&mut trail, &prefix, lit(252, true)?, &mut steps)?;
-    assert_eq!(rt; trail.first_open(&prefix), Some(253));
-    trail.undo_to(0);
-    propagate(&mut trail, &prefix, lit(1, false)?, &mut steps)?;
-    assert_eq!(rt; trail.first_open(&prefix), Some(251), "undone");
-    trail.clear();
-    assert_eq!(rt; trail.first_open(&prefix), Some(1), "cleared");
+    let mut game = Game::new(rt.alloc(), &[1; 300], 1000)?;
+    for number in 2..251 {
+        game = game.play(&[Turn::Propagate(number, true)])?;
+    }
+    assert_eq!(rt; game.first_open(), Some(1));
+    let game = game.play(&[Turn::Decide(1, true)])?;
+    assert_eq!(rt; game.first_open(), Some(251));
+    let game = game.play(&[Turn::Decide(251, true), Turn::Propagate(252, true)])?;
+    assert_eq!(rt; game.first_open(), Some(253));
+    let game = game.play(&[Turn::Undo(0), Turn::Propagate(1, false)])?;
+    assert_eq!(rt; game.first_open(), Some(251), "undone");
+    let game = game.play(&[Turn::Clear])?;
+    assert_eq!(rt; game.first_open(), Some(1), "cleared");
     Ok(())
 }
 
 #[test]
 fn a_half_assigned_scope_is_open(rt: HostRuntime) -> Result<(), Fail> {
-    let prefix = two_scopes(rt.alloc())?;
-    let mut steps = Steps::new(10);
-    let mut trail = Trail::new(rt.alloc());
-    propagate(&mut trail, &prefix, lit(1, true)?, &mut steps)?;
-    assert_eq!(rt; trail.first_open(&prefix), Some(1));
-    decide(&mut trail, &prefix, lit(2, true)?, &mut steps)?;
-    assert_eq!(rt; trail.first_open(&prefix), Some(2));
-    trail.undo_to(0);
-    assert_eq!(rt; trail.first_open(&prefix), Some(1));
+    let game = Game::new(rt.alloc(), &[2, 1], 10)?.play(&[Turn::Propagate(1, true)])?;
+    assert_eq!(rt; game.first_open(), Some(1));
+    let game = game.play(&[Turn::Decide(2, true)])?;
+    assert_eq!(rt; game.first_open(), Some(2));
+    let game = game.play(&[Turn::Undo(0)])?;
+    assert_eq!(rt; game.first_open(), Some(1));
     Ok(())
 }

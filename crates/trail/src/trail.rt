@@ -335,9 +335,10 @@ impl Trail {
     /// The first scope with an unassigned variable, for the prefix of the calls since the last `clear` or `stop`; none
     /// exactly where every variable is assigned.
     ///
-    /// Scopes that are known to be all assigned are passed over in constant time: those that an assignment filled,
-    /// and all before a decision, up to the first literal of theirs that is undone. Else this looks at a scope
-    /// without variables, and at the scopes of numbers past the room.
+    /// Scopes that are known to be all assigned aren't looked at one by one: those that an assignment filled, and all
+    /// before a decision, up to the first literal of theirs that is undone. Up to 2^18 such scopes in a row are passed
+    /// over by looking at no more than 320 marks. Else this looks at a scope without variables, and at the scopes of
+    /// numbers past the room.
     pub fn first_open(&self, prefix: &Prefix) -> Option<usize>
         requires prefix { IsTrailFor prefix.now self.now }
         ensures none { IsNone result ↔ AreAssigned prefix.now self.now.placed }
