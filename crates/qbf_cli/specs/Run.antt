@@ -27,8 +27,7 @@ abbrev pub HasTruth : List ℕ → Bool → Type 0
 HasTruth text value = (f : Formula) × Reads text (parsed f) × (truth f.prefix f.clauses ≡ value)
 
 -- The text is a formula for which the plain recursion tries more values than the budget allows. So the budget is
--- below the
--- step limit of its variables.
+-- below the step limit of its variables.
 abbrev pub IsBeyond : ℕ → List ℕ → Type 0
 IsBeyond budget text = (f : Formula) × Reads text (parsed f) × (budget < plain_steps f.prefix f.clauses)
     × (budget < step_limit (length (all_variables f.prefix)))
@@ -47,8 +46,7 @@ input_name None = codes "-"
 input_name (Some name) = name
 
 -- The words ask to solve an input with a budget, and this is so of the budget and of the text that the input holds,
--- where
--- the desk tells.
+-- where the desk tells.
 pub record Asked (words : List (List ℕ)) (content : List ℕ → Option (List ℕ)) (P : ℕ → List ℕ → Type 0) : Type 0 where
   pub budget : ℕ
   pub name : Option (List ℕ)
@@ -56,8 +54,7 @@ pub record Asked (words : List (List ℕ)) (content : List ℕ → Option (List 
   pub holds : IfSome (content (input_name name)) (P budget)
 
 -- What the status says of the words and the input: a true formula, a false one, one for which the budget is below
--- what the
--- plain recursion tries, a malformed text, one beyond a limit, or words that ask for no command.
+-- what the plain recursion tries, a malformed text, one beyond a limit, or words that ask for no command.
 pub record IsVerdict (words : List (List ℕ)) (content : List ℕ → Option (List ℕ)) (status : ℕ) : Type 0 where
   pub sat : status ≡ 10 → Asked words content (λ budget text. HasTruth text true)
   pub unsat : status ≡ 20 → Asked words content (λ budget text. HasTruth text false)
@@ -141,8 +138,7 @@ fixed_line status =
     else []
 
 -- The line on the error output: with what the text says where it is malformed or goes beyond a limit, and any text
--- where
--- the words ask for no command.
+-- where the words ask for no command.
 pub record IsErrorLine (words : List (List ℕ)) (content : List ℕ → Option (List ℕ)) (status : ℕ)
     (line : List ℕ) : Type 0 where
   pub refused : status ≡ 2 → (number at : ℕ) × (line ≡ refused_line number at)

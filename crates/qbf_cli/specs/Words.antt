@@ -7,8 +7,7 @@ use Rattle.qbf_cli.specs.declared.ending.RunEnding.{RunEnding}
 use Rattle.qbf_cli.specs.declared.ending.RunEnding.TheVariants.{Worked, Usage}
 
 -- The ending where the system has an error of this kind for the words: want of memory, which is free, and for any
--- kind but
--- that a text that says what is wrong.
+-- kind but that a text that says what is wrong.
 abbrev pub IsRefusal : ErrorKind → RunEnding → Type 0
 IsRefusal kind (Usage text) = (kind ≢ OutOfMemory) × (string_bytes text ≡ codes "error: a word isn't UTF-8\n")
 IsRefusal kind (Worked NoMemory) = Unit {0}

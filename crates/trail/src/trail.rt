@@ -85,8 +85,8 @@ impl Trail {
         }
     }
 
-    /// Makes room for the variables of numbers up to `vars`, and counts the scopes of numbers up to that. With no
-    /// memory the trail stays as it was.
+    /// Makes room for the variables of numbers up to `vars`, and counts the scopes of numbers up to that. Where the room
+    /// grows this looks at each literal of the trail once. With no memory the trail stays as it was.
     pub fn reserve(&mut self, vars: usize) -> Result<(), NoMemory>
         ensures ok { OnOk result (self.new ≡ with_room self.old vars) }
         ensures err { OnErr result (self.new ≡ self.old) }
