@@ -91,6 +91,13 @@ module _ (head own prev next : ℕ → Option ℕ) (linked : Linked head own pre
       (r.0, all))
       m
 
+  -- all of its rows are in the list
+  pub path_owned : (xs : List ℕ) (x : ℕ) → own x ≡ Some name → Path next xs (Some x) → (i : ℕ) → In xs i → own i ≡ Some name
+  path_owned [] x o p i m = absurd m
+  path_owned (y ∷ ys) x o p i m =
+      let here : own y ≡ Some name = ap own (sym (same_some x y p.0)) ∙ o in
+      ⊎_elim (λ same. ap own same ∙ here) (λ later. (path_falls ys y i here p.1 later).0) m
+
   path_from : (gap x : ℕ) → linked.rank x < gap → own x ≡ Some name → (xs : List ℕ) × Path next xs (Some x)
   path_from zero x low o = absurd (omega arith)
   path_from (suc gap) x low o =
@@ -162,14 +169,13 @@ module _ (pivot : Quant) (values : Values) (base other name : ℕ) where
       let prev : ℕ → Option ℕ = λ i. link_at arena i (base + 1) in
       ⊎_elim
       (λ x.
-      let t = linked.top x.0 name x.1 in
-      let p = path_from (first_of heads) own prev (behind arena base) linked name (suc (linked.rank x.0)) x.0 (omega arith) t.0 in
+      let o = (linked.top x.0 name x.1).0 in
+      let p = path_from (first_of heads) own prev (behind arena base) linked name (suc (linked.rank x.0)) x.0 (omega arith) o in
       let q : Path (behind arena base) p.0 (first_of heads name) = rw x.1 p.1 in
-      let tail = tail_of (behind arena base) p.0 x.0 p.1 in
       record {
         rows = p.0;
         path = rw is q;
-        listed = λ i m. ⊎_elim (λ same. ap own same ∙ t.0) (λ later. (path_falls (first_of heads) own prev (behind arena base) linked name tail.rest x.0 i t.0 tail.path later).0) (tail.from i m);
+        listed = path_owned (first_of heads) own prev (behind arena base) linked name p.0 x.0 o p.1;
         passed = λ i o. inl (path_whole (first_of heads) own prev (behind arena base) linked name p.0 q linked.bound i o (omega arith));
       })
       (λ none. record {
