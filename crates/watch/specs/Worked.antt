@@ -8,7 +8,7 @@ use Rattle.truth.specs.Truth.{assumed_value}
 use Rattle.rows.specs.Arena.{Arena, with_link, with_row}
 use Rattle.watch.specs.Links.{is_attached, owner}
 use Rattle.watch.specs.Pairs.{IsTyped, bad_by, good_by, held_name, is_free_pivot, is_good_now, is_partner, watch_name}
-use Rattle.watch.specs.State.{WatchState, looked, undone_to}
+use Rattle.watch.specs.State.{IsGuarded, WatchState, looked, undone_to}
 
 -- a variable as a literal
 abbrev pub plus : ℕ → Literal
@@ -60,6 +60,9 @@ pub record WorkedPairs : Type 0 where
   pub bad_is_not_good : is_good_now Exists one_not_two (plus 2) ≡ false
   pub open_is_not_good : is_good_now Exists one_not_two (plus 3) ≡ false
   pub good_of_cubes : is_good_now Forall one_not_two (plus 2) ≡ true
+  pub guarded : IsGuarded Exists one_not_two (minus 1) (minus 2)
+  pub guarded_turned : IsGuarded Exists one_not_two (minus 2) (minus 1)
+  pub open_guards_not : IsGuarded Exists one_not_two (minus 1) (plus 3) → ⊥
 
 pub record WorkedLists : Type 0 where
   pub made_bad : bad_by Exists (plus 1) ≡ minus 1
@@ -72,6 +75,7 @@ pub record WorkedLists : Type 0 where
   pub not_attached : is_attached Forall two_rows 0 ≡ false
   pub list : owner Forall two_rows 0 1 ≡ Some 6
   pub no_list : owner Forall two_rows 0 0 ≡ None
+  pub list_of_the_other_side : owner Exists two_rows 0 1 ≡ None
   pub cut : looked (undone_to 1 looked_at_three) ≡ plus 1 ∷ []
   pub cut_beyond : looked (undone_to 7 looked_at_three) ≡ looked looked_at_three
   pub cut_twice : looked (undone_to 2 (undone_to 1 looked_at_three)) ≡ plus 1 ∷ []

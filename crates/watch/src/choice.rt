@@ -32,7 +32,7 @@ fn is_bad<S: Side>(trail: &Trail, lit: Lit) -> bool
 }
 
 // Whether a literal is good.
-fn is_good<S: Side>(trail: &Trail, lit: Lit) -> bool
+pub(crate) fn is_good<S: Side>(trail: &Trail, lit: Lit) -> bool
     ensures { result ≡ is_good_now S.PIVOT (value_on trail.now.placed) lit }
 {
     trail.value(lit.var()).is_some() && !is_bad::<S>(trail, lit)

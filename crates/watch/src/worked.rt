@@ -1,7 +1,7 @@
 //! Worked values of the definitions, each proved.
 ghost use Rattle.watch.specs.Worked.{WorkedLists, WorkedPairs};
 
-/// Typed pairs over four variables, and what literals are under two assignments.
+/// Typed pairs over four variables, and what literals and pairs are under two assignments.
 pub fn worked_pairs()
     ensures { WorkedPairs }
 {}

@@ -13,6 +13,7 @@ returns c = record {
   not_attached = refl;
   list = refl;
   no_list = refl;
+  list_of_the_other_side = refl;
   cut = refl;
   cut_beyond = refl;
   cut_twice = refl;

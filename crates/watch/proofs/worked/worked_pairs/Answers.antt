@@ -32,4 +32,7 @@ returns c = record {
   bad_is_not_good = refl;
   open_is_not_good = refl;
   good_of_cubes = refl;
+  guarded = record { first = λ bad. refl; second = λ bad. absurd (false≢true bad) };
+  guarded_turned = record { first = λ bad. absurd (false≢true bad); second = λ bad. refl };
+  open_guards_not = λ g. false≢true (g.first refl);
 }
