@@ -2,7 +2,7 @@
 use Rattle.std.specs.Prelude.{◌≡◌, ℕ, ◌==◌, true, false, not, [], ◌∷◌}
 use Rattle.prefix.specs.declared.quant.Quant.TheVariants.{Exists}
 use Rattle.aig.specs.Circuits.{Circuit, zero, one, opposite, value_of, edge_number, IsGate}
-use Rattle.aig.specs.Strategies.{values_of}
+use Rattle.aig.specs.Strategies.{IsStrategy, values_of}
 use Rattle.aig.specs.declared.edge.Edge.{Edge}
 use Rattle.aig.specs.declared.edge.Node.TheVariants.{Input, Gate}
 use Rattle.aig.specs.declared.strategy.Strategy.{Strategy}
@@ -74,10 +74,14 @@ pub record WorkedCircuits : Type 0 where
   pub either_of_second : value_of either (false ∷ true ∷ []) (gate 2) ≡ true
   pub either_of_both : value_of either (true ∷ true ∷ []) (gate 2) ≡ false
 
--- outputs have the circuit's values, all other variables those that they had
+-- outputs have the circuit's values, all other variables those that they had; and each input has a variable, and each
+-- output is an edge of the circuit
 pub record WorkedStrategies : Type 0 where
   pub output_rises : values_of conjunction (λ x. not (x == 3)) 3 ≡ true
   pub output_falls : values_of conjunction (λ x. x == 1) 3 ≡ false
   pub input_stays : values_of conjunction (λ x. x == 1) 1 ≡ true
   pub other_input_stays : values_of conjunction (λ x. x == 1) 2 ≡ false
   pub other_stays : values_of conjunction (λ x. x == 4) 4 ≡ true
+  pub whole : IsStrategy conjunction
+  pub unnamed_input : IsStrategy (record conjunction { inputs = 1 ∷ [] }) → ⊥
+  pub loose_output : IsStrategy (record conjunction { outputs = record { var = 3; edge = gate 1 } ∷ [] }) → ⊥

@@ -42,6 +42,21 @@ fn numbers_are_literals_of_aiger(rt: HostRuntime) -> Result<(), Fail> {
 }
 
 #[test]
+fn folds_make_no_gate(rt: HostRuntime) -> Result<(), Fail> {
+    let mut aig = Aig::new(rt.alloc(), 1)?;
+    let (a, zero, one) = (aig.input(0), Edge::constant(false), Edge::constant(true));
+    let folded = [
+        aig.and(a, zero)?,
+        aig.and(one, a)?,
+        aig.and(a, a)?,
+        aig.and(a, a.not())?,
+    ];
+    assert_eq!(rt; folded, [zero, a, a, zero]);
+    assert_eq!(rt; aig.gates(), 0);
+    Ok(())
+}
+
+#[test]
 fn later_gates_leave_values_as_they_were(rt: HostRuntime) -> Result<(), Fail> {
     let mut aig = Aig::new(rt.alloc(), 2)?;
     let (a, b) = (aig.input(0), aig.input(1));

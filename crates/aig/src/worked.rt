@@ -16,7 +16,7 @@ pub fn worked_circuits()
     ensures { WorkedCircuits }
 {}
 
-/// What a strategy makes of values.
+/// What a strategy makes of values, and what is a strategy and what is none.
 pub fn worked_strategies()
     ensures { WorkedStrategies }
 {}

@@ -1,0 +1,5 @@
+pub mod Text
+pub mod Aag
+pub mod Theorems
+pub mod Written
+pub mod Worked
