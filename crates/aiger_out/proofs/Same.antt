@@ -13,7 +13,7 @@ use Rattle.aig.specs.declared.edge.And.{And}
 use Rattle.aig.specs.declared.strategy.Output.{Output}
 use Rattle.aig.specs.declared.strategy.Strategy.{Strategy}
 use Rattle.aiger_out.specs.Text.{Line, numeral, text_of}
-use Rattle.aiger_out.specs.Aag.{AreOf, EachAt, IsAagText, IsGateLine, IsInputLine, IsInputSymbol, IsOutputLine, IsOutputSymbol, comment_lines, header_line, literal_line, symbol_line}
+use Rattle.aiger_out.specs.Aag.{AreLiteralsOf, EachAt, IsAagText, IsGateLine, IsInputLine, IsInputSymbol, IsOutputLine, IsOutputSymbol, comment_lines, header_line, literal_line, symbol_line}
 use Rattle.aiger_out.specs.Theorems.{AreOneGate, HaveOneCircuit}
 use Rattle.aiger_out.proofs.Numerals.{plain_numeral, same_numeral}
 use Rattle.aiger_out.proofs.Reading.{ArePlain, IsPlainLine, each_length, each_line, each_plain, each_zip, plain_append, same_front, same_lines, zip_both}
@@ -84,7 +84,7 @@ module _ (inputs k : ℕ) (g h : And) (p : IsGate inputs k g) (q : IsGate inputs
   abbrev make : Edge → Edge → And
   make left right = record { left = left; right = right }
 
-  one_gate : (m n : ℕ) → AreOf inputs g m n → AreOf inputs h m n → AreOneGate g h
+  one_gate : (m n : ℕ) → AreLiteralsOf inputs g m n → AreLiteralsOf inputs h m n → AreOneGate g h
   one_gate m n (inl a) (inl b) = inl (ap₂ make (left_left (sym a.0 ∙ b.0)) (right_right (sym a.1 ∙ b.1)))
   one_gate m n (inl a) (inr b) = inr (ap₂ make (left_right (sym a.0 ∙ b.0)) (right_left (sym a.1 ∙ b.1)))
   one_gate m n (inr a) (inl b) = inr (ap₂ make (left_right (sym a.1 ∙ b.1)) (right_left (sym a.0 ∙ b.0)))
@@ -94,7 +94,7 @@ gate_one : (inputs other k : ℕ) (l : Line) (g h : And) → inputs ≡ other �
 gate_one inputs other k l g h same p q' =
     let q = subst (λ n. IsGateLine n k l h) (sym same) q' in
     let words = gate_words l p.lhs p.rhs0 p.rhs1 q.lhs q.rhs0 q.rhs1 p.words q.words in
-    one_gate inputs k g h p.proper q.proper p.rhs0 p.rhs1 p.edges (subst (λ n. AreOf inputs h p.rhs0 n) (sym words.2) (subst (λ n. AreOf inputs h n q.rhs1) (sym words.1) q.edges))
+    one_gate inputs k g h p.proper q.proper p.rhs0 p.rhs1 p.edges (subst (λ n. AreLiteralsOf inputs h p.rhs0 n) (sym words.2) (subst (λ n. AreLiteralsOf inputs h n q.rhs1) (sym words.1) q.edges))
 
 -- values do not depend on the order of a gate's edges
 
