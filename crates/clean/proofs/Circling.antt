@@ -1,5 +1,5 @@
 -- The loop over the list of reasons on the way.
-use Rattle.std.proofs.Common.{◌≡◌, ℕ, zero, suc, ◌+◌, ◌-◌, ◌*◌, ◌<◌, ◌≤◌, Bool, true, false, List, [], ◌∷◌, ◌++◌, length, take, get_or, Option, Some, None, refl, sym, subst, ap, ap₂, ◌∙◌, ⊎_elim, arith, append_assoc, nat_eq}
+use Rattle.std.proofs.Common.{◌≡◌, ℕ, zero, suc, ◌+◌, ◌-◌, ◌*◌, ◌<◌, ◌≤◌, ◌⊎◌, Bool, true, false, List, [], ◌∷◌, ◌++◌, length, take, get_or, Option, Some, None, refl, sym, subst, ap, ap₂, ◌∙◌, inl, inr, ⊎_elim, arith, append_assoc, nat_eq}
 use Rattle.std.specs.Prelude.{IsTrue}
 use Rattle.std.proofs.lemmas.List.{length-map, take_all, length_push}
 use Rattle.std.proofs.lemmas.Bool.{cases_Bool, cond-true, cond-false, true≢false}
@@ -14,7 +14,7 @@ use Rattle.std.specs.Option.{option_map}
 use Rattle.trail.specs.State.{TrailState, IsPropagated, IsTrailFor, is_marked}
 use Rattle.derive.specs.State.{State, IsLegalFor, has_rows}
 use Rattle.clean.specs.declared.frame.Frame.{Frame}
-use Rattle.clean.specs.Frames.{AreFrames, AreMarkedOn, IsDue, IsTurn, Marks, TurnsTop, WaitsFor}
+use Rattle.clean.specs.Frames.{AreFrames, AreMarkedOn, IsDue, IsFirstBlocked, IsFrameBlocked, IsTurn, Marks, TurnsTop, WaitsFor}
 use Rattle.clean.specs.Frames.IsTurn.{marks, waits, turns}
 use Rattle.clean.specs.Marks.{CleansReasons, KeepsReasons, MarksMore, StopsCleaning, kind_of, kinds_on, marks_in, marks_left}
 use Rattle.clean.specs.Reasons.{HaveReasons}
@@ -168,6 +168,34 @@ pub record IsUnderWay (pivot : Quant) (scopes : List Scope) (old now : State) (t
   pub have : HaveReasons pivot scopes now t
   pub frames : AreFrames pivot scopes now t (length t.placed) stack
   pub base : HasBase t (first_of first) stack
+  pub one : length first ≡ 1
+  pub due : IsFirstBlocked pivot scopes old t0 first ⊎ (((stack ≡ first) × (now ≡ old) × (t ≡ t0)) ⊎ (stack ≡ []))
+
+-- where a resolution is due, one was due for the first reason
+module _ (pivot : Quant) (scopes : List Scope) where
+  no_top : (rest : List Frame) (top : Frame) → rest ++ top ∷ [] ≡ [] → ⊥
+  no_top rest top e = let long = length_push rest top in let none : length (rest ++ top ∷ []) ≡ 0 = ap length e in omega arith
+
+  alone : (rest : List Frame) (f top : Frame) → rest ++ top ∷ [] ≡ f ∷ [] → top ≡ f
+  alone [] f top e = let same : top ∷ [] ≡ f ∷ [] = e in cc
+  alone (g ∷ rest) f top e = absurd (no_top rest top (let same : g ∷ (rest ++ top ∷ []) ≡ f ∷ [] = e in cc))
+
+  first_due : (d : State) (t : TrailState) (first rest : List Frame) (top : Frame) → length first ≡ 1 → rest ++ top ∷ [] ≡ first → IsFrameBlocked pivot scopes d t top → IsFirstBlocked pivot scopes d t first
+  first_due d t [] rest top one is blocked = absurd (no_top rest top is)
+  first_due d t (f ∷ []) rest top one is blocked = subst (IsFrameBlocked pivot scopes d t) (alone rest f top is) blocked
+  first_due d t (f ∷ g ∷ fs) rest top one is blocked = absurd (let more : length (f ∷ g ∷ fs) ≡ suc (suc (length fs)) = refl in omega arith)
+
+  pub was_due : (old now : State) (t0 t : TrailState) (before spent : Counter) (first stack : List Frame) → IsUnderWay pivot scopes old now t0 t before spent first stack → IsDue pivot scopes now t stack → IsFirstBlocked pivot scopes old t0 first
+  was_due old now t0 t before spent first stack is due =
+      ⊎_elim
+      (λ blocked. blocked)
+      (λ others. ⊎_elim
+      (λ same.
+      first_due old t0 first due.rest due.top is.one (sym due.is ∙ same.0)
+      (subst (λ (u : TrailState). IsFrameBlocked pivot scopes old u due.top) same.2 (subst (λ (d : State). IsFrameBlocked pivot scopes d t due.top) same.1 due.blocked)))
+      (λ none. absurd (no_top due.rest due.top (sym due.is ∙ none)))
+      others)
+      is.due
 
 -- what grows less
 abbrev pub weight : TrailState → List Frame → ℕ
@@ -218,6 +246,14 @@ module _ (pivot : Quant) (scopes : List Scope) (old now new : State) (t0 t next 
           trail = trail;
           have = reasons pivot is.have;
           frames = frames;
+          one = is.one;
+          due = ⊎_elim
+              inl
+              (λ others. ⊎_elim
+              (λ same. let alone : length then ≡ 0 = (let whole = ap length same.0 in let first_long = is.one in omega arith) in inr (inr (empty then alone)))
+              (λ none. absurd (let whole : length stack ≡ 0 = ap length none in omega arith))
+              others)
+              is.due;
           base = based then m.top (first_of first) (subst (HasBase t (first_of first)) m.taken_off is.base) (ap (λ (s : TrailState). is_marked s x) m.marked ∙ marked_own t x m.top.row was.0 was.1 long);
         },
         let left : length t.marks - (marks_in t.marks + length stack) ≡ length next.marks - (marks_in next.marks + length then) = omega arith in
@@ -225,6 +261,10 @@ module _ (pivot : Quant) (scopes : List Scope) (old now new : State) (t0 t next 
             omega arith,
       )
     where
+      empty : (fs : List Frame) → length fs ≡ 0 → fs ≡ []
+      empty [] e = refl
+      empty (f ∷ fs) e = absurd (let more : length (f ∷ fs) ≡ suc (length fs) = refl in omega arith)
+
       based : (fs : List Frame) (f : Frame) (x : ℕ) → HasBase t x (fs ++ f ∷ []) → IsTrue (is_marked next f.var) → HasBase next x fs
       based [] f x has on = ap (is_marked next) (sym has) ∙ on
       based (g ∷ fs) f x has on = has
@@ -233,8 +273,8 @@ module _ (pivot : Quant) (scopes : List Scope) (old now new : State) (t0 t next 
   base_same [] gs f g x has e = e ∙ has
   base_same (h ∷ fs) gs f g x has e = has
 
-  pub turns_waits : WaitsFor now new t next stack then spent later → Next
-  turns_waits w =
+  pub turns_waits : IsDue pivot scopes now t stack → WaitsFor now new t next stack then spent later → Next
+  turns_waits is_due w =
       let l = ap lefts (w.more ∙ ap (λ (fs : List Frame). fs ++ w.next ∷ []) (sym w.is)) ∙ lefts_more stack w.next in
       let s = ap (spots t.placed) (w.more ∙ ap (λ (fs : List Frame). fs ++ w.next ∷ []) (sym w.is)) ∙ spots_more t.placed stack w.next in
       let few = is.few in
@@ -261,6 +301,8 @@ module _ (pivot : Quant) (scopes : List Scope) (old now new : State) (t0 t next 
           trail = trail;
           have = reasons pivot is.have;
           frames = frames;
+          one = is.one;
+          due = inl (was_due pivot scopes old now t0 t before spent first stack is is_due);
           base = subst (HasBase next (first_of first)) (sym (w.more ∙ append_assoc w.rest (w.top ∷ []) (w.next ∷ []))) (base_same w.rest (w.next ∷ []) w.top w.top (first_of first) (subst (HasBase t (first_of first)) w.is is.base) refl);
         },
         let k : ℕ = length next.marks - (marks_in next.marks + length then) in
@@ -270,8 +312,8 @@ module _ (pivot : Quant) (scopes : List Scope) (old now new : State) (t0 t next 
             omega arith,
       )
 
-  pub turns_turned : TurnsTop scopes now new t next stack then spent later → Next
-  turns_turned r =
+  pub turns_turned : IsDue pivot scopes now t stack → TurnsTop scopes now new t next stack then spent later → Next
+  turns_turned is_due r =
       let l = ap lefts r.is ∙ lefts_more r.rest r.top in
       let m = ap lefts r.turned ∙ lefts_more r.rest r.next in
       let s = ap (spots t.placed) r.is ∙ spots_more t.placed r.rest r.top in
@@ -294,6 +336,8 @@ module _ (pivot : Quant) (scopes : List Scope) (old now new : State) (t0 t next 
           trail = trail;
           have = reasons pivot is.have;
           frames = frames;
+          one = is.one;
+          due = inl (was_due pivot scopes old now t0 t before spent first stack is is_due);
           base = subst (HasBase next (first_of first)) (sym r.turned) (base_same r.rest [] r.top r.next (first_of first) (subst (HasBase t (first_of first)) r.is is.base) r.same_variable);
         },
         let size : length stack ≡ length then = omega arith in
@@ -301,10 +345,10 @@ module _ (pivot : Quant) (scopes : List Scope) (old now new : State) (t0 t next 
             omega arith,
       )
 
-  pub turns_once : IsTurn scopes now new t next stack then spent later → Next
+  pub turns_once : IsTurn pivot scopes now new t next stack then spent later → Next
   turns_once (marks m) = turns_marked m
-  turns_once (waits w) = turns_waits w
-  turns_once (turns r) = turns_turned r
+  turns_once (waits due w) = turns_waits due w
+  turns_once (turns due r) = turns_turned due r
 
 -- the ways out
 
@@ -324,6 +368,8 @@ starts_under_way pivot scopes d t c (f ∷ []) rows legal trail have frames one 
   have = have;
   frames = frames;
   base = refl;
+  one = one;
+  due = inr (inl (refl, refl, refl));
 }
 
 pub ends_marked : (t : TrailState) (first : List Frame) → length first ≡ 1 → HasBase t (first_of first) [] → AreMarkedOn t first
@@ -342,7 +388,7 @@ ends_clean pivot scopes old now t0 t before spent first is = record {
 }
 
 -- a step is due: fewer were taken than the square of the trail's length
-pub under_square : (pivot : Quant) (scopes : List Scope) (old now : State) (t0 t : TrailState) (before spent : Counter) (first stack : List Frame) (is : IsUnderWay pivot scopes old now t0 t before spent first stack) → IsDue stack → is.taken + 1 ≤ marks_left t0 * length t0.placed
+pub under_square : (pivot : Quant) (scopes : List Scope) (old now : State) (t0 t : TrailState) (before spent : Counter) (first stack : List Frame) (is : IsUnderWay pivot scopes old now t0 t before spent first stack) → IsDue pivot scopes now t stack → is.taken + 1 ≤ marks_left t0 * length t0.placed
 under_square pivot scopes old now t0 t before spent first stack is due =
     let size = marks_size t0 t is.made is.marks in
     let few = all_few pivot scopes now t stack is.trail.marked is.frames in
@@ -351,12 +397,13 @@ under_square pivot scopes old now t0 t before spent first stack is due =
     let at : length stack * length t.placed ≡ length stack * length t0.placed = ap (λ n. length stack * n) size in
     let parts = times_sum is.made (length stack) (length t0.placed) in
     let most = times_most (is.made + length stack) (marks_left t0) (length t0.placed) (omega arith) in
-    let l = ap lefts due.2 ∙ lefts_more due.0 due.1 in
-    let some = due.3 in
+    let l = ap lefts due.is ∙ lefts_more due.rest due.top in
+    let top = (frames_less pivot scopes now t (length t.placed) due.rest due.top (subst (AreFrames pivot scopes now t (length t.placed)) due.is is.frames)).1 in
+    let some = top.blockers due.blocked.blocker due.blocked.blocked due.blocked.blocks in
     let counts = is.few in
     omega arith
 
-pub stops_clean : (pivot : Quant) (scopes : List Scope) (old now new : State) (t0 t next : TrailState) (before spent later : Counter) (first stack : List Frame) (is : IsUnderWay pivot scopes old now t0 t before spent first stack) → IsDue stack → next ≡ t → StopsAfter scopes 1 now new spent later → StopsCleaning scopes old new t0 next before later (marks_left t0 * length t0.placed)
+pub stops_clean : (pivot : Quant) (scopes : List Scope) (old now new : State) (t0 t next : TrailState) (before spent later : Counter) (first stack : List Frame) (is : IsUnderWay pivot scopes old now t0 t before spent first stack) → IsDue pivot scopes now t stack → next ≡ t → StopsAfter scopes 1 now new spent later → StopsCleaning scopes old new t0 next before later (marks_left t0 * length t0.placed)
 stops_clean pivot scopes old now new t0 t next before spent later first stack is due same stops =
     let square = under_square pivot scopes old now t0 t before spent first stack is due in
     let few = stops.few in

@@ -11,10 +11,11 @@ use Rattle.trail.specs.State.{TrailState}
 use Rattle.steps.specs.Counter.{Counter, after}
 use Rattle.derive.proofs.Growth.{grows_itself}
 use Rattle.derive.specs.State.{Note, SameStep, State, IsLegalFor, has_rows, is_step, may_be_antecedent, note_at, row_of, side_at, side_in}
+use Rattle.derive.specs.Growing.{AreUnlinked}
 use Rattle.derive.specs.Theorems.{Grows}
 use Rattle.derive.proofs.Legality.{listed_told}
 use Rattle.clean.specs.Reasons.{HaveReasons, IsReason, IsReducedStep}
-use Rattle.clean.proofs.Links.{itself_unlinked, unlinked_twice}
+use Rattle.clean.proofs.Links.{unlinked_twice}
 use Rattle.clean.specs.Turns.{Resolves}
 
 -- growth twice is growth
@@ -78,7 +79,7 @@ resolves_more scopes a b c m n first second =
     record {
       grows = grows_twice a b c first.grows second.grows;
       has_rows = second.has_rows;
-      unlinked = unlinked_twice a b c first.unlinked second.grows.others second.unlinked;
+      unlinked = λ (dead : AreUnlinked a a). unlinked_twice a b c (first.unlinked dead) first.grows.others second.grows.others second.unlinked;
       clauses = second.clauses ∙ first.clauses;
       resolvents = omega arith;
       reductions = omega arith;
@@ -90,7 +91,7 @@ pub resolves_none : (scopes : List Scope) (d : State) → IsTrue (has_rows d) �
 resolves_none scopes d rows = record {
   grows = grows_itself d;
   has_rows = rows;
-  unlinked = itself_unlinked d;
+  unlinked = λ dead. dead;
   clauses = refl;
   resolvents = omega arith;
   reductions = omega arith;

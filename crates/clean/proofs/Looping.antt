@@ -1,5 +1,5 @@
 -- The loop of cleaning.
-use Rattle.std.proofs.Common.{◌≡◌, ℕ, ◌+◌, ◌*◌, ◌<◌, ◌≤◌, true, List, length, take, Option, Some, None, sym, subst, ap, ◌∙◌, arith}
+use Rattle.std.proofs.Common.{◌≡◌, ℕ, ◌+◌, ◌*◌, ◌<◌, ◌≤◌, true, List, length, take, Option, Some, None, refl, sym, subst, ap, ap₂, ◌∙◌, inl, inr, ⊎_elim, arith}
 use Rattle.std.specs.Prelude.{IsTrue}
 use Rattle.std.proofs.lemmas.List.{length-take-le}
 use Rattle.prefix.specs.declared.quant.Quant.{Quant}
@@ -12,8 +12,8 @@ use Rattle.calculus.specs.Search.{Blocks, IsLastBlocker, is_bad_now, literals_on
 use Rattle.calculus.proofs.Searching.{bad_assigned}
 use Rattle.trail.specs.State.{TrailState, IsTrailFor}
 use Rattle.derive.specs.State.{State, IsLegalFor, has_rows, row_of}
-use Rattle.clean.specs.Cleaning.{Cleans, MayBeCleaned, MayReplace, Replaces, before_kept}
-use Rattle.clean.specs.Blockers.{IsLatestBlocker}
+use Rattle.clean.specs.Cleaning.{Cleans, IsDoneIfBlocked, MayBeCleaned, MayReplace, Replaces, before_kept}
+use Rattle.clean.specs.Blockers.{IsBlocked, IsLatestBlocker}
 use Rattle.clean.specs.Marks.{CleansReasons, KeepsReasons, StopsCleaning, marks_left}
 use Rattle.clean.specs.Reasons.{IsOnTheWay, IsReducedStep}
 use Rattle.clean.proofs.Circling.{cleans_none, marks_size, marks_twice, same_placed, times_sum}
@@ -73,8 +73,9 @@ module _ (scopes : List Scope) (a b c : State) (t u v : TrailState) (x y z : Cou
       omega arith
 
 -- the state of the loop, after some resolutions
-pub record IsCleaning (pivot : Quant) (scopes : List Scope) (kept : Option Literal) (end : ℕ) (old now : State) (t u : TrailState) (before spent : Counter) (row taken : ℕ) : Type 0 where
+pub record IsCleaning (pivot : Quant) (scopes : List Scope) (kept : Option Literal) (end : ℕ) (old now : State) (t u : TrailState) (before spent : Counter) (first row taken : ℕ) : Type 0 where
   pub cleans : CleansReasons scopes old now t u before spent taken
+  pub due : IsDoneIfBlocked pivot scopes old now t u before spent (take end t.placed) first row
   pub reasons : KeepsReasons scopes old now t u
   pub legal : IsLegalFor scopes now
   pub trail : IsTrailFor scopes u
@@ -83,11 +84,12 @@ pub record IsCleaning (pivot : Quant) (scopes : List Scope) (kept : Option Liter
   pub blockers : (g b : Literal) → Blocks pivot scopes (value_on (take end t.placed)) (row_of now row) g b → place_on (take end t.placed) g.variable + taken < end
 
 module _ (pivot : Quant) (scopes : List Scope) (kept : Option Literal) (end : ℕ) (old : State) (t : TrailState) (before : Counter) (within : end ≤ length t.placed) where
-  pub cleaning_starts : (row : ℕ) → IsTrue (has_rows old) → IsLegalFor scopes old → IsTrailFor scopes t → IsReducedStep pivot scopes old row → before_kept kept t.placed ≡ take end t.placed → MayBeCleaned pivot scopes t.placed kept (row_of old row) → IsCleaning pivot scopes kept end old old t t before before row 0
+  pub cleaning_starts : (row : ℕ) → IsTrue (has_rows old) → IsLegalFor scopes old → IsTrailFor scopes t → IsReducedStep pivot scopes old row → before_kept kept t.placed ≡ take end t.placed → MayBeCleaned pivot scopes t.placed kept (row_of old row) → IsCleaning pivot scopes kept end old old t t before before row row 0
   cleaning_starts row rows legal trail step is may =
       let way = starts_on pivot scopes t.placed (take end t.placed) kept (row_of old row) is may in
       record {
         cleans = cleans_none scopes old t before rows;
+        due = inr (record { same_row = refl; same_derivation = refl; same_trail = refl; uncounted = refl });
         reasons = λ side have. have;
         legal = legal;
         trail = trail;
@@ -96,7 +98,7 @@ module _ (pivot : Quant) (scopes : List Scope) (kept : Option Literal) (end : �
         blockers = λ g b blocks. let below = way_within pivot scopes (take end t.placed) kept (row_of old row) way g b blocks in let size = length-take-le end t.placed within in omega arith;
       }
 
-  module _ (now : State) (u : TrailState) (spent : Counter) (row taken : ℕ) (is : IsCleaning pivot scopes kept end old now t u before spent row taken) where
+  module _ (now : State) (u : TrailState) (spent : Counter) (first row taken : ℕ) (is : IsCleaning pivot scopes kept end old now t u before spent first row taken) where
     same : literals_on u.placed ≡ literals_on t.placed
     same = same_placed t u is.cleans.made is.cleans.marks
 
@@ -149,13 +151,26 @@ module _ (pivot : Quant) (scopes : List Scope) (kept : Option Literal) (end : �
         propagated = blocker_cause pivot scopes u.placed kept end (row_of now row) is.trail.ordered (step_row scopes now row is.legal is.step.step) way_now f last_now;
       }
 
-      pub cleaning_goes_on : (new : State) (w : TrailState) (later : Counter) (id : ℕ) → Replaces pivot scopes u w now new spent later row f id → KeepsReasons scopes now new u w → IsLegalFor scopes new → IsTrailFor scopes w → IsCleaning pivot scopes kept end old new t w before later id (taken + 1)
+      -- one was due at first
+      pub cleaning_due : IsBlocked pivot scopes (take end t.placed) (row_of old first)
+      cleaning_due =
+          ⊎_elim
+          (λ blocked. blocked)
+          (λ same. record {
+            blocker = f;
+            blocked = last.blocked;
+            blocks = subst (λ (r : Row). Blocks pivot scopes (value_on (take end t.placed)) r f last.blocked) (ap₂ row_of same.same_derivation same.same_row) last.blocks;
+          })
+          is.due
+
+      pub cleaning_goes_on : (new : State) (w : TrailState) (later : Counter) (id : ℕ) → Replaces pivot scopes u w now new spent later row f id → KeepsReasons scopes now new u w → IsLegalFor scopes new → IsTrailFor scopes w → IsCleaning pivot scopes kept end old new t w before later first id (taken + 1)
       cleaning_goes_on new w later id by reasons legal trail =
           let assigned = bad_assigned pivot (value_on (take end t.placed) f.variable) f bad_front in
           let clean = clean_on_front pivot t.placed end (negation f) by.reason assigned (clean_moves t.placed u.placed (sym same) pivot (negation f) by.reason by.clean) in
           let turned = one_turn pivot scopes (take end t.placed) kept (row_of now row) by.reason f (step_row scopes now row is.legal is.step.step) by.is_row is.way last clean in
           record {
             cleans = cleans_more scopes old now new t u w before spent later taken 1 is.cleans by.cleans;
+            due = inl cleaning_due;
             reasons = λ side have. reasons side (is.reasons side have);
             legal = legal;
             trail = trail;

@@ -7,12 +7,12 @@ use Rattle.prefix.specs.declared.quant.Quant.TheVariants.{Exists, Forall}
 use Rattle.prefix.specs.Sides.{bad_of}
 use Rattle.truth.specs.Matrix.{same}
 use Rattle.calculus.proofs.RowLemmas.{same_from}
-use Rattle.clean.proofs.Fronts.{place_some}
+use Rattle.clean.proofs.Fronts.{before_take, place_some}
 use Rattle.prefix.specs.Literal.{Literal, negation}
 use Rattle.prefix.specs.Scopes.{Scope, quantifier_of}
 use Rattle.steps.specs.Counter.{Counter, after}
 use Rattle.calculus.specs.Rows.{IsRow, Row, is_pivot}
-use Rattle.calculus.specs.Search.{cause_on, is_bad_if, is_bad_now, place_on, value_on}
+use Rattle.calculus.specs.Search.{Trail, before_on, cause_on, is_bad_if, is_bad_now, place_on, value_on}
 use Rattle.calculus.specs.Search.Cause.{Propagated}
 use Rattle.trail.specs.State.{TrailState, IsPropagated, is_marked, with_clean}
 use Rattle.trail.proofs.Marking.{length_stays}
@@ -21,9 +21,10 @@ use Rattle.derive.specs.Theorems.{Grows}
 use Rattle.clean.specs.declared.frame.Frame.{Frame}
 use Rattle.clean.specs.declared.frame.Look.{Look}
 use Rattle.clean.specs.declared.frame.Look.TheVariants.{Ends, Waits, Turns as turns_on}
-use Rattle.clean.specs.Frames.{AreFrames, IsDue, IsFrame, IsLook, IsTurn, front_of}
+use Rattle.clean.specs.Blockers.{IsBlocked}
+use Rattle.clean.specs.Frames.{AreFrames, IsDue, IsFirstBlocked, IsFrame, IsLook, IsTurn, front_of}
 use Rattle.clean.specs.Frames.IsTurn.{marks, waits, turns}
-use Rattle.clean.specs.Marks.{KeepsReasons}
+use Rattle.clean.specs.Marks.{IsReasonBlocked, KeepsReasons}
 use Rattle.clean.specs.Reasons.{HaveReasons, IsOnTheWay, IsReason}
 use Rattle.clean.specs.Turns.{IsResolvable, StopsAfter, Turns}
 use Rattle.clean.proofs.Framing.{blocker_earlier, blocker_is_bad, blocker_left, frame_ends, frame_resolvable, frame_starts, frame_turns, frames_less, frames_marked, frames_more, frames_move, lowest, lowest_last}
@@ -64,7 +65,7 @@ module _ (pivot : Quant) (scopes : List Scope) (d : State) (t : TrailState) (ite
         let x : with_clean t top.bad.variable f.row ≡ now = ap (λ n. with_clean t n f.row) top.over ∙ sym marked in
         subst (HaveReasons side scopes d) x (reasons_marked pivot side scopes d t top.bad f.row long top.pivot_type top.is_bad (subst (IsPropagated t.placed) (sym top.over) top.propagated) both.0 both.1 have)
 
-    pub marks_turn : (c : Counter) → IsTurn scopes d d t now items rest c c
+    pub marks_turn : (c : Counter) → IsTurn pivot scopes d d t now items rest c c
     marks_turn c = marks (record { top = f; taken_off = is; marked = marked; same = refl; uncounted = refl })
 
   -- it waits
@@ -72,8 +73,13 @@ module _ (pivot : Quant) (scopes : List Scope) (d : State) (t : TrailState) (ite
     now_waits : IsLook pivot scopes t (place_on t.placed f.var) (row_of d f.row) (Waits x)
     now_waits = looked (Waits x) end row at same waits_on
 
-    pub waits_due : IsDue items
-    waits_due = (rest, f, is, let left = blocker_left pivot scopes d t f top legal now_waits.0.0 now_waits.0.1 in omega arith)
+    pub waits_due : IsDue pivot scopes d t items
+    waits_due = record {
+      rest = rest;
+      top = f;
+      is = is;
+      blocked = record { blocker = now_waits.0.0; blocked = now_waits.0.1.blocked; blocks = now_waits.0.1.blocks };
+    }
 
     module _ (next : Frame) (one two : List Frame) (pushed : one ≡ rest ++ f ∷ []) (pushed_twice : two ≡ one ++ next ∷ []) (variable : next.var ≡ x) (cause : cause_on t.placed x ≡ Some (Propagated next.row)) (whole : next.left ≡ place_on t.placed x) where
       earlier : place_on t.placed next.var < place_on t.placed f.var
@@ -83,8 +89,8 @@ module _ (pivot : Quant) (scopes : List Scope) (d : State) (t : TrailState) (ite
           let place : place_on t.placed next.var ≡ place_on t.placed b.variable = ap (place_on t.placed) (variable ∙ sym now_waits.0.2) in
           omega arith
 
-      pub waits_turn : (c : Counter) → IsTurn scopes d d t t items two c c
-      waits_turn c = waits (record {
+      pub waits_turn : (c : Counter) → IsTurn pivot scopes d d t t items two c c
+      waits_turn c = waits waits_due (record {
         rest = rest;
         top = f;
         next = next;
@@ -116,15 +122,20 @@ module _ (pivot : Quant) (scopes : List Scope) (d : State) (t : TrailState) (ite
     reason : IsReason pivot scopes d t (negation b) id
     reason = have b id now_turns.0.blocks.pivot_type (blocker_is_bad pivot scopes d t f top legal b now_turns.0) now_turns.2
 
-    pub turns_due : IsDue items
-    turns_due = (rest, f, is, let left = blocker_left pivot scopes d t f top legal b now_turns.0 in omega arith)
+    pub turns_due : IsDue pivot scopes d t items
+    turns_due = record {
+      rest = rest;
+      top = f;
+      is = is;
+      blocked = record { blocker = b; blocked = now_turns.0.blocked; blocks = now_turns.0.blocks };
+    }
 
     pub turns_resolvable : IsResolvable pivot scopes d f.row b id
     turns_resolvable = frame_resolvable pivot scopes d t f top legal b now_turns.0 id reason now_turns.1
 
     module _ (new : State) (next : Frame) (then : List Frame) (turned : Turns pivot scopes d new f.row b id next.row) (pushed : then ≡ rest ++ next ∷ []) (variable : next.var ≡ f.var) (left : next.left ≡ place_on t.placed b.variable) where
-      pub turns_turn : (c e : Counter) → e ≡ after c 1 → IsTurn scopes d new t t items then c e
-      turns_turn c e counted = turns (record {
+      pub turns_turn : (c e : Counter) → e ≡ after c 1 → IsTurn pivot scopes d new t t items then c e
+      turns_turn c e counted = turns turns_due (record {
         rest = rest;
         top = f;
         next = next;
@@ -188,3 +199,19 @@ first_frames pivot scopes d t f x none all have quantified off variable cause wh
     let below = place_some t.placed x assigned in
     let at : place_on t.placed f.var ≡ place_on t.placed x = ap (place_on t.placed) variable in
     subst (AreFrames pivot scopes d t (length t.placed)) (sym (pushed ∙ ap (λ (fs : List Frame). fs ++ f ∷ []) empty)) (let low : place_on t.placed f.var < length t.placed = omega arith in low, starts, tt)
+
+-- it is the one that was due
+pub first_blocked : (pivot : Quant) (scopes : List Scope) (d : State) (t : TrailState) (f : Frame) (x : ℕ) (none all : List Frame) → none ≡ [] → all ≡ none ++ f ∷ [] → f.var ≡ x → cause_on t.placed x ≡ Some (Propagated f.row) → is_marked t x ≡ false → IsFirstBlocked pivot scopes d t all → IsReasonBlocked pivot scopes d t x
+first_blocked pivot scopes d t f x none all empty pushed variable cause off blocked = record {
+  unmarked = off;
+  blocked = λ id own.
+      let ids : Some (Propagated f.row) ≡ Some (Propagated id) = sym cause ∙ own in
+      let same : f.row ≡ id = cc in
+      let one : IsBlocked pivot scopes (front_of t f.var) (row_of d f.row) = subst (IsFirstBlocked pivot scopes d t) (pushed ∙ ap (λ (fs : List Frame). fs ++ f ∷ []) empty) blocked in
+      let front : front_of t f.var ≡ before_on t.placed x = ap (front_of t) variable ∙ sym (before_take t.placed x) in
+      subst (λ (n : ℕ). IsBlocked pivot scopes (before_on t.placed x) (row_of d n)) same (subst (λ (a : Trail). IsBlocked pivot scopes a (row_of d f.row)) front one);
+}
+
+pub at_err : {A E : Type 0} (r : Result A E) (e : E) (P : Type 0) → OnErr r P → r ≡ Err e → P
+at_err (Ok x) e P p is = absurd (cc)
+at_err (Err f) e P p is = p

@@ -75,7 +75,8 @@ fn is_later(trail: &Trail, lit: Lit, latest: &Option<Lit>, end: usize) -> bool
 }
 
 /// The pivot-type literal of a row, of those of a greater depth than that, which stands last on the trail, of which the
-/// first `end` literals are looked at; a literal that isn't one of them counts as the last. This looks at the row once.
+/// first `end` literals are looked at; a literal that isn't one of them counts as the last. This looks at the row
+/// once.
 pub fn latest_pivot<S: Side>(
     trail: &Trail,
     prefix: &Prefix,
@@ -99,8 +100,8 @@ pub fn latest_pivot<S: Side>(
     latest
 }
 
-// The literal of a row that stands last on the trail, of which the first `end` literals are looked at, of those that keep
-// an open one from reduction.
+// The literal of a row that stands last on the trail, of which the first `end` literals are looked at, of those that
+// keep an open one from reduction. This looks at the row twice.
 pub(crate) fn latest_blocker<S: Side>(
     trail: &Trail,
     prefix: &Prefix,

@@ -1,5 +1,5 @@
 //! Cleaning of reasons.
-ghost use Rattle.std.specs.Prelude.{◌≡◌, ◌<◌, ◌≤◌, ◌*◌, IsTrue, IsFalse, IfOk, OnErr, OnOk, Err, Some, [], List, take, length};
+ghost use Rattle.std.specs.Prelude.{◌≡◌, ◌<◌, ◌≤◌, ◌+◌, ◌*◌, IsTrue, IsFalse, IfOk, OnErr, OnOk, Err, Some, [], List, take, length};
 ghost use Rattle.prefix.specs.Scopes.{quantifier_of};
 ghost use Rattle.steps.specs.Counter.{left};
 ghost use Rattle.steps.specs.declared.stop.Stop.TheVariants.{Spent as spent};
@@ -10,8 +10,9 @@ ghost use Rattle.derive.specs.State.{has_rows, row_of, IsLegalFor};
 ghost use Rattle.trail.specs.State.{is_marked, IsPropagated, IsTrailFor};
 ghost use Rattle.clean.specs.Reasons.{HaveReasons, IsOnTheWay};
 ghost use Rattle.clean.specs.Turns.{StopsAfter};
-ghost use Rattle.clean.specs.Marks.{CleansReasons, KeepsReasons, StopsCleaning, marks_left};
-ghost use Rattle.clean.specs.Frames.{AreFrames, AreMarkedOn, IsDue, IsLook, IsTurn};
+ghost use Rattle.derive.specs.Growing.{GainsSteps};
+ghost use Rattle.clean.specs.Marks.{CleansReasons, IsReasonBlocked, KeepsReasons, StopsCleaning, marks_left};
+ghost use Rattle.clean.specs.Frames.{AreFrames, AreMarkedOn, IsDue, IsFirstBlocked, IsLook, IsTurn};
 ghost use Rattle.prefix.specs.Literal.{Literal};
 ghost use Rattle.std.specs.Prelude.{Option};
 
@@ -23,11 +24,13 @@ use prefix::{Lit, Prefix, Side, Var};
 use steps::{Steps, Stop};
 use trail::Trail;
 
-/// Cleans the reason of a propagated variable and, first, the reasons that it is resolved with; nothing where it is marked
-/// as clean. The answer is the id of the reason, which is then marked.
+/// Cleans the reason of a propagated variable and, first, the reasons that it is resolved with; nothing where it is
+/// marked as clean. The answer is the id of the reason, which is then marked. This keeps a list of the reasons on the
+/// way, and calls itself nowhere.
 ///
-/// This counts a step for each resolution. Spent comes only where one is due and none is left. After Spent and after want
-/// of memory the reasons that were made clean stay.
+/// Each resolution counts a step and costs the lengths of its two rows; there are at most as many as the reasons made
+/// clean times the literals of the trail. No resolvent clashes, as they are legal. Spent comes only where a resolution
+/// is due for a reason that isn't clean, and no step is left. What a stop leaves is as for `clean`.
 pub fn clean_reason<S: Side>(
     derivation: &mut Derivation,
     trail: &mut Trail,
@@ -41,10 +44,50 @@ pub fn clean_reason<S: Side>(
     requires reasons { HaveReasons S.PIVOT prefix.now derivation.old trail.old }
     requires propagated { IsPropagated trail.old.placed v }
     requires pivot { quantifier_of prefix.now v ≡ Some S.PIVOT }
-    ensures ok { IfOk result (λ id. IsTrue (is_marked trail.new v) × (cause_on trail.new.placed v ≡ Some (propagated id))) }
-    ensures cleans { OnOk result (CleansReasons prefix.now derivation.old derivation.new trail.old trail.new steps.old steps.new 0) }
-    ensures err { OnErr result (StopsCleaning prefix.now derivation.old derivation.new trail.old trail.new steps.old steps.new (marks_left trail.old * length trail.old.placed)) }
-    ensures spent { result ≡ Err spent → (steps.new.spent ≡ steps.new.budget) × (left steps.old < marks_left trail.old * length trail.old.placed) }
+    ensures ok { IfOk result (λ id. IsTrue (is_marked trail.new v)
+        × (cause_on trail.new.placed v ≡ Some (propagated id))) }
+    ensures cleans { OnOk result (CleansReasons prefix.now derivation.old derivation.new trail.old trail.new
+        steps.old steps.new 0) }
+    ensures err { OnErr result (StopsCleaning prefix.now derivation.old derivation.new trail.old trail.new
+        steps.old steps.new (marks_left trail.old * length trail.old.placed)) }
+    ensures due { result ≡ Err spent → IsReasonBlocked S.PIVOT prefix.now derivation.old trail.old v }
+    ensures spent { result ≡ Err spent → steps.new.spent ≡ steps.new.budget }
+    ensures few { result ≡ Err spent → left steps.old < marks_left trail.old * length trail.old.placed }
+    ensures limit { result ≡ Err spent → left steps.old < (length trail.old.placed + 2) * length trail.old.placed }
+    ensures rises { steps.old.spent ≤ steps.new.spent }
+    ensures reasons { KeepsReasons prefix.now derivation.old derivation.new trail.old trail.new }
+    ensures trail { IsTrailFor prefix.now trail.new }
+    ensures gains { GainsSteps derivation.old derivation.new }
+    ensures legal { IsLegalFor prefix.now derivation.new }
+{
+    // The next id tells that only live rows have links.
+    let _ = derivation.next_id();
+    clean_marked::<S>(derivation, trail, prefix, v, steps)
+}
+
+// The same.
+fn clean_marked<S: Side>(
+    derivation: &mut Derivation,
+    trail: &mut Trail,
+    prefix: &Prefix,
+    v: Var,
+    steps: &mut Steps,
+) -> Result<StepId, Stop>
+    requires rows { IsTrue (has_rows derivation.old) }
+    requires legal { IsLegalFor prefix.now derivation.old }
+    requires trail { IsTrailFor prefix.now trail.old }
+    requires reasons { HaveReasons S.PIVOT prefix.now derivation.old trail.old }
+    requires propagated { IsPropagated trail.old.placed v }
+    requires pivot { quantifier_of prefix.now v ≡ Some S.PIVOT }
+    ensures ok { IfOk result (λ id. IsTrue (is_marked trail.new v)
+        × (cause_on trail.new.placed v ≡ Some (propagated id))) }
+    ensures cleans { OnOk result (CleansReasons prefix.now derivation.old derivation.new trail.old trail.new
+        steps.old steps.new 0) }
+    ensures err { OnErr result (StopsCleaning prefix.now derivation.old derivation.new trail.old trail.new
+        steps.old steps.new (marks_left trail.old * length trail.old.placed)) }
+    ensures due { result ≡ Err spent → IsReasonBlocked S.PIVOT prefix.now derivation.old trail.old v }
+    ensures spent { result ≡ Err spent → (steps.new.spent ≡ steps.new.budget)
+        × (left steps.old < marks_left trail.old * length trail.old.placed) }
     ensures reasons { KeepsReasons prefix.now derivation.old derivation.new trail.old trail.new }
     ensures trail { IsTrailFor prefix.now trail.new }
     ensures legal { IsLegalFor prefix.now derivation.new }
@@ -72,9 +115,13 @@ fn make_clean<S: Side>(
     requires propagated { IsPropagated trail.old.placed v }
     requires pivot { quantifier_of prefix.now v ≡ Some S.PIVOT }
     ensures marked { OnOk result (IsTrue (is_marked trail.new v)) }
-    ensures cleans { OnOk result (CleansReasons prefix.now derivation.old derivation.new trail.old trail.new steps.old steps.new 0) }
-    ensures err { OnErr result (StopsCleaning prefix.now derivation.old derivation.new trail.old trail.new steps.old steps.new (marks_left trail.old * length trail.old.placed)) }
-    ensures spent { result ≡ Err spent → (steps.new.spent ≡ steps.new.budget) × (left steps.old < marks_left trail.old * length trail.old.placed) }
+    ensures due { result ≡ Err spent → IsReasonBlocked S.PIVOT prefix.now derivation.old trail.old v }
+    ensures cleans { OnOk result (CleansReasons prefix.now derivation.old derivation.new trail.old trail.new
+        steps.old steps.new 0) }
+    ensures err { OnErr result (StopsCleaning prefix.now derivation.old derivation.new trail.old trail.new
+        steps.old steps.new (marks_left trail.old * length trail.old.placed)) }
+    ensures spent { result ≡ Err spent → (steps.new.spent ≡ steps.new.budget)
+        × (left steps.old < marks_left trail.old * length trail.old.placed) }
     ensures reasons { KeepsReasons prefix.now derivation.old derivation.new trail.old trail.new }
     ensures trail { IsTrailFor prefix.now trail.new }
     ensures legal { IsLegalFor prefix.now derivation.new }
@@ -100,12 +147,17 @@ fn clean_all<S: Side>(
     requires legal { IsLegalFor prefix.now derivation.old }
     requires trail { IsTrailFor prefix.now trail.old }
     requires reasons { HaveReasons S.PIVOT prefix.now derivation.old trail.old }
-    requires frames { AreFrames S.PIVOT prefix.now derivation.old trail.old (length trail.old.placed) stack.old.items }
+    requires frames { AreFrames S.PIVOT prefix.now derivation.old trail.old (length trail.old.placed)
+        stack.old.items }
     requires one { length stack.old.items ≡ 1 }
     ensures marked { OnOk result (AreMarkedOn trail.new stack.old.items) }
-    ensures cleans { OnOk result (CleansReasons prefix.now derivation.old derivation.new trail.old trail.new steps.old steps.new 0) }
-    ensures err { OnErr result (StopsCleaning prefix.now derivation.old derivation.new trail.old trail.new steps.old steps.new (marks_left trail.old * length trail.old.placed)) }
-    ensures spent { result ≡ Err spent → (steps.new.spent ≡ steps.new.budget) × (left steps.old < marks_left trail.old * length trail.old.placed) }
+    ensures due { OnErr result (IsFirstBlocked S.PIVOT prefix.now derivation.old trail.old stack.old.items) }
+    ensures cleans { OnOk result (CleansReasons prefix.now derivation.old derivation.new trail.old trail.new
+        steps.old steps.new 0) }
+    ensures err { OnErr result (StopsCleaning prefix.now derivation.old derivation.new trail.old trail.new
+        steps.old steps.new (marks_left trail.old * length trail.old.placed)) }
+    ensures spent { result ≡ Err spent → (steps.new.spent ≡ steps.new.budget)
+        × (left steps.old < marks_left trail.old * length trail.old.placed) }
     ensures reasons { KeepsReasons prefix.now derivation.old derivation.new trail.old trail.new }
     ensures trail { IsTrailFor prefix.now trail.new }
     ensures legal { IsLegalFor prefix.now derivation.new }
@@ -129,13 +181,16 @@ fn turn<S: Side>(
     requires legal { IsLegalFor prefix.now derivation.old }
     requires trail { IsTrailFor prefix.now trail.old }
     requires reasons { HaveReasons S.PIVOT prefix.now derivation.old trail.old }
-    requires frames { AreFrames S.PIVOT prefix.now derivation.old trail.old (length trail.old.placed) stack.old.items }
+    requires frames { AreFrames S.PIVOT prefix.now derivation.old trail.old (length trail.old.placed)
+        stack.old.items }
     requires some { 0 < length stack.old.items }
-    ensures ok { OnOk result (IsTurn prefix.now derivation.old derivation.new trail.old trail.new stack.old.items stack.new.items steps.old steps.new) }
-    ensures frames { OnOk result (AreFrames S.PIVOT prefix.now derivation.new trail.new (length trail.new.placed) stack.new.items) }
+    ensures ok { OnOk result (IsTurn S.PIVOT prefix.now derivation.old derivation.new trail.old trail.new
+        stack.old.items stack.new.items steps.old steps.new) }
+    ensures frames { OnOk result (AreFrames S.PIVOT prefix.now derivation.new trail.new (length trail.new.placed)
+        stack.new.items) }
     ensures stays { OnErr result (trail.new ≡ trail.old) }
     ensures err { OnErr result (StopsAfter prefix.now 1 derivation.old derivation.new steps.old steps.new) }
-    ensures due { OnErr result (IsDue stack.old.items) }
+    ensures due { OnErr result (IsDue S.PIVOT prefix.now derivation.old trail.old stack.old.items) }
     ensures spent { result ≡ Err spent → (steps.old.spent ≡ steps.old.budget) × (steps.new ≡ steps.old) }
     ensures reasons { KeepsReasons prefix.now derivation.old derivation.new trail.old trail.new }
     ensures trail { IsTrailFor prefix.now trail.new }

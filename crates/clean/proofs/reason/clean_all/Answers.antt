@@ -3,7 +3,7 @@ use Rattle.std.proofs.lemmas.Result.{err_from_is_err_and}
 use Rattle.steps.specs.Counter.{Counter}
 use Rattle.steps.specs.declared.stop.Stop.TheVariants.{Spent as spent}
 use Rattle.clean.specs.Marks.{marks_left}
-use Rattle.clean.proofs.Circling.{spent_under, starts_under_way, stops_clean, turns_once, under_square}
+use Rattle.clean.proofs.Circling.{spent_under, starts_under_way, stops_clean, turns_once, under_square, was_due}
 use Rattle.clean.proofs.Rounds.{on_err, same_error}
 use Rattle.clean.proofs.reason.clean_all.Goals as goal
 
@@ -40,3 +40,9 @@ returns-in_err-turn-clause-spent g c =
       spent_under c.args.steps.now c.loop-derivation.steps is.taken (marks_left c.args.trail.now * length c.args.trail.now.placed) is.counted own.0
           (under_square g.S.Side.PIVOT c.args.prefix.now c.args.derivation.now c.loop-derivation.derivation c.args.trail.now c.loop-derivation.trail c.args.steps.now c.loop-derivation.steps c.args.stack.now.items c.loop-derivation.stack.items is c.in_err-turn.ensures.due),
     )
+
+pub returns-in_err-turn-clause-due : goal.returns-in_err-turn-clause-due
+returns-in_err-turn-clause-due g c =
+    on_err c.from_residual.result
+    (was_due g.S.Side.PIVOT c.args.prefix.now c.args.derivation.now c.loop-derivation.derivation c.args.trail.now c.loop-derivation.trail c.args.steps.now c.loop-derivation.steps c.args.stack.now.items c.loop-derivation.stack.items
+    c.loop-derivation.invariant c.in_err-turn.ensures.due)
