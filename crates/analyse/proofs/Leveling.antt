@@ -1,15 +1,17 @@
 -- The level at which a clean row is unit.
-use Rattle.std.proofs.Common.{◌≡◌, ℕ, ◌<◌, ◌≤◌, Bool, true, false, List, [], ◌∷◌, ◌++◌, max, Some, refl, sym, ap, ◌∙◌, inl, inr, ⊎_elim, arith}
-use Rattle.std.proofs.lemmas.Bool.{cases_lt, true≢false}
+use Rattle.std.proofs.Common.{◌≡◌, ℕ, ◌<◌, ◌≤◌, Bool, true, false, List, [], ◌∷◌, ◌++◌, max, Option, Some, None, is_some, is_none, nat_le, refl, sym, ap, ◌∙◌, inl, inr, ⊎_elim, arith}
+use Rattle.std.proofs.lemmas.Bool.{cases_lt, cond-true, false≢true, le-leb, true≢false}
 use Rattle.std.proofs.lemmas.List.Elements.{Contains-push, Contains-push_cases, Contains-append_left}
 use Rattle.prefix.specs.declared.quant.Quant.{Quant}
 use Rattle.prefix.specs.Literal.{Literal}
 use Rattle.prefix.specs.Scopes.{Scope}
 use Rattle.calculus.specs.Rows.{IsRow, Row}
-use Rattle.calculus.specs.Search.{IsClean, IsLast, IsOrderedTrail, Trail, cause_on, decision_level_on, must_stay, value_on}
+use Rattle.calculus.specs.Search.{IsClean, IsLast, IsOrderedTrail, MakesUnitAt, Trail, cause_on, cut_trail, decision_level_on, must_stay, value_on}
 use Rattle.calculus.specs.Search.Cause.{Decided}
 use Rattle.calculus.proofs.Lists.{contains_nil}
 use Rattle.calculus.proofs.Lowering.{must_below, must_least, must_unit}
+use Rattle.calculus.proofs.Searching.{bad_assigned}
+use Rattle.calculus.proofs.TrailLaws.{cut_value_from}
 use Rattle.calculus.proofs.Trails.{decision_level_least}
 use Rattle.analyse.specs.Levels.{IsLevelBelow, MakesUnitFirstAt}
 
@@ -60,3 +62,24 @@ module _ (pivot : Quant) (scopes : List Scope) (trail : Trail) (row : Row) (e : 
       (λ none. omega arith)
       (λ at. let lower = must_below pivot scopes row e trail ordered is_row clean last decided at.0 at.1 at.2 in let is = at.3 in omega arith)
       below.reached
+
+-- where it isn't below, no level makes the row unit in it
+pub no_level_makes : (pivot : Quant) (scopes : List Scope) (trail : Trail) (row : Row) (e : Literal) (level : ℕ) → IsClean pivot (value_on trail) row → IsLevelBelow pivot scopes trail e row level → decision_level_on trail e.variable ≤ level → (b : ℕ) → MakesUnitAt pivot scopes trail row e b → ⊥
+no_level_makes pivot scopes trail row e level clean below high b makes =
+    let assigned = bad_assigned pivot (value_on trail e.variable) e (clean e makes.unit.stands) in
+    let low : b < decision_level_on trail e.variable = ⊎_elim (λ (l : b < decision_level_on trail e.variable). l) (λ (h : decision_level_on trail e.variable ≤ b). absurd (stays_assigned assigned (le-leb (decision_level_on trail e.variable) b h))) (cases_lt b (decision_level_on trail e.variable)) in
+    let most : level ≤ b =
+    ⊎_elim
+    (λ none. omega arith)
+    (λ at. let one = must_least pivot scopes row e trail b makes at.0 at.1 at.2 in let is = at.3 in omega arith)
+    below.reached in
+    omega arith
+  where
+    open_not : (o : Option Bool) → is_none o ≡ true → is_some o ≡ true → ⊥
+    open_not None n s = false≢true s
+    open_not (Some v) n s = false≢true n
+
+    stays_assigned : is_some (value_on trail e.variable) ≡ true → nat_le (decision_level_on trail e.variable) b ≡ true → ⊥
+    stays_assigned known t =
+        let same : value_on (cut_trail b trail) e.variable ≡ value_on trail e.variable = cut_value_from 0 b trail e.variable ∙ cond-true (nat_le (decision_level_on trail e.variable) b) (value_on trail e.variable) None t in
+        open_not (value_on (cut_trail b trail) e.variable) makes.unit.open_yet (ap is_some same ∙ known)

@@ -1,41 +1,25 @@
-use Rattle.std.proofs.Common.{◌≡◌, ◌*◌, ◌+◌, ◌≤◌, ◌<◌, length, None, Err, sym, ap, subst, arith}
+use Rattle.std.proofs.Common.{◌+◌, ◌*◌, length, arith}
 use Rattle.std.proofs.lemmas.Result.{IfOk-weaker}
 use Rattle.steps.specs.Counter.{left}
 use Rattle.clean.specs.Marks.{marks_left}
-use Rattle.clean.proofs.Circling.{marks_size}
-use Rattle.clean.proofs.Looping.{spent_more, stops_more}
-use Rattle.clean.proofs.Replacing.{on_err_from, stops_wider}
-use Rattle.analyse.proofs.Learning.{cleaned_then, learns_after}
+use Rattle.clean.proofs.Ends.{cleans_counted, gains_on, rises_on, under_limit, unlinked_now}
 use Rattle.analyse.proofs.analysis.analyse.Goals as goal
 
-pub learn-requires-clause-reasons : goal.learn-requires-clause-reasons
-learn-requires-clause-reasons g c = c.in_ok-cleaned.ensures.reasons g.S.Side.PIVOT c.requires.reasons
+pub returns-clause-lesson : goal.returns-clause-lesson
+returns-clause-lesson g c = IfOk-weaker c.analyse_row.result _ _ (λ lesson learns. learns.is) c.analyse_row.ensures.ok
 
-pub learn-requires-clause-cleaned : goal.learn-requires-clause-cleaned
-learn-requires-clause-cleaned g c = cleaned_then g.S.Side.PIVOT c.args.prefix.now c.args.derivation.now c.clean.new.derivation c.args.trail.now c.clean.new.trail c.args.steps.now c.clean.new.steps c.in_ok-cleaned.cleaned c.in_ok-cleaned.ensures.ok
+pub returns-clause-counted : goal.returns-clause-counted
+returns-clause-counted g c = cleans_counted c.analyse_row.result _ _ (λ id cleans. cleans.cleans) c.analyse_row.ensures.ok
 
-pub returns-clause-ok : goal.returns-clause-ok
-returns-clause-ok g c =
-    IfOk-weaker c.learn.result _ _
-    (λ lesson learns. learns_after g.S.Side.PIVOT c.args.prefix.now c.args.trail.now c.clean.new.trail c.learn.new.trail c.args.derivation.now c.clean.new.derivation c.learn.new.derivation c.args.steps.now c.clean.new.steps c.learn.new.steps c.in_ok-cleaned.cleaned lesson c.in_ok-cleaned.ensures.ok learns)
-    c.learn.ensures.ok
+pub returns-clause-gains : goal.returns-clause-gains
+returns-clause-gains g c =
+    gains_on c.args.prefix.now c.args.derivation.now c.analyse_row.new.derivation c.args.trail.now c.analyse_row.new.trail c.args.steps.now c.analyse_row.new.steps (2 * length c.args.trail.now.placed) (marks_left c.args.trail.now * length c.args.trail.now.placed + 2 * length c.args.trail.now.placed) c.analyse_row.result
+    (unlinked_now c.args.derivation.now c.requires.rows c.next_id.ensures.fits) (cleans_counted c.analyse_row.result _ _ (λ id cleans. cleans.cleans) c.analyse_row.ensures.ok) c.analyse_row.ensures.err
 
-pub returns-clause-err : goal.returns-clause-err
-returns-clause-err g c =
-    let cleans = c.in_ok-cleaned.ensures.ok.cleans in
-    let size = marks_size c.args.trail.now c.clean.new.trail cleans.made cleans.marks in
-    on_err_from c.learn.result _ _
-    (λ stops. stops_wider c.args.prefix.now c.args.derivation.now c.learn.new.derivation c.args.trail.now c.learn.new.trail c.args.steps.now c.learn.new.steps (marks_left c.args.trail.now * length c.args.trail.now.placed + (length c.args.trail.now.placed + length c.clean.new.trail.placed)) (marks_left c.args.trail.now * length c.args.trail.now.placed + 2 * length c.args.trail.now.placed) (omega arith)
-    (stops_more c.args.prefix.now c.args.derivation.now c.clean.new.derivation c.learn.new.derivation c.args.trail.now c.clean.new.trail c.learn.new.trail c.args.steps.now c.clean.new.steps c.learn.new.steps (length c.args.trail.now.placed) (length c.clean.new.trail.placed) cleans c.requires.trail.marked stops))
-    c.learn.ensures.err
+pub returns-clause-rises : goal.returns-clause-rises
+returns-clause-rises g c =
+    rises_on c.args.prefix.now c.args.derivation.now c.analyse_row.new.derivation c.args.trail.now c.analyse_row.new.trail c.args.steps.now c.analyse_row.new.steps (2 * length c.args.trail.now.placed) (marks_left c.args.trail.now * length c.args.trail.now.placed + 2 * length c.args.trail.now.placed) c.analyse_row.result
+    (cleans_counted c.analyse_row.result _ _ (λ id cleans. cleans.cleans) c.analyse_row.ensures.ok) c.analyse_row.ensures.err
 
-pub returns-clause-spent : goal.returns-clause-spent
-returns-clause-spent g c = λ e.
-    let cleans = c.in_ok-cleaned.ensures.ok.cleans in
-    let size = marks_size c.args.trail.now c.clean.new.trail cleans.made cleans.marks in
-    let own = c.learn.ensures.spent e in
-    let few = spent_more c.args.prefix.now c.args.derivation.now c.clean.new.derivation c.learn.new.derivation c.args.trail.now c.clean.new.trail c.learn.new.trail c.args.steps.now c.clean.new.steps c.learn.new.steps (length c.args.trail.now.placed) (length c.clean.new.trail.placed) cleans c.requires.trail.marked own.1 in
-    (own.0, omega arith)
-
-pub returns-clause-reasons : goal.returns-clause-reasons
-returns-clause-reasons g c = λ side have. c.learn.ensures.reasons side (c.in_ok-cleaned.ensures.reasons side have)
+pub returns-clause-limit : goal.returns-clause-limit
+returns-clause-limit g c = λ e. under_limit c.args.trail.now (left c.args.steps.now) (2 * length c.args.trail.now.placed) (c.analyse_row.ensures.spent e).1 (omega arith)
