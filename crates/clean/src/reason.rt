@@ -242,10 +242,11 @@ fn look<S: Side>(trail: &Trail, prefix: &Prefix, row: &[Lit], end: usize) -> Loo
         Some(lit) => match reason_of(trail, lit.var()) {
             None => unreachable!(),
             Some(reason) => {
-                if trail.is_clean(lit.var()) {
+                let var = lit.var();
+                if trail.is_clean(var) {
                     Look::Turns { lit, reason }
                 } else {
-                    Look::Waits { var: lit.var() }
+                    Look::Waits { var }
                 }
             }
         },
