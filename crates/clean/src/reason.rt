@@ -242,11 +242,11 @@ fn look<S: Side>(trail: &Trail, prefix: &Prefix, row: &[Lit], end: usize) -> Loo
         Some(lit) => match reason_of(trail, lit.var()) {
             None => unreachable!(),
             Some(reason) => {
-                let var = lit.var();
-                if trail.is_clean(var) {
+                let waiting = lit.var();
+                if trail.is_clean(waiting) {
                     Look::Turns { lit, reason }
                 } else {
-                    Look::Waits { var }
+                    Look::Waits { var: waiting }
                 }
             }
         },

@@ -15,5 +15,5 @@ unreachable-requires g c =
 pub returns-else-is_clean : goal.returns-else-is_clean
 returns-else-is_clean g c =
     let trail = c.args.trail.now.placed in
-    let off : is_marked c.args.trail.now c.var-var.result ≡ false = sym c.is_clean.ensures ∙ c.if-is_clean.false in
-    ((c.in-Some.lit, c.in-Some.ensures, sym c.var-var.ensures), (c.in-Some-reason_of.reason, ap (cause_on trail) (c.var-var.ensures ∙ sym c.var.ensures) ∙ c.in-Some-reason_of.ensures.some), off)
+    let off : is_marked c.args.trail.now c.var-waiting.result ≡ false = sym c.is_clean.ensures ∙ c.if-is_clean.false in
+    ((c.in-Some.lit, c.in-Some.ensures, sym c.var-waiting.ensures), (c.in-Some-reason_of.reason, ap (cause_on trail) (c.var-waiting.ensures ∙ sym c.var.ensures) ∙ c.in-Some-reason_of.ensures.some), off)
