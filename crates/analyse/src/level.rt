@@ -1,0 +1,45 @@
+//! The level at which a row is to be unit.
+ghost use Rattle.std.specs.Prelude.{◌≡◌, is_some, IsTrue};
+ghost use Rattle.calculus.specs.Search.{IsClean, decision_level_on, must_stay as stays, value_on};
+ghost use Rattle.analyse.specs.Levels.{IsLevelBelow};
+
+use prefix::{Lit, Prefix, Side, Var};
+use trail::Trail;
+
+// The decision level of a variable that is assigned.
+pub(crate) fn level_of(trail: &Trail, v: Var) -> usize
+    requires { IsTrue (is_some (value_on trail.now.placed v)) }
+    ensures { result ≡ decision_level_on trail.now.placed v }
+{
+    trail.level_of(v).unwrap_or(0)
+}
+
+// Whether a literal must stay bad where another one is to be unit: it is over another variable, and pivot-type or of an
+// earlier scope.
+fn must_stay<S: Side>(prefix: &Prefix, lit: Lit, unit: Lit) -> bool
+    ensures { result ≡ stays S.PIVOT prefix.now unit lit }
+{
+    if lit.var() == unit.var() {
+        return false;
+    }
+    if prefix.is_pivot::<S>(lit) {
+        return true;
+    }
+    prefix.depth(lit.var()) < prefix.depth(unit.var())
+}
+
+// The greatest decision level of a clean row's literals over other variables than that of a literal that are pivot-type
+// or of an earlier scope than it; 0 where there are none.
+pub(crate) fn level_below<S: Side>(trail: &Trail, prefix: &Prefix, row: &[Lit], unit: Lit) -> usize
+    requires { IsClean S.PIVOT (value_on trail.now.placed) row.now }
+    ensures { IsLevelBelow S.PIVOT prefix.now trail.now.placed unit row.now result }
+{
+    let mut level = 0;
+    for lit in row {
+        if !must_stay::<S>(prefix, *lit, unit) {
+            continue;
+        }
+        level = level_of(trail, lit.var()).max(level);
+    }
+    level
+}

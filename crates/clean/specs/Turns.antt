@@ -1,0 +1,90 @@
+-- Resolutions with reasons, and what they count.
+use Rattle.std.specs.Prelude.{◌≡◌, ℕ, ◌+◌, ◌≤◌, Bool, true, false, IsTrue, IsFalse, Contains, List, count_by}
+use Rattle.prefix.specs.declared.quant.Quant.{Quant}
+use Rattle.prefix.specs.Literal.{Literal, negation}
+use Rattle.prefix.specs.Scopes.{Scope}
+use Rattle.steps.specs.Counter.{Counter, after}
+use Rattle.calculus.specs.Rows.{is_pivot, reduce}
+use Rattle.calculus.specs.Derivations.{Step, Why}
+use Rattle.calculus.specs.Derivations.Why.{Given, ReducedFrom, ResolvedFrom, FinishedFrom}
+use Rattle.calculus.specs.Search.{clashes_with, resolved_with}
+use Rattle.derive.specs.State.{State, IsLegalFor, is_step, has_rows, side_at, row_of, steps_of, clauses_of}
+use Rattle.derive.specs.Growing.{AreUnlinked}
+use Rattle.derive.specs.Theorems.{Grows}
+
+-- whether a step is a reduction
+abbrev pub is_reduction : Why → Bool
+is_reduction Given = false
+is_reduction (ReducedFrom a) = true
+is_reduction (ResolvedFrom a b x) = false
+is_reduction (FinishedFrom a) = false
+
+-- whether a step is a resolvent
+abbrev pub is_resolvent : Why → Bool
+is_resolvent Given = false
+is_resolvent (ReducedFrom a) = false
+is_resolvent (ResolvedFrom a b x) = true
+is_resolvent (FinishedFrom a) = false
+
+-- how many live steps are reductions
+abbrev pub reductions_in : State → ℕ
+reductions_in d = count_by (λ (s : Step). is_reduction s.why) (steps_of d)
+
+-- how many live steps are resolvents
+abbrev pub resolvents_in : State → ℕ
+resolvents_in d = count_by (λ (s : Step). is_resolvent s.why) (steps_of d)
+
+-- that many resolvents came in, with no more reductions than resolvents, and nothing else: what was live stays as it
+-- was, the open clauses are the same, a row that came in has no links, and what was legal is
+pub record Resolves (scopes : List Scope) (old new : State) (count : ℕ) : Type 0 where
+  pub grows : Grows old new
+  pub has_rows : IsTrue (has_rows new)
+  pub unlinked : AreUnlinked old old → AreUnlinked old new
+  pub clauses : clauses_of new ≡ clauses_of old
+  pub resolvents : resolvents_in new ≡ resolvents_in old + count
+  pub reductions : reductions_in new ≤ reductions_in old + count
+  pub legal : IsLegalFor scopes old → IsLegalFor scopes new
+
+-- a row may be resolved on one of its literals with another row of its side, which holds the opposite literal
+pub record IsResolvable (pivot : Quant) (scopes : List Scope) (d : State) (row : ℕ) (literal : Literal)
+    (reason : ℕ) : Type 0 where
+  pub row_step : IsTrue (is_step d row)
+  pub row_side : side_at d row ≡ pivot
+  pub reason_step : IsTrue (is_step d reason)
+  pub reason_side : side_at d reason ≡ pivot
+  pub stands : Contains (row_of d row) literal
+  pub opposes : Contains (row_of d reason) (negation literal)
+  pub pivot_type : IsTrue (is_pivot pivot scopes literal)
+  pub no_clash : IsFalse (clashes_with (row_of d row) (row_of d reason) literal)
+
+-- that resolvent came in
+pub record AddsResolvent (pivot : Quant) (scopes : List Scope) (old new : State) (row : ℕ) (literal : Literal)
+    (reason id : ℕ) : Type 0 where
+  pub resolves : Resolves scopes old new 1
+  pub none_reduced : reductions_in new ≡ reductions_in old
+  pub step : IsTrue (is_step new id)
+  pub of_side : side_at new id ≡ pivot
+  pub result : row_of new id ≡ resolved_with (row_of old row) (row_of old reason) literal
+
+-- that resolvent came in, and its reduction
+pub record Turns (pivot : Quant) (scopes : List Scope) (old new : State) (row : ℕ) (literal : Literal)
+    (reason id : ℕ) : Type 0 where
+  pub resolves : Resolves scopes old new 1
+  pub step : IsTrue (is_step new id)
+  pub of_side : side_at new id ≡ pivot
+  pub result : row_of new id ≡ reduce pivot scopes (resolved_with (row_of old row) (row_of old reason) literal)
+
+-- at most that many resolvents came in
+pub record MayResolve (scopes : List Scope) (old new : State) (most : ℕ) : Type 0 where
+  pub came : ℕ
+  pub few : came ≤ most
+  pub resolves : Resolves scopes old new came
+
+-- at most that many steps were counted, and for each at most one resolvent came in
+pub record StopsAfter (scopes : List Scope) (most : ℕ) (old new : State) (before now : Counter) : Type 0 where
+  pub taken : ℕ
+  pub came : ℕ
+  pub few : taken ≤ most
+  pub fewer : came ≤ taken
+  pub counted : now ≡ after before taken
+  pub resolves : Resolves scopes old new came
