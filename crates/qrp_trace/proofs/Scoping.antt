@@ -1,0 +1,90 @@
+-- Scopes and numbers in texts.
+use Rattle.std.proofs.Common.{◌≡◌, ℕ, zero, suc, ◌+◌, ◌-◌, ◌<◌, ◌≤◌, ◌==◌, Bool, true, false, max, min, List, [], ◌∷◌, ◌++◌, length, take, get_or, Option, Some, None, unwrap_or, refl, sym, ap, ap₂, ◌∙◌, arith}
+use Rattle.std.specs.Prelude.{slice_get, codes}
+use Rattle.std.specs.Option.{option_map}
+use Rattle.std.specs.List.{flat_map, range_with_len}
+use Rattle.std.proofs.lemmas.List.{append-nil, take_more}
+use Rattle.std.proofs.lemmas.Bool.{cond-false, ne_eqb, true≢false}
+use Rattle.std.proofs.lemmas.Grind.{flat_map-append}
+use Rattle.prefix.specs.declared.quant.Quant.{Quant}
+use Rattle.prefix.specs.declared.quant.Quant.TheVariants.{Exists}
+use Rattle.prefix.specs.Scopes.{Scope, all_variables, quantifier_at, variables_at}
+use Rattle.qrp_trace.specs.declared.listing.CoreStep.{CoreStep}
+use Rattle.qrp_trace.specs.declared.listing.CoreStep.TheVariants.{Two}
+use Rattle.qrp_trace.specs.Texts.{antecedents_of, greatest, number_word, quantifier_word, scope_line, scope_numbered, variables_line}
+
+pub greatest-append : (xs ys : List ℕ) → greatest (xs ++ ys) ≡ max (greatest xs) (greatest ys)
+greatest-append [] ys = grind arith
+greatest-append (x ∷ xs) ys = ap (max x) (greatest-append xs ys) ∙ assoc x (greatest xs) (greatest ys)
+  where
+    assoc : (a b c : ℕ) → max a (max b c) ≡ max (max a b) c
+    assoc a b c = grind arith
+
+max_none : (a : ℕ) → max a 0 ≡ a
+max_none a = grind arith
+
+pub greatest_more : (xs : List ℕ) (i v : ℕ) (most n new : ℕ) → i < length xs → v ≡ get_or xs i v → most ≡ greatest (take i xs) → n ≡ v → new ≡ max most n → new ≡ greatest (take (i + 1) xs)
+greatest_more xs i v most n new below is before same more =
+    more ∙ ap₂ max before (same ∙ sym (max_none v))
+    ∙ sym (greatest-append (take i xs) (v ∷ []))
+    ∙ sym (ap greatest (take_more xs i v below ∙ ap (λ m. take i xs ++ m ∷ []) (sym is)))
+
+slice_get_in : {X : Type 0} (xs : List X) (k : ℕ) (d : X) → k < length xs → slice_get xs k ≡ Some (get_or xs k d)
+slice_get_in [] k d h = absurd (omega arith)
+slice_get_in (x ∷ xs) zero d h = refl
+slice_get_in (x ∷ xs) (suc k) d h = slice_get_in xs k d (omega arith)
+
+abbrev none : Scope
+none = record { quantifier = Exists; variables = [] }
+
+pub variables_is : (scopes : List Scope) (s : ℕ) → 1 ≤ s → s ≤ length scopes → variables_at scopes s ≡ (scope_numbered scopes s).variables
+variables_is scopes s first last = ap (λ o. unwrap_or (option_map (λ (c : Scope). c.variables) o) []) (slice_get_in scopes (s - 1) none (omega arith))
+
+pub quantifier_is : (scopes : List Scope) (s : ℕ) → 1 ≤ s → s ≤ length scopes → quantifier_at scopes s ≡ Some (scope_numbered scopes s).quantifier
+quantifier_is scopes s first last =
+    cond-false (s == 0) None (option_map (λ (c : Scope). c.quantifier) (slice_get scopes (s - 1))) (ne_eqb s 0 (λ e. omega arith))
+    ∙ ap (option_map (λ (c : Scope). c.quantifier)) (slice_get_in scopes (s - 1) none (omega arith))
+
+pub variables_more : (scopes : List Scope) (s : ℕ) → s < length scopes → all_variables (take (s + 1) scopes) ≡ all_variables (take s scopes) ++ variables_at scopes (s + 1)
+variables_more scopes s below =
+    let back : s + 1 - 1 ≡ s = omega arith in
+    let here : variables_at scopes (s + 1) ≡ (get_or scopes s none).variables = variables_is scopes (s + 1) (omega arith) (omega arith) ∙ ap (λ k. (get_or scopes k none).variables) back in
+    ap all_variables (take_more scopes s none below) ∙ flat_map-append (λ (c : Scope). c.variables) (take s scopes) (get_or scopes s none ∷ []) ∙ ap (λ ys. all_variables (take s scopes) ++ ys) (append-nil (get_or scopes s none).variables ∙ sym here)
+
+pub greatest_later : (scopes : List Scope) (s most n new : ℕ) → s < length scopes → most ≡ greatest (all_variables (take s scopes)) → n ≡ greatest (variables_at scopes (s + 1)) → new ≡ max most n → new ≡ greatest (all_variables (take (s + 1) scopes))
+greatest_later scopes s most n new below before same more =
+    more ∙ ap₂ max before same
+    ∙ sym (greatest-append (all_variables (take s scopes)) (variables_at scopes (s + 1)))
+    ∙ sym (ap greatest (variables_more scopes s below))
+
+pub line_none : (scope : Scope) (vars : List ℕ) → vars ≡ scope.variables → (length vars == 0) ≡ true → scope_line scope ≡ []
+line_none scope vars is empty = by_list vars is empty
+  where
+    by_list : (xs : List ℕ) → xs ≡ scope.variables → (length xs == 0) ≡ true → scope_line scope ≡ []
+    by_list [] e t = ap (variables_line scope.quantifier) (sym e)
+    by_list (x ∷ xs) e t = let f : length (x ∷ xs) ≡ 0 = grind (arith, t) in absurd (omega arith)
+
+pub line_some : (scope : Scope) (vars : List ℕ) (q : Quant) → vars ≡ scope.variables → q ≡ scope.quantifier → (length vars == 0) ≡ false → scope_line scope ≡ quantifier_word q ++ (flat_map number_word vars ++ codes "0\n")
+line_some scope vars q is quantifier some = by_list vars is some
+  where
+    by_list : (xs : List ℕ) → xs ≡ scope.variables → (length xs == 0) ≡ false → scope_line scope ≡ quantifier_word q ++ (flat_map number_word xs ++ codes "0\n")
+    by_list [] e t = absurd (true≢false t)
+    by_list (x ∷ xs) e t = ap₂ variables_line (sym quantifier) (sym e)
+
+pub range_length : (a n : ℕ) → length (range_with_len a n) ≡ n
+range_length a zero = refl
+range_length a (suc n) = ap suc (range_length (a + 1) n)
+
+pub range_at : (a n i : ℕ) → i < n → get_or (range_with_len a n) i 0 ≡ a + i
+range_at a zero i below = absurd (omega arith)
+range_at a (suc n) zero below = omega arith
+range_at a (suc n) (suc i) below = let e = range_at (a + 1) n i (omega arith) in omega arith
+
+pub two_text : (s : CoreStep) (a b x low high : ℕ) → s ≡ Two a b x → low ≡ min a b → high ≡ max a b → flat_map number_word (antecedents_of s) ≡ number_word low ++ number_word high
+two_text s a b x low high is least most =
+    ap (λ t. flat_map number_word (antecedents_of t)) is
+    ∙ ap₂ (λ (m n : ℕ). number_word m ++ (number_word n ++ [])) (sym least) (sym most)
+    ∙ ap (λ t. number_word low ++ t) (append-nil (number_word high))
+
+pub quantifier_found : (scopes : List Scope) (s : ℕ) (found : Option Quant) (q : Quant) → 1 ≤ s → s ≤ length scopes → found ≡ quantifier_at scopes s → found ≡ Some q → q ≡ (scope_numbered scopes s).quantifier
+quantifier_found scopes s found q first last is some = let e : Some q ≡ Some (scope_numbered scopes s).quantifier = sym some ∙ is ∙ quantifier_is scopes s first last in cc

@@ -1,0 +1,4 @@
+pub mod Cores
+pub mod Gathering
+pub mod Texts
+pub mod Writing

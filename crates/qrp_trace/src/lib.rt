@@ -1,0 +1,18 @@
+//! The steps that a verdict rests on, and their trace as a text.
+//!
+//! `core` picks them from a derivation, the inputs first, and numbers them from 1; `write_trace` writes them in this
+//! project's profile of the QRP format (Niemetz, Preiner, Lonsing, Seidl and Biere, *Resolution-based certificate
+//! extraction for QBF*, 2012). `specs/Cores` has the definitions of cores, `specs/Texts` those of texts, and
+//! `specs/Worked` small values.
+#![tactic(auto)]
+
+mod gather;
+mod listing;
+mod marks;
+mod numbers;
+mod order;
+mod text;
+
+pub use gather::core;
+pub use listing::{Core, CoreStep};
+pub use text::write_trace;

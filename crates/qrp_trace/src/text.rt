@@ -1,0 +1,228 @@
+//! Traces as texts.
+ghost use Rattle.std.specs.Prelude.{◌≡◌, ℕ, ◌+◌, ◌-◌, ◌≤◌, ◌<◌, ◌^◌, ◌++◌, [], length, codes, if◌then◌else◌, max, IsOk, OnOk};
+ghost use Rattle.std.specs.List.{flat_map, range_with_len};
+ghost use Rattle.std.specs.Fmt.{decimal};
+ghost use Rattle.std.specs.Io.KnownBytes.{Appends, Keeps};
+ghost use Rattle.prefix.specs.Scopes.{all_variables, quantifier_at, variables_at};
+ghost use Rattle.ports.specs.Bytes.{AppendsFront};
+ghost use Rattle.ports.specs.Causes.{HasCause};
+ghost use Rattle.qrp_trace.specs.Cores.{IsNumbered};
+ghost use Rattle.qrp_trace.specs.Texts.{antecedents_of, greatest, header_line, literal_word, number_word, qrp_text, quantifier_word, scope_line, scope_numbered, step_line, variables_line, verdict_line as last_line};
+ghost use Rattle.qrp_trace.specs.Writing.{Writes};
+
+use crate::listing::{Core, CoreStep};
+use ports::{Failed, Sink, write_all};
+use prefix::{Lit, Prefix, Quant, Var};
+
+/// Writes the trace of a core under a prefix: the header, a line for each scope that has variables, one for each step,
+/// and the verdict. Each step but the last is, by its number, one that a later one rests on. This takes no memory.
+///
+/// Fails only where the sink does, with a front of the text written.
+pub fn write_trace<S: Sink>(core: &Core, prefix: &Prefix, sink: &mut S) -> Result<(), Failed>
+    ensures ok { OnOk result (Appends (S.written sink.old) (S.written sink.new) (qrp_text prefix.now core.now)) }
+    ensures front { AppendsFront (S.written sink.old) (S.written sink.new) (qrp_text prefix.now core.now) }
+    ensures flushed { Keeps (S.flushed sink.old) (S.flushed sink.new) }
+    ensures cause { HasCause (S.faults sink.old) (S.faults sink.new) result }
+    ensures room { (n : ℕ) → length (qrp_text prefix.now core.now) ≤ n → S.has_room sink.old n
+        → IsOk result × S.has_room sink.new (n - length (qrp_text prefix.now core.now)) }
+    ensures numbered { IsNumbered core.now.lines }
+{
+    let _ = core.len();
+    put_trace(core, prefix, sink)
+}
+
+// Writes the trace of a core.
+fn put_trace<S: Sink>(core: &Core, prefix: &Prefix, sink: &mut S) -> Result<(), Failed>
+    ensures { Writes S.written S.flushed S.faults S.has_room sink.old sink.new (qrp_text prefix.now core.now) result }
+{
+    put_header(core, prefix, sink)?;
+    put_scopes(prefix, sink)?;
+    put_steps(core, sink)?;
+    put_verdict(core.winner(), sink)
+}
+
+// Writes the first line.
+fn put_header<S: Sink>(core: &Core, prefix: &Prefix, sink: &mut S) -> Result<(), Failed>
+    ensures { Writes S.written S.flushed S.faults S.has_room sink.old sink.new (header_line (greatest (all_variables prefix.now)) (length core.now.lines)) result }
+{
+    put(b"p qrp ", sink)?;
+    put_number(greatest_variable(prefix), sink)?;
+    put_digits(core.len(), sink)?;
+    put(b"\n", sink)
+}
+
+// The greatest number of a variable, 0 where there is none.
+fn greatest_variable(prefix: &Prefix) -> usize
+    ensures { result ≡ greatest (all_variables prefix.now) }
+{
+    let mut most = 0;
+    for s in 0..prefix.scopes() {
+        most = greater(most, greatest_of(prefix.vars_of(s + 1)));
+    }
+    most
+}
+
+// The greatest number of some variables, 0 where there is none.
+fn greatest_of(vars: &[Var]) -> usize
+    ensures { result ≡ greatest vars.now }
+{
+    let mut most = 0;
+    for v in vars {
+        most = greater(most, v.number() as usize);
+    }
+    most
+}
+
+// The greater of two numbers.
+fn greater(a: usize, b: usize) -> usize
+    ensures { result ≡ max a b }
+{
+    a.max(b)
+}
+
+// Writes the lines of the scopes.
+fn put_scopes<S: Sink>(prefix: &Prefix, sink: &mut S) -> Result<(), Failed>
+    ensures { Writes S.written S.flushed S.faults S.has_room sink.old sink.new (flat_map scope_line prefix.now) result }
+{
+    for s in 0..prefix.scopes() {
+        put_scope(prefix, s + 1, sink)?;
+    }
+    Ok(())
+}
+
+// Writes the line of a scope, if it has variables.
+fn put_scope<S: Sink>(prefix: &Prefix, s: usize, sink: &mut S) -> Result<(), Failed>
+    requires first { 1 ≤ s }
+    requires last { s ≤ length prefix.now }
+    ensures { Writes S.written S.flushed S.faults S.has_room sink.old sink.new (scope_line (scope_numbered prefix.now s)) result }
+{
+    let vars = prefix.vars_of(s);
+    if vars.is_empty() {
+        return Ok(());
+    }
+    put_quantifier(prefix.scope_quant(s).unwrap(), sink)?;
+    put_variables(vars, sink)?;
+    put(b"0\n", sink)
+}
+
+// Writes the letter of a quantifier.
+fn put_quantifier<S: Sink>(quant: Quant, sink: &mut S) -> Result<(), Failed>
+    ensures { Writes S.written S.flushed S.faults S.has_room sink.old sink.new (quantifier_word quant) result }
+{
+    match quant {
+        Quant::Exists => put(b"e ", sink),
+        Quant::Forall => put(b"a ", sink),
+    }
+}
+
+// Writes variables.
+fn put_variables<S: Sink>(vars: &[Var], sink: &mut S) -> Result<(), Failed>
+    ensures { Writes S.written S.flushed S.faults S.has_room sink.old sink.new (flat_map number_word vars.now) result }
+{
+    for v in vars {
+        put_number(v.number() as usize, sink)?;
+    }
+    Ok(())
+}
+
+// Writes the lines of the steps.
+fn put_steps<S: Sink>(core: &Core, sink: &mut S) -> Result<(), Failed>
+    ensures { Writes S.written S.flushed S.faults S.has_room sink.old sink.new (flat_map (step_line core.now.lines) (range_with_len 1 (length core.now.lines))) result }
+{
+    for i in 0..core.len() {
+        put_step(core, i + 1, sink)?;
+    }
+    Ok(())
+}
+
+// Writes the line of a step.
+fn put_step<S: Sink>(core: &Core, i: usize, sink: &mut S) -> Result<(), Failed>
+    requires first { 1 ≤ i }
+    requires last { i ≤ length core.now.lines }
+    ensures { Writes S.written S.flushed S.faults S.has_room sink.old sink.new (step_line core.now.lines i) result }
+{
+    put_number(i, sink)?;
+    put_literals(core.lits(i), sink)?;
+    put(b"0 ", sink)?;
+    put_antecedents(core.step(i), sink)?;
+    put(b"0\n", sink)
+}
+
+// Writes literals.
+fn put_literals<S: Sink>(lits: &[Lit], sink: &mut S) -> Result<(), Failed>
+    ensures { Writes S.written S.flushed S.faults S.has_room sink.old sink.new (flat_map literal_word lits.now) result }
+{
+    for lit in lits {
+        put_literal(*lit, sink)?;
+    }
+    Ok(())
+}
+
+// Writes a literal.
+fn put_literal<S: Sink>(lit: Lit, sink: &mut S) -> Result<(), Failed>
+    ensures { Writes S.written S.flushed S.faults S.has_room sink.old sink.new (literal_word lit) result }
+{
+    put_sign(lit.is_positive(), sink)?;
+    put_number(lit.var().number() as usize, sink)
+}
+
+// Writes the sign of a literal.
+fn put_sign<S: Sink>(positive: bool, sink: &mut S) -> Result<(), Failed>
+    ensures { Writes S.written S.flushed S.faults S.has_room sink.old sink.new (if positive then [] else codes "-") result }
+{
+    if positive {
+        return Ok(());
+    }
+    put(b"-", sink)
+}
+
+// Writes the numbers of what a step rests on, ascending.
+fn put_antecedents<S: Sink>(step: CoreStep, sink: &mut S) -> Result<(), Failed>
+    ensures { Writes S.written S.flushed S.faults S.has_room sink.old sink.new (flat_map number_word (antecedents_of step)) result }
+{
+    match step {
+        CoreStep::Input => Ok(()),
+        CoreStep::One(k) => put_number(k, sink),
+        CoreStep::Two {
+            positive,
+            negative,
+            ..
+        } => {
+            put_number(positive.min(negative), sink)?;
+            put_number(positive.max(negative), sink)
+        }
+    }
+}
+
+// Writes the last line.
+fn put_verdict<S: Sink>(winner: Quant, sink: &mut S) -> Result<(), Failed>
+    ensures { Writes S.written S.flushed S.faults S.has_room sink.old sink.new (last_line winner) result }
+{
+    match winner {
+        Quant::Exists => put(b"r SAT\n", sink),
+        Quant::Forall => put(b"r UNSAT\n", sink),
+    }
+}
+
+// Writes a number, and a blank.
+fn put_number<S: Sink>(n: usize, sink: &mut S) -> Result<(), Failed>
+    ensures { Writes S.written S.flushed S.faults S.has_room sink.old sink.new (number_word n) result }
+{
+    put_digits(n, sink)?;
+    put(b" ", sink)
+}
+
+// Writes a number.
+fn put_digits<S: Sink>(n: usize, sink: &mut S) -> Result<(), Failed>
+    ensures { Writes S.written S.flushed S.faults S.has_room sink.old sink.new (decimal n) result }
+{
+    let mut buffer = itoa::Buffer::new();
+    put(buffer.format(n).as_bytes(), sink)
+}
+
+// Writes bytes.
+fn put<S: Sink>(bytes: &[u8], sink: &mut S) -> Result<(), Failed>
+    ensures { Writes S.written S.flushed S.faults S.has_room sink.old sink.new bytes.now result }
+{
+    write_all(sink, bytes)
+}
