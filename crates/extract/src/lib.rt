@@ -1,8 +1,8 @@
 //! The circuit of a core: strategy extraction.
 //!
 //! Balabanov and Jiang, *Unified QBF certification and its applications* (2012), for clauses and cubes at once, with
-//! the first-falsified rule. `specs/Removals` has what the steps of a core remove and the rule over it, `specs/Tables` the
-//! tables of edges.
+//! the first-falsified rule. `specs/Removals` has what the steps of a core remove and the rule over it, and
+//! `specs/Tables` the tables of edges.
 #![tactic(auto)]
 
 mod circuit;
@@ -11,3 +11,6 @@ mod index;
 mod rule;
 
 pub use circuit::extract;
+
+#[cfg(test)]
+mod tests;

@@ -70,7 +70,8 @@ loser_of core = opposite core.winner
 
 -- a core is a proof that its winner wins
 abbrev pub IsProofOf : Trace → List Scope → List Literal → List Row → Type 0
-IsProofOf core scopes assumptions clauses = IsProof (loser_of core) scopes clauses assumptions (inferences_of core.lines)
+IsProofOf core scopes assumptions clauses =
+    IsProof (loser_of core) scopes clauses assumptions (inferences_of core.lines)
 
 -- the core of a step
 

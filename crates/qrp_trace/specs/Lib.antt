@@ -2,3 +2,4 @@ pub mod Cores
 pub mod Gathering
 pub mod Texts
 pub mod Writing
+pub mod Worked

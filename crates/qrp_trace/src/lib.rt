@@ -12,7 +12,12 @@ mod marks;
 mod numbers;
 mod order;
 mod text;
+mod worked;
 
 pub use gather::core;
 pub use listing::{Core, CoreStep};
 pub use text::write_trace;
+pub use worked::{worked_cores, worked_numbers, worked_texts};
+
+#[cfg(test)]
+mod tests;

@@ -27,8 +27,8 @@ pub(crate) struct Line {
     pub(crate) step: CoreStep,
 }
 
-/// The steps that a verdict rests on, numbered from 1: the inputs first, each after those that it rests on, and each but
-/// the last with a later one that rests on it. Contracts see a core as the list of its steps with the winner.
+/// The steps that a verdict rests on, numbered from 1: the inputs first, each after those that it rests on, and each
+/// but the last with a later one that rests on it. Contracts see a core as the list of its steps with the winner.
 #[derive(Debug, Drop)]
 pub struct Core {
     winner: Quant,

@@ -56,7 +56,8 @@ fn is_in(
 ) -> bool
     requires marks { AreNeeded derivation.now end marks.now }
     requires within { distance < length marks.now }
-    ensures { result ≡ (slice_index_or marks.now distance false && is_in_part inputs (why_at derivation.now (end - distance))) }
+    ensures { result ≡ (slice_index_or marks.now distance false
+        && is_in_part inputs (why_at derivation.now (end - distance))) }
 {
     if !marks[distance] {
         return false;

@@ -43,7 +43,8 @@ fn put_trace<S: Sink>(core: &Core, prefix: &Prefix, sink: &mut S) -> Result<(), 
 
 // Writes the first line.
 fn put_header<S: Sink>(core: &Core, prefix: &Prefix, sink: &mut S) -> Result<(), Failed>
-    ensures { Writes S.written S.flushed S.faults S.has_room sink.old sink.new (header_line (greatest (all_variables prefix.now)) (length core.now.lines)) result }
+    ensures { Writes S.written S.flushed S.faults S.has_room sink.old sink.new
+        (header_line (greatest (all_variables prefix.now)) (length core.now.lines)) result }
 {
     put(b"p qrp ", sink)?;
     put_number(greatest_variable(prefix), sink)?;
@@ -82,7 +83,8 @@ fn greater(a: usize, b: usize) -> usize
 
 // Writes the lines of the scopes.
 fn put_scopes<S: Sink>(prefix: &Prefix, sink: &mut S) -> Result<(), Failed>
-    ensures { Writes S.written S.flushed S.faults S.has_room sink.old sink.new (flat_map scope_line prefix.now) result }
+    ensures { Writes S.written S.flushed S.faults S.has_room sink.old sink.new
+        (flat_map scope_line prefix.now) result }
 {
     for s in 0..prefix.scopes() {
         put_scope(prefix, s + 1, sink)?;
@@ -94,7 +96,8 @@ fn put_scopes<S: Sink>(prefix: &Prefix, sink: &mut S) -> Result<(), Failed>
 fn put_scope<S: Sink>(prefix: &Prefix, s: usize, sink: &mut S) -> Result<(), Failed>
     requires first { 1 ≤ s }
     requires last { s ≤ length prefix.now }
-    ensures { Writes S.written S.flushed S.faults S.has_room sink.old sink.new (scope_line (scope_numbered prefix.now s)) result }
+    ensures { Writes S.written S.flushed S.faults S.has_room sink.old sink.new
+        (scope_line (scope_numbered prefix.now s)) result }
 {
     let vars = prefix.vars_of(s);
     if vars.is_empty() {
@@ -117,7 +120,8 @@ fn put_quantifier<S: Sink>(quant: Quant, sink: &mut S) -> Result<(), Failed>
 
 // Writes variables.
 fn put_variables<S: Sink>(vars: &[Var], sink: &mut S) -> Result<(), Failed>
-    ensures { Writes S.written S.flushed S.faults S.has_room sink.old sink.new (flat_map number_word vars.now) result }
+    ensures { Writes S.written S.flushed S.faults S.has_room sink.old sink.new
+        (flat_map number_word vars.now) result }
 {
     for v in vars {
         put_number(v.number() as usize, sink)?;
@@ -127,7 +131,8 @@ fn put_variables<S: Sink>(vars: &[Var], sink: &mut S) -> Result<(), Failed>
 
 // Writes the lines of the steps.
 fn put_steps<S: Sink>(core: &Core, sink: &mut S) -> Result<(), Failed>
-    ensures { Writes S.written S.flushed S.faults S.has_room sink.old sink.new (flat_map (step_line core.now.lines) (range_with_len 1 (length core.now.lines))) result }
+    ensures { Writes S.written S.flushed S.faults S.has_room sink.old sink.new
+        (flat_map (step_line core.now.lines) (range_with_len 1 (length core.now.lines))) result }
 {
     for i in 0..core.len() {
         put_step(core, i + 1, sink)?;
@@ -150,7 +155,8 @@ fn put_step<S: Sink>(core: &Core, i: usize, sink: &mut S) -> Result<(), Failed>
 
 // Writes literals.
 fn put_literals<S: Sink>(lits: &[Lit], sink: &mut S) -> Result<(), Failed>
-    ensures { Writes S.written S.flushed S.faults S.has_room sink.old sink.new (flat_map literal_word lits.now) result }
+    ensures { Writes S.written S.flushed S.faults S.has_room sink.old sink.new
+        (flat_map literal_word lits.now) result }
 {
     for lit in lits {
         put_literal(*lit, sink)?;
@@ -168,7 +174,8 @@ fn put_literal<S: Sink>(lit: Lit, sink: &mut S) -> Result<(), Failed>
 
 // Writes the sign of a literal.
 fn put_sign<S: Sink>(positive: bool, sink: &mut S) -> Result<(), Failed>
-    ensures { Writes S.written S.flushed S.faults S.has_room sink.old sink.new (if positive then [] else codes "-") result }
+    ensures { Writes S.written S.flushed S.faults S.has_room sink.old sink.new
+        (if positive then [] else codes "-") result }
 {
     if positive {
         return Ok(());
@@ -178,7 +185,8 @@ fn put_sign<S: Sink>(positive: bool, sink: &mut S) -> Result<(), Failed>
 
 // Writes the numbers of what a step rests on, ascending.
 fn put_antecedents<S: Sink>(step: CoreStep, sink: &mut S) -> Result<(), Failed>
-    ensures { Writes S.written S.flushed S.faults S.has_room sink.old sink.new (flat_map number_word (antecedents_of step)) result }
+    ensures { Writes S.written S.flushed S.faults S.has_room sink.old sink.new
+        (flat_map number_word (antecedents_of step)) result }
 {
     match step {
         CoreStep::Input => Ok(()),
