@@ -6,7 +6,8 @@ use Rattle.std.proofs.lemmas.Bool.{cases_Bool, cond-true, cond-false, true≢fal
 use Rattle.std.proofs.lemmas.List.{append-nil, get_or-map, take_more, get_or_default, map-append}
 use Rattle.std.proofs.lemmas.Grind.{flat_map-append}
 use Rattle.prefix.specs.declared.quant.Quant.TheVariants.{Exists}
-use Rattle.std.proofs.lemmas.List.Elements.{Contains-append_cases}
+use Rattle.std.specs.List.{All}
+use Rattle.std.proofs.lemmas.List.Elements.{All-append, Contains-append_cases}
 use Rattle.prefix.specs.declared.quant.Quant.{Quant}
 use Rattle.prefix.specs.Literal.{Literal}
 use Rattle.prefix.specs.Scopes.{Scope, all_variables, variables_at, is_among}
@@ -281,6 +282,7 @@ ready_now pivot rows index vars i first start circuit table below ready was none
 pub record AreOutputs (winners : List ℕ) (i : ℕ) (table : List (Option Edge)) (outputs : List Output) : Type 0 where
   pub vars : output_vars outputs ≡ take i winners
   pub edges : (x : ℕ) → output_of outputs x ≡ cond (is_among x (take i winners)) (edge_of table x) None
+  pub each : All (λ (o : Output). edge_of table o.var ≡ Some o.edge) outputs
 
 -- the first of two edges that is there
 abbrev or_else : Option Edge → Option Edge → Option Edge
@@ -308,7 +310,12 @@ among_append (y ∷ xs) v x = ap (λ b. (y == x) || b) (among_append xs v x) ∙
     assoc false b c = refl
 
 pub outputs_start : (winners : List ℕ) (table : List (Option Edge)) → AreOutputs winners 0 table []
-outputs_start winners table = record { vars = refl; edges = λ x. refl }
+outputs_start winners table = record { vars = refl; edges = λ x. refl; each = λ k d below. absurd (let none : k < 0 = below in omega arith) }
+
+-- what holds of an element holds of each in the list of it alone
+alone : {X : Type 0} (P : X → Type 0) (x : X) → P x → All P (x ∷ [])
+alone P x holds zero d below = holds
+alone P x holds (suc k) d below = absurd (let one : suc k < 1 = below in omega arith)
 
 pub outputs_more : (winners : List ℕ) (i : ℕ) (table : List (Option Edge)) (outputs : List Output) (o : Output) → i < length winners → Covers table winners → AreOutputs winners i table outputs → o.var ≡ get_or winners i 0 → edge_of table o.var ≡ Some o.edge → AreOutputs winners (i + 1) table (outputs ++ o ∷ [])
 outputs_more winners i table outputs o below covers before var edge = record {
@@ -316,6 +323,7 @@ outputs_more winners i table outputs o below covers before var edge = record {
   edges = λ x.
       let among : is_among x (take (i + 1) winners) ≡ (is_among x (take i winners) || (o.var == x)) = ap (is_among x) (take_more winners i 0 below) ∙ among_append (take i winners) (get_or winners i 0) x ∙ ap (λ (v : ℕ). is_among x (take i winners) || (v == x)) (sym var) in
       output_append outputs o x ∙ ap (λ q. or_else q (cond (o.var == x) (Some o.edge) None)) (before.edges x) ∙ joined x (is_among x (take i winners)) refl (o.var == x) refl ∙ sym (ap (λ b. cond b (edge_of table x) None) among);
+  each = All-append (λ (p : Output). edge_of table p.var ≡ Some p.edge) outputs (o ∷ []) before.each (alone (λ (p : Output). edge_of table p.var ≡ Some p.edge) o edge);
 }
   where
     first_stays : (o : Option Edge) (p : Option Edge) → is_some o ≡ true → or_else o p ≡ o

@@ -7,7 +7,7 @@ ghost use Rattle.calculus.specs.Verdicts.{AreOuter};
 ghost use Rattle.calculus.specs.Limits.{gate_weight};
 ghost use Rattle.calculus.specs.Plays.{KeepsInputs, FollowsProof, Wins, DependsOnEarlier};
 ghost use Rattle.aig.specs.Circuits.{value_of, IsEdge, Grows};
-ghost use Rattle.aig.specs.Strategies.{output_of, output_vars, values_of};
+ghost use Rattle.aig.specs.Strategies.{IsStrategy, output_of, output_vars, values_of};
 ghost use Rattle.aig.specs.declared.edge.Edge.{Edge};
 ghost use Rattle.aig.specs.declared.edge.Node.TheVariants.{Constant};
 ghost use Rattle.prefix.specs.Sides.{opposite};
@@ -211,6 +211,7 @@ fn outputs_of(
     ensures vars { IfOk result (λ outputs. output_vars outputs.items ≡ winners.now) }
     ensures edges { IfOk result (λ outputs. (x : ℕ) →
         output_of outputs.items x ≡ (if is_among x winners.now then edge_of table.now.items x else None)) }
+    ensures each { IfOk result (λ outputs. All (λ o. edge_of table.now.items o.var ≡ Some o.edge) outputs.items) }
 {
     let mut outputs = Vec::new(alloc);
     for v in winners {
@@ -279,8 +280,7 @@ pub fn extract(
         ≡ filter (λ v. is_of (quantifier_of prefix.now v) (loser_of core.now)) (all_variables prefix.now)) }
     ensures outputs { IfOk result (λ s. output_vars s.outputs
         ≡ filter (λ v. is_of (quantifier_of prefix.now v) core.now.winner) (all_variables prefix.now)) }
-    ensures count { IfOk result (λ s. s.aig.inputs ≡ length s.inputs) }
-    ensures stands { IfOk result (λ s. (x : ℕ) (e : Edge) → output_of s.outputs x ≡ Some e → IsEdge s.aig e) }
+    ensures strategy { IfOk result IsStrategy }
     ensures assumed { IfOk result (λ s. (x : ℕ) (b : Bool) → assumed_value assumptions.now x ≡ Some b →
         quantifier_of prefix.now x ≢ Some (loser_of core.now) →
         output_of s.outputs x ≡ Some (record { node = Constant; negated = b })) }
