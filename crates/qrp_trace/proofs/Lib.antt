@@ -6,3 +6,4 @@ pub mod Used
 pub mod Linking
 pub mod Pieces
 pub mod Scoping
+pub mod Finishing

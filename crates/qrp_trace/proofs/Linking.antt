@@ -1,8 +1,8 @@
 -- The core of a step, in the words of the calculus: where the step is the finish of an end row, the core is the proof of
 -- the verdict.
-use Rattle.std.proofs.Common.{◌≡◌, ◌≢◌, ℕ, zero, suc, ◌+◌, ◌-◌, ◌<◌, ◌≤◌, ◌==◌, ◌⊎◌, inl, inr, ⊎_elim, Bool, true, false, not, ◌||◌, ◌&&◌, cond, List, [], ◌∷◌, ◌++◌, length, map, filter, get_or, nat_lt, Contains, AllPairs, Option, Some, None, is_some, refl, sym, ap, ap₂, ◌∙◌, arith, subst}
+use Rattle.std.proofs.Common.{◌≡◌, ◌≢◌, ℕ, zero, suc, ◌+◌, ◌-◌, ◌<◌, ◌≤◌, ◌==◌, ◌⊎◌, inl, inr, ⊎_elim, Bool, true, false, not, ◌||◌, ◌&&◌, List, [], ◌∷◌, ◌++◌, length, map, filter, get_or, nat_lt, Contains, AllPairs, Option, Some, None, is_some, refl, sym, ap, ap₂, ◌∙◌, arith, subst}
 use Rattle.std.specs.List.{cons_option, filter_map, list_all, range_with_len}
-use Rattle.std.proofs.lemmas.Bool.{cases_Bool, cond-true, cond-false, eqb-true, eq-eqb, ne_eqb, true≢false, false≢true, or_left, or_right, or_cases, and_from, and_parts, not-true, false_from_ne_true}
+use Rattle.std.proofs.lemmas.Bool.{cases_Bool, cond-true, cond-false, eqb-true, eq-eqb, ne_eqb, true≢false, false≢true, or_left, or_right, or_cases, and_from, false_from_ne_true}
 use Rattle.std.proofs.lemmas.List.{append-nil, append_assoc, map-append}
 use Rattle.std.proofs.lemmas.List.Elements.{Contains-append_cases, filter-append}
 use Rattle.std.proofs.lemmas.List.Kept.{AllPairs-filter}
@@ -12,11 +12,11 @@ use Rattle.prefix.specs.Literal.{Literal}
 use Rattle.prefix.specs.Scopes.{Scope}
 use Rattle.prefix.specs.Sides.{opposite}
 use Rattle.calculus.specs.Rows.{Row, same_quantifier}
-use Rattle.calculus.specs.Derivations.{Inference, IsDerivation, IsLegalStep, Reason, RestsOn, Step, Why, core_of, core_order, inference_of, is_input, needed, of_side, reason_of, rests_on, row_at, side_core}
+use Rattle.calculus.specs.Derivations.{Inference, IsLegalStep, Reason, RestsOn, Step, Why, core_of, core_order, inference_of, is_input, needed, of_side, reason_of, rests_on, row_at, side_core}
 use Rattle.calculus.specs.Derivations.{inferences_of as inferences_by_ids}
 use Rattle.calculus.specs.Derivations.Reason.{Input as ByInput, One as ByOne, Two as ByTwo}
 use Rattle.calculus.specs.Derivations.Why.{Given, ReducedFrom, ResolvedFrom, FinishedFrom}
-use Rattle.calculus.specs.Verdicts.{IsEndRow, IsProof, finish_of, finish_steps, finished, is_assumed, proof_of}
+use Rattle.calculus.specs.Verdicts.{IsProof, finish_of, finish_steps, finished, is_assumed, proof_of}
 use Rattle.calculus.specs.VerdictTheorems.{EndRowsGiveProofs}
 use Rattle.calculus.proofs.Lists.{all_at, all_from, contains_cons, contains_nil, contains_head, contains_tail, filter_all, filter_at, filter_from, filter_same}
 use Rattle.calculus.proofs.StepLemmas.{of_side_derivation, row_at_step}
@@ -24,13 +24,11 @@ use Rattle.derive.specs.State.{IsLegalFor, Note, State, is_finish, is_live, is_s
 use Rattle.derive.specs.Antecedents.{IsAntecedentIn}
 use Rattle.derive.specs.Theorems.{StepsAreListed}
 use Rattle.derive.proofs.Ids.{listed_push}
-use Rattle.qrp_trace.specs.declared.listing.CoreStep.{CoreStep}
-use Rattle.qrp_trace.specs.declared.listing.CoreStep.TheVariants.{Input, One, Two}
 use Rattle.qrp_trace.specs.declared.listing.Line.{Line}
-use Rattle.qrp_trace.specs.Cores.{IsFinishAt, core_ids, core_rows, core_steps, in_core_order, inference_from, inferences_of, is_given, is_needed, kept_at, kept_with, line_at, lines_at, number_in, numbered_by, reason_by, row_numbered, steps_below}
+use Rattle.qrp_trace.specs.Cores.{IsFinishAt, core_ids, core_rows, in_core_order, inference_from, inferences_of, is_given, is_needed, kept_at, line_at, lines_at, number_in, numbered_by, reason_by, row_numbered, steps_below}
 use Rattle.qrp_trace.specs.Gathering.{AreNeeded}
-use Rattle.qrp_trace.proofs.Told.{rests_from, rests_true}
-use Rattle.qrp_trace.proofs.Ordering.{IsBelow, below_at, below_from, below_push, core_at, core_closed, kept_from, map_contains}
+use Rattle.qrp_trace.proofs.Told.{rests_from}
+use Rattle.qrp_trace.proofs.Ordering.{below_at, below_from, below_push, core_closed, kept_from}
 use Rattle.qrp_trace.proofs.Used.{Rises, below_rises, needed_used}
 
 -- lists

@@ -1,8 +1,8 @@
 -- Numbers of steps.
-use Rattle.std.proofs.Common.{◌≡◌, ℕ, zero, suc, ◌+◌, ◌-◌, ◌<◌, ◌≤◌, ◌==◌, ◌⊎◌, inl, inr, ⊎_elim, Bool, true, false, cond, List, [], ◌∷◌, ◌++◌, length, map, take, drop, get_or, set, Contains, AllPairs, refl, sym, ap, ap₂, ◌∙◌, arith, subst, get_or-set_same, get_or-set_other}
-use Rattle.std.proofs.lemmas.Bool.{cases_Bool, cond-true, cond-false, eqb-true, eq-eqb, ne_eqb, true≢false}
-use Rattle.std.proofs.lemmas.List.{take_more, get_or-map, length-map}
-use Rattle.calculus.proofs.Lists.{contains_cons, contains_nil, contains_head, contains_tail, pairs_head, pairs_tail}
+use Rattle.std.proofs.Common.{◌≡◌, ℕ, zero, suc, ◌+◌, ◌-◌, ◌<◌, ◌≤◌, ◌==◌, ⊎_elim, List, [], ◌∷◌, length, drop, get_or, set, Contains, refl, sym, ap, ap₂, ◌∙◌, arith, subst, get_or-set_same, get_or-set_other}
+use Rattle.std.proofs.lemmas.Bool.{cases_Bool, cond-true, cond-false, eqb-true, eq-eqb, true≢false}
+use Rattle.std.proofs.lemmas.List.{get_or-map}
+use Rattle.calculus.proofs.Lists.{contains_cons, contains_nil, contains_head, contains_tail}
 use Rattle.qrp_trace.specs.declared.listing.CoreStep.TheVariants.{Input}
 use Rattle.qrp_trace.specs.declared.listing.Line.{Line}
 use Rattle.qrp_trace.specs.Cores.{number_in, step_numbered}

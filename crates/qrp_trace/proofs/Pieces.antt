@@ -1,12 +1,12 @@
 -- Pieces that are written one after another.
 use Rattle.std.proofs.Common.{◌≡◌, ℕ, zero, suc, ◌+◌, ◌-◌, ◌≤◌, List, [], ◌∷◌, ◌++◌, length, take, drop, get_or, Option, Some, None, Result, Ok, Err, refl, sym, ap, subst, ◌∙◌, arith, length-append}
-use Rattle.std.specs.Prelude.{MatchResult, OnOk, OnErr, IsOk, IsErrAnd}
+use Rattle.std.specs.Prelude.{OnOk, IsOk, IsErrAnd}
 use Rattle.std.specs.List.{flat_map}
 use Rattle.std.specs.Io.KnownBytes.{Appends, Keeps}
 use Rattle.std.proofs.KnownBytes.{Appends-nil, Appends-trans}
 use Rattle.std.proofs.lemmas.Bool.{false≢true}
 use Rattle.std.proofs.lemmas.Result.{err_from_is_err_and}
-use Rattle.std.proofs.lemmas.List.{append-nil, append_assoc, take_more, take_all}
+use Rattle.std.proofs.lemmas.List.{append-nil, append_assoc, take_all}
 use Rattle.ports.specs.Bytes.{AppendsFront}
 use Rattle.ports.specs.Causes.{HasCause, Rose}
 use Rattle.ports.proofs.Appending.{keeps_on}

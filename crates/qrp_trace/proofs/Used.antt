@@ -1,22 +1,21 @@
 -- The numbers of a core: each step rests on earlier ones, and each but the last is one that a later one rests on.
-use Rattle.std.proofs.Common.{◌≡◌, ℕ, zero, suc, ◌+◌, ◌-◌, ◌<◌, ◌≤◌, ◌==◌, ◌⊎◌, inl, inr, ⊎_elim, Bool, true, false, not, ◌||◌, ◌&&◌, cond, List, [], ◌∷◌, ◌++◌, length, map, filter, get_or, Contains, AllPairs, Option, Some, None, is_some, refl, sym, ap, ap₂, ◌∙◌, arith, subst}
+use Rattle.std.proofs.Common.{◌≡◌, ℕ, zero, suc, ◌+◌, ◌-◌, ◌<◌, ◌≤◌, ◌==◌, ◌⊎◌, inl, inr, ⊎_elim, Bool, true, false, not, ◌||◌, ◌&&◌, List, [], ◌∷◌, ◌++◌, length, map, filter, get_or, Contains, AllPairs, Option, Some, None, is_some, refl, sym, ap, ◌∙◌, arith, subst}
 use Rattle.std.specs.List.{cons_option}
-use Rattle.std.proofs.lemmas.Bool.{cases_Bool, cond-true, cond-false, eqb-true, eq-eqb, true≢false, false≢true, or_left, or_right, or_cases, and_from, and_parts, not-true, false_from_ne_true}
+use Rattle.std.proofs.lemmas.Bool.{cases_Bool, cond-true, cond-false, eqb-true, eq-eqb, true≢false, or_left, or_cases, and_parts, not-true}
 use Rattle.std.proofs.lemmas.List.{get_or-map, length-map}
 use Rattle.std.proofs.lemmas.List.Kept.{AllPairs-filter}
 use Rattle.std.proofs.lemmas.List.Elements.{Contains-append_cases}
 use Rattle.calculus.specs.Derivations.{RestsOn, Step, Why, core_of, needed, rests_on}
 use Rattle.calculus.specs.Derivations.Why.{Given, ReducedFrom, ResolvedFrom, FinishedFrom}
-use Rattle.calculus.proofs.Lists.{contains_cons, contains_nil, contains_head, contains_tail, filter_at, filter_from, pairs_head, pairs_tail, pairs_nil, pairs_cons}
-use Rattle.derive.specs.State.{State, note_at, row_of, side_at, why_at}
-use Rattle.qrp_trace.specs.declared.listing.CoreStep.{CoreStep}
-use Rattle.qrp_trace.specs.declared.listing.CoreStep.TheVariants.{Input, One, Two}
+use Rattle.calculus.proofs.Lists.{contains_cons, contains_nil, contains_head, contains_tail, filter_at, pairs_head, pairs_tail, pairs_nil, pairs_cons}
+use Rattle.derive.specs.State.{State, note_at, why_at}
+use Rattle.qrp_trace.specs.declared.listing.CoreStep.TheVariants.{Input}
 use Rattle.qrp_trace.specs.declared.listing.Line.{Line}
-use Rattle.qrp_trace.specs.Cores.{IsNumbered, IsUsedLater, RestsOnNumber, core_ids, core_steps, in_core_order, is_given, is_needed, kept_at, line_at, lines_at, number_in, numbered_by, step_numbered, steps_below}
+use Rattle.qrp_trace.specs.Cores.{IsNumbered, IsUsedLater, RestsOnNumber, core_ids, core_steps, is_given, is_needed, kept_at, line_at, lines_at, number_in, numbered_by, step_numbered, steps_below}
 use Rattle.qrp_trace.specs.Gathering.{AreNeeded}
 use Rattle.qrp_trace.proofs.Told.{rests_from}
 use Rattle.qrp_trace.proofs.Numbering.{contains_at}
-use Rattle.qrp_trace.proofs.Ordering.{IsBelow, below_at, below_push, core_at, core_from, kept_is, map_contains}
+use Rattle.qrp_trace.proofs.Ordering.{below_at, below_push, core_at, core_from, kept_is, map_contains}
 
 -- pairs
 

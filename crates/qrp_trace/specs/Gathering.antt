@@ -1,5 +1,5 @@
 -- Tables by the distance from a step's id: which steps it needs, and their numbers.
-use Rattle.std.specs.Prelude.{◌≡◌, ℕ, ◌+◌, ◌-◌, ◌<◌, ◌≤◌, Bool, true, false, not, ◌&&◌, if◌then◌else◌, List, map, filter, length, slice_index_or, Contains}
+use Rattle.std.specs.Prelude.{◌≡◌, ℕ, ◌+◌, ◌-◌, ◌<◌, ◌≤◌, Bool, true, false, not, if◌then◌else◌, List, map, filter, length, slice_index_or, Contains}
 use Rattle.calculus.specs.Derivations.{RestsOn, Step, Why, core_of}
 use Rattle.derive.specs.State.{State, is_live, side_at, why_at}
 use Rattle.derive.specs.Antecedents.{IsAntecedentIn}

@@ -1,5 +1,5 @@
 -- Traces as texts, in this project's profile of the QRP format.
-use Rattle.std.specs.Prelude.{ℕ, ◌+◌, ◌-◌, max, slice_index_or, min, if◌then◌else◌, List, [], ◌∷◌, ◌++◌, map, length, codes}
+use Rattle.std.specs.Prelude.{ℕ, ◌-◌, max, slice_index_or, min, if◌then◌else◌, List, [], ◌∷◌, ◌++◌, length, codes}
 use Rattle.std.specs.List.{flat_map, range_with_len}
 use Rattle.std.specs.Fmt.{decimal}
 use Rattle.prefix.specs.declared.quant.Quant.{Quant}

@@ -1,5 +1,5 @@
 -- Worked values: the core of a small derivation, its numbers and its text.
-use Rattle.std.specs.Prelude.{◌≡◌, ℕ, List, [], ◌∷◌, Option, Some, None, codes}
+use Rattle.std.specs.Prelude.{◌≡◌, List, [], ◌∷◌, Option, Some, None, codes}
 use Rattle.prefix.specs.declared.quant.Quant.TheVariants.{Exists, Forall}
 use Rattle.rows.specs.Arena.{StoredRow, new_row}
 use Rattle.calculus.specs.Rows.{Row}

@@ -7,6 +7,7 @@
 #![tactic(auto)]
 
 mod gather;
+mod laws;
 mod listing;
 mod marks;
 mod numbers;
@@ -15,6 +16,7 @@ mod text;
 mod worked;
 
 pub use gather::core;
+pub use laws::finishes_end_proofs;
 pub use listing::{Core, CoreStep};
 pub use text::write_trace;
 pub use worked::{worked_cores, worked_numbers, worked_texts};

@@ -1,7 +1,7 @@
-use Rattle.std.proofs.Common.{◌≡◌, arith, sym, ap, ◌∙◌, subst, length, ◌<◌}
+use Rattle.std.proofs.Common.{◌≡◌, sym, ap, ◌∙◌, length, ◌<◌}
 use Rattle.prefix.specs.Sides.{opposite}
 use Rattle.derive.specs.State.{next_id, side_at}
-use Rattle.qrp_trace.specs.Cores.{IsNumbered, core_ids, lines_at}
+use Rattle.qrp_trace.specs.Cores.{core_ids, lines_at}
 use Rattle.qrp_trace.proofs.Used.{core_numbered}
 use Rattle.qrp_trace.proofs.Linking.{core_proves, live_below, other_twice}
 use Rattle.qrp_trace.proofs.gather.core.Goals as goal

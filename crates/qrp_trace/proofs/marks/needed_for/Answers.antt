@@ -1,4 +1,4 @@
-use Rattle.std.proofs.Common.{◌≡◌, arith, ◌∙◌}
+use Rattle.std.proofs.Common.{arith}
 use Rattle.qrp_trace.proofs.Marking.{marked_more, marked_end}
 use Rattle.qrp_trace.proofs.marks.needed_for.Goals as goal
 

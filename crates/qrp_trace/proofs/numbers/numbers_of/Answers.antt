@@ -1,4 +1,4 @@
-use Rattle.std.proofs.Common.{◌-◌, ◌+◌, arith, get_or, set, refl, length-set, ◌∙◌}
+use Rattle.std.proofs.Common.{◌-◌, ◌+◌, arith, get_or, refl, length-set, ◌∙◌}
 use Rattle.qrp_trace.proofs.Numbering.{contains_at, numbers_more}
 use Rattle.qrp_trace.proofs.numbers.numbers_of.Goals as goal
 

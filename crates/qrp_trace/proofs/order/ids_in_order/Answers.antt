@@ -1,5 +1,4 @@
-use Rattle.std.proofs.Common.{◌≡◌, subst, sym}
-use Rattle.qrp_trace.specs.Cores.{core_ids}
+use Rattle.std.proofs.Common.{subst, sym}
 use Rattle.qrp_trace.specs.Gathering.{AreCoreIds}
 use Rattle.qrp_trace.proofs.Ordering.{core_closed, parts_are}
 use Rattle.qrp_trace.proofs.order.ids_in_order.Goals as goal

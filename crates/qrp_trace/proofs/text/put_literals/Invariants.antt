@@ -1,5 +1,5 @@
-use Rattle.std.proofs.Common.{take, length}
-use Rattle.std.specs.List.{flat_map, range_with_len}
+use Rattle.std.proofs.Common.{take}
+use Rattle.std.specs.List.{flat_map}
 use Rattle.qrp_trace.specs.Texts.{literal_word}
 use Rattle.qrp_trace.specs.Writing.{Wrote}
 use Rattle.qrp_trace.proofs.text.put_literals.Given as goal

@@ -1,6 +1,5 @@
-use Rattle.std.proofs.Common.{◌≡◌, ◌≤◌, ◌+◌, ◌-◌, ◌++◌, ℕ, suc, take, drop, get_or, length, arith, ap, sym, ◌∙◌, subst}
-use Rattle.std.specs.List.{flat_map, range_with_len}
-use Rattle.std.proofs.lemmas.List.{take_all}
+use Rattle.std.proofs.Common.{◌≡◌, ◌≤◌, ◌+◌, ◌++◌, suc, take, drop, get_or, length, arith, ap, sym, ◌∙◌}
+use Rattle.std.specs.List.{flat_map}
 use Rattle.qrp_trace.proofs.Pieces.{flat_more, flat_split, nothing, part_more, part_then, whole_then, writes_err}
 use Rattle.qrp_trace.specs.Texts.{number_word}
 use Rattle.qrp_trace.proofs.text.put_variables.Goals as goal

@@ -1,7 +1,7 @@
-use Rattle.std.proofs.Common.{◌≡◌, ℕ, ◌<◌, ◌≤◌, ◌⊎◌, inl, inr, ⊎_elim, List, [], ◌∷◌, refl, arith, subst, ap}
+use Rattle.std.proofs.Common.{◌≡◌, ℕ, ◌<◌, ◌≤◌, ◌⊎◌, ⊎_elim, [], ◌∷◌, refl, arith, subst}
 use Rattle.qrp_trace.specs.declared.listing.CoreStep.TheVariants.{Input}
-use Rattle.qrp_trace.specs.Cores.{IsNumbered, IsUsedLater, RestsOnNumber, step_numbered}
-use Rattle.qrp_trace.specs.Worked.{circular, twice}
+use Rattle.qrp_trace.specs.Cores.{IsUsedLater, RestsOnNumber, step_numbered}
+use Rattle.qrp_trace.specs.Worked.{twice}
 use Rattle.qrp_trace.proofs.worked.worked_numbers.Goals as goal
 
 three_or_four : (n : ℕ) → 2 < n → n ≤ 4 → (n ≡ 3) ⊎ (n ≡ 4)

@@ -1,5 +1,5 @@
 use Rattle.std.proofs.Common.{◌≡◌, ◌≤◌, length, subst, sym}
-use Rattle.qrp_trace.specs.Cores.{RestsOnNumber, Trace, step_numbered}
+use Rattle.qrp_trace.specs.Cores.{RestsOnNumber, step_numbered}
 use Rattle.qrp_trace.proofs.Numbering.{line_step}
 use Rattle.qrp_trace.proofs.listing.Core.step.Goals as goal
 
