@@ -8,13 +8,13 @@ ghost use Rattle.derive.specs.State.{IsLegalFor, has_rows, is_live, open_clauses
 ghost use Rattle.qrp_trace.specs.Cores.{IsFinishAt, IsNumbered, IsProofOf, core_ids, line_at, lines_at, number_in, numbered_by};
 ghost use Rattle.qrp_trace.specs.Gathering.{AreCoreIds};
 
-use crate::listing::{Core, CoreStep, Line};
+use crate::listing::{Core, CoreStep, Line, other_quant};
 use crate::marks::needed_for;
 use crate::numbers::numbers_of;
 use crate::order::ids_in_order;
 use calculus::end_rows_give_proofs;
 use derive::{Derivation, Step, StepId, steps_are_listed};
-use prefix::{Lit, LitList, Quant};
+use prefix::{Lit, LitList};
 use std::alloc::Global;
 use steps::NoMemory;
 
@@ -94,14 +94,4 @@ fn copied(alloc: Global, lits: &[Lit]) -> Result<LitList, NoMemory>
     ensures { IfOk result (λ list. list ≡ lits.now) }
 {
     Ok(LitList::from_vec(Vec::from_slice(alloc, lits)?))
-}
-
-// The quantifier that this one isn't.
-fn other_quant(quant: Quant) -> Quant
-    ensures { result ≡ opposite quant }
-{
-    match quant {
-        Quant::Exists => Quant::Forall,
-        Quant::Forall => Quant::Exists,
-    }
 }

@@ -13,6 +13,7 @@ mod marks;
 mod numbers;
 mod order;
 mod text;
+mod words;
 mod worked;
 
 pub use gather::core;

@@ -1,6 +1,7 @@
 //! Cores.
 ghost use Rattle.std.specs.Prelude.{◌≡◌, ℕ, ◌≤◌, ◌<◌, length};
-ghost use Rattle.qrp_trace.specs.Cores.{IsNumbered, RestsOnNumber, core_rows, row_numbered, step_numbered};
+ghost use Rattle.prefix.specs.Sides.{opposite};
+ghost use Rattle.qrp_trace.specs.Cores.{IsNumbered, RestsOnNumber, core_rows, loser_of, row_numbered, step_numbered};
 
 use prefix::{Lit, LitList, Quant, Var};
 use std::marker::Model;
@@ -69,6 +70,14 @@ impl Core {
         self.winner
     }
 
+    /// The side that loses, whose quantifier the pivots have: `Exists` where the steps are clauses, `Forall` where they
+    /// are cubes. This takes no memory.
+    pub fn loser(&self) -> Quant
+        ensures { result ≡ loser_of self.now }
+    {
+        other_quant(self.winner)
+    }
+
     /// The literals of step number `i`, from 1. This takes no memory.
     pub fn lits(&self, i: usize) -> &[Lit]
         requires first { 1 ≤ i }
@@ -86,5 +95,15 @@ impl Core {
         ensures earlier { (k : ℕ) → RestsOnNumber result k → (1 ≤ k) × (k < i) }
     {
         self.lines[i - 1].step
+    }
+}
+
+// The quantifier that this one isn't.
+pub(crate) fn other_quant(quant: Quant) -> Quant
+    ensures { result ≡ opposite quant }
+{
+    match quant {
+        Quant::Exists => Quant::Forall,
+        Quant::Forall => Quant::Exists,
     }
 }

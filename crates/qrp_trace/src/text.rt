@@ -1,16 +1,16 @@
 //! Traces as texts.
-ghost use Rattle.std.specs.Prelude.{◌≡◌, ℕ, ◌+◌, ◌-◌, ◌≤◌, ◌<◌, ◌^◌, ◌++◌, [], length, codes, if◌then◌else◌, max, IsOk, OnOk};
+ghost use Rattle.std.specs.Prelude.{◌≡◌, ℕ, ◌+◌, ◌-◌, ◌≤◌, ◌<◌, ◌^◌, ◌++◌, length, max, IsOk, OnOk};
 ghost use Rattle.std.specs.List.{flat_map, range_with_len};
-ghost use Rattle.std.specs.Fmt.{decimal};
 ghost use Rattle.std.specs.Io.KnownBytes.{Appends, Keeps};
 ghost use Rattle.prefix.specs.Scopes.{all_variables, quantifier_at, variables_at};
 ghost use Rattle.ports.specs.Bytes.{AppendsFront};
 ghost use Rattle.ports.specs.Causes.{HasCause};
 ghost use Rattle.qrp_trace.specs.Cores.{IsNumbered};
-ghost use Rattle.qrp_trace.specs.Texts.{antecedents_of, greatest, header_line, literal_word, number_word, qrp_text, quantifier_word, scope_line, scope_numbered, step_line, variables_line, verdict_line as last_line};
+ghost use Rattle.qrp_trace.specs.Texts.{greatest, header_line, literal_word, number_word, qrp_text, quantifier_word, scope_line, scope_numbered, step_line, variables_line, verdict_line as last_line};
 ghost use Rattle.qrp_trace.specs.Writing.{Writes};
 
-use crate::listing::{Core, CoreStep};
+use crate::listing::Core;
+use crate::words::{self, Words};
 use ports::{Failed, Sink, write_all};
 use prefix::{Lit, Prefix, Quant, Var};
 
@@ -46,10 +46,7 @@ fn put_header<S: Sink>(core: &Core, prefix: &Prefix, sink: &mut S) -> Result<(),
     ensures { Writes S.written S.flushed S.faults S.has_room sink.old sink.new
         (header_line (greatest (all_variables prefix.now)) (length core.now.lines)) result }
 {
-    put(b"p qrp ", sink)?;
-    put_number(greatest_variable(prefix), sink)?;
-    put_digits(core.len(), sink)?;
-    put(b"\n", sink)
+    put_words(&words::header(greatest_variable(prefix), core.len()), sink)
 }
 
 // The greatest number of a variable, 0 where there is none.
@@ -118,7 +115,7 @@ fn put_quantifier<S: Sink>(quant: Quant, sink: &mut S) -> Result<(), Failed>
     }
 }
 
-// Writes variables.
+// Writes variables, each with a blank.
 fn put_variables<S: Sink>(vars: &[Var], sink: &mut S) -> Result<(), Failed>
     ensures { Writes S.written S.flushed S.faults S.has_room sink.old sink.new
         (flat_map number_word vars.now) result }
@@ -148,12 +145,10 @@ fn put_step<S: Sink>(core: &Core, i: usize, sink: &mut S) -> Result<(), Failed>
 {
     put_number(i, sink)?;
     put_literals(core.lits(i), sink)?;
-    put(b"0 ", sink)?;
-    put_antecedents(core.step(i), sink)?;
-    put(b"0\n", sink)
+    put_words(&words::antecedents(core.step(i)), sink)
 }
 
-// Writes literals.
+// Writes literals, each with a blank.
 fn put_literals<S: Sink>(lits: &[Lit], sink: &mut S) -> Result<(), Failed>
     ensures { Writes S.written S.flushed S.faults S.has_room sink.old sink.new
         (flat_map literal_word lits.now) result }
@@ -164,42 +159,11 @@ fn put_literals<S: Sink>(lits: &[Lit], sink: &mut S) -> Result<(), Failed>
     Ok(())
 }
 
-// Writes a literal.
+// Writes a literal, and a blank.
 fn put_literal<S: Sink>(lit: Lit, sink: &mut S) -> Result<(), Failed>
     ensures { Writes S.written S.flushed S.faults S.has_room sink.old sink.new (literal_word lit) result }
 {
-    put_sign(lit.is_positive(), sink)?;
-    put_number(lit.var().number() as usize, sink)
-}
-
-// Writes the sign of a literal.
-fn put_sign<S: Sink>(positive: bool, sink: &mut S) -> Result<(), Failed>
-    ensures { Writes S.written S.flushed S.faults S.has_room sink.old sink.new
-        (if positive then [] else codes "-") result }
-{
-    if positive {
-        return Ok(());
-    }
-    put(b"-", sink)
-}
-
-// Writes the numbers of what a step rests on, ascending.
-fn put_antecedents<S: Sink>(step: CoreStep, sink: &mut S) -> Result<(), Failed>
-    ensures { Writes S.written S.flushed S.faults S.has_room sink.old sink.new
-        (flat_map number_word (antecedents_of step)) result }
-{
-    match step {
-        CoreStep::Input => Ok(()),
-        CoreStep::One(k) => put_number(k, sink),
-        CoreStep::Two {
-            positive,
-            negative,
-            ..
-        } => {
-            put_number(positive.min(negative), sink)?;
-            put_number(positive.max(negative), sink)
-        }
-    }
+    put_words(&words::literal(lit), sink)
 }
 
 // Writes the last line.
@@ -216,16 +180,14 @@ fn put_verdict<S: Sink>(winner: Quant, sink: &mut S) -> Result<(), Failed>
 fn put_number<S: Sink>(n: usize, sink: &mut S) -> Result<(), Failed>
     ensures { Writes S.written S.flushed S.faults S.has_room sink.old sink.new (number_word n) result }
 {
-    put_digits(n, sink)?;
-    put(b" ", sink)
+    put_words(&words::number(n), sink)
 }
 
-// Writes a number.
-fn put_digits<S: Sink>(n: usize, sink: &mut S) -> Result<(), Failed>
-    ensures { Writes S.written S.flushed S.faults S.has_room sink.old sink.new (decimal n) result }
+// Writes words.
+fn put_words<S: Sink>(words: &Words, sink: &mut S) -> Result<(), Failed>
+    ensures { Writes S.written S.flushed S.faults S.has_room sink.old sink.new words.now.bytes result }
 {
-    let mut buffer = itoa::Buffer::new();
-    put(buffer.format(n).as_bytes(), sink)
+    put(words.as_str().as_bytes(), sink)
 }
 
 // Writes bytes.
