@@ -234,9 +234,6 @@ lt_true a b h = grind arith
 lt_false : (a b : ℕ) → b ≤ a → nat_lt a b ≡ false
 lt_false a b h = grind arith
 
-below_lt : (a b : ℕ) → nat_lt a b ≡ true → a < b
-below_lt a b h = grind arith
-
 -- up to n both lists are the same
 both_to : (d : State) (n : ℕ) (side : Quant) (k : ℕ) → k ≤ n → filter (low n) (filter (of side) (filter_map (step_at d) (range_with_len 0 k))) ≡ filter (may side) (steps_below d k)
 both_to d n side zero within = refl

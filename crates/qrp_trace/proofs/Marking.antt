@@ -23,28 +23,10 @@ or_none : (b : Bool) → (b || false) ≡ b
 or_none true = refl
 or_none false = refl
 
-or_same : (b : Bool) → (b || (b && false)) ≡ b
-or_same true = refl
-or_same false = refl
-
 pub get_past : (xs : List Bool) (i : ℕ) → length xs ≤ i → get_or xs i false ≡ false
 get_past [] i h = refl
 get_past (x ∷ xs) zero h = absurd (omega arith)
 get_past (x ∷ xs) (suc i) h = get_past xs i (omega arith)
-
-start_at : (end id k : ℕ) → id ≤ end → end - id ≡ k → get_or (true ∷ []) k false ≡ (id == end)
-start_at end id zero within is = sym (eq-eqb id end (omega arith))
-start_at end id (suc k) within is = sym (ne_eqb id end (λ e. omega arith))
-
-pub marked_start : (d : State) (end : ℕ) → is_live d end ≡ true → AreMarked d end 0 (true ∷ [])
-marked_start d end live = record {
-  marks = record {
-    live = λ id within t. subst (λ n. is_live d n ≡ true) (sym (eqb-true id end (sym (start_at end id (end - id) within refl) ∙ t))) live;
-    short = omega arith;
-  };
-  value = λ id within. start_at end id (end - id) within refl;
-  closed = λ id on within before t rests. absurd (omega arith);
-}
 
 -- one step more in front
 front_more : (d : State) (end id : ℕ) (later : List Step) (used : Bool) (o : Option Note) → note_at d id ≡ o → needed later end id ≡ used → (used ≡ true → is_live d id ≡ true) → (x : ℕ)
@@ -136,44 +118,4 @@ marked_end d end table distance past within is =
 
 -- one mark more
 
-pub same_distance : (end a x : ℕ) → a ≤ end → x ≤ end → (end - a == end - x) ≡ (a == x)
-same_distance end a x low high =
-    ⊎_elim
-    (λ t. t ∙ sym (eq-eqb a x (let e : end - a ≡ end - x = eqb-true (end - a) (end - x) t in omega arith)))
-    (λ f. f ∙ sym (ne_eqb a x (λ e. true≢false (sym (eq-eqb (end - a) (end - x) (ap (λ n. end - n) e)) ∙ f))))
-    (cases_Bool (end - a == end - x))
-
-or_swap : (a b : Bool) → (a || b) ≡ (b || a)
-or_swap true true = refl
-or_swap true false = refl
-or_swap false true = refl
-or_swap false false = refl
-
-below_max : (a b c : ℕ) → a ≤ max b c → b ≤ c → a ≤ c
-below_max a b c h l = grind arith
-
-pub mark_value : (end a : ℕ) (old new : List Bool) → a ≤ end → ((x : ℕ) → get_or new x false ≡ (end - a == x || get_or old x false)) → (x : ℕ) → x ≤ end → is_marked end new x ≡ (is_marked end old x || a == x)
-mark_value end a old new within value x low =
-    value (end - x) ∙ ap (λ b. b || is_marked end old x) (same_distance end a x within low) ∙ or_swap (a == x) (is_marked end old x)
-
-pub mark_marks : (d : State) (end a : ℕ) (old new : List Bool) → a ≤ end → is_live d a ≡ true → AreMarks d end old
-    → ((x : ℕ) → get_or new x false ≡ (end - a == x || get_or old x false)) → length new ≤ max (length old) (end - a + 1) → AreMarks d end new
-mark_marks d end a old new within live before value len = record {
-  live = λ id low t. ⊎_elim
-      (λ o. before.live id low o)
-      (λ e. subst (λ n. is_live d n ≡ true) (eqb-true a id e) live)
-      (or_cases (is_marked end old id) (a == id) (sym (mark_value end a old new within value id low) ∙ t));
-  short = let s = before.short in let b : end - a + 1 ≤ end + 1 = omega arith in grind (arith, len);
-}
-
 -- what a step rests on, by its kind
-pub value_one : (end a : ℕ) (why : Why) (old new : List Bool) → ((x : ℕ) → rests_on why x ≡ (a == x)) → ((x : ℕ) → x ≤ end → is_marked end new x ≡ (is_marked end old x || a == x)) → (x : ℕ) → x ≤ end → is_marked end new x ≡ (is_marked end old x || rests_on why x)
-value_one end a why old new is value x low = value x low ∙ ap (λ b. is_marked end old x || b) (sym (is x))
-
-or_assoc : (a b c : Bool) → ((a || b) || c) ≡ (a || (b || c))
-or_assoc true b c = refl
-or_assoc false b c = refl
-
-pub value_two : (end a b : ℕ) (why : Why) (old middle new : List Bool) → ((x : ℕ) → rests_on why x ≡ (a == x || b == x)) → ((x : ℕ) → x ≤ end → is_marked end middle x ≡ (is_marked end old x || a == x)) → ((x : ℕ) → x ≤ end → is_marked end new x ≡ (is_marked end middle x || b == x)) → (x : ℕ) → x ≤ end → is_marked end new x ≡ (is_marked end old x || rests_on why x)
-value_two end a b why old middle new is first second x low =
-    second x low ∙ ap (λ t. t || b == x) (first x low) ∙ or_assoc (is_marked end old x) (a == x) (b == x) ∙ ap (λ t. is_marked end old x || t) (sym (is x))

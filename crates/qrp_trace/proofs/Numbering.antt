@@ -26,21 +26,6 @@ drop_at (x ∷ xs) (suc i) below = drop_at xs i (omega arith)
 abbrev pub AreNumbers : ℕ → List ℕ → ℕ → List ℕ → Type 0
 AreNumbers end ids left numbers = (id : ℕ) → Contains (drop left ids) id → get_or numbers (end - id) 0 ≡ left + number_in (drop left ids) id
 
-pub numbers_end : (end : ℕ) (ids : List ℕ) (numbers : List ℕ) (left : ℕ) → left ≡ 0 → AreNumbers end ids left numbers → (id : ℕ) → Contains ids id → get_or numbers (end - id) 0 ≡ number_in ids id
-numbers_end end ids numbers left none are id i =
-    let are' = subst (λ n. AreNumbers end ids n numbers) none are in
-    let e : 0 + number_in ids id ≡ number_in ids id = omega arith in
-    are' id i ∙ e
-
-drop_all : (xs : List ℕ) (n x : ℕ) → length xs ≤ n → Contains (drop n xs) x → ⊥
-drop_all [] zero x past i = contains_nil x i
-drop_all [] (suc n) x past i = contains_nil x i
-drop_all (y ∷ xs) zero x past i = absurd (omega arith)
-drop_all (y ∷ xs) (suc n) x past i = drop_all xs n x (omega arith) i
-
-pub numbers_start : (end : ℕ) (ids numbers : List ℕ) → AreNumbers end ids (length ids) numbers
-numbers_start end ids numbers id i = absurd (drop_all ids (length ids) id (omega arith) i)
-
 pub numbers_more : (end : ℕ) (ids numbers new : List ℕ) (left id : ℕ) → 0 < left → left ≤ length ids → ((x : ℕ) → Contains ids x → (x ≤ end) × (end - x < length numbers)) → id ≡ get_or ids (left - 1) 0
     → new ≡ set numbers (end - id) (left - 1 + 1) → AreNumbers end ids left numbers → AreNumbers end ids (left - 1) new
 numbers_more end ids numbers new left id some within inside is writes are x i =

@@ -45,9 +45,6 @@ below_at d n s i =
     let e = k.0 in
     record { low = omega arith; live = subst (λ m. is_live d m ≡ true) (sym e) k.2; told = k.1 }
 
-pub step_under : State → ℕ → Step
-step_under d id = record { id = id; side = side_at d id; row = row_of d id; why = why_at d id }
-
 pub kept_from : (d : State) (id : ℕ) (o : Option Note) → note_at d id ≡ o → is_some o ≡ true → kept_at d id ≡ Some (record { id = id; side = side_at d id; row = row_of d id; why = why_at d id })
 kept_from d id None at live = absurd (false≢true live)
 kept_from d id (Some note) at live = rw at refl

@@ -57,13 +57,6 @@ greatest_later scopes s most n new below before same more =
     ∙ sym (greatest-append (all_variables (take s scopes)) (variables_at scopes (s + 1)))
     ∙ sym (ap greatest (variables_more scopes s below))
 
-pub line_none : (scope : Scope) (vars : List ℕ) → vars ≡ scope.variables → (length vars == 0) ≡ true → scope_line scope ≡ []
-line_none scope vars is empty = by_list vars is empty
-  where
-    by_list : (xs : List ℕ) → xs ≡ scope.variables → (length xs == 0) ≡ true → scope_line scope ≡ []
-    by_list [] e t = ap (variables_line scope.quantifier) (sym e)
-    by_list (x ∷ xs) e t = let f : length (x ∷ xs) ≡ 0 = grind (arith, t) in absurd (omega arith)
-
 pub line_some : (scope : Scope) (vars : List ℕ) (q : Quant) → vars ≡ scope.variables → q ≡ scope.quantifier → (length vars == 0) ≡ false → scope_line scope ≡ quantifier_word q ++ (flat_map number_word vars ++ codes "0\n")
 line_some scope vars q is quantifier some = by_list vars is some
   where
@@ -79,12 +72,6 @@ pub range_at : (a n i : ℕ) → i < n → get_or (range_with_len a n) i 0 ≡ a
 range_at a zero i below = absurd (omega arith)
 range_at a (suc n) zero below = omega arith
 range_at a (suc n) (suc i) below = let e = range_at (a + 1) n i (omega arith) in omega arith
-
-pub two_text : (s : CoreStep) (a b x low high : ℕ) → s ≡ Two a b x → low ≡ min a b → high ≡ max a b → flat_map number_word (antecedents_of s) ≡ number_word low ++ number_word high
-two_text s a b x low high is least most =
-    ap (λ t. flat_map number_word (antecedents_of t)) is
-    ∙ ap₂ (λ (m n : ℕ). number_word m ++ (number_word n ++ [])) (sym least) (sym most)
-    ∙ ap (λ t. number_word low ++ t) (append-nil (number_word high))
 
 pub quantifier_found : (scopes : List Scope) (s : ℕ) (found : Option Quant) (q : Quant) → 1 ≤ s → s ≤ length scopes → found ≡ quantifier_at scopes s → found ≡ Some q → q ≡ (scope_numbered scopes s).quantifier
 quantifier_found scopes s found q first last is some = let e : Some q ≡ Some (scope_numbered scopes s).quantifier = sym some ∙ is ∙ quantifier_is scopes s first last in cc

@@ -177,8 +177,6 @@ step_is d ids i below =
     ∙ ap (λ (l : Line). l.step) (get_or-map (line_at d ids) ids (i - 1) 0 (line_at d ids 0) below)
 
 -- what is needed is the end, or some needed step rests on it
-abbrev adds : Bool → Bool → Bool → Bool
-adds later used rests = later || (used && rests)
 
 pub needed_used : (steps : List Step) (end id : ℕ) → needed steps end id ≡ true → (id ≡ end) ⊎ ((t : Step) × Contains steps t × (needed steps end t.id ≡ true) × (rests_on t.why id ≡ true))
 needed_used [] end id n = inl (eqb-true id end n)
