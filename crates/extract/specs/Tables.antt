@@ -108,7 +108,8 @@ pub record IsPlayTable (pivot : Quant) (scopes : List Scope) (assumptions : List
       quantifier_of scopes x ≢ Some pivot → edge_of table x ≡ Some e → (values : List Bool) →
       value_of circuit values e ≡ b
   pub constants : (x : ℕ) (b : Bool) (e : Edge) → assumed_value assumptions x ≡ Some b →
-      quantifier_of scopes x ≢ Some pivot → edge_of table x ≡ Some e → e ≡ record { node = Constant; negated = b }
+      quantifier_of scopes x ≢ Some pivot → edge_of table x ≡ Some e →
+      e ≡ record { node = Constant; negated = b }
   pub ruled : (x : ℕ) → Contains (all_variables scopes) x → quantifier_of scopes x ≢ Some pivot →
       assumed_value assumptions x ≡ None → (inputs : List Bool) (values : Assignment) →
       Agrees circuit inputs table values → values x ≡ unwrap_or (first_forced pivot values x steps) false
