@@ -14,8 +14,12 @@ is_true_one quantifier scopes values literal = is_pivot quantifier scopes litera
 
 -- a true literal of a clause with that quantifier, of the latest scope of those; none where there is no such literal
 abbrev pub IsInnermost : Quant → List Scope → Values → Row → Option Literal → Type 0
-IsInnermost quantifier scopes values clause None = (l : Literal) → Contains clause l → IsFalse (is_true_one quantifier scopes values l)
-IsInnermost quantifier scopes values clause (Some taken) = Contains clause taken × IsTrue (is_true_one quantifier scopes values taken) × ((l : Literal) → Contains clause l → IsTrue (is_true_one quantifier scopes values l) → depth_of scopes l.variable ≤ depth_of scopes taken.variable)
+IsInnermost quantifier scopes values clause None =
+    (l : Literal) → Contains clause l → IsFalse (is_true_one quantifier scopes values l)
+IsInnermost quantifier scopes values clause (Some taken) =
+    Contains clause taken × IsTrue (is_true_one quantifier scopes values taken)
+    × ((l : Literal) → Contains clause l → IsTrue (is_true_one quantifier scopes values l)
+    → depth_of scopes l.variable ≤ depth_of scopes taken.variable)
 
 -- a table that has the chosen literals at the numbers of their variables
 abbrev pub Choices : Type 0
@@ -55,11 +59,13 @@ pub record MayCover (scopes : List Scope) (values : Values) (matrix : List Row) 
   pub holds : Contains clause literal
   pub latest : IsTrue (is_pivot Exists scopes literal) → (m : Literal) → Contains clause m
       → IsTrue (is_true_one Exists scopes values m) → depth_of scopes m.variable ≤ depth_of scopes literal.variable
-  pub alone : IsTrue (is_pivot Forall scopes literal) → (m : Literal) → Contains clause m → IsFalse (is_true_one Exists scopes values m)
+  pub alone : IsTrue (is_pivot Forall scopes literal) → (m : Literal) → Contains clause m
+      → IsFalse (is_true_one Exists scopes values m)
 
 -- each chosen literal stands at its variable, and may stand in a cover
 abbrev pub AreChoices : List Scope → Values → List Row → Choices → Type 0
-AreChoices scopes values matrix table = (x : ℕ) (l : Literal) → chosen_at table x ≡ Some l → (l.variable ≡ x) × MayCover scopes values matrix l
+AreChoices scopes values matrix table = (x : ℕ) (l : Literal) → chosen_at table x ≡ Some l
+    → (l.variable ≡ x) × MayCover scopes values matrix l
 
 -- a literal of the clause is chosen
 abbrev pub IsHit : Choices → Row → Type 0
@@ -67,7 +73,8 @@ IsHit table clause = (l : Literal) × Contains clause l × (chosen_at table l.va
 
 -- each clause with a true literal of that quantifier is hit
 abbrev pub AreHitWith : Quant → List Scope → Values → List Row → Choices → Type 0
-AreHitWith quantifier scopes values clauses table = (clause : Row) (l : Literal) → Contains clauses clause → Contains clause l → IsTrue (is_true_one quantifier scopes values l) → IsHit table clause
+AreHitWith quantifier scopes values clauses table = (clause : Row) (l : Literal) → Contains clauses clause
+    → Contains clause l → IsTrue (is_true_one quantifier scopes values l) → IsHit table clause
 
 -- each clause is hit
 abbrev pub AreHit : List Row → Choices → Type 0

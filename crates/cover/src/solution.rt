@@ -15,9 +15,9 @@ use prefix::{Clauses, Cubes, Lit, LitList, Prefix};
 use steps::NoMemory;
 use trail::Trail;
 
-/// Puts in an initial cube of true literals that holds a literal of every clause of the matrix, and answers its id: of a
-/// clause with a true existential literal it takes one of the latest scope, and of another one that it hits with none of
-/// these a true universal one. With no memory the derivation stays as it was.
+/// Puts in an initial cube of true literals that holds a literal of every clause of the matrix, and answers its id: of
+/// a clause with a true existential literal it takes one of the latest scope, and of another one that it hits with none
+/// of these a true universal one. With no memory the derivation stays as it was.
 pub fn cover(
     derivation: &mut Derivation,
     trail: &Trail,
@@ -27,7 +27,8 @@ pub fn cover(
     requires rows { IsTrue (has_rows derivation.old) }
     requires trail { IsTrailFor prefix.now trail.now }
     requires clauses { (clause : Clause) → Contains (open_clauses derivation.old) clause → Contains matrix.now clause }
-    requires satisfied { (clause : Clause) → Contains matrix.now clause → IsTrue (clause_true (value_on trail.now.placed) clause) }
+    requires satisfied { (clause : Clause) → Contains matrix.now clause →
+        IsTrue (clause_true (value_on trail.now.placed) clause) }
     ensures ok { IfOk result (λ id. Covers prefix.now trail.now.placed matrix.now derivation.old derivation.new id) }
     ensures legal { IsLegalFor prefix.now derivation.old → IsLegalFor prefix.now derivation.new }
     ensures err { OnErr result (derivation.new ≡ derivation.old) }
@@ -68,7 +69,8 @@ fn choose_universal(
     table: &mut Vec<Option<Lit>>,
 ) -> Result<(), NoMemory>
     requires trail { IsTrailFor prefix.now trail.now }
-    requires satisfied { (clause : Clause) → Contains matrix.now clause → IsTrue (clause_true (value_on trail.now.placed) clause) }
+    requires satisfied { (clause : Clause) → Contains matrix.now clause →
+        IsTrue (clause_true (value_on trail.now.placed) clause) }
     requires choices { AreChoices prefix.now (value_on trail.now.placed) matrix.now table.old.items }
     requires hit { AreHitWith exists prefix.now (value_on trail.now.placed) matrix.now table.old.items }
     ensures choices { OnOk result (AreChoices prefix.now (value_on trail.now.placed) matrix.now table.new.items) }

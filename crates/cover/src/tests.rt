@@ -70,7 +70,8 @@ fn is_true(trail: &Trail, clause: &[Lit]) -> bool
 
 // Whether each clause is true.
 fn are_true(trail: &Trail, matrix: &[LitList]) -> bool
-    ensures { IsTrue result → (clause : Row) → Contains matrix.now clause → IsTrue (clause_true (value_on trail.now.placed) clause) }
+    ensures { IsTrue result → (clause : Row) → Contains matrix.now clause →
+        IsTrue (clause_true (value_on trail.now.placed) clause) }
 {
     for clause in matrix {
         if !is_true(trail, clause.lits()) {

@@ -1,0 +1,93 @@
+-- The worked values, for either side.
+use Rattle.std.proofs.Common.{◌≡◌, ℕ, ◌<◌, Bool, true, false, not, [], ◌∷◌, Contains, Option, Some, None, refl, sym, inl, inr, ⊎_elim, arith, ap, ◌∙◌, length, is_none}
+use Rattle.std.specs.Prelude.{IsTrue, IsFalse}
+use Rattle.std.specs.List.{list_any}
+use Rattle.std.proofs.lemmas.Bool.{true≢false, false≢true}
+use Rattle.prefix.specs.declared.quant.Quant.{Quant}
+use Rattle.prefix.specs.declared.quant.Quant.TheVariants.{Exists, Forall}
+use Rattle.prefix.specs.Literal.{Literal}
+use Rattle.prefix.specs.Sides.{bad_of, opposite, same_quantifier}
+use Rattle.calculus.specs.Rows.{Row, is_bad_at, is_pivot, reduce}
+use Rattle.calculus.specs.Search.{is_bad_if}
+use Rattle.calculus.specs.Worked.{plus}
+use Rattle.calculus.specs.WorkedSearch.{alternating, three}
+use Rattle.calculus.proofs.WorkingSearch.{clean_rows, units}
+use Rattle.clean.specs.Worked.{WorkedCleaning, WorkedReasons}
+
+second : Contains three (plus 2)
+second = (1, omega arith, refl)
+
+third : Contains three (plus 3)
+third = (2, omega arith, refl)
+
+good_not : (q : Quant) → is_bad_at q (not (bad_of q)) (plus 3) ≡ false
+good_not Exists = refl
+good_not Forall = refl
+
+pub ours : (q : Quant) → is_pivot q (alternating q) (plus 3) ≡ true
+ours Exists = refl
+ours Forall = refl
+
+pub theirs : (q : Quant) → is_pivot q (alternating q) (plus 2) ≡ false
+theirs Exists = refl
+theirs Forall = refl
+
+some_are : (q : Quant) → list_any (is_pivot q (alternating q)) three ≡ true
+some_are Exists = refl
+some_are Forall = refl
+
+pub blocked_stays : (q : Quant) → reduce q (alternating q) three ≡ three
+blocked_stays Exists = refl
+blocked_stays Forall = refl
+
+last_goes : (q : Quant) → reduce q (alternating q) (plus 1 ∷ plus 2 ∷ []) ≡ plus 1 ∷ []
+last_goes Exists = refl
+last_goes Forall = refl
+
+shorter : (l m : Literal) → l ∷ [] ≡ l ∷ m ∷ [] → ⊥
+shorter l m e = cc
+
+not_itself : (q : Quant) → q ≡ opposite q → ⊥
+not_itself Exists e = cc
+not_itself Forall e = cc
+
+not_both : (q : Quant) (o : Option Bool) (l : Literal) → is_none o ≡ true → is_bad_if q o l ≡ true → ⊥
+not_both q None l n b = false≢true b
+not_both q (Some v) l n b = false≢true n
+
+pub reasons : (pivot : Quant) → WorkedReasons pivot
+reasons pivot = record {
+  reduced = record { step = refl; of_side = refl; reduced = blocked_stays pivot };
+  not_reduced = λ step. shorter (plus 1) (plus 2) (sym (last_goes pivot) ∙ step.reduced);
+  other_side = λ step. not_itself pivot step.of_side;
+  dropped = λ step. false≢true step.step;
+  reason = record {
+    step = record { step = refl; of_side = refl; reduced = blocked_stays pivot };
+    unit = (units pivot).unit_with_later;
+    clean = λ marked. absurd (false≢true marked);
+  };
+  not_clean = λ reason. ⊎_elim (λ e. let same : 2 ≡ 1 = ap (λ (l : Literal). l.variable) e in omega arith) (λ r. false≢true r.0) (reason.clean refl (plus 2) second);
+}
+
+pub cleaning : (pivot : Quant) → WorkedCleaning pivot
+cleaning pivot = record {
+  blocked = record {
+    blocker = plus 3;
+    blocked = plus 2;
+    blocks = record {
+      blocker_stands = third;
+      blocked_stands = second;
+      pivot_type = ours pivot;
+      open_yet = refl;
+      other_type = theirs pivot;
+      later = (let h : 2 < 3 = omega arith in h);
+    };
+  };
+  not_blocked = λ b. not_both pivot _ b.blocked b.blocks.open_yet ((clean_rows pivot).clean b.blocked b.blocks.blocked_stands);
+  bad_row = λ l i. (units pivot).is_bad l i;
+  unit_row = (units pivot).unit;
+  unit_not_kept = λ row. ⊎_elim (λ k. k) (λ r. ⊎_elim (λ b. true≢false (sym b ∙ good_not pivot)) (λ o. false≢true o.0) r) (row (plus 3) third);
+  cleaned = inl (clean_rows pivot).clean;
+  kept = (third, (clean_rows pivot).clean_but);
+  one_open = ⊎_elim (λ clean. false≢true (clean (plus 2) second)) (λ none. true≢false (sym (some_are pivot) ∙ none.0));
+}

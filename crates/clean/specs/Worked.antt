@@ -1,0 +1,66 @@
+-- Worked values: the row 1 2 3 of either side, as a reason and as a row to be cleaned.
+use Rattle.std.specs.Prelude.{ℕ, true, List, [], ◌∷◌, Some, None}
+use Rattle.prefix.specs.declared.quant.Quant.{Quant}
+use Rattle.prefix.specs.Literal.{Literal}
+use Rattle.prefix.specs.Sides.{opposite}
+use Rattle.calculus.specs.Derivations.Why.{Given}
+use Rattle.calculus.specs.Rows.{Row}
+use Rattle.calculus.specs.Search.{Trail}
+use Rattle.calculus.specs.Search.Cause.{Propagated}
+use Rattle.calculus.specs.Worked.{plus}
+use Rattle.calculus.specs.WorkedSearch.{alternating, bad, good, three, with_last}
+use Rattle.rows.specs.Arena.{new_row}
+use Rattle.derive.specs.State.{State}
+use Rattle.trail.specs.State.{TrailState, new_trail, with_clean, with_literal}
+use Rattle.clean.specs.Blockers.{IsBlocked}
+use Rattle.clean.specs.Cleaning.{IsCleaned, MayBeCleaned}
+use Rattle.clean.specs.Reasons.{IsReason, IsReducedStep}
+
+-- rows of a side, the step 0 and the step 1; the step 2 was dropped
+abbrev pub two_steps : Quant → Row → Row → State
+two_steps pivot first second = record {
+  notes = Some (record { side = pivot; why = Given; tag = 0 })
+      ∷ Some (record { side = pivot; why = Given; tag = 0 })
+      ∷ None
+      ∷ [];
+  rows = Some (Some (new_row first) ∷ Some (new_row second) ∷ None ∷ []);
+}
+
+-- the rows 1 2 3 and 1 2, of which the second is not reduced
+abbrev pub stored : Quant → State
+stored pivot = two_steps pivot three (plus 1 ∷ plus 2 ∷ [])
+
+-- 3 is bad, and then 1 was propagated good from the step 0, in which 2 is open
+abbrev pub propagated : Quant → TrailState
+propagated pivot = with_literal (alternating pivot)
+    (with_literal (alternating pivot) new_trail (bad pivot 3) (Propagated 7)) (good pivot 1) (Propagated 0)
+
+-- 1 and 3 are bad, and 2 is open
+abbrev pub two_open : Quant → Trail
+two_open pivot =
+    record { literal = bad pivot 1; cause = Propagated 7 }
+    ∷ record { literal = bad pivot 3; cause = Propagated 8 }
+    ∷ []
+
+pub record WorkedReasons (pivot : Quant) : Type 0 where
+  -- the row 1 2 3 is reduced, since 3 blocks 2; not the row 1 2, nor a row of the other side, nor one that was dropped
+  pub reduced : IsReducedStep pivot (alternating pivot) (stored pivot) 0
+  pub not_reduced : IsReducedStep pivot (alternating pivot) (stored pivot) 1 → ⊥
+  pub other_side : IsReducedStep (opposite pivot) (alternating pivot) (stored pivot) 0 → ⊥
+  pub dropped : IsReducedStep pivot (alternating pivot) (stored pivot) 2 → ⊥
+  -- it is a reason of 1 with 2 open; not once it is marked
+  pub reason : IsReason pivot (alternating pivot) (stored pivot) (propagated pivot) (plus 1) 0
+  pub not_clean : IsReason pivot (alternating pivot) (stored pivot) (with_clean (propagated pivot) 1 0) (plus 1) 0 → ⊥
+
+pub record WorkedCleaning (pivot : Quant) : Type 0 where
+  -- 3 keeps 2 from reduction where 2 is open; nothing does where all are bad
+  pub blocked : IsBlocked pivot (alternating pivot) (two_open pivot) three
+  pub not_blocked : IsBlocked pivot (alternating pivot) (with_last pivot (bad pivot 3)) three → ⊥
+  -- a bad row may be cleaned, and a unit one with its literal kept, but not without
+  pub bad_row : MayBeCleaned pivot (alternating pivot) (two_open pivot) None three
+  pub unit_row : MayBeCleaned pivot (alternating pivot) (with_last pivot (good pivot 3)) (Some (plus 3)) three
+  pub unit_not_kept : MayBeCleaned pivot (alternating pivot) (with_last pivot (good pivot 3)) None three → ⊥
+  -- it is cleaned where all are bad, and where all but the one to keep are; not with 2 open
+  pub cleaned : IsCleaned pivot (alternating pivot) (with_last pivot (bad pivot 3)) None three
+  pub kept : IsCleaned pivot (alternating pivot) (with_last pivot (good pivot 3)) (Some (plus 3)) three
+  pub one_open : IsCleaned pivot (alternating pivot) (two_open pivot) None three → ⊥

@@ -1,0 +1,13 @@
+//! Worked values of the definitions, each proved.
+ghost use Rattle.prefix.specs.declared.quant.Quant.{Quant};
+ghost use Rattle.clean.specs.Worked.{WorkedCleaning, WorkedReasons};
+
+/// Steps that are reduced and reasons, for either side.
+pub fn worked_reasons()
+    ensures { (pivot : Quant) → WorkedReasons pivot }
+{}
+
+/// Rows that are blocked, that may be cleaned and that are cleaned, for either side.
+pub fn worked_cleaning()
+    ensures { (pivot : Quant) → WorkedCleaning pivot }
+{}
