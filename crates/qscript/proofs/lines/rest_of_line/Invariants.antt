@@ -1,0 +1,22 @@
+use Rattle.std.proofs.Common.{◌≡◌, ℕ, false, List, None}
+use Rattle.lexer.specs.State.{Stays}
+use Rattle.qscript.specs.Run.{within, is_header}
+use Rattle.qscript.specs.State.{script_ahead}
+use Rattle.qscript.proofs.lines.rest_of_line.Given as goal
+
+abbrev pub invariant-loop-draft : goal.invariant-loop-draft
+invariant-loop-draft g l =
+    let desk = g.D.Desk in
+    record {
+      script : Stays (script_ahead (within l.fn.line l.fn.draft) l.fn.words.ahead l.fn.words.lexer (g.D.Desk.left l.fn.desk)) (script_ahead (within l.line l.draft) l.words.ahead l.words.lexer (g.D.Desk.left l.desk));
+      ahead : l.words.ahead ≡ None;
+      ready : l.words.lexer.failed ≡ false;
+      header : is_header l.draft ≡ is_header l.fn.draft;
+      kept : g.D.Desk.faults l.desk ≡ g.D.Desk.faults l.fn.desk;
+      flows : g.D.Desk.flows l.fn.desk → g.D.Desk.flows l.desk;
+      content : (n : List ℕ) → g.D.Desk.content l.desk n ≡ g.D.Desk.content l.fn.desk n;
+      stays : (n : List ℕ) → g.D.Desk.steady l.fn.desk n → g.D.Desk.steady l.desk n;
+    }
+
+abbrev pub decreases-loop-draft : goal.decreases-loop-draft
+decreases-loop-draft g l = l.words.lexer.room

@@ -1,0 +1,5 @@
+pub mod Lines
+pub mod Reads
+pub mod Run
+pub mod State
+pub mod Worked

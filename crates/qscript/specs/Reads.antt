@@ -1,0 +1,107 @@
+-- What a text is as a script: the commands of its lines before the first malformed one, and how it ends.
+use Rattle.std.specs.Prelude.{◌≡◌, ◌⊎◌, ℕ, Bool, true, false, ◌==◌, List, [], ◌∷◌, ◌++◌, map}
+use Rattle.lexer.specs.declared.token.Word.{Word}
+use Rattle.lexer.specs.declared.token.Comments.TheVariants.{Script}
+use Rattle.lexer.specs.Words.{Item, word, bad_byte, number_range, too_long, the_end, items}
+use Rattle.qscript.specs.declared.command.Command.{Command}
+use Rattle.qscript.specs.declared.draft.Line.{Line}
+use Rattle.qscript.specs.declared.draft.Line.TheVariants.{Header, Command as Orders}
+use Rattle.qscript.specs.Lines.{spelling, IsExpected}
+
+-- how a script ends: well, refused with a number on a line, or beyond the limit on bytes on a line
+pub data Ending : Type 0 where
+  done : Ending
+  refused : ℕ → ℕ → Ending
+  limit : ℕ → Ending
+
+-- these words, all on the line with this number
+abbrev pub on_line : ℕ → List Word → List Item
+on_line n ws = map (λ w. word (record { word = w; line = n })) ws
+
+-- An item stands on a line. The end stands on none.
+abbrev pub is_on : ℕ → Item → Bool
+is_on n (word t) = t.line == n
+is_on n (bad_byte line) = line == n
+is_on n (number_range line) = line == n
+is_on n (too_long line) = line == n
+is_on n (the_end line) = false
+
+-- The first of the items stands on another line, or is the end.
+abbrev pub IsOff : ℕ → List Item → Type 0
+IsOff n [] = ⊥
+IsOff n (item ∷ rest) = is_on n item ≡ false
+
+-- The items begin with this line, all of it and nothing else on it, and the rest stands behind it.
+pub record BeginsWith (headed : Bool) (all : List Item) (line : Line) (rest : List Item) : Type 0 where
+  pub number : ℕ
+  pub expected : IsExpected headed line
+  pub whole : all ≡ on_line number (spelling line) ++ rest
+  pub alone : IsOff number rest
+
+-- These words are the front of a line, none and all among them.
+pub record IsFront (headed : Bool) (ws : List Word) : Type 0 where
+  pub line : Line
+  pub more : List Word
+  pub expected : IsExpected headed line
+  pub spelled : spelling line ≡ ws ++ more
+
+-- These words are a line.
+abbrev pub IsWhole : Bool → List Word → Type 0
+IsWhole headed ws = (line : Line) × IsExpected headed line × (spelling line ≡ ws)
+
+-- The number by which a line is refused, behind these of its words: 30 is no header, 31 a word that begins no command,
+-- 32 a command whose other words haven't its form.
+abbrev pub misfit : Bool → List Word → ℕ
+misfit false ws = 30
+misfit true [] = 31
+misfit true (w ∷ ws) = 32
+
+-- how the end of the text is taken where no line has begun
+abbrev pub at_end : Bool → ℕ → Ending
+at_end true line = done
+at_end false line = refused 30 line
+
+-- What an item on the line, behind these of its words, decides.
+abbrev pub DecidesOn : Bool → ℕ → List Word → Item → Ending → Type 0
+DecidesOn headed n ws (word t) e = (IsFront headed (ws ++ t.word ∷ []) → ⊥) × (e ≡ refused (misfit headed ws) n)
+DecidesOn headed n ws (bad_byte line) e = e ≡ refused 7 n
+DecidesOn headed n ws (number_range line) e = e ≡ refused 8 n
+DecidesOn headed n ws (too_long line) e = e ≡ limit n
+DecidesOn headed n ws (the_end line) e = ⊥
+
+-- What an item decides that stands on another line, or is the end.
+abbrev pub DecidesOff : Bool → ℕ → List Word → Item → Ending → Type 0
+DecidesOff headed n (w ∷ ws) item e = (IsWhole headed (w ∷ ws) → ⊥) × (e ≡ refused (misfit headed (w ∷ ws)) n)
+DecidesOff headed n [] (the_end line) e = e ≡ at_end headed line
+DecidesOff headed n [] (word t) e = ⊥
+DecidesOff headed n [] (bad_byte line) e = ⊥
+DecidesOff headed n [] (number_range line) e = ⊥
+DecidesOff headed n [] (too_long line) e = ⊥
+
+abbrev pub Decides : Bool → Bool → ℕ → List Word → Item → Ending → Type 0
+Decides true headed n ws item e = DecidesOn headed n ws item e
+Decides false headed n ws item e = DecidesOff headed n ws item e
+
+-- The items begin with the front of a line, which may have no word, and the item behind it decides the ending.
+pub record StopsAt (headed : Bool) (all : List Item) (ending : Ending) : Type 0 where
+  pub number : ℕ
+  pub read : List Word
+  pub next : Item
+  pub rest : List Item
+  pub whole : all ≡ on_line number read ++ next ∷ rest
+  pub front : IsFront headed read
+  pub decides : Decides (is_on number next) headed number read next ending
+
+-- Behind the header: the lines of these commands in order, and then what ends the script.
+abbrev pub ReadsCommands : List Item → List Command → Ending → Type 0
+ReadsCommands all [] ending = StopsAt true all ending
+ReadsCommands all (c ∷ cs) ending = (rest : List Item) × BeginsWith true all (Orders c) rest × ReadsCommands rest cs ending
+
+-- The whole script: a header that ends it, or the header's line and what stands behind it.
+abbrev pub ReadsItems : List Item → List Command → Ending → Type 0
+ReadsItems all cs ending = ((cs ≡ []) × StopsAt false all ending)
+    ⊎ ((rest : List Item) × BeginsWith false all Header rest × ReadsCommands rest cs ending)
+
+-- what a text of these bytes is as a script
+abbrev pub ReadsScript : List ℕ → List Command → Ending → Type 0
+ReadsScript text cs ending = ReadsItems (items Script text) cs ending

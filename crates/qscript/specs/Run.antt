@@ -1,0 +1,179 @@
+-- What a script is, computed word by word.
+use Rattle.std.specs.Prelude.{ℕ, ℤ, pos, negsuc, Bool, true, false, ◌==◌, if◌then◌else◌, List, [], ◌∷◌, ◌++◌, codes, Option, None, Some, option_map}
+use Rattle.std.specs.Str.{bytes_eq}
+use Rattle.lexer.specs.declared.token.Word.{Word}
+use Rattle.lexer.specs.declared.token.Word.TheVariants.{Num, Text, Other}
+use Rattle.lexer.specs.declared.token.Comments.TheVariants.{Script as ScriptComments}
+use Rattle.lexer.specs.Words.{Item, word, bad_byte, number_range, too_long, the_end, items}
+use Rattle.qdimacs.specs.Rules.{is_text, is_natural, quant_of, is_zero}
+use Rattle.qdimacs.specs.Run.{natural_of}
+use Rattle.qscript.specs.declared.command.Command.{Command}
+use Rattle.qscript.specs.declared.command.Command.TheVariants.{Scope as ScopeCommand, Var as VarCommand, Clause as ClauseCommand, Push, Pop, Assume as AssumeCommand, Solve, Value as ValueCommand, Relevant, Trace, Cert}
+use Rattle.qscript.specs.declared.draft.Line.{Line}
+use Rattle.qscript.specs.declared.draft.Line.TheVariants.{Header, Command as Orders}
+use Rattle.qscript.specs.declared.draft.Draft.{Draft}
+use Rattle.qscript.specs.declared.draft.Draft.TheVariants.{Problem, Format, Scope, ScopeOf, Var, VarOf, Clause, Assume, Value, Whole}
+use Rattle.qscript.specs.Lines.{is_header_line}
+use Rattle.qscript.specs.Reads.{Ending, done, refused, limit, is_on, at_end}
+
+-- the commands to come, and the ending
+abbrev pub Script : Type 0
+Script = List Command × Ending
+
+-- the first of the entries that has this text
+abbrev pub entry : {A : Type 0} → List (List ℕ × A) → List ℕ → Option A
+entry [] t = None
+entry (e ∷ es) t = if bytes_eq t e.0 then Some e.1 else entry es t
+
+-- commands of one word
+abbrev pub singles : List (List ℕ × Command)
+singles = (codes "push", Push) ∷ (codes "pop", Pop) ∷ (codes "solve", Solve) ∷ (codes "relevant", Relevant)
+    ∷ (codes "trace", Trace) ∷ (codes "cert", Cert) ∷ []
+
+abbrev pub alone : List ℕ → Option Command
+alone t = entry singles t
+
+-- commands of more words
+abbrev pub openings : List (List ℕ × Draft)
+openings = (codes "scope", Scope) ∷ (codes "var", Var) ∷ (codes "clause", Clause []) ∷ (codes "assume", Assume)
+    ∷ (codes "value", Value) ∷ []
+
+abbrev pub or_else : {A : Type 0} → Option A → Option A → Option A
+or_else (Some x) other = Some x
+or_else None other = other
+
+abbrev pub keyword : List ℕ → Option Draft
+keyword t = or_else (entry openings t) (option_map (λ c. Whole (Orders c)) (alone t))
+
+-- the line that begins with this word
+abbrev pub begun : Bool → Word → Option Draft
+begun false w = if is_text (codes "p") w then Some Problem else None
+begun true (Text t) = keyword t
+begun true (Num n) = None
+begun true Other = None
+
+abbrev pub natural : Word → Option ℕ
+natural w = if is_natural w then Some (natural_of w) else None
+
+abbrev pub is_one : Word → Bool
+is_one (Num (pos n)) = n == 1
+is_one (Num (negsuc n)) = false
+is_one (Text t) = false
+is_one Other = false
+
+-- a clause with one more number
+abbrev pub clause_after : List ℤ → Word → Option Draft
+clause_after ls (Num n) = Some (if is_zero n then Whole (Orders (ClauseCommand ls)) else Clause (ls ++ n ∷ []))
+clause_after ls (Text t) = None
+clause_after ls Other = None
+
+abbrev pub assume_after : Word → Option Draft
+assume_after (Num n) = if is_zero n then None else Some (Whole (Orders (AssumeCommand n)))
+assume_after (Text t) = None
+assume_after Other = None
+
+-- the line with one more word
+abbrev pub after : Draft → Word → Option Draft
+after Problem w = if is_text (codes "qscript") w then Some Format else None
+after Format w = if is_one w then Some (Whole Header) else None
+after Scope w = option_map ScopeOf (quant_of w)
+after (ScopeOf q) w = option_map (λ n. Whole (Orders (ScopeCommand q (Some n)))) (natural w)
+after Var w = option_map VarOf (natural w)
+after (VarOf v) w = option_map (λ s. Whole (Orders (VarCommand v s))) (natural w)
+after (Clause ls) w = clause_after ls w
+after Assume w = assume_after w
+after Value w = option_map (λ v. Whole (Orders (ValueCommand v))) (natural w)
+after (Whole l) w = None
+
+-- the whole line that has been read
+abbrev pub whole : Draft → Option Line
+whole Problem = None
+whole Format = None
+whole Scope = None
+whole (ScopeOf q) = Some (Orders (ScopeCommand q None))
+whole Var = None
+whole (VarOf v) = None
+whole (Clause ls) = None
+whole Assume = None
+whole Value = None
+whole (Whole l) = Some l
+
+abbrev pub is_header : Draft → Bool
+is_header Problem = true
+is_header Format = true
+is_header Scope = false
+is_header (ScopeOf q) = false
+is_header Var = false
+is_header (VarOf v) = false
+is_header (Clause ls) = false
+is_header Assume = false
+is_header Value = false
+is_header (Whole l) = is_header_line l
+
+-- the number by which a line is refused behind its first word
+abbrev pub misfit_of : Draft → ℕ
+misfit_of d = if is_header d then 30 else 32
+
+-- Where the reading stands: where a line may begin, the header's or another, or in the line of this number.
+pub data Front : Type 0 where
+  between : Bool → Front
+  within : ℕ → Draft → Front
+
+-- a line in front of a script
+abbrev pub with_line : Line → Script → Script
+with_line Header s = s
+with_line (Orders c) s = (c ∷ s.0, s.1)
+
+abbrev pub stopped : Ending → Script
+stopped e = ([], e)
+
+-- the number of a first word that begins no line
+abbrev pub misfit_first : Bool → ℕ
+misfit_first false = 30
+misfit_first true = 31
+
+abbrev pub line_begun : Bool → ℕ → Option Draft → (Front → Script) → Script
+line_begun headed n (Some d) rest = rest (within n d)
+line_begun headed n None rest = stopped (refused (misfit_first headed) n)
+
+-- an item where a line may begin
+abbrev pub begin : Bool → Item → (Front → Script) → Script
+begin headed (word t) rest = line_begun headed t.line (begun headed t.word) rest
+begin headed (bad_byte line) rest = stopped (refused 7 line)
+begin headed (number_range line) rest = stopped (refused 8 line)
+begin headed (too_long line) rest = stopped (limit line)
+begin headed (the_end line) rest = stopped (at_end headed line)
+
+-- a line that has ended, in front of what stands behind it
+abbrev pub closed : ℕ → Draft → Option Line → Script → Script
+closed n d (Some l) behind = with_line l behind
+closed n d None behind = stopped (refused (misfit_of d) n)
+
+abbrev pub line_after : ℕ → Draft → Option Draft → (Front → Script) → Script
+line_after n d (Some more) rest = rest (within n more)
+line_after n d None rest = stopped (refused (misfit_of d) n)
+
+-- an item on the line
+abbrev pub go_on : ℕ → Draft → Item → (Front → Script) → Script
+go_on n d (word t) rest = line_after n d (after d t.word) rest
+go_on n d (bad_byte line) rest = stopped (refused 7 line)
+go_on n d (number_range line) rest = stopped (refused 8 line)
+go_on n d (too_long line) rest = stopped (limit line)
+go_on n d (the_end line) rest = stopped done
+
+abbrev pub go_on_if : Bool → ℕ → Draft → Item → (Front → Script) → Script
+go_on_if true n d item rest = go_on n d item rest
+go_on_if false n d item rest = closed n d (whole d) (begin true item rest)
+
+abbrev pub step : Front → Item → (Front → Script) → Script
+step (between headed) item rest = begin headed item rest
+step (within n d) item rest = go_on_if (is_on n item) n d item rest
+
+-- the script of these items
+abbrev pub script_from : List Item → Front → Script
+script_from [] front = stopped done
+script_from (item ∷ items) front = step front item (script_from items)
+
+-- what a text of these bytes is as a script
+abbrev pub script_of : List ℕ → Script
+script_of text = script_from (items ScriptComments text) (between false)

@@ -1,0 +1,120 @@
+-- Where a reader of scripts stands, and what it answers.
+use Rattle.std.specs.Prelude.{◌≡◌, ℕ, Bool, true, false, List, [], ◌∷◌, Option, Some, None, Result, Ok, Err, option_map, IfSome}
+use Rattle.std.specs.Io.KnownBytes.{IsAtEnd}
+use Rattle.lexer.specs.State.{State as LexerState, upcoming as upcoming_words}
+use Rattle.lexer.specs.Words.{Item as LexerItem, word, bad_byte, number_range, too_long, the_end}
+use Rattle.qdimacs.specs.declared.refusal.Quantity.TheVariants.{Bytes}
+use Rattle.qdimacs.specs.declared.refusal.ReadRefusal.{ReadRefusal}
+use Rattle.qdimacs.specs.declared.refusal.ReadRefusal.TheVariants.{Refused, Limit, ReadFault, NoMemory}
+use Rattle.qscript.specs.declared.command.Command.{Command}
+use Rattle.qscript.specs.declared.draft.Line.{Line}
+use Rattle.qscript.specs.declared.words.Item.{Item}
+use Rattle.qscript.specs.declared.words.Item.TheVariants.{Word, BadByte, NumberRange, TooLong, End}
+use Rattle.qscript.specs.Reads.{done, refused, limit}
+use Rattle.qscript.specs.Run.{Script, stopped, Front, between, script_from, with_line}
+
+-- The lexer, the item behind the last line, which was read to see that this line had ended, whether the header has been
+-- read, and whether a call was refused.
+pub record State : Type 0 where
+  pub lexer : LexerState
+  pub ahead : Option Item
+  pub headed : Bool
+  pub failed : Bool
+
+abbrev pub item_of : Item → LexerItem
+item_of (Word t) = word t
+item_of (BadByte line) = bad_byte line
+item_of (NumberRange line) = number_range line
+item_of (TooLong line) = too_long line
+item_of (End line) = the_end line
+
+-- The items to come where this one is the first. Behind one that is no word none matters.
+abbrev pub in_front : Item → Option (List LexerItem) → Option (List LexerItem)
+in_front (Word t) behind = option_map (λ is. word t ∷ is) behind
+in_front (BadByte line) behind = Some (bad_byte line ∷ [])
+in_front (NumberRange line) behind = Some (number_range line ∷ [])
+in_front (TooLong line) behind = Some (too_long line ∷ [])
+in_front (End line) behind = Some (the_end line ∷ [])
+
+abbrev pub ahead_items : Option Item → Option (List LexerItem) → Option (List LexerItem)
+ahead_items None behind = behind
+ahead_items (Some item) behind = in_front item behind
+
+-- the script of the items, where these are known
+abbrev pub script_at : Front → Option (List LexerItem) → Option Script
+script_at front items = option_map (λ is. script_from is front) items
+
+-- The script to come, where the desk tells what it has left.
+abbrev pub script_ahead : Front → Option Item → LexerState → Option (List ℕ) → Option Script
+script_ahead front ahead lexer left = script_at front (ahead_items ahead (upcoming_words lexer left))
+
+-- The commands to come and the ending, where the desk tells what it has left.
+abbrev pub upcoming : State → Option (List ℕ) → Option Script
+upcoming s left = script_ahead (between s.headed) s.ahead s.lexer left
+
+-- The end of the text has been seen.
+abbrev pub is_end : Option Item → Bool
+is_end None = false
+is_end (Some (End line)) = true
+is_end (Some (Word t)) = false
+is_end (Some (BadByte line)) = false
+is_end (Some (NumberRange line)) = false
+is_end (Some (TooLong line)) = false
+
+-- Something that is no word, nor the end, has been seen.
+abbrev pub is_fault : Option Item → Bool
+is_fault None = false
+is_fault (Some (End line)) = false
+is_fault (Some (Word t)) = false
+is_fault (Some (BadByte line)) = true
+is_fault (Some (NumberRange line)) = true
+is_fault (Some (TooLong line)) = true
+
+-- The refusal is this item, which is no word, nor the end.
+abbrev pub IsFault : ReadRefusal → Item → Type 0
+IsFault e (BadByte line) = e ≡ Refused 7 line
+IsFault e (NumberRange line) = e ≡ Refused 8 line
+IsFault e (TooLong line) = e ≡ Limit Bytes line
+IsFault e (Word t) = ⊥
+IsFault e (End line) = ⊥
+
+abbrev pub is_word : Item → Bool
+is_word (Word t) = true
+is_word (BadByte line) = false
+is_word (NumberRange line) = false
+is_word (TooLong line) = false
+is_word (End line) = false
+
+-- The lexer may be asked where nothing that ends its words has been seen.
+abbrev pub IsReady : Option Item → Bool → Type 0
+IsReady ahead lexer_failed = is_fault ahead ≡ false → lexer_failed ≡ false
+
+-- Where the end has been seen the desk has nothing left.
+abbrev pub EndsWith : Option Item → Option (List ℕ) → Type 0
+EndsWith ahead left = is_end ahead ≡ true → IsAtEnd left
+
+-- The refusal is the ending of the script, in front of any command. A fault of the desk and want of memory say nothing
+-- of it.
+abbrev pub IsRefusal : ReadRefusal → Option Script → Type 0
+IsRefusal (Refused number line) script = IfSome script (λ s. s ≡ stopped (refused number line))
+IsRefusal (Limit quantity line) script = (quantity ≡ Bytes) × IfSome script (λ s. s ≡ stopped (limit line))
+IsRefusal ReadFault script = Unit {0}
+IsRefusal NoMemory script = Unit {0}
+
+-- The line is the first of the script, and the script to come is the rest.
+abbrev pub Leaves : Line → Option Script → Option Script → Type 0
+Leaves line before after = IfSome before (λ s. (rest : Script) × (s ≡ with_line line rest) × (after ≡ Some rest))
+
+-- The command is the first of the script, and the script to come is the rest.
+abbrev pub IsFirst : Command → Option Script → Option Script → Type 0
+IsFirst c before after = IfSome before (λ s. (rest : Script) × (s ≡ (c ∷ rest.0, rest.1)) × (after ≡ Some rest))
+
+-- No command is to come, the script ends well, and it stays so.
+abbrev pub IsDone : Option Script → Option Script → Type 0
+IsDone before after = IfSome before (λ s. (s ≡ stopped done) × (after ≡ Some s))
+
+-- The answer is what the script has next.
+abbrev pub Answers : Result (Option Command) ReadRefusal → Option Script → Option Script → Type 0
+Answers (Ok (Some c)) before after = IsFirst c before after
+Answers (Ok None) before after = IsDone before after
+Answers (Err e) before after = IsRefusal e before

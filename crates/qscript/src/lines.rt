@@ -1,0 +1,175 @@
+//! Reads a script line by line.
+ghost use Rattle.std.specs.Prelude.{◌≡◌, ◌⊎◌, ℕ, ◌<◌, ◌≤◌, Bool, true, false, not, List, Option, Some, None, IfOk, IfErr, IfSome, IfNone, OnOk, IsOk, IsErrOf};
+ghost use Rattle.lexer.specs.State.{Stays};
+ghost use Rattle.ports.specs.Causes.{Rose};
+ghost use Rattle.qscript.specs.Lines.{is_header_line};
+ghost use Rattle.qscript.specs.Run.{between, within, is_header};
+ghost use Rattle.qscript.specs.State.{script_ahead, is_end, is_fault, IsReady, EndsWith, IsRefusal, Leaves, IsDone, IsFirst, Answers};
+
+use crate::command::Command;
+use crate::draft::{Draft, Line};
+use crate::words::{Item, NO_HEADER, Words, refused};
+use ports::Desk;
+use qdimacs::ReadRefusal;
+use std::alloc::Global;
+
+// Reads the words behind those of a line up to the line's end. The first item behind it is put back.
+fn rest_of_line<D: Desk>(
+    words: &mut Words,
+    desk: &mut D,
+    draft: Draft,
+    line: u32,
+) -> Result<Line, ReadRefusal>
+    requires ahead { words.old.ahead ≡ None }
+    requires ready { words.old.lexer.failed ≡ false }
+    ensures script { IfOk result (λ l. Leaves l
+        (script_ahead (within line draft) words.old.ahead words.old.lexer (D.left desk.old))
+        (script_ahead (between true) words.new.ahead words.new.lexer (D.left desk.new))) }
+    ensures refusal { IfErr result (λ e. IsRefusal e
+        (script_ahead (within line draft) words.old.ahead words.old.lexer (D.left desk.old))) }
+    ensures header { IfOk result (λ l. is_header_line l ≡ is_header draft) }
+    ensures ready { OnOk result (IsReady words.new.ahead words.new.lexer.failed) }
+    ensures end { OnOk result (EndsWith words.new.ahead (D.left desk.new)) }
+    ensures later { D.faults desk.old ≤ D.faults desk.new }
+    ensures rose { IsErrOf result ReadRefusal.ReadFault → Rose (D.faults desk.old) (D.faults desk.new) }
+    ensures kept { OnOk result (is_fault words.new.ahead ≡ false → D.faults desk.new ≡ D.faults desk.old) }
+    ensures flows { D.flows desk.old → ¬ IsErrOf result ReadRefusal.ReadFault × D.flows desk.new }
+    ensures content { (n : List ℕ) → D.content desk.new n ≡ D.content desk.old n }
+    ensures stays { (n : List ℕ) → D.steady desk.old n → D.steady desk.new n }
+{
+    let mut draft = draft;
+    loop {
+        let item = words.next(desk)?;
+        if !item.is_on(line) {
+            words.put_back(item);
+            return draft.end(line);
+        }
+        let token = item.into_token()?;
+        draft = draft.take(&token.word, line)?;
+    }
+}
+
+// Reads the first word of a line. None is the end of the text behind whole lines.
+fn first_of_line<D: Desk>(
+    alloc: Global,
+    words: &mut Words,
+    desk: &mut D,
+    headed: bool,
+) -> Result<Option<(Draft, u32)>, ReadRefusal>
+    requires { IsReady words.old.ahead words.old.lexer.failed }
+    ensures begun { IfOk result (λ found. IfSome found (λ b. Stays
+        (script_ahead (between headed) words.old.ahead words.old.lexer (D.left desk.old))
+        (script_ahead (within b.1 b.0) words.new.ahead words.new.lexer (D.left desk.new)))) }
+    ensures header { IfOk result (λ found. IfSome found (λ b. is_header b.0 ≡ not headed)) }
+    ensures word { IfOk result (λ found. IfSome found (λ _. (words.new.ahead ≡ None) × (words.new.lexer.failed ≡ false)
+        × (D.faults desk.new ≡ D.faults desk.old))) }
+    ensures done { IfOk result (λ found. IfNone found (IsDone
+        (script_ahead (between headed) words.old.ahead words.old.lexer (D.left desk.old))
+        (script_ahead (between headed) words.new.ahead words.new.lexer (D.left desk.new)))) }
+    ensures end { IfOk result (λ found. IfNone found ((headed ≡ true) × (is_end words.new.ahead ≡ true)
+        × (words.new.lexer.failed ≡ false) × (D.faults desk.new ≡ D.faults desk.old)
+        × (EndsWith words.old.ahead (D.left desk.old) → EndsWith words.new.ahead (D.left desk.new)))) }
+    ensures refusal { IfErr result (λ e. IsRefusal e
+        (script_ahead (between headed) words.old.ahead words.old.lexer (D.left desk.old))) }
+    ensures unstopped { OnOk result (is_fault words.old.ahead ≡ false) }
+    ensures later { D.faults desk.old ≤ D.faults desk.new }
+    ensures rose { IsErrOf result ReadRefusal.ReadFault → Rose (D.faults desk.old) (D.faults desk.new) }
+    ensures flows { D.flows desk.old → ¬ IsErrOf result ReadRefusal.ReadFault × D.flows desk.new }
+    ensures content { (n : List ℕ) → D.content desk.new n ≡ D.content desk.old n }
+    ensures stays { (n : List ℕ) → D.steady desk.old n → D.steady desk.new n }
+{
+    let item = words.next(desk)?;
+    if let Item::End { line } = item {
+        if !headed {
+            return Err(refused(NO_HEADER, line));
+        }
+        words.put_back(Item::End { line });
+        return Ok(None);
+    }
+    let token = item.into_token()?;
+    let line = token.line;
+    let draft = Draft::start(alloc, headed, &token.word, line)?;
+    Ok(Some((draft, line)))
+}
+
+// Reads the header.
+fn header<D: Desk>(alloc: Global, words: &mut Words, desk: &mut D) -> Result<(), ReadRefusal>
+    requires { IsReady words.old.ahead words.old.lexer.failed }
+    ensures script { OnOk result (Stays
+        (script_ahead (between false) words.old.ahead words.old.lexer (D.left desk.old))
+        (script_ahead (between true) words.new.ahead words.new.lexer (D.left desk.new))) }
+    ensures refusal { IfErr result (λ e. IsRefusal e
+        (script_ahead (between false) words.old.ahead words.old.lexer (D.left desk.old))) }
+    ensures ready { OnOk result (IsReady words.new.ahead words.new.lexer.failed) }
+    ensures end { OnOk result (EndsWith words.new.ahead (D.left desk.new)) }
+    ensures unstopped { OnOk result (is_fault words.old.ahead ≡ false) }
+    ensures later { D.faults desk.old ≤ D.faults desk.new }
+    ensures rose { IsErrOf result ReadRefusal.ReadFault → Rose (D.faults desk.old) (D.faults desk.new) }
+    ensures kept { OnOk result (is_fault words.new.ahead ≡ false → D.faults desk.new ≡ D.faults desk.old) }
+    ensures flows { D.flows desk.old → ¬ IsErrOf result ReadRefusal.ReadFault × D.flows desk.new }
+    ensures content { (n : List ℕ) → D.content desk.new n ≡ D.content desk.old n }
+    ensures stays { (n : List ℕ) → D.steady desk.old n → D.steady desk.new n }
+{
+    match first_of_line(alloc, words, desk, false)? {
+        Some((draft, line)) => {
+            let _ = rest_of_line(words, desk, draft, line)?;
+            Ok(())
+        }
+        None => unreachable!(),
+    }
+}
+
+// Reads the next command behind the header.
+pub(crate) fn command<D: Desk>(
+    alloc: Global,
+    words: &mut Words,
+    desk: &mut D,
+) -> Result<Option<Command>, ReadRefusal>
+    requires { IsReady words.old.ahead words.old.lexer.failed }
+    ensures script { Answers result
+        (script_ahead (between true) words.old.ahead words.old.lexer (D.left desk.old))
+        (script_ahead (between true) words.new.ahead words.new.lexer (D.left desk.new)) }
+    ensures ready { OnOk result (IsReady words.new.ahead words.new.lexer.failed) }
+    ensures end { OnOk result (EndsWith words.old.ahead (D.left desk.old) → EndsWith words.new.ahead (D.left desk.new)) }
+    ensures done { IfOk result (λ c. IfNone c (is_end words.new.ahead ≡ true)) }
+    ensures unstopped { OnOk result (is_fault words.old.ahead ≡ false) }
+    ensures later { D.faults desk.old ≤ D.faults desk.new }
+    ensures rose { IsErrOf result ReadRefusal.ReadFault → Rose (D.faults desk.old) (D.faults desk.new) }
+    ensures kept { OnOk result (is_fault words.new.ahead ≡ false → D.faults desk.new ≡ D.faults desk.old) }
+    ensures flows { D.flows desk.old → ¬ IsErrOf result ReadRefusal.ReadFault × D.flows desk.new }
+    ensures content { (n : List ℕ) → D.content desk.new n ≡ D.content desk.old n }
+    ensures stays { (n : List ℕ) → D.steady desk.old n → D.steady desk.new n }
+{
+    let Some((draft, line)) = first_of_line(alloc, words, desk, true)? else {
+        return Ok(None);
+    };
+    match rest_of_line(words, desk, draft, line)? {
+        Line::Command(command) => Ok(Some(command)),
+        Line::Header => unreachable!(),
+    }
+}
+
+// Reads the header and the first command behind it.
+pub(crate) fn first_command<D: Desk>(
+    alloc: Global,
+    words: &mut Words,
+    desk: &mut D,
+) -> Result<Option<Command>, ReadRefusal>
+    requires { IsReady words.old.ahead words.old.lexer.failed }
+    ensures script { Answers result
+        (script_ahead (between false) words.old.ahead words.old.lexer (D.left desk.old))
+        (script_ahead (between true) words.new.ahead words.new.lexer (D.left desk.new)) }
+    ensures ready { OnOk result (IsReady words.new.ahead words.new.lexer.failed) }
+    ensures end { OnOk result (EndsWith words.new.ahead (D.left desk.new)) }
+    ensures done { IfOk result (λ c. IfNone c (is_end words.new.ahead ≡ true)) }
+    ensures unstopped { OnOk result (is_fault words.old.ahead ≡ false) }
+    ensures later { D.faults desk.old ≤ D.faults desk.new }
+    ensures rose { IsErrOf result ReadRefusal.ReadFault → Rose (D.faults desk.old) (D.faults desk.new) }
+    ensures kept { OnOk result (is_fault words.new.ahead ≡ false → D.faults desk.new ≡ D.faults desk.old) }
+    ensures flows { D.flows desk.old → ¬ IsErrOf result ReadRefusal.ReadFault × D.flows desk.new }
+    ensures content { (n : List ℕ) → D.content desk.new n ≡ D.content desk.old n }
+    ensures stays { (n : List ℕ) → D.steady desk.old n → D.steady desk.new n }
+{
+    header(alloc, words, desk)?;
+    command(alloc, words, desk)
+}

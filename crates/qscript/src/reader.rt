@@ -1,0 +1,105 @@
+//! The reader of scripts.
+ghost use Rattle.std.specs.Prelude.{◌≡◌, ℕ, ◌≤◌, ◌^◌, Bool, true, false, List, [], Option, Some, None, IfOk, IfNone, IfSome, OnOk, IsOk, IsErrOf, is_err};
+ghost use Rattle.ports.specs.Causes.{IsCounted};
+ghost use Rattle.qscript.specs.declared.command.Command.{Command as AnyCommand};
+ghost use Rattle.qscript.specs.Reads.{Ending, ReadsScript};
+ghost use Rattle.qscript.specs.Run.{between};
+ghost use Rattle.qscript.specs.State.{upcoming, script_ahead, is_end, is_fault, IsReady, EndsWith, Answers};
+
+use crate::command::Command;
+use crate::lines::{command, first_command};
+use crate::words::Words;
+use lexer::{Comments, Lexer};
+use ports::Desk;
+use qdimacs::ReadRefusal;
+use std::alloc::{AllocError, Global};
+use std::marker::Model;
+
+/// Reads the commands of a script from a desk, one at a time. Beside the lexer it keeps the word behind the last line,
+/// which it reads to see that this line has ended, and while it reads a clause the numbers of this.
+#[derive(Drop)]
+pub struct ScriptReader {
+    alloc: Global,
+    words: Words,
+    headed: bool,
+    failed: bool,
+}
+
+impl Model for ScriptReader {
+    ghost use Rattle.std.specs.Prelude.{◌≡◌, false};
+    ghost use Rattle.qscript.specs.State.{State, IsReady};
+
+    ghost Value = { State };
+
+    ghost view = { λ r. record {
+      lexer = r.words.lexer;
+      ahead = r.words.ahead;
+      headed = r.headed;
+      failed = r.failed;
+    } };
+
+    ghost invariant = { λ r. r.failed ≡ false → IsReady r.words.ahead r.words.lexer.failed };
+}
+
+impl ScriptReader {
+    /// A reader in front of a script, with the buffer of its lexer.
+    pub fn new(alloc: Global) -> Result<Self, AllocError>
+        // The commands to come and the ending are those of the whole text.
+        ensures script { IfOk result (λ r. (text : List ℕ) (cs : List AnyCommand) (e : Ending) →
+            ReadsScript text cs e → upcoming r (Some text) ≡ Some (cs, e)) }
+        ensures fresh { IfOk result (λ r. (r.failed ≡ false) × (r.ahead ≡ None)) }
+    {
+        let lexer = Lexer::new(alloc, Comments::Script)?;
+        Ok(Self {
+            alloc,
+            words: Words { lexer, ahead: None },
+            headed: false,
+            failed: false,
+        })
+    }
+
+    /// Whether a call of `next_command` was refused. It isn't called again then.
+    pub fn has_failed(&self) -> bool
+        ensures { result ≡ self.now.failed }
+    {
+        self.failed
+    }
+
+    /// The next command of the script. None is the end of a script without a malformed line, and stays so.
+    ///
+    /// A line is told to have ended by the word behind it, so a command is answered when the first word of the next
+    /// line, or the end, has been read.
+    ///
+    /// # Errors
+    /// The commands of the lines before the first malformed one are answered, then its refusal: 7 a byte of a word that
+    /// is none of 33 to 126, 8 a number whose magnitude is above 2^63 - 1, 30 no header, 31 no command, 32 a command
+    /// whose words haven't its form; or the limit on bytes. `ReadFault` comes only where the desk failed in this call.
+    /// After any error the reader has failed, and isn't called again.
+    pub fn next_command<D: Desk>(&mut self, desk: &mut D) -> Result<Option<Command>, ReadRefusal>
+        requires { self.old.failed ≡ false }
+        // The commands to come and the ending, where the desk tells its bytes, are this one and then those to come
+        // after it.
+        ensures script { Answers result (upcoming self.old (D.left desk.old)) (upcoming self.new (D.left desk.new)) }
+        // At the end the desk has nothing left.
+        ensures done { IfOk result (λ c. IfNone c (is_end self.new.ahead ≡ true)) }
+        ensures end { OnOk result (EndsWith self.old.ahead (D.left desk.old) → EndsWith self.new.ahead (D.left desk.new)) }
+        // It gives up only where the desk failed, so never where it flows. Where what was read behind the line is no
+        // word, nor the end, the next call is refused.
+        ensures cause { IsCounted (IsErrOf result ReadRefusal.ReadFault) (IsOk result × (is_fault self.new.ahead ≡ false))
+            (D.faults desk.old) (D.faults desk.new) }
+        ensures unstopped { OnOk result (is_fault self.old.ahead ≡ false) }
+        ensures flows { D.flows desk.old → ¬ IsErrOf result ReadRefusal.ReadFault × D.flows desk.new }
+        ensures content { (n : List ℕ) → D.content desk.new n ≡ D.content desk.old n }
+        ensures stays { (n : List ℕ) → D.steady desk.old n → D.steady desk.new n }
+        ensures failed { self.new.failed ≡ is_err result }
+    {
+        let answer = if self.headed {
+            command(self.alloc, &mut self.words, desk)
+        } else {
+            first_command(self.alloc, &mut self.words, desk)
+        };
+        self.headed = true;
+        self.failed = answer.is_err();
+        answer
+    }
+}
