@@ -1,8 +1,8 @@
 -- Marks of the steps that a step needs, from the newest on.
-use Rattle.std.proofs.Common.{◌≡◌, ℕ, zero, suc, ◌+◌, ◌-◌, ◌<◌, ◌≤◌, ◌⊎◌, inl, inr, ⊎_elim, Bool, true, false, ◌||◌, ◌&&◌, ◌==◌, List, [], ◌∷◌, length, get_or, max, Option, Some, None, is_some, refl, sym, ap, ◌∙◌, arith, subst}
+use Rattle.std.proofs.Common.{◌≡◌, ℕ, zero, suc, ◌+◌, ◌-◌, ◌<◌, ◌≤◌, ◌⊎◌, inl, inr, ⊎_elim, Bool, true, false, ◌||◌, ◌&&◌, List, [], ◌∷◌, length, get_or, Option, Some, None, is_some, refl, sym, ap, ◌∙◌, arith, subst}
 use Rattle.std.specs.List.{filter_map, range_with_len, cons_option}
-use Rattle.std.proofs.lemmas.Bool.{cases_Bool, eq-eqb, eqb-true, ne_eqb, false≢true, true≢false, or_left, or_right, or_cases, and_from, and_parts}
-use Rattle.calculus.specs.Derivations.{RestsOn, Step, Why, needed, rests_on}
+use Rattle.std.proofs.lemmas.Bool.{false≢true, true≢false, or_left, or_right, or_cases, and_from, and_parts}
+use Rattle.calculus.specs.Derivations.{RestsOn, Step, needed, rests_on}
 use Rattle.derive.specs.State.{Note, State, is_live, note_at, side_at, why_at}
 use Rattle.derive.specs.Antecedents.{IsAntecedentIn}
 use Rattle.qrp_trace.specs.Cores.{kept_at}
