@@ -130,7 +130,8 @@ pub(crate) fn command<D: Desk>(
         (script_ahead (between true) words.old.ahead words.old.lexer (D.left desk.old))
         (script_ahead (between true) words.new.ahead words.new.lexer (D.left desk.new)) }
     ensures ready { OnOk result (IsReady words.new.ahead words.new.lexer.failed) }
-    ensures end { OnOk result (EndsWith words.old.ahead (D.left desk.old) → EndsWith words.new.ahead (D.left desk.new)) }
+    ensures end { OnOk result (EndsWith words.old.ahead (D.left desk.old) →
+        EndsWith words.new.ahead (D.left desk.new)) }
     ensures done { IfOk result (λ c. IfNone c (is_end words.new.ahead ≡ true)) }
     ensures unstopped { OnOk result (is_fault words.old.ahead ≡ false) }
     ensures later { D.faults desk.old ≤ D.faults desk.new }

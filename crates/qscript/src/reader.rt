@@ -82,10 +82,12 @@ impl ScriptReader {
         ensures script { Answers result (upcoming self.old (D.left desk.old)) (upcoming self.new (D.left desk.new)) }
         // At the end the desk has nothing left.
         ensures done { IfOk result (λ c. IfNone c (is_end self.new.ahead ≡ true)) }
-        ensures end { OnOk result (EndsWith self.old.ahead (D.left desk.old) → EndsWith self.new.ahead (D.left desk.new)) }
+        ensures end { OnOk result (EndsWith self.old.ahead (D.left desk.old) →
+            EndsWith self.new.ahead (D.left desk.new)) }
         // It gives up only where the desk failed, so never where it flows. Where what was read behind the line is no
         // word, nor the end, the next call is refused.
-        ensures cause { IsCounted (IsErrOf result ReadRefusal.ReadFault) (IsOk result × (is_fault self.new.ahead ≡ false))
+        ensures cause { IsCounted (IsErrOf result ReadRefusal.ReadFault)
+            (IsOk result × (is_fault self.new.ahead ≡ false))
             (D.faults desk.old) (D.faults desk.new) }
         ensures unstopped { OnOk result (is_fault self.old.ahead ≡ false) }
         ensures flows { D.flows desk.old → ¬ IsErrOf result ReadRefusal.ReadFault × D.flows desk.new }
