@@ -1,0 +1,4 @@
+pub mod Ascending
+pub mod Codes
+pub mod Rows
+pub mod Counting

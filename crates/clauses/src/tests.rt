@@ -1,0 +1,23 @@
+use super::*;
+use prefix::{Lit, LitList};
+use std::test::Fail;
+
+fn numbers(row: &LitList) -> Option<[i32; 3]> {
+    match row.lits() {
+        [a, b, c] => Some([a.number(), b.number(), c.number()]),
+        _ => None,
+    }
+}
+
+#[test]
+fn a_row_ascends_without_repeats(rt: HostRuntime) -> Result<(), Fail> {
+    let row = row_of(rt.alloc(), &[3, -1, 3, 2])?.ok_or("a row")?;
+    assert_eq!(rt; numbers(&row), Some([-1, 2, 3]));
+    assert!(rt; row_of(rt.alloc(), &[2, 1, -2])?.is_none());
+    assert_eq!(rt; variables(&[3, -1, 3, 2]), 3);
+    assert_eq!(rt;
+        (is_tautology(&[3, -1, 3, 2]), is_tautology(&[2, 1, -2])),
+        (false, true)
+    );
+    Ok(())
+}

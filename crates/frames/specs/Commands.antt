@@ -1,0 +1,110 @@
+-- Commands: what each is refused for, and what it does where it is accepted.
+use Rattle.std.specs.Prelude.{ℕ, ◌+◌, ◌-◌, ◌^◌, ℤ, nat_abs, Bool, true, false, not, ◌&&◌, ◌||◌, ◌==◌, nat_lt, nat_le, if◌then◌else◌, List, [], ◌∷◌, length, Option, Some, None, is_some, unwrap_or}
+use Rattle.std.specs.List.{list_all}
+use Rattle.prefix.specs.declared.quant.Quant.{Quant}
+use Rattle.prefix.specs.declared.refusal.PrefixRefusal.{PrefixRefusal}
+use Rattle.prefix.specs.Literal.{Literal}
+use Rattle.prefix.specs.Scopes.{Scope, level_of, with_scope, with_variable_at}
+use Rattle.prefix.specs.Refusals.{scope_refusal, variable_refusal}
+use Rattle.truth.specs.Truth.{assumed_value}
+use Rattle.clauses.specs.Clause.{is_tautology, as_row, variables_of}
+use Rattle.calculus.specs.Rows.{Row}
+use Rattle.frames.specs.declared.refusal.FrameRefusal.{FrameRefusal}
+use Rattle.frames.specs.declared.refusal.FrameRefusal.TheVariants.{NoFrame, UnknownVar, AssumeScope, AssumeClash, AssumptionsHeld, Limit}
+use Rattle.frames.specs.Refusal.{refusal_for}
+use Rattle.frames.specs.State.{Frame, OpenFormula, depth, clauses_in, literals_in, with_row, pushed, popped, literal_from, put_assumption, is_positive}
+
+-- how a decision of the formula ended: with its truth, or without a verdict
+pub data Answer : Type 0 where
+  Verdict : Bool → Answer
+  Stop : Answer
+
+-- a scope at a number or as the last, a variable with the number of its scope, a clause, a frame more or less, an
+-- assumption, and a decision with its answer
+pub data Command : Type 0 where
+  AddScope : Quant → Option ℕ → Command
+  AddVariable : ℕ → ℕ → Command
+  AddClause : List ℤ → Command
+  Push : Command
+  Pop : Command
+  Assume : ℤ → Command
+  Solve : Answer → Command
+
+abbrev pub max_pushed : ℕ
+max_pushed = 65536
+
+abbrev pub max_clauses : ℕ
+max_clauses = 2 ^ 24
+
+abbrev pub max_literals : ℕ
+max_literals = 2 ^ 28
+
+-- whether a number's variable is in the prefix; 0 is no variable
+abbrev pub is_known : List Scope → ℤ → Bool
+is_known scopes n = is_some (level_of scopes (nat_abs n))
+
+-- whether a number's variable is in the first scope
+abbrev pub is_outermost : List Scope → ℤ → Bool
+is_outermost scopes n = unwrap_or (level_of scopes (nat_abs n)) 0 == 1
+
+-- whether a variable with this value, if any, has the other sign
+abbrev pub opposes : Option Bool → Bool → Bool
+opposes None b = false
+opposes (Some true) b = not b
+opposes (Some false) b = b
+
+-- whether the negation of a literal is assumed
+abbrev pub clashes_with : List Literal → ℤ → Bool
+clashes_with assumptions n = opposes (assumed_value assumptions (nat_abs n)) (is_positive n)
+
+abbrev pub is_empty : List Literal → Bool
+is_empty [] = true
+is_empty (l ∷ ls) = false
+
+-- whether a row of so many literals beside these rows goes beyond a limit
+abbrev pub is_beyond : List Row → ℕ → Bool
+is_beyond rows n = nat_le max_clauses (length rows) || nat_lt max_literals (literals_in rows + n)
+
+abbrev pub prefix_refusals : Option PrefixRefusal → List (Bool × FrameRefusal)
+prefix_refusals None = []
+prefix_refusals (Some refusal) = (true, refusal_for refusal) ∷ []
+
+-- what refuses a command, the first test that holds before all others
+abbrev pub refusals : OpenFormula → Command → List (Bool × FrameRefusal)
+refusals s (AddScope quant at) =
+    (not (is_empty s.assumptions), AssumptionsHeld) ∷ prefix_refusals (scope_refusal s.scopes at)
+refusals s (AddVariable var scope) =
+    (not (is_empty s.assumptions), AssumptionsHeld) ∷ prefix_refusals (variable_refusal s.scopes var scope)
+refusals s (AddClause clause) =
+    (not (list_all (is_known s.scopes) clause), UnknownVar)
+    ∷ (not (is_tautology clause) && is_beyond (clauses_in s.frames) (length (variables_of clause)), Limit)
+    ∷ []
+refusals s Push = (depth s.frames == max_pushed, Limit) ∷ []
+refusals s Pop = (depth s.frames == 0, NoFrame) ∷ []
+refusals s (Assume n) =
+    (not (is_known s.scopes n), UnknownVar)
+    ∷ (not (is_outermost s.scopes n), AssumeScope)
+    ∷ (clashes_with s.assumptions n, AssumeClash)
+    ∷ []
+refusals s (Solve answer) = []
+
+abbrev pub first_of : List (Bool × FrameRefusal) → Option FrameRefusal
+first_of [] = None
+first_of (rule ∷ rules) = if rule.0 then Some rule.1 else first_of rules
+
+abbrev pub refusal_of : OpenFormula → Command → Option FrameRefusal
+refusal_of s command = first_of (refusals s command)
+
+abbrev pub with_clause : List ℤ → List Frame → List Frame
+with_clause clause frames = if is_tautology clause then frames else with_row (as_row clause) frames
+
+-- the formula after an accepted command
+abbrev pub formula_after : OpenFormula → Command → OpenFormula
+formula_after s (AddScope quant at) = record s { scopes = with_scope s.scopes quant at }
+formula_after s (AddVariable var scope) = record s { scopes = with_variable_at s.scopes (scope - 1) var }
+formula_after s (AddClause clause) = record s { frames = with_clause clause s.frames }
+formula_after s Push = record s { frames = pushed s.frames }
+formula_after s Pop = record s { frames = popped s.frames }
+formula_after s (Assume n) = record s { assumptions = put_assumption (literal_from n) s.assumptions }
+formula_after s (Solve (Verdict truth)) = record s { assumptions = [] }
+formula_after s (Solve Stop) = s

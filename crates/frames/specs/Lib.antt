@@ -1,0 +1,6 @@
+pub mod Commands
+pub mod Fold
+pub mod Kept
+pub mod Refusal
+pub mod State
+pub mod Worked

@@ -1,0 +1,20 @@
+//! The open formula that commands build: scopes, frames of clauses, and assumptions.
+//!
+//! `specs/Commands` says what each command is refused for and what it does, `specs/Fold` what a list of commands comes
+//! to.
+#![tactic(auto)]
+
+mod assumptions;
+mod frames;
+mod laws;
+mod lists;
+mod refusal;
+mod worked;
+
+pub use frames::{Frames, OpenParts};
+pub use laws::refused_commands_change_nothing;
+pub use refusal::FrameRefusal;
+pub use worked::worked_commands;
+
+#[cfg(test)]
+mod tests;

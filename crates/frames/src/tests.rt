@@ -1,0 +1,139 @@
+use super::*;
+use prefix::Quant;
+use std::alloc::Global;
+use std::test::Fail;
+
+// What a test does to the frames.
+#[derive(Debug, Clone, Copy)]
+enum Turn {
+    Scope(Quant),
+    Var(u64, u64),
+    Push,
+    Pop,
+    Clause([i64; 2]),
+    Assume(i64),
+}
+
+fn after(frames: &mut Frames, turn: Turn) -> Result<(), FrameRefusal> {
+    match turn {
+        Turn::Scope(quant) => frames.scope(quant, None),
+        Turn::Var(var, scope) => frames.var(var, scope),
+        Turn::Push => frames.push(),
+        Turn::Pop => frames.pop(),
+        Turn::Clause(lits) => frames.add_clause(&lits),
+        Turn::Assume(lit) => frames.assume(lit),
+    }
+}
+
+fn number(answer: Result<(), FrameRefusal>) -> Option<u8> {
+    match answer {
+        Ok(()) => Some(0),
+        Err(refusal) => refusal.number(),
+    }
+}
+
+// Whether the turns are answered with these numbers, 0 where one is accepted.
+fn answers(frames: &mut Frames, table: &[(Turn, u8)]) -> bool {
+    for (turn, wanted) in table {
+        if number(after(frames, *turn)) != Some(*wanted) {
+            return false;
+        }
+    }
+    true
+}
+
+// The existential variables 1 and 3, then the universal variable 2.
+fn two_scopes(alloc: Global) -> Result<Frames, Fail> {
+    let mut frames = Frames::new(alloc);
+    frames.scope(Quant::Exists, None)?;
+    frames.var(1, 1)?;
+    frames.var(3, 1)?;
+    frames.scope(Quant::Forall, None)?;
+    frames.var(2, 2)?;
+    Ok(frames)
+}
+
+#[test]
+fn refusals_come_in_order(rt: HostRuntime) -> Result<(), Fail> {
+    let mut frames = two_scopes(rt.alloc())?;
+    assert!(rt;
+        answers(
+            &mut frames,
+            &[
+                (Turn::Pop, 40),
+                (Turn::Clause([1, 7]), 41),
+                (Turn::Clause([0, 1]), 41),
+                (Turn::Assume(7), 41),
+                (Turn::Assume(2), 42),
+                (Turn::Var(1, 1), 1),
+                (Turn::Var(0, 1), 2),
+                (Turn::Var(4, 9), 3),
+                (Turn::Assume(3), 0),
+                (Turn::Assume(1), 0),
+                (Turn::Assume(1), 0),
+                (Turn::Assume(-1), 43),
+                (Turn::Var(1, 1), 44),
+                (Turn::Scope(Quant::Exists), 44),
+            ]
+        )
+    );
+    let parts = frames.parts();
+    assert_eq!(rt; parts.assumptions.len(), 2);
+    assert_eq!(rt; (parts.prefix.len(), parts.clauses.len()), (3, 0));
+    frames.clear_assumptions();
+    assert_eq!(rt;
+        (frames.assumptions().len(), number(frames.assume(-1))),
+        (0, Some(0))
+    );
+    Ok(())
+}
+
+#[test]
+fn clauses_go_with_their_frame(rt: HostRuntime) -> Result<(), Fail> {
+    let mut frames = two_scopes(rt.alloc())?;
+    assert!(rt;
+        answers(
+            &mut frames,
+            &[
+                (Turn::Clause([1, 1]), 0),
+                (Turn::Push, 0),
+                (Turn::Clause([-1, 2]), 0),
+                (Turn::Clause([1, -1]), 0),
+            ]
+        )
+    );
+    assert_eq!(rt; (frames.open_clauses().len(), frames.depth()), (2, 1));
+    frames.pop()?;
+    assert_eq!(rt; (frames.open_clauses().len(), frames.depth()), (1, 0));
+    assert_eq!(rt; frames.open_clauses()[0].lits().len(), 1);
+    Ok(())
+}
+
+#[test]
+fn a_clause_is_taken_back(rt: HostRuntime) -> Result<(), Fail> {
+    let mut frames = two_scopes(rt.alloc())?;
+    frames.add_clause(&[1, 2])?;
+    frames.add_clause(&[-1])?;
+    frames.take_back();
+    assert_eq!(rt; frames.open_clauses().len(), 1);
+    frames.add_clause(&[1, -1])?;
+    frames.take_back();
+    assert_eq!(rt;
+        (frames.open_clauses().len(), frames.prefix().len()),
+        (1, 3)
+    );
+    Ok(())
+}
+
+#[test]
+fn as_many_frames_are_pushed_as_may(rt: HostRuntime) -> Result<(), Fail> {
+    let mut frames = Frames::new(rt.alloc());
+    for _ in 0..Frames::MAX_PUSHED {
+        frames.push()?;
+    }
+    assert_eq!(rt;
+        (frames.depth(), frames.push()),
+        (65_536, Err(FrameRefusal::Limit))
+    );
+    Ok(())
+}
