@@ -9,6 +9,7 @@ use super::cover;
 use derive::{Derivation, Step};
 use prefix::{Lit, LitList, Prefix, Quant, Var};
 use std::alloc::Global;
+use std::marker::Model;
 use std::test::Fail;
 use steps::Steps;
 use trail::{Trail, Why};
@@ -26,15 +27,15 @@ fn row(alloc: Global, numbers: &[i32]) -> Result<Vec<Lit>, Fail> {
     Ok(row)
 }
 
-// A universal variable 1, and then the existential ones 2 and 3, each in a scope of its own.
-fn three_scopes(alloc: Global) -> Result<Prefix, Fail> {
+// A universal variable 1, and then the existential ones 2 and 3, the last in the scope with this number.
+fn with_last_in(alloc: Global, scope: u64) -> Result<Prefix, Fail> {
     let mut prefix = Prefix::new(alloc);
     prefix.add_scope(Quant::Forall, None)?;
     prefix.add_var(1, 1)?;
     prefix.add_scope(Quant::Exists, None)?;
     prefix.add_var(2, 2)?;
     prefix.add_scope(Quant::Exists, None)?;
-    prefix.add_var(3, 3)?;
+    prefix.add_var(3, scope)?;
     Ok(prefix)
 }
 
@@ -81,31 +82,124 @@ fn are_true(trail: &Trail, matrix: &[LitList]) -> bool
     true
 }
 
-// The first clause has two true existential literals, of which the later one is taken; the second is hit with it; the
-// third has a true universal literal alone.
-#[test]
-fn later_existential_ones_come_first(rt: HostRuntime) -> Result<(), Fail> {
-    let alloc = rt.alloc();
-    let prefix = three_scopes(alloc)?;
-    let mut trail = Trail::new(alloc);
-    let mut steps = Steps::new(3);
-    decide(&mut trail, &prefix, literal(-1)?, &mut steps)?;
-    decide(&mut trail, &prefix, literal(2)?, &mut steps)?;
-    decide(&mut trail, &prefix, literal(3)?, &mut steps)?;
+// Clauses that end in 0.
+fn matrix_of(alloc: Global, numbers: &[i32]) -> Result<Vec<LitList>, Fail> {
     let mut matrix = Vec::new(alloc);
-    for numbers in [
-        [-1, 2, 3].as_slice(),
-        [-1, 3].as_slice(),
-        [-1, -2].as_slice(),
+    let mut lits = Vec::new(alloc);
+    for number in numbers {
+        if *number == 0 {
+            matrix.push(LitList::from_vec(lits))?;
+            lits = Vec::new(alloc);
+        } else {
+            lits.push(literal(*number)?)?;
+        }
+    }
+    Ok(matrix)
+}
+
+// A trail on which anything may be assigned next.
+#[derive(Debug, Drop)]
+struct Game {
+    alloc: Global,
+    prefix: Prefix,
+    trail: Trail,
+    steps: Steps,
+}
+
+impl Model for Game {
+    ghost use Rattle.std.specs.Prelude.{◌≡◌};
+    ghost use Rattle.trail.specs.declared.allowed.Allowed.TheVariants.{Anything};
+    ghost use Rattle.trail.specs.State.{IsTrailFor, TrailState};
+
+    ghost Value = { TrailState };
+
+    ghost view = { λ g. g.trail };
+
+    ghost invariant = { λ g. IsTrailFor g.prefix g.trail × (g.trail.allowed ≡ Anything) };
+}
+
+impl Game {
+    // An empty trail.
+    fn new(alloc: Global, scope: u64) -> Result<Self, Fail> {
+        Ok(Self {
+            alloc,
+            prefix: with_last_in(alloc, scope)?,
+            trail: Trail::new(alloc),
+            steps: Steps::new(3),
+        })
+    }
+
+    fn decided(self, number: i32) -> Result<Self, Fail> {
+        let lit = literal(number)?;
+        let Self {
+            alloc,
+            prefix,
+            mut trail,
+            mut steps,
+        } = self;
+        decide(&mut trail, &prefix, lit, &mut steps)?;
+        Ok(Self {
+            alloc,
+            prefix,
+            trail,
+            steps,
+        })
+    }
+
+    // Whether a cover of some clauses, which end in 0, is an initial cube of these literals.
+    fn covers(&self, clauses: &[i32], cube: &[i32]) -> Result<bool, Fail> {
+        let matrix = matrix_of(self.alloc, clauses)?;
+        let lits = row(self.alloc, cube)?;
+        if !are_true(&self.trail, &matrix) {
+            return Err("not true")?;
+        }
+        let mut derivation = Derivation::new(self.alloc);
+        let id = cover(&mut derivation, &self.trail, &self.prefix, &matrix)?;
+        Ok(derivation.step(id) == Step::InputCube && derivation.lits(id) == lits.as_slice())
+    }
+}
+
+// The same where 1 and then 2 and 3 are decided.
+fn decided_cover(
+    alloc: Global,
+    scope: u64,
+    first: i32,
+    clauses: &[i32],
+    cube: &[i32],
+) -> Result<bool, Fail> {
+    let game = Game::new(alloc, scope)?;
+    game.decided(first)?
+        .decided(2)?
+        .decided(3)?
+        .covers(clauses, cube)
+}
+
+// Of a clause's existential literals the later one is taken, of one scope one that is chosen already; a universal one
+// where a clause has no other, unless it is hit.
+#[test]
+fn clauses_are_covered(rt: HostRuntime) -> Result<(), Fail> {
+    for (scope, first, clauses, cube) in [
+        (
+            3,
+            -1,
+            [-1, 2, 3, 0, -1, 3, 0, -1, -2, 0].as_slice(),
+            [-1, 3].as_slice(),
+        ),
+        (
+            2,
+            -1,
+            [3, 0, 2, 3, 0, -1, 2, 3, 0].as_slice(),
+            [3].as_slice(),
+        ),
+        (
+            2,
+            1,
+            [2, 0, 3, 0, 1, -3, 0, 1, 2, 0].as_slice(),
+            [1, 2, 3].as_slice(),
+        ),
+        (3, 1, [].as_slice(), [].as_slice()),
     ] {
-        matrix.push(LitList::from_vec(row(alloc, numbers)?))?;
+        assert!(rt; decided_cover(rt.alloc(), scope, first, clauses, cube)?);
     }
-    if !are_true(&trail, &matrix) {
-        return Err("not true")?;
-    }
-    let mut derivation = Derivation::new(alloc);
-    let cube = cover(&mut derivation, &trail, &prefix, &matrix)?;
-    assert_eq!(rt; derivation.step(cube), Step::InputCube);
-    assert_eq!(rt; derivation.lits(cube), row(alloc, &[-1, 3])?.as_slice());
     Ok(())
 }
