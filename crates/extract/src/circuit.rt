@@ -266,7 +266,9 @@ fn table_of(
 }
 
 /// The circuit of a core, which is a proof under assumptions: its inputs are the loser's variables, its outputs the
-/// winner's, both in prefix order. It gives each output its assumed value, or else that of the first-falsified rule.
+/// winner's, both in prefix order. It gives each output its assumed value, or else that of the first-falsified rule
+/// (Balabanov and Jiang, *Unified QBF certification and its applications*, 2012). So it wins, and each output rests on
+/// inputs of earlier scopes alone. Fails for want of memory alone.
 pub fn extract(
     alloc: Global,
     core: &Core,
