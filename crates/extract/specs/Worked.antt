@@ -1,16 +1,18 @@
 -- Worked values: what small cores remove, and what the first removal with a bad row forces.
-use Rattle.std.specs.Prelude.{◌≡◌, ℕ, ◌==◌, Bool, true, false, List, [], ◌∷◌, Option, Some, None}
+use Rattle.std.specs.Prelude.{◌≡◌, ℕ, ◌==◌, true, false, List, [], ◌∷◌, Option, Some, None}
 use Rattle.prefix.specs.declared.quant.Quant.TheVariants.{Exists, Forall}
 use Rattle.prefix.specs.Literal.{Literal}
 use Rattle.calculus.specs.Rows.{Row, Assignment}
+use Rattle.calculus.specs.Worked.{existential_first, universal_first}
 use Rattle.calculus.specs.Derivations.{Inference}
 use Rattle.calculus.specs.Derivations.Reason.{Input as ByInput, One as ByOne, Two as ByTwo}
+use Rattle.aig.specs.Circuits.{Circuit}
 use Rattle.aig.specs.declared.edge.Edge.{Edge}
-use Rattle.aig.specs.declared.edge.Node.TheVariants.{Constant}
+use Rattle.aig.specs.declared.edge.Node.TheVariants.{Constant, Input as ByPlace}
 use Rattle.qrp_trace.specs.declared.listing.Line.{Line}
-use Rattle.qrp_trace.specs.declared.listing.CoreStep.TheVariants.{Input, One, Two}
+use Rattle.qrp_trace.specs.declared.listing.CoreStep.TheVariants.{One, Two}
 use Rattle.extract.specs.Removals.{Removed, first_bad, goes, removals, stands_over, weight_of, weights_of}
-use Rattle.extract.specs.Tables.{edge_of, removals_of_line, removed_of, unmarked}
+use Rattle.extract.specs.Tables.{Agrees, AreEdges, AreKept, Covers, CoversRemoved, CoversRow, IsAssumedEdge, IsInputEdge, IsPlayTable, IsReady, IsRuledEdge, Keeps, edge_of, removals_of_line, removed_of, unmarked}
 use Rattle.extract.specs.declared.index.Removal.{Removal}
 
 -- a variable as a literal
@@ -107,6 +109,39 @@ last = record { lits = []; step = Two 3 4 2 }
 abbrev pub always : Edge
 always = record { node = Constant; negated = true }
 
+-- the removals of the first core by variable: of 1, where 2 and -2 are left
+abbrev pub clause_index : List (List Removal)
+clause_index = [] ∷ (record { step = 2; value = false } ∷ record { step = 3; value = true } ∷ []) ∷ []
+
+-- the rows of the second core, and its removals: of 2, where -1 and 1 are left
+abbrev pub cube_rows : List Row
+cube_rows =
+    (minus 1 ∷ plus 2 ∷ []) ∷ (plus 1 ∷ minus 2 ∷ []) ∷ (minus 1 ∷ []) ∷ (plus 1 ∷ []) ∷ [] ∷ []
+
+abbrev pub cube_index : List (List Removal)
+cube_index = [] ∷ [] ∷ (record { step = 2; value = true } ∷ record { step = 3; value = false } ∷ []) ∷ []
+
+-- the constant false
+abbrev pub never : Edge
+never = record { node = Constant; negated = false }
+
+-- a circuit with an input and no gate, its edge, and the opposite one
+abbrev pub wire : Circuit
+wire = record { inputs = 1; gates = [] }
+
+abbrev pub same : Edge
+same = record { node = ByPlace 0; negated = false }
+
+abbrev pub other : Edge
+other = record { node = ByPlace 0; negated = true }
+
+-- tables over 1 and 2: an edge for 2 alone, and for both of them
+abbrev pub one_edge : Edge → List (Option Edge)
+one_edge b = None ∷ None ∷ Some b ∷ []
+
+abbrev pub two_edges : Edge → Edge → List (Option Edge)
+two_edges a b = None ∷ Some a ∷ Some b ∷ []
+
 -- tables by variable, and removals by the places of their steps, which count from 0
 pub record WorkedTables : Type 0 where
   pub edge : edge_of (None ∷ Some always ∷ []) 1 ≡ Some always
@@ -122,3 +157,51 @@ pub record WorkedTables : Type 0 where
       ≡ record { step = 2; value = false } ∷ []
   pub past_the_stamps : unmarked (0 ∷ []) Forall 1 2 (plus 1 ∷ plus 2 ∷ [])
       ≡ record { step = 2; value = true } ∷ []
+
+-- values that agree with a table, what a table covers, edges that stand, and a table that keeps another's edges
+pub record WorkedCovers : Type 0 where
+  pub agrees : Agrees wire (true ∷ []) (two_edges same same) (λ x. true)
+  pub agrees_not : Agrees wire (true ∷ []) (two_edges same same) (only 2) → ⊥
+  pub covers : Covers (one_edge same) (2 ∷ [])
+  pub covers_not : Covers (one_edge same) (2 ∷ 1 ∷ []) → ⊥
+  pub row : CoversRow (one_edge same) (minus 2 ∷ [])
+  pub row_not : CoversRow (one_edge same) (plus 1 ∷ plus 2 ∷ []) → ⊥
+  pub removed : CoversRemoved (one_edge same) of_one
+  pub removed_not : CoversRemoved (one_edge same) of_two → ⊥
+  pub stand : AreEdges wire (two_edges always other)
+  pub stand_not : AreEdges (record { inputs = 0; gates = [] }) (one_edge same) → ⊥
+  pub keeps : Keeps (one_edge same) (two_edges always same)
+  pub keeps_not : Keeps (one_edge same) (two_edges always other) → ⊥
+
+-- the edges of an input and of assumed variables
+pub record WorkedGiven : Type 0 where
+  pub input : IsInputEdge wire (2 ∷ []) 2 same
+  pub opposite_input : IsInputEdge wire (2 ∷ []) 2 other → ⊥
+  pub no_input : IsInputEdge wire (2 ∷ []) 1 same → ⊥
+  pub assumed : IsAssumedEdge (plus 1 ∷ []) 1 always
+  pub assumed_false : IsAssumedEdge (minus 1 ∷ []) 1 never
+  pub turned : IsAssumedEdge (minus 1 ∷ []) 1 always → ⊥
+  pub not_assumed : IsAssumedEdge (plus 1 ∷ []) 2 always → ⊥
+
+-- edges by the rule: 1 gets the value of 2 from the first core, and 2 the opposite of 1 from the second; what is kept
+-- for rows; and what has to stand before the rule is asked
+pub record WorkedEdges : Type 0 where
+  pub ruled : IsRuledEdge Exists clause_rows clause_index wire (two_edges same same) 1
+  pub ruled_not : IsRuledEdge Exists clause_rows clause_index wire (two_edges always same) 1 → ⊥
+  pub cubes : IsRuledEdge Forall cube_rows cube_index wire (two_edges same other) 2
+  pub cubes_not : IsRuledEdge Forall cube_rows cube_index wire (two_edges same same) 2 → ⊥
+  pub kept : AreKept Exists clause_rows wire (one_edge same) (one_edge other)
+  pub kept_not : AreKept Exists clause_rows wire (one_edge same) (one_edge same) → ⊥
+  pub ready : IsReady clause_rows clause_index (1 ∷ []) (one_edge same)
+  pub ready_in_order : IsReady clause_rows clause_index (2 ∷ 1 ∷ []) []
+  pub ready_not : IsReady clause_rows clause_index (1 ∷ 2 ∷ []) [] → ⊥
+
+-- the whole tables of both cores, and one with 1 assumed false, which the rule isn't asked for
+pub record WorkedPlays : Type 0 where
+  pub clauses : IsPlayTable Exists existential_first [] clause_core (2 ∷ []) wire (two_edges same same)
+  pub clauses_not : IsPlayTable Exists existential_first [] clause_core (2 ∷ []) wire (two_edges always same) → ⊥
+  pub half : IsPlayTable Exists existential_first [] clause_core (2 ∷ []) wire (one_edge same) → ⊥
+  pub cubes : IsPlayTable Forall universal_first [] cube_core (1 ∷ []) wire (two_edges same other)
+  pub cubes_not : IsPlayTable Forall universal_first [] cube_core (1 ∷ []) wire (two_edges same same) → ⊥
+  pub given : IsPlayTable Exists universal_first (minus 1 ∷ []) [] (2 ∷ []) wire (two_edges never same)
+  pub given_not : IsPlayTable Exists universal_first (minus 1 ∷ []) [] (2 ∷ []) wire (two_edges always same) → ⊥

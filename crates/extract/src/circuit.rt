@@ -10,7 +10,6 @@ ghost use Rattle.aig.specs.Circuits.{value_of, IsEdge, Grows};
 ghost use Rattle.aig.specs.Strategies.{IsStrategy, output_of, output_vars, values_of};
 ghost use Rattle.aig.specs.declared.edge.Edge.{Edge};
 ghost use Rattle.aig.specs.declared.edge.Node.TheVariants.{Constant};
-ghost use Rattle.prefix.specs.Sides.{opposite};
 ghost use Rattle.extract.specs.Tables.{IsPlayTable, edge_of, Agrees, Covers, CoversRemoved, Keeps, AreEdges, AreKept, IsInputEdge, IsAssumedEdge, IsRuledEdge, IsReady, removed_of, removals_at};
 ghost use Rattle.qrp_trace.specs.Cores.{core_rows, inferences_of, loser_of, IsProofOf};
 ghost use Rattle.extract.specs.Removals.{first_bad, weight_of, weights_of, removals};
@@ -39,7 +38,7 @@ fn variables_of(alloc: Global, prefix: &Prefix) -> Result<Vec<Var>, NoMemory>
 }
 
 // Whether a variable has this quantifier.
-fn has_quant(prefix: &Prefix, v: Var, quant: Quant) -> bool
+pub(crate) fn has_quant(prefix: &Prefix, v: Var, quant: Quant) -> bool
     ensures { result ≡ is_of (quantifier_of prefix.now v) quant }
 {
     match prefix.quant(v) {
@@ -223,16 +222,6 @@ fn outputs_of(
     Ok(outputs)
 }
 
-// The quantifier that this one isn't.
-fn other_quant(quant: Quant) -> Quant
-    ensures { result ≡ opposite quant }
-{
-    match quant {
-        Quant::Exists => Quant::Forall,
-        Quant::Forall => Quant::Exists,
-    }
-}
-
 // The edges of all variables.
 fn table_of(
     alloc: Global,
@@ -255,7 +244,7 @@ fn table_of(
     ensures size { OnOk result (length aig.new.gates
         ≤ length aig.old.gates + gate_weight (inferences_of core.now.lines)) }
 {
-    let loser = other_quant(core.winner());
+    let loser = core.loser();
     let _ = prefix.scopes();
     let mut table = input_table(alloc, aig, inputs)?;
     put_assumed(&mut table, assumptions)?;
@@ -298,7 +287,7 @@ pub fn extract(
     let all = variables_of(alloc, prefix)?;
     let vars = all.as_slice();
     let winner = core.winner();
-    let inputs = with_quant(alloc, prefix, vars, other_quant(winner))?;
+    let inputs = with_quant(alloc, prefix, vars, core.loser())?;
     let winners = with_quant(alloc, prefix, vars, winner)?;
     let mut aig = Aig::new(alloc, inputs.len() as u32)?;
     let table = table_of(

@@ -12,7 +12,10 @@ mod rule;
 mod worked;
 
 pub use circuit::extract;
-pub use worked::{worked_removals, worked_rules, worked_tables, worked_weights};
+pub use worked::{
+    worked_covers, worked_edges, worked_given, worked_plays, worked_removals, worked_rules,
+    worked_tables, worked_weights,
+};
 
 #[cfg(test)]
 mod tests;
