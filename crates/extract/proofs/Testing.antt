@@ -18,12 +18,16 @@ use Rattle.derive.specs.Theorems.{ClausesAreListed}
 
 -- what holds of the elements so far holds of one more, and of all in the end
 
-pub each_more : {X : Type 0} (P : X → Type 0) (xs : List X) (k : ℕ) (x : X) → k < length xs → x ≡ get_or xs k x → P x → ((y : X) → Contains (take k xs) y → P y) → (y : X) → Contains (take (k + 1) xs) y → P y
+pub each_more : {X : Type 0} (P : X → Type 0) (xs : List X) (k : ℕ) (x : X) → k < length xs → x ≡ get_or xs k x → P x
+    → ((y : X) → Contains (take k xs) y → P y) → (y : X) → Contains (take (k + 1) xs) y → P y
 each_more {X} P xs k x below is now before y i =
-    let more : take (k + 1) xs ≡ take k xs ++ x ∷ [] = take_more xs k x below ∙ ap (λ l. take k xs ++ l ∷ []) (sym is) in
-    ⊎_elim (λ j. before y j) (λ e. subst P e now) (Contains-push_cases (take k xs) x y (subst (λ (zs : List X). Contains zs y) more i))
+    let more : take (k + 1) xs ≡ take k xs ++ x ∷ [] = take_more xs k x below
+    ∙ ap (λ l. take k xs ++ l ∷ []) (sym is) in
+    ⊎_elim (λ j. before y j) (λ e. subst P e now)
+    (Contains-push_cases (take k xs) x y (subst (λ (zs : List X). Contains zs y) more i))
 
-pub each_whole : {X : Type 0} (P : X → Type 0) (xs : List X) (k : ℕ) → length xs ≤ k → ((y : X) → Contains (take k xs) y → P y) → (y : X) → Contains xs y → P y
+pub each_whole : {X : Type 0} (P : X → Type 0) (xs : List X) (k : ℕ) → length xs ≤ k
+    → ((y : X) → Contains (take k xs) y → P y) → (y : X) → Contains xs y → P y
 each_whole {X} P xs k past before y i = before y (subst (λ (zs : List X). Contains zs y) (sym (take_all k xs past)) i)
 
 -- literals that ascend up to a place, where the last one has this variable
@@ -32,7 +36,8 @@ pub record AscendTo (lits : Row) (k last : ℕ) : Type 0 where
   pub rises : (i j : ℕ) (d : Literal) → i < j → j < k → (get_or lits i d).variable < (get_or lits j d).variable
   pub below : (i : ℕ) (d : Literal) → i < k → (get_or lits i d).variable ≤ last
 
-pub ascend_more : (lits : Row) (k last : ℕ) (x : Literal) → k < length lits → x ≡ get_or lits k x → last < x.variable → AscendTo lits k last → AscendTo lits (k + 1) x.variable
+pub ascend_more : (lits : Row) (k last : ℕ) (x : Literal) → k < length lits → x ≡ get_or lits k x → last < x.variable
+    → AscendTo lits k last → AscendTo lits (k + 1) x.variable
 ascend_more lits k last x within is above before = record {
   rises = λ i j d up to.
       ⊎_elim
@@ -61,18 +66,23 @@ ascend_whole lits k last past all = pairs_to lits (λ i j d up within. all.rises
 
 -- the value that assumptions from a place on give a variable
 
-assumed_from : (xs : List Literal) (v k : ℕ) (x : Literal) → k < length xs → x ≡ get_or xs k x → assumed_value (drop k xs) v ≡ (if x.variable == v then Some x.positive else assumed_value (drop (k + 1) xs) v)
+assumed_from : (xs : List Literal) (v k : ℕ) (x : Literal) → k < length xs → x ≡ get_or xs k x
+    → assumed_value (drop k xs) v ≡ (if x.variable == v then Some x.positive else assumed_value (drop (k + 1) xs) v)
 assumed_from xs v k x below is =
     ap (λ (ls : List Literal). assumed_value ls v) (drop_more xs k x below)
     ∙ ap (λ (l : Literal). if l.variable == v then Some l.positive else assumed_value (drop (k + 1) xs) v) (sym is)
 
-pub assumed_next : (xs : List Literal) (v k : ℕ) (x : Literal) → k < length xs → x ≡ get_or xs k x → (x.variable == v) ≡ false → assumed_value (drop (k + 1) xs) v ≡ assumed_value (drop k xs) v
+pub assumed_next : (xs : List Literal) (v k : ℕ) (x : Literal) → k < length xs → x ≡ get_or xs k x
+    → (x.variable == v) ≡ false → assumed_value (drop (k + 1) xs) v ≡ assumed_value (drop k xs) v
 assumed_next xs v k x below is other =
-    sym (assumed_from xs v k x below is ∙ cond-false (x.variable == v) (Some x.positive) (assumed_value (drop (k + 1) xs) v) other)
+    sym (assumed_from xs v k x below is
+    ∙ cond-false (x.variable == v) (Some x.positive) (assumed_value (drop (k + 1) xs) v) other)
 
-pub assumed_here : (xs : List Literal) (v k : ℕ) (x : Literal) → k < length xs → x ≡ get_or xs k x → (x.variable == v) ≡ true → assumed_value (drop k xs) v ≡ Some x.positive
+pub assumed_here : (xs : List Literal) (v k : ℕ) (x : Literal) → k < length xs → x ≡ get_or xs k x
+    → (x.variable == v) ≡ true → assumed_value (drop k xs) v ≡ Some x.positive
 assumed_here xs v k x below is same =
-    assumed_from xs v k x below is ∙ cond-true (x.variable == v) (Some x.positive) (assumed_value (drop (k + 1) xs) v) same
+    assumed_from xs v k x below is
+    ∙ cond-true (x.variable == v) (Some x.positive) (assumed_value (drop (k + 1) xs) v) same
 
 pub assumed_past : (xs : List Literal) (v k : ℕ) → length xs ≤ k → assumed_value (drop k xs) v ≡ None
 assumed_past xs v k past = ap (λ (ls : List Literal). assumed_value ls v) (drop_all k xs past)
@@ -98,7 +108,9 @@ mapped f (x ∷ xs) y i =
 live_of : (o : Option Note) (note : Note) → o ≡ Some note → is_some o ≡ true
 live_of o note e = ap is_some e
 
-pub hits_all : (d : State) (cube : Row) (n : ℕ) → ClausesAreListed → ((id : ℕ) → is_live d id ≡ true → id < n) → ((id tag : ℕ) → id < n → note_at d id ≡ Some (clause_note tag) → Meets (row_of d id) cube) → Hits cube (open_clauses d)
+pub hits_all : (d : State) (cube : Row) (n : ℕ) → ClausesAreListed → ((id : ℕ) → is_live d id ≡ true → id < n)
+    → ((id tag : ℕ) → id < n → note_at d id ≡ Some (clause_note tag) → Meets (row_of d id) cube)
+    → Hits cube (open_clauses d)
 hits_all d cube n listed under each clause i =
     let found = mapped (λ (c : OpenClause). c.row) (clauses_of d) clause i in
     let c = found.0 in

@@ -26,7 +26,8 @@ weight_append : (a b : List Removed) → weight_of (a ++ b) ≡ weight_of a + we
 weight_append [] b = omega arith
 weight_append (r ∷ a) b = let e = weight_append a b in omega arith
 
-weights_split : (f g : ℕ → List Removed) (xs : List ℕ) → weights_of (λ x. f x ++ g x) xs ≡ weights_of f xs + weights_of g xs
+weights_split : (f g : ℕ → List Removed) (xs : List ℕ)
+    → weights_of (λ x. f x ++ g x) xs ≡ weights_of f xs + weights_of g xs
 weights_split f g [] = refl
 weights_split f g (x ∷ xs) = let e = weights_split f g xs in let a = weight_append (f x) (g x) in omega arith
 
@@ -50,10 +51,13 @@ sum_none f (x ∷ xs) none = let e = sum_none f xs none in let a = none x in ome
 abbrev bit : Bool → ℕ
 bit b = cond b 1 0
 
-filter_count : {X : Type 0} (p : X → Bool) (x : X) (xs : List X) → length (filter p (x ∷ xs)) ≡ bit (p x) + length (filter p xs)
+filter_count : {X : Type 0} (p : X → Bool) (x : X) (xs : List X)
+    → length (filter p (x ∷ xs)) ≡ bit (p x) + length (filter p xs)
 filter_count p x xs =
-    ⊎_elim (λ t. rw (cond-true (p x) (x ∷ filter p xs) (filter p xs) t) (rw t (let e : suc (length (filter p xs)) ≡ 1 + length (filter p xs) = omega arith in e)))
-    (λ f. rw (cond-false (p x) (x ∷ filter p xs) (filter p xs) f) (rw f (let e : length (filter p xs) ≡ 0 + length (filter p xs) = omega arith in e)))
+    ⊎_elim (λ t. rw (cond-true (p x) (x ∷ filter p xs) (filter p xs) t)
+    (rw t (let e : suc (length (filter p xs)) ≡ 1 + length (filter p xs) = omega arith in e)))
+    (λ f. rw (cond-false (p x) (x ∷ filter p xs) (filter p xs) f)
+    (rw f (let e : length (filter p xs) ≡ 0 + length (filter p xs) = omega arith in e)))
     (cases_Bool (p x))
 
 -- a variable stands once in a list without repetition
@@ -61,7 +65,8 @@ none_is : (v : ℕ) (xs : List ℕ) → (Contains xs v → ⊥) → sum_over (λ
 none_is v [] out = refl
 none_is v (x ∷ xs) out =
     let e = none_is v xs (λ i. out (contains_tail x xs v i)) in
-    let differ : (v == x) ≡ false = false_from_ne_true (v == x) (λ t. out (subst (λ y. Contains (y ∷ xs) v) (eqb-true v x t) (contains_head v xs))) in
+    let differ : (v == x) ≡ false =
+    false_from_ne_true (v == x) (λ t. out (subst (λ y. Contains (y ∷ xs) v) (eqb-true v x t) (contains_head v xs))) in
     let z : bit (v == x) ≡ 0 = ap bit differ in
     omega arith
 
@@ -69,7 +74,8 @@ once_is : (v : ℕ) (xs : List ℕ) → IsDistinct xs → sum_over (λ x. bit (v
 once_is v [] distinct = omega arith
 once_is v (x ∷ xs) distinct =
     ⊎_elim
-    (λ t. let e = none_is v xs (λ i. distinct.0 (subst (Contains xs) (eqb-true v x t) i)) in let z : bit (v == x) ≡ 1 = ap bit t in omega arith)
+    (λ t. let e = none_is v xs (λ i. distinct.0 (subst (Contains xs) (eqb-true v x t) i)) in
+    let z : bit (v == x) ≡ 1 = ap bit t in omega arith)
     (λ f. let e = once_is v xs distinct.1 in let z : bit (v == x) ≡ 0 = ap bit f in omega arith)
     (cases_Bool (v == x))
 
@@ -80,17 +86,23 @@ module _ (pivot : Quant) (row : Row) where
   abbrev count_of : List Literal → ℕ → ℕ
   count_of ls x = length (filter (goes x row) ls)
 
-  weight_is : (ls : List Literal) → weight_of (map (λ (l : Literal). record { row = row; value = bad_choice pivot l }) ls) ≡ length ls * (length row + 1)
+  weight_is : (ls : List Literal)
+      → weight_of (map (λ (l : Literal). record { row = row; value = bad_choice pivot l }) ls) ≡ length ls *
+      (length row + 1)
   weight_is [] = omega arith
   weight_is (l ∷ ls) = let e = weight_is ls in grind (arith)
 
-  weights_are : (before : List Literal) (xs : List ℕ) → weights_of (λ x. removed_from pivot x row before) xs ≡ sum_over (count_of before) xs * (length row + 1)
+  weights_are : (before : List Literal) (xs : List ℕ)
+      → weights_of (λ x. removed_from pivot x row before) xs ≡ sum_over (count_of before) xs * (length row + 1)
   weights_are before [] = omega arith
-  weights_are before (x ∷ xs) = let e = weights_are before xs in let a = weight_is (filter (goes x row) before) in grind (arith)
+  weights_are before (x ∷ xs) = let e = weights_are before xs in let a = weight_is (filter (goes x row) before) in
+      grind (arith)
 
-  one_literal : (l : Literal) (xs : List ℕ) → IsDistinct xs → (b : Bool) → gone l ≡ b → sum_over (λ x. bit (goes x row l)) xs ≤ bit b
+  one_literal : (l : Literal) (xs : List ℕ) → IsDistinct xs → (b : Bool) → gone l ≡ b
+      → sum_over (λ x. bit (goes x row l)) xs ≤ bit b
   one_literal l xs distinct true is = let once = once_is l.variable xs distinct in
-      let same : sum_over (λ x. bit (goes x row l)) xs ≡ sum_over (λ x. bit (l.variable == x)) xs = ap (λ (f : ℕ → ℕ). sum_over f xs) (λ i x. bit (and_gone (l.variable == x) is i)) in rw same once
+      let same : sum_over (λ x. bit (goes x row l)) xs ≡ sum_over (λ x. bit (l.variable == x)) xs =
+      ap (λ (f : ℕ → ℕ). sum_over f xs) (λ i x. bit (and_gone (l.variable == x) is i)) in rw same once
     where
       and_true : (b : Bool) → (b && true) ≡ b
       and_true true = refl
@@ -98,7 +110,8 @@ module _ (pivot : Quant) (row : Row) where
 
       and_gone : (b : Bool) → gone l ≡ true → (b && gone l) ≡ b
       and_gone b t = ap (λ g. b && g) t ∙ and_true b
-  one_literal l xs distinct false is = let none = sum_none (λ x. bit (goes x row l)) xs (λ x. ap bit (and_gone (l.variable == x))) in omega arith
+  one_literal l xs distinct false is = let none =
+      sum_none (λ x. bit (goes x row l)) xs (λ x. ap bit (and_gone (l.variable == x))) in omega arith
     where
       and_false : (b : Bool) → (b && false) ≡ false
       and_false true = refl
@@ -111,13 +124,15 @@ module _ (pivot : Quant) (row : Row) where
   counts_few [] xs distinct = let e = sum_none (count_of []) xs (λ x. refl) in omega arith
   counts_few (l ∷ ls) xs distinct =
       let further = counts_few ls xs distinct in
-      let split = sum_split (count_of (l ∷ ls)) (λ x. bit (goes x row l)) (count_of ls) xs (λ x. filter_count (goes x row) l ls) in
+      let split = sum_split (count_of (l ∷ ls)) (λ x. bit (goes x row l)) (count_of ls) xs
+      (λ x. filter_count (goes x row) l ls) in
       let here = one_literal l xs distinct (gone l) refl in
       let all = filter_count gone l ls in
       omega arith
 
 -- what goes and what stays
-apart_few : {X : Type 0} (p q : X → Bool) (xs : List X) → ((x : X) → Contains xs x → q x ≡ true → p x ≡ false) → length (filter q xs) + length (filter p xs) ≤ length xs
+apart_few : {X : Type 0} (p q : X → Bool) (xs : List X) → ((x : X) → Contains xs x → q x ≡ true → p x ≡ false)
+    → length (filter q xs) + length (filter p xs) ≤ length xs
 apart_few p q [] apart = omega arith
 apart_few p q (x ∷ xs) apart =
     let further = apart_few p q xs (λ y i. apart y (contains_tail x xs y i)) in
@@ -132,34 +147,49 @@ apart_few p q (x ∷ xs) apart =
     pair_few false true h = omega arith
     pair_few false false h = omega arith
 
-gone_few : (p : Literal → Bool) (before row : Row) → row ≡ filter p before → length (filter (λ (l : Literal). not (stands_over row l.variable)) before) + length row ≤ length before
+gone_few : (p : Literal → Bool) (before row : Row) → row ≡ filter p before
+    → length (filter (λ (l : Literal). not (stands_over row l.variable)) before) + length row ≤ length before
 gone_few p before row is =
-    let few = apart_few p (λ (l : Literal). not (stands_over row l.variable)) before (λ l i t. false_from_ne_true (p l) (λ s.
+    let few = apart_few p (λ (l : Literal). not (stands_over row l.variable)) before
+    (λ l i t. false_from_ne_true (p l) (λ s.
     let j : Contains row l = subst (λ (w : Row). Contains w l) (sym is) (filter_from p before l i s) in
-    true≢false (sym (any_from (λ (m : Literal). m.variable == l.variable) row l j (eq-eqb l.variable l.variable refl)) ∙ not-true (stands_over row l.variable) t))) in
+    true≢false (sym (any_from (λ (m : Literal). m.variable == l.variable) row l j (eq-eqb l.variable l.variable refl))
+    ∙ not-true (stands_over row l.variable) t))) in
     let e : length row ≡ length (filter p before) = ap (λ (w : Row). length w) is in
     omega arith
 
 mul_few : (a b c n : ℕ) → a ≤ b → b + c ≤ n → a * (c + 1) ≤ (n - c) * (c + 1)
 mul_few a b c n f g = let h : a ≤ n - c = omega arith in search (arith)
 
-module _ (pivot : Quant) (scopes : List Scope) (clauses : List Row) (assumptions : List Literal) (xs : List ℕ) (distinct : IsDistinct xs) where
-  removal_fits : (before row : Row) → length (filter (λ (l : Literal). not (stands_over row l.variable)) before) + length row ≤ length before → weights_of (λ x. removed_from pivot x row before) xs ≤ gates_of row (One before)
-  removal_fits before row few = rw (weights_are pivot row before xs) (mul_few _ _ (length row) (length before) (counts_few pivot row before xs distinct) few)
+module _ (pivot : Quant) (scopes : List Scope) (clauses : List Row) (assumptions : List Literal) (xs : List ℕ)
+    (distinct : IsDistinct xs) where
+  removal_fits : (before row : Row)
+      → length (filter (λ (l : Literal). not (stands_over row l.variable)) before) + length row ≤ length before
+      → weights_of (λ x. removed_from pivot x row before) xs ≤ gates_of row (One before)
+  removal_fits before row few =
+      rw (weights_are pivot row before xs) (mul_few _ _ (length row) (length before)
+      (counts_few pivot row before xs distinct) few)
 
-  step_fits : (earlier : List Row) (row : Row) (reason : Reason) → IsSoundStep pivot scopes clauses assumptions earlier row reason → weights_of (λ x. removed_by pivot x row reason) xs ≤ gates_of row reason
+  step_fits : (earlier : List Row) (row : Row) (reason : Reason)
+      → IsSoundStep pivot scopes clauses assumptions earlier row reason
+      → weights_of (λ x. removed_by pivot x row reason) xs ≤ gates_of row reason
   step_fits earlier row Input step = let e = weights_none xs in omega arith
   step_fits earlier row (Two a b y) step = let e = weights_none xs in omega arith
   step_fits earlier row (One before) step =
       removal_fits before row (⊎_elim
       (λ is. ⊎_elim
-      (λ t. gone_few (stays pivot scopes before) before row (is ∙ cond-true (list_any (is_pivot pivot scopes) before) (filter (stays pivot scopes before) before) before t))
-      (λ f. gone_few (λ l. true) before row (is ∙ cond-false (list_any (is_pivot pivot scopes) before) (filter (stays pivot scopes before) before) before f ∙ sym (filter_all (λ l. true) before (λ l i. refl))))
+      (λ t. gone_few (stays pivot scopes before) before row
+      (is ∙ cond-true (list_any (is_pivot pivot scopes) before) (filter (stays pivot scopes before) before) before t))
+      (λ f. gone_few (λ l. true) before row (is
+      ∙ cond-false (list_any (is_pivot pivot scopes) before) (filter (stays pivot scopes before) before) before f
+      ∙ sym (filter_all (λ l. true) before (λ l i. refl))))
       (cases_Bool (list_any (is_pivot pivot scopes) before)))
       (λ finish. gone_few (is_assumed assumptions) before row finish.1)
       step.1)
 
-  steps_fit : (earlier : List Row) (steps : List Inference) → AreSoundSteps pivot scopes clauses assumptions earlier steps → weights_of (λ x. removals pivot x steps) xs ≤ gate_weight steps
+  steps_fit : (earlier : List Row) (steps : List Inference)
+      → AreSoundSteps pivot scopes clauses assumptions earlier steps
+      → weights_of (λ x. removals pivot x steps) xs ≤ gate_weight steps
   steps_fit earlier [] are = let e = weights_none xs in omega arith
   steps_fit earlier (s ∷ steps) are =
       let here = step_fits earlier s.row s.reason are.1 in
@@ -167,5 +197,10 @@ module _ (pivot : Quant) (scopes : List Scope) (clauses : List Row) (assumptions
       let split = weights_split (λ x. removed_by pivot x s.row s.reason) (λ x. removals pivot x steps) xs in
       omega arith
 
-pub weights_fit : (pivot : Quant) (scopes : List Scope) (clauses : List Row) (assumptions : List Literal) (steps : List Inference) → AreDistinct (all_variables scopes) → IsProof pivot scopes clauses assumptions steps → weights_of (λ x. removals pivot x steps) (all_variables scopes) ≤ gate_weight steps
-weights_fit pivot scopes clauses assumptions steps distinct proof = steps_fit pivot scopes clauses assumptions (all_variables scopes) (distinct_from (all_variables scopes) distinct) [] steps (sound pivot scopes clauses assumptions steps proof).last_step
+pub weights_fit : (pivot : Quant) (scopes : List Scope) (clauses : List Row) (assumptions : List Literal)
+    (steps : List Inference) → AreDistinct (all_variables scopes) → IsProof pivot scopes clauses assumptions steps
+    → weights_of (λ x. removals pivot x steps) (all_variables scopes) ≤ gate_weight steps
+weights_fit pivot scopes clauses assumptions steps distinct proof =
+    steps_fit pivot scopes clauses assumptions (all_variables scopes)
+    (distinct_from (all_variables scopes) distinct) [] steps
+    (sound pivot scopes clauses assumptions steps proof).last_step

@@ -530,68 +530,89 @@ fn has_edges(strategy: &Strategy, numbers: &[u128]) -> bool {
             .all(|(output, number)| output.edge.number(inputs) == *number)
 }
 
+// A formula with a derivation, and the numbers of its circuit's edges. Rows end in 0.
+#[derive(Clone, Copy)]
+struct Case<'a> {
+    vars: &'a [(Quant, u64)],
+    clauses: &'a [i32],
+    cubes: &'a [i32],
+    moves: &'a [Move],
+    assumptions: &'a [i32],
+    edges: &'a [u128],
+}
+
+fn check(rt: &impl Abort, alloc: Global, case: Case) -> Result<(), Fail> {
+    let clauses = rows(alloc, case.clauses)?;
+    let assumptions = row(alloc, case.assumptions)?;
+    let strategy = circuit_of(
+        alloc,
+        case.vars,
+        &clauses,
+        case.cubes,
+        case.moves,
+        &assumptions,
+    )?;
+    assert_eq!(rt; strategy.aig.gates(), 0);
+    assert!(rt; has_edges(&strategy, case.edges));
+    check_wins(rt, alloc, &strategy, &clauses, &assumptions)
+}
+
 // Formulas whose circuits have no gate: one false, one true, one true by a single cube, and three under assumptions.
 #[test]
 fn small_circuits(rt: HostRuntime) -> Result<(), Fail> {
     use Move::{Reduce, Resolve};
     use Quant::{Exists, Forall};
-    let alloc = rt.alloc();
-    for (vars, clauses, cubes, moves, assumptions, edges) in [
-        (
-            [(Exists, 2), (Forall, 1)].as_slice(),
-            [1, 2, 0, -1, -2, 0].as_slice(),
-            [].as_slice(),
-            [Resolve(1, 3, 2)].as_slice(),
-            [].as_slice(),
-            [2].as_slice(),
-        ),
-        (
-            [(Forall, 1), (Exists, 2)].as_slice(),
-            [1, 2, 0, -1, -2, 0].as_slice(),
-            [-1, 2, 0, 1, -2, 0].as_slice(),
-            [Reduce(2), Reduce(3), Resolve(5, 4, 1)].as_slice(),
-            [].as_slice(),
-            [3].as_slice(),
-        ),
-        (
-            [(Exists, 1)].as_slice(),
-            [1, 0].as_slice(),
-            [1, 0].as_slice(),
-            [].as_slice(),
-            [].as_slice(),
-            [1].as_slice(),
-        ),
-        (
-            [(Forall, 1), (Exists, 2)].as_slice(),
-            [1, 2, 0, 1, -2, 0].as_slice(),
-            [].as_slice(),
-            [Resolve(0, 1, 2)].as_slice(),
-            [-1].as_slice(),
-            [0].as_slice(),
-        ),
-        (
-            [(Forall, 1), (Forall, 3), (Exists, 2)].as_slice(),
-            [1, 2, -3, 0, 1, -2, -3, 0].as_slice(),
-            [].as_slice(),
-            [Resolve(0, 1, 2)].as_slice(),
-            [-1].as_slice(),
-            [0, 1].as_slice(),
-        ),
-        (
-            [(Exists, 1), (Exists, 2)].as_slice(),
-            [1, 0].as_slice(),
-            [].as_slice(),
-            [].as_slice(),
-            [-1, 2].as_slice(),
-            [].as_slice(),
-        ),
+    for case in [
+        Case {
+            vars: &[(Exists, 2), (Forall, 1)],
+            clauses: &[1, 2, 0, -1, -2, 0],
+            cubes: &[],
+            moves: &[Resolve(1, 3, 2)],
+            assumptions: &[],
+            edges: &[2],
+        },
+        Case {
+            vars: &[(Forall, 1), (Exists, 2)],
+            clauses: &[1, 2, 0, -1, -2, 0],
+            cubes: &[-1, 2, 0, 1, -2, 0],
+            moves: &[Reduce(2), Reduce(3), Resolve(5, 4, 1)],
+            assumptions: &[],
+            edges: &[3],
+        },
+        Case {
+            vars: &[(Exists, 1)],
+            clauses: &[1, 0],
+            cubes: &[1, 0],
+            moves: &[],
+            assumptions: &[],
+            edges: &[1],
+        },
+        Case {
+            vars: &[(Forall, 1), (Exists, 2)],
+            clauses: &[1, 2, 0, 1, -2, 0],
+            cubes: &[],
+            moves: &[Resolve(0, 1, 2)],
+            assumptions: &[-1],
+            edges: &[0],
+        },
+        Case {
+            vars: &[(Forall, 1), (Forall, 3), (Exists, 2)],
+            clauses: &[1, 2, -3, 0, 1, -2, -3, 0],
+            cubes: &[],
+            moves: &[Resolve(0, 1, 2)],
+            assumptions: &[-1],
+            edges: &[0, 1],
+        },
+        Case {
+            vars: &[(Exists, 1), (Exists, 2)],
+            clauses: &[1, 0],
+            cubes: &[],
+            moves: &[],
+            assumptions: &[-1, 2],
+            edges: &[],
+        },
     ] {
-        let clauses = rows(alloc, clauses)?;
-        let assumptions = row(alloc, assumptions)?;
-        let strategy = circuit_of(alloc, vars, &clauses, cubes, moves, &assumptions)?;
-        assert_eq!(rt; strategy.aig.gates(), 0);
-        assert!(rt; has_edges(&strategy, edges));
-        check_wins(&rt, alloc, &strategy, &clauses, &assumptions)?;
+        check(&rt, rt.alloc(), case)?;
     }
     Ok(())
 }

@@ -19,7 +19,9 @@ take_within (suc n) (x ∷ xs) ys le = ap (λ r. x ∷ r) (take_within n xs ys (
 
 take_past : (xs ys : List ℕ) (n : ℕ) → take (length xs + n) (xs ++ ys) ≡ xs ++ take n ys
 take_past [] ys n = ap (λ m. take m ys) (let e : 0 + n ≡ n = omega arith in e)
-take_past (x ∷ xs) ys n = ap (λ m. take m (x ∷ (xs ++ ys))) (let e : suc (length xs) + n ≡ suc (length xs + n) = omega arith in e) ∙ ap (λ r. x ∷ r) (take_past xs ys n)
+take_past (x ∷ xs) ys n =
+    ap (λ m. take m (x ∷ (xs ++ ys))) (let e : suc (length xs) + n ≡ suc (length xs + n) = omega arith in e)
+    ∙ ap (λ r. x ∷ r) (take_past xs ys n)
 
 front_more : (a b : Option (List ℕ)) (xs ys : List ℕ) → AppendsFront a b xs → AppendsFront a b (xs ++ ys)
 front_more a b xs ys f = record {
@@ -28,11 +30,13 @@ front_more a b xs ys f = record {
   appended = subst (Appends a b) (sym (take_within f.count xs ys f.within)) f.appended;
 }
 
-front_then : (a b c : Option (List ℕ)) (xs ys : List ℕ) → Appends a b xs → AppendsFront b c ys → AppendsFront a c (xs ++ ys)
+front_then : (a b c : Option (List ℕ)) (xs ys : List ℕ) → Appends a b xs → AppendsFront b c ys
+    → AppendsFront a c (xs ++ ys)
 front_then a b c xs ys h f = record {
   count = length xs + f.count;
   within = omega (arith, f.within, length-append xs ys);
-  appended = subst (Appends a c) (sym (take_past xs ys f.count)) (Appends-trans a b c xs (take f.count ys) h f.appended);
+  appended = subst (Appends a c) (sym (take_past xs ys f.count))
+      (Appends-trans a b c xs (take f.count ys) h f.appended);
 }
 
 keeps_itself : (a : Option (List ℕ)) → Keeps a a
@@ -61,7 +65,8 @@ module _ {S : Type 0} (written flushed : S → Option (List ℕ)) (faults : S �
     no_fault = k.no_fault ∙ h.no_fault;
     room = λ n le r.
         let sum = length-append t u in
-        subst (has_room c) (let e : n - length t - length u ≡ n - length (t ++ u) = omega arith in e) (k.room (n - length t) (omega arith) (h.room n (omega arith) r));
+        subst (has_room c) (let e : n - length t - length u ≡ n - length (t ++ u) = omega arith in e)
+        (k.room (n - length t) (omega arith) (h.room n (omega arith) r));
   }
 
   pub part_more : (a b : S) (t u : List ℕ) → Part a b t → Part a b (t ++ u)
@@ -79,54 +84,85 @@ module _ {S : Type 0} (written flushed : S → Option (List ℕ)) (faults : S �
     kept = keeps_on (flushed a) (flushed b) (flushed c) h.kept k.kept;
     later = let l = k.later in let e = h.no_fault in omega arith;
     rose = subst (λ n. Rose n (faults c)) h.no_fault k.rose;
-    no_room = λ n le r. let sum = length-append t u in k.no_room (n - length t) (omega arith) (h.room n (omega arith) r);
+    no_room = λ n le r. let sum = length-append t u in
+        k.no_room (n - length t) (omega arith) (h.room n (omega arith) r);
   }
 
-  pub writes_then : {T E : Type 0} (r : Result T E) (a b c : S) (t u : List ℕ) → Whole a b t → Writes written flushed faults has_room b c u r → Writes written flushed faults has_room a c (t ++ u) r
+  pub writes_then : {T E : Type 0} (r : Result T E) (a b c : S) (t u : List ℕ) → Whole a b t
+      → Writes written flushed faults has_room b c u r → Writes written flushed faults has_room a c (t ++ u) r
   writes_then (Ok x) a b c t u h k = whole_then a b c t u h k
   writes_then (Err e) a b c t u h k = part_then a b c t u h k
 
-  pub writes_err : {T E : Type 0} (Q : E → Type 0) (r : Result T E) (a b : S) (t : List ℕ) → IsErrAnd r Q → Part a b t → Writes written flushed faults has_room a b t r
-  writes_err Q r a b t is h = let e = err_from_is_err_and {Q = Q} r is in subst (Writes written flushed faults has_room a b t) (sym e.1) h
+  pub writes_err : {T E : Type 0} (Q : E → Type 0) (r : Result T E) (a b : S) (t : List ℕ) → IsErrAnd r Q → Part a b t
+      → Writes written flushed faults has_room a b t r
+  writes_err Q r a b t is h = let e = err_from_is_err_and {Q = Q} r is in
+      subst (Writes written flushed faults has_room a b t) (sym e.1) h
 
-  pub writes_all : {T E : Type 0} (r : Result T E) (a b : S) (t : List ℕ) → OnOk r (Appends (written a) (written b) t) → AppendsFront (written a) (written b) t → Keeps (flushed a) (flushed b) → HasCause (faults a) (faults b) r
-      → ((n : ℕ) → length t ≤ n → has_room a n → IsOk r × has_room b (n - length t)) → Writes written flushed faults has_room a b t r
-  writes_all (Ok x) a b t ok front kept cause room = record { appended = ok; kept = kept; no_fault = cause.kept; room = λ n le h. (room n le h).1 }
-  writes_all (Err e) a b t ok front kept cause room = record { front = front; kept = kept; later = cause.later; rose = cause.failed; no_room = λ n le h. false≢true (room n le h).0 }
+  pub writes_all : {T E : Type 0} (r : Result T E) (a b : S) (t : List ℕ) → OnOk r (Appends (written a) (written b) t)
+      → AppendsFront (written a) (written b) t → Keeps (flushed a) (flushed b) → HasCause (faults a) (faults b) r
+      → ((n : ℕ) → length t ≤ n → has_room a n → IsOk r × has_room b (n - length t))
+      → Writes written flushed faults has_room a b t r
+  writes_all (Ok x) a b t ok front kept cause room =
+      record { appended = ok; kept = kept; no_fault = cause.kept; room = λ n le h. (room n le h).1 }
+  writes_all (Err e) a b t ok front kept cause room =
+      record {
+        front = front;
+        kept = kept;
+        later = cause.later;
+        rose = cause.failed;
+        no_room =
+            λ n le h. false≢true (room n le h).0;
+      }
 
   -- what the writer of the whole says
-  pub on_ok : {T E : Type 0} (r : Result T E) (a b : S) (t : List ℕ) → Writes written flushed faults has_room a b t r → OnOk r (Appends (written a) (written b) t)
+  pub on_ok : {T E : Type 0} (r : Result T E) (a b : S) (t : List ℕ) → Writes written flushed faults has_room a b t r
+      → OnOk r (Appends (written a) (written b) t)
   on_ok (Ok x) a b t h = h.appended
   on_ok (Err e) a b t h = tt
 
-  pub front_of : {T E : Type 0} (r : Result T E) (a b : S) (t : List ℕ) → Writes written flushed faults has_room a b t r → AppendsFront (written a) (written b) t
-  front_of (Ok x) a b t h = record { count = length t; within = omega arith; appended = subst (Appends (written a) (written b)) (sym (take_all (length t) t (omega arith))) h.appended }
+  pub front_of : {T E : Type 0} (r : Result T E) (a b : S) (t : List ℕ)
+      → Writes written flushed faults has_room a b t r → AppendsFront (written a) (written b) t
+  front_of (Ok x) a b t h =
+      record {
+        count = length t;
+        within = omega arith;
+        appended =
+            subst (Appends (written a) (written b)) (sym (take_all (length t) t (omega arith))) h.appended;
+      }
   front_of (Err e) a b t h = h.front
 
-  pub kept_of : {T E : Type 0} (r : Result T E) (a b : S) (t : List ℕ) → Writes written flushed faults has_room a b t r → Keeps (flushed a) (flushed b)
+  pub kept_of : {T E : Type 0} (r : Result T E) (a b : S) (t : List ℕ)
+      → Writes written flushed faults has_room a b t r → Keeps (flushed a) (flushed b)
   kept_of (Ok x) a b t h = h.kept
   kept_of (Err e) a b t h = h.kept
 
-  pub cause_of : {T E : Type 0} (r : Result T E) (a b : S) (t : List ℕ) → Writes written flushed faults has_room a b t r → HasCause (faults a) (faults b) r
+  pub cause_of : {T E : Type 0} (r : Result T E) (a b : S) (t : List ℕ)
+      → Writes written flushed faults has_room a b t r → HasCause (faults a) (faults b) r
   cause_of (Ok x) a b t h = record { later = let e = h.no_fault in omega arith; failed = tt; kept = h.no_fault }
   cause_of (Err e) a b t h = record { later = h.later; failed = h.rose; kept = tt }
 
-  pub room_of : {T E : Type 0} (r : Result T E) (a b : S) (t : List ℕ) → Writes written flushed faults has_room a b t r → (n : ℕ) → length t ≤ n → has_room a n → IsOk r × has_room b (n - length t)
+  pub room_of : {T E : Type 0} (r : Result T E) (a b : S) (t : List ℕ)
+      → Writes written flushed faults has_room a b t r → (n : ℕ) → length t ≤ n → has_room a n
+      → IsOk r × has_room b (n - length t)
   room_of (Ok x) a b t h n le room = (refl, h.room n le room)
   room_of (Err e) a b t h n le room = absurd (h.no_room n le room)
 
 -- one element more, and the elements after it
 
-pub flat_more : {X : Type 0} (f : X → List ℕ) (xs : List X) (i : ℕ) (d : X) → suc i ≤ length xs → flat_map f (take (i + 1) xs) ≡ flat_map f (take i xs) ++ f (get_or xs i d)
+pub flat_more : {X : Type 0} (f : X → List ℕ) (xs : List X) (i : ℕ) (d : X) → suc i ≤ length xs
+    → flat_map f (take (i + 1) xs) ≡ flat_map f (take i xs) ++ f (get_or xs i d)
 flat_more f [] i d below = absurd (omega arith)
 flat_more f (x ∷ xs) zero d below = append-nil (f x)
 flat_more f (x ∷ xs) (suc i) d below =
     let e : suc i + 1 ≡ suc (i + 1) = omega arith in
-    rw e (ap (λ t. f x ++ t) (flat_more f xs i d (omega arith)) ∙ sym (append_assoc (f x) (flat_map f (take i xs)) (f (get_or xs i d))))
+    rw e (ap (λ t. f x ++ t) (flat_more f xs i d (omega arith))
+    ∙ sym (append_assoc (f x) (flat_map f (take i xs)) (f (get_or xs i d))))
 
-pub flat_split : {X : Type 0} (f : X → List ℕ) (xs : List X) (i : ℕ) (d : X) → suc i ≤ length xs → flat_map f xs ≡ flat_map f (take i xs) ++ (f (get_or xs i d) ++ flat_map f (drop (i + 1) xs))
+pub flat_split : {X : Type 0} (f : X → List ℕ) (xs : List X) (i : ℕ) (d : X) → suc i ≤ length xs
+    → flat_map f xs ≡ flat_map f (take i xs) ++ (f (get_or xs i d) ++ flat_map f (drop (i + 1) xs))
 flat_split f [] i d below = absurd (omega arith)
 flat_split f (x ∷ xs) zero d below = refl
 flat_split f (x ∷ xs) (suc i) d below =
     let e : suc i + 1 ≡ suc (i + 1) = omega arith in
-    rw e (ap (λ t. f x ++ t) (flat_split f xs i d (omega arith)) ∙ sym (append_assoc (f x) (flat_map f (take i xs)) (f (get_or xs i d) ++ flat_map f (drop (i + 1) xs))))
+    rw e (ap (λ t. f x ++ t) (flat_split f xs i d (omega arith))
+    ∙ sym (append_assoc (f x) (flat_map f (take i xs)) (f (get_or xs i d) ++ flat_map f (drop (i + 1) xs))))

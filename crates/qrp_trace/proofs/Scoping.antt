@@ -21,7 +21,8 @@ greatest-append (x ∷ xs) ys = ap (max x) (greatest-append xs ys) ∙ assoc x (
 max_none : (a : ℕ) → max a 0 ≡ a
 max_none a = grind arith
 
-pub greatest_more : (xs : List ℕ) (i v : ℕ) (most n new : ℕ) → i < length xs → v ≡ get_or xs i v → most ≡ greatest (take i xs) → n ≡ v → new ≡ max most n → new ≡ greatest (take (i + 1) xs)
+pub greatest_more : (xs : List ℕ) (i v : ℕ) (most n new : ℕ) → i < length xs → v ≡ get_or xs i v
+    → most ≡ greatest (take i xs) → n ≡ v → new ≡ max most n → new ≡ greatest (take (i + 1) xs)
 greatest_more xs i v most n new below is before same more =
     more ∙ ap₂ max before (same ∙ sym (max_none v))
     ∙ sym (greatest-append (take i xs) (v ∷ []))
@@ -35,30 +36,42 @@ slice_get_in (x ∷ xs) (suc k) d h = slice_get_in xs k d (omega arith)
 abbrev none : Scope
 none = record { quantifier = Exists; variables = [] }
 
-pub variables_is : (scopes : List Scope) (s : ℕ) → 1 ≤ s → s ≤ length scopes → variables_at scopes s ≡ (scope_numbered scopes s).variables
-variables_is scopes s first last = ap (λ o. unwrap_or (option_map (λ (c : Scope). c.variables) o) []) (slice_get_in scopes (s - 1) none (omega arith))
+pub variables_is : (scopes : List Scope) (s : ℕ) → 1 ≤ s → s ≤ length scopes
+    → variables_at scopes s ≡ (scope_numbered scopes s).variables
+variables_is scopes s first last =
+    ap (λ o. unwrap_or (option_map (λ (c : Scope). c.variables) o) []) (slice_get_in scopes (s - 1) none (omega arith))
 
-pub quantifier_is : (scopes : List Scope) (s : ℕ) → 1 ≤ s → s ≤ length scopes → quantifier_at scopes s ≡ Some (scope_numbered scopes s).quantifier
+pub quantifier_is : (scopes : List Scope) (s : ℕ) → 1 ≤ s → s ≤ length scopes
+    → quantifier_at scopes s ≡ Some (scope_numbered scopes s).quantifier
 quantifier_is scopes s first last =
-    cond-false (s == 0) None (option_map (λ (c : Scope). c.quantifier) (slice_get scopes (s - 1))) (ne_eqb s 0 (λ e. omega arith))
+    cond-false (s == 0) None (option_map (λ (c : Scope). c.quantifier) (slice_get scopes (s - 1)))
+    (ne_eqb s 0 (λ e. omega arith))
     ∙ ap (option_map (λ (c : Scope). c.quantifier)) (slice_get_in scopes (s - 1) none (omega arith))
 
-pub variables_more : (scopes : List Scope) (s : ℕ) → s < length scopes → all_variables (take (s + 1) scopes) ≡ all_variables (take s scopes) ++ variables_at scopes (s + 1)
+pub variables_more : (scopes : List Scope) (s : ℕ) → s < length scopes
+    → all_variables (take (s + 1) scopes) ≡ all_variables (take s scopes) ++ variables_at scopes (s + 1)
 variables_more scopes s below =
     let back : s + 1 - 1 ≡ s = omega arith in
-    let here : variables_at scopes (s + 1) ≡ (get_or scopes s none).variables = variables_is scopes (s + 1) (omega arith) (omega arith) ∙ ap (λ k. (get_or scopes k none).variables) back in
-    ap all_variables (take_more scopes s none below) ∙ flat_map-append (λ (c : Scope). c.variables) (take s scopes) (get_or scopes s none ∷ []) ∙ ap (λ ys. all_variables (take s scopes) ++ ys) (append-nil (get_or scopes s none).variables ∙ sym here)
+    let here : variables_at scopes (s + 1) ≡ (get_or scopes s none).variables =
+    variables_is scopes (s + 1) (omega arith) (omega arith) ∙ ap (λ k. (get_or scopes k none).variables) back in
+    ap all_variables (take_more scopes s none below)
+    ∙ flat_map-append (λ (c : Scope). c.variables) (take s scopes) (get_or scopes s none ∷ [])
+    ∙ ap (λ ys. all_variables (take s scopes) ++ ys) (append-nil (get_or scopes s none).variables ∙ sym here)
 
-pub greatest_later : (scopes : List Scope) (s most n new : ℕ) → s < length scopes → most ≡ greatest (all_variables (take s scopes)) → n ≡ greatest (variables_at scopes (s + 1)) → new ≡ max most n → new ≡ greatest (all_variables (take (s + 1) scopes))
+pub greatest_later : (scopes : List Scope) (s most n new : ℕ) → s < length scopes
+    → most ≡ greatest (all_variables (take s scopes)) → n ≡ greatest (variables_at scopes (s + 1)) → new ≡ max most n
+    → new ≡ greatest (all_variables (take (s + 1) scopes))
 greatest_later scopes s most n new below before same more =
     more ∙ ap₂ max before same
     ∙ sym (greatest-append (all_variables (take s scopes)) (variables_at scopes (s + 1)))
     ∙ sym (ap greatest (variables_more scopes s below))
 
-pub line_some : (scope : Scope) (vars : List ℕ) (q : Quant) → vars ≡ scope.variables → q ≡ scope.quantifier → (length vars == 0) ≡ false → scope_line scope ≡ quantifier_word q ++ (flat_map number_word vars ++ codes "0\n")
+pub line_some : (scope : Scope) (vars : List ℕ) (q : Quant) → vars ≡ scope.variables → q ≡ scope.quantifier
+    → (length vars == 0) ≡ false → scope_line scope ≡ quantifier_word q ++ (flat_map number_word vars ++ codes "0\n")
 line_some scope vars q is quantifier some = by_list vars is some
   where
-    by_list : (xs : List ℕ) → xs ≡ scope.variables → (length xs == 0) ≡ false → scope_line scope ≡ quantifier_word q ++ (flat_map number_word xs ++ codes "0\n")
+    by_list : (xs : List ℕ) → xs ≡ scope.variables → (length xs == 0) ≡ false → scope_line scope ≡ quantifier_word q
+        ++ (flat_map number_word xs ++ codes "0\n")
     by_list [] e t = absurd (true≢false t)
     by_list (x ∷ xs) e t = ap₂ variables_line (sym quantifier) (sym e)
 
@@ -71,5 +84,7 @@ range_at a zero i below = absurd (omega arith)
 range_at a (suc n) zero below = omega arith
 range_at a (suc n) (suc i) below = let e = range_at (a + 1) n i (omega arith) in omega arith
 
-pub quantifier_found : (scopes : List Scope) (s : ℕ) (found : Option Quant) (q : Quant) → 1 ≤ s → s ≤ length scopes → found ≡ quantifier_at scopes s → found ≡ Some q → q ≡ (scope_numbered scopes s).quantifier
-quantifier_found scopes s found q first last is some = let e : Some q ≡ Some (scope_numbered scopes s).quantifier = sym some ∙ is ∙ quantifier_is scopes s first last in cc
+pub quantifier_found : (scopes : List Scope) (s : ℕ) (found : Option Quant) (q : Quant) → 1 ≤ s → s ≤ length scopes
+    → found ≡ quantifier_at scopes s → found ≡ Some q → q ≡ (scope_numbered scopes s).quantifier
+quantifier_found scopes s found q first last is some = let e : Some q ≡ Some (scope_numbered scopes s).quantifier =
+    sym some ∙ is ∙ quantifier_is scopes s first last in cc

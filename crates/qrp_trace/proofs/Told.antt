@@ -37,17 +37,20 @@ why_is side why step is = sym (ap why_of is ∙ why_told side why)
 pub rests_true : (why : Why) (id : ℕ) → RestsOn why id → rests_on why id ≡ true
 rests_true Given id h = absurd h
 rests_true (ReducedFrom a) id h = eq-eqb a id h
-rests_true (ResolvedFrom a b x) id h = ⊎_elim (λ e. or_left (a == id) (b == id) (eq-eqb a id e)) (λ e. or_right (a == id) (b == id) (eq-eqb b id e)) h
+rests_true (ResolvedFrom a b x) id h =
+    ⊎_elim (λ e. or_left (a == id) (b == id) (eq-eqb a id e)) (λ e. or_right (a == id) (b == id) (eq-eqb b id e)) h
 rests_true (FinishedFrom a) id h = eq-eqb a id h
 
 pub rests_from : (why : Why) (id : ℕ) → rests_on why id ≡ true → RestsOn why id
 rests_from Given id h = false≢true h
 rests_from (ReducedFrom a) id h = eqb-true a id h
-rests_from (ResolvedFrom a b x) id h = ⊎_elim (λ t. inl (eqb-true a id t)) (λ t. inr (eqb-true b id t)) (or_cases (a == id) (b == id) h)
+rests_from (ResolvedFrom a b x) id h =
+    ⊎_elim (λ t. inl (eqb-true a id t)) (λ t. inr (eqb-true b id t)) (or_cases (a == id) (b == id) h)
 rests_from (FinishedFrom a) id h = eqb-true a id h
 
 -- what is told to rest on something does
-pub rests_told : (side : Quant) (why : Why) (step : Step) (on : ℕ) → step ≡ told side why → RestsOn (why_of step) on → RestsOn why on
+pub rests_told : (side : Quant) (why : Why) (step : Step) (on : ℕ) → step ≡ told side why → RestsOn (why_of step) on
+    → RestsOn why on
 rests_told side why step on is rests = subst (λ w. RestsOn w on) (sym (why_is side why step is)) rests
 
 -- an antecedent is live

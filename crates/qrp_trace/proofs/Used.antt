@@ -19,17 +19,23 @@ use Rattle.qrp_trace.proofs.Ordering.{below_at, below_push, core_at, core_from, 
 
 -- pairs
 
-pub pairs_append : {X : Type 0} (R : X → X → Type 0) (xs ys : List X) → AllPairs R xs → AllPairs R ys → ((x y : X) → Contains xs x → Contains ys y → R x y) → AllPairs R (xs ++ ys)
+pub pairs_append : {X : Type 0} (R : X → X → Type 0) (xs ys : List X) → AllPairs R xs → AllPairs R ys
+    → ((x y : X) → Contains xs x → Contains ys y → R x y) → AllPairs R (xs ++ ys)
 pairs_append R [] ys first second across = second
 pairs_append R (x ∷ xs) ys first second across =
     pairs_cons R x (xs ++ ys)
-    (λ y i. ⊎_elim (λ j. pairs_head R x xs first y j) (λ j. across x y (contains_head x xs) j) (Contains-append_cases xs ys y i))
+    (λ y i. ⊎_elim (λ j. pairs_head R x xs first y j) (λ j. across x y (contains_head x xs) j)
+    (Contains-append_cases xs ys y i))
     (pairs_append R xs ys (pairs_tail R x xs first) second (λ z y i j. across z y (contains_tail x xs z i) j))
 
-pub pairs_weaker : {X : Type 0} (R S : X → X → Type 0) (xs : List X) → AllPairs R xs → ((x y : X) → Contains xs x → Contains xs y → R x y → S x y) → AllPairs S xs
-pairs_weaker R S xs pairs weaker i j d below fits = weaker (get_or xs i d) (get_or xs j d) (contains_at xs i d (omega arith)) (contains_at xs j d fits) (pairs i j d below fits)
+pub pairs_weaker : {X : Type 0} (R S : X → X → Type 0) (xs : List X) → AllPairs R xs
+    → ((x y : X) → Contains xs x → Contains xs y → R x y → S x y) → AllPairs S xs
+pairs_weaker R S xs pairs weaker i j d below fits =
+    weaker (get_or xs i d) (get_or xs j d) (contains_at xs i d (omega arith)) (contains_at xs j d fits)
+    (pairs i j d below fits)
 
-pub pairs_map : {X Y : Type 0} (R : Y → Y → Type 0) (f : X → Y) (xs : List X) → AllPairs (λ x y. R (f x) (f y)) xs → AllPairs R (map f xs)
+pub pairs_map : {X Y : Type 0} (R : Y → Y → Type 0) (f : X → Y) (xs : List X) → AllPairs (λ x y. R (f x) (f y)) xs
+    → AllPairs R (map f xs)
 pairs_map R f [] pairs = pairs_nil R
 pairs_map R f (x ∷ xs) pairs =
     pairs_cons R (f x) (map f xs)
@@ -52,7 +58,8 @@ pub below_rises : (d : State) (n : ℕ) → AllPairs Rises (steps_below d n)
 below_rises d zero = pairs_nil Rises
 below_rises d (suc n) =
     subst (AllPairs Rises) (sym (below_push d n))
-    (pairs_append Rises (steps_below d n) (cons_option (kept_at d n) []) (below_rises d n) (one_pair (cons_option (kept_at d n) []) (cons_short (kept_at d n)))
+    (pairs_append Rises (steps_below d n) (cons_option (kept_at d n) []) (below_rises d n)
+    (one_pair (cons_option (kept_at d n) []) (cons_short (kept_at d n)))
     (λ s t i j.
     let low = (below_at d n s i).low in
     let e = last_id t j in
@@ -67,7 +74,8 @@ below_rises d (suc n) =
 
 -- one id comes before another in core order
 abbrev pub Precedes : State → ℕ → ℕ → Type 0
-Precedes d x y = ((is_given (why_at d x) ≡ true) × (is_given (why_at d y) ≡ false)) ⊎ ((is_given (why_at d x) ≡ is_given (why_at d y)) × (x < y))
+Precedes d x y = ((is_given (why_at d x) ≡ true) × (is_given (why_at d y) ≡ false)) ⊎
+    ((is_given (why_at d x) ≡ is_given (why_at d y)) × (x < y))
 
 pub never_itself : (d : State) (x : ℕ) → Precedes d x x → ⊥
 never_itself d x h = ⊎_elim (λ p. true≢false (sym p.0 ∙ p.1)) (λ p. let l : x < x = p.1 in omega arith) h
@@ -89,10 +97,13 @@ module _ (d : State) (end : ℕ) where
   why_of_core s i = ap (λ (t : Step). t.why) (below_at d (end + 1) s (filter_at need all s i).0).told
 
   given_in : (s : Step) → Contains (filter (λ (r : Step). is_given r.why) core) s → is_given (why_at d s.id) ≡ true
-  given_in s i = let p = filter_at (λ (r : Step). is_given r.why) core s i in ap is_given (sym (why_of_core s p.0)) ∙ p.1
+  given_in s i = let p = filter_at (λ (r : Step). is_given r.why) core s i in ap is_given (sym (why_of_core s p.0))
+      ∙ p.1
 
-  other_in : (s : Step) → Contains (filter (λ (r : Step). not (is_given r.why)) core) s → is_given (why_at d s.id) ≡ false
-  other_in s i = let p = filter_at (λ (r : Step). not (is_given r.why)) core s i in ap is_given (sym (why_of_core s p.0)) ∙ not-true (is_given s.why) p.1
+  other_in : (s : Step) → Contains (filter (λ (r : Step). not (is_given r.why)) core) s
+      → is_given (why_at d s.id) ≡ false
+  other_in s i = let p = filter_at (λ (r : Step). not (is_given r.why)) core s i in
+      ap is_given (sym (why_of_core s p.0)) ∙ not-true (is_given s.why) p.1
 
   pub core_pairs : AllPairs (Precedes d) (core_ids d end)
   core_pairs =
@@ -101,8 +112,10 @@ module _ (d : State) (end : ℕ) where
       let others = filter (λ (r : Step). not (is_given r.why)) core in
       pairs_map (Precedes d) (λ (s : Step). s.id) (core_steps d end)
       (pairs_append R inputs others
-      (pairs_weaker Rises R inputs (AllPairs-filter Rises (λ (r : Step). is_given r.why) core core_rises) (λ s t i j l. inr (given_in s i ∙ sym (given_in t j), l)))
-      (pairs_weaker Rises R others (AllPairs-filter Rises (λ (r : Step). not (is_given r.why)) core core_rises) (λ s t i j l. inr (other_in s i ∙ sym (other_in t j), l)))
+      (pairs_weaker Rises R inputs (AllPairs-filter Rises (λ (r : Step). is_given r.why) core core_rises)
+      (λ s t i j l. inr (given_in s i ∙ sym (given_in t j), l)))
+      (pairs_weaker Rises R others (AllPairs-filter Rises (λ (r : Step). not (is_given r.why)) core core_rises)
+      (λ s t i j l. inr (other_in s i ∙ sym (other_in t j), l)))
       (λ s t i j. inl (given_in s i, other_in t j)))
 
 -- places
@@ -125,11 +138,19 @@ pub has_place : (ids : List ℕ) (a : ℕ) → Contains ids a → HasPlace ids a
 has_place [] a i = absurd (contains_nil a i)
 has_place (x ∷ xs) a i =
     ⊎_elim
-    (λ t. record { place = 0; within = omega arith; there = eqb-true x a t; number = cond-true (x == a) 1 (number_in xs a + 1) t })
-    (λ f. place_later x xs a f (has_place xs a (⊎_elim (λ e. absurd (true≢false (sym (eq-eqb x a e) ∙ f))) (λ j. j) (contains_cons x xs a i))))
+    (λ t. record {
+      place = 0;
+      within = omega arith;
+      there = eqb-true x a t;
+      number =
+          cond-true (x == a) 1 (number_in xs a + 1) t;
+    })
+    (λ f. place_later x xs a f (has_place xs a
+    (⊎_elim (λ e. absurd (true≢false (sym (eq-eqb x a e) ∙ f))) (λ j. j) (contains_cons x xs a i))))
     (cases_Bool (x == a))
 
-pub number_at : (R : ℕ → ℕ → Type 0) (ids : List ℕ) → AllPairs R ids → ((x : ℕ) → R x x → ⊥) → (p : ℕ) → p < length ids → number_in ids (get_or ids p 0) ≡ p + 1
+pub number_at : (R : ℕ → ℕ → Type 0) (ids : List ℕ) → AllPairs R ids → ((x : ℕ) → R x x → ⊥) → (p : ℕ)
+    → p < length ids → number_in ids (get_or ids p 0) ≡ p + 1
 number_at R ids pairs never p below =
     let q = has_place ids (get_or ids p 0) (contains_at ids p 0 below) in
     q.number ∙ ap (λ n. n + 1) (same q.place p q.within below q.there)
@@ -149,16 +170,19 @@ number_at R ids pairs never p below =
 
 -- numbers in place of ids
 
-pub rests_number : (ids : List ℕ) (why : Why) (k : ℕ) → RestsOnNumber (numbered_by ids why) k → (on : ℕ) × RestsOn why on × (number_in ids on ≡ k)
+pub rests_number : (ids : List ℕ) (why : Why) (k : ℕ) → RestsOnNumber (numbered_by ids why) k
+    → (on : ℕ) × RestsOn why on × (number_in ids on ≡ k)
 rests_number ids Given k h = absurd h
 rests_number ids (ReducedFrom a) k h = (a, refl, h)
 rests_number ids (ResolvedFrom a b x) k h = ⊎_elim (λ e. (a, inl refl, e)) (λ e. (b, inr refl, e)) h
 rests_number ids (FinishedFrom a) k h = (a, refl, h)
 
-pub number_rests : (ids : List ℕ) (why : Why) (on : ℕ) → RestsOn why on → RestsOnNumber (numbered_by ids why) (number_in ids on)
+pub number_rests : (ids : List ℕ) (why : Why) (on : ℕ) → RestsOn why on
+    → RestsOnNumber (numbered_by ids why) (number_in ids on)
 number_rests ids Given on h = absurd h
 number_rests ids (ReducedFrom a) on h = ap (number_in ids) h
-number_rests ids (ResolvedFrom a b x) on h = ⊎_elim (λ e. inl (ap (number_in ids) e)) (λ e. inr (ap (number_in ids) e)) h
+number_rests ids (ResolvedFrom a b x) on h =
+    ⊎_elim (λ e. inl (ap (number_in ids) e)) (λ e. inr (ap (number_in ids) e)) h
 number_rests ids (FinishedFrom a) on h = ap (number_in ids) h
 
 pub rests_given : (why : Why) (on : ℕ) → RestsOn why on → is_given why ≡ false
@@ -170,7 +194,8 @@ rests_given (FinishedFrom a) on h = refl
 lines_length : (d : State) (ids : List ℕ) → length (lines_at d ids) ≡ length ids
 lines_length d ids = length-map ids (line_at d ids)
 
-pub step_is : (d : State) (ids : List ℕ) (i : ℕ) → i - 1 < length ids → step_numbered (lines_at d ids) i ≡ numbered_by ids (why_at d (get_or ids (i - 1) 0))
+pub step_is : (d : State) (ids : List ℕ) (i : ℕ) → i - 1 < length ids
+    → step_numbered (lines_at d ids) i ≡ numbered_by ids (why_at d (get_or ids (i - 1) 0))
 step_is d ids i below =
     let inside : i - 1 < length (lines_at d ids) = rw (lines_length d ids) below in
     get_or-map (λ (l : Line). l.step) (lines_at d ids) (i - 1) (line_at d ids 0) Input inside
@@ -178,13 +203,21 @@ step_is d ids i below =
 
 -- what is needed is the end, or some needed step rests on it
 
-pub needed_used : (steps : List Step) (end id : ℕ) → needed steps end id ≡ true → (id ≡ end) ⊎ ((t : Step) × Contains steps t × (needed steps end t.id ≡ true) × (rests_on t.why id ≡ true))
+pub needed_used : (steps : List Step) (end id : ℕ) → needed steps end id ≡ true
+    → (id ≡ end) ⊎ ((t : Step) × Contains steps t × (needed steps end t.id ≡ true) × (rests_on t.why id ≡ true))
 needed_used [] end id n = inl (eqb-true id end n)
 needed_used (h ∷ rest) end id n =
     let later = needed rest end in
     ⊎_elim
-    (λ l. ⊎_elim inl (λ r. inr (r.0, contains_tail h rest r.0 r.1, or_left (later r.0.id) (later h.id && rests_on h.why r.0.id) r.2, r.3)) (needed_used rest end id l))
-    (λ b. let both = and_parts (later h.id) (rests_on h.why id) b in inr (h, contains_head h rest, or_left (later h.id) (later h.id && rests_on h.why h.id) both.0, both.1))
+    (λ l. ⊎_elim inl (λ r. inr (
+      r.0,
+      contains_tail h rest r.0 r.1,
+      or_left (later r.0.id)
+          (later h.id && rests_on h.why r.0.id) r.2,
+      r.3,
+    )) (needed_used rest end id l))
+    (λ b. let both = and_parts (later h.id) (rests_on h.why id) b in
+    inr (h, contains_head h rest, or_left (later h.id) (later h.id && rests_on h.why h.id) both.0, both.1))
     (or_cases (later id) (later h.id && rests_on h.why id) n)
 
 module _ (d : State) (end : ℕ) (table : List Bool) (are : AreNeeded d end table) where
@@ -206,13 +239,21 @@ module _ (d : State) (end : ℕ) (table : List Bool) (are : AreNeeded d end tabl
       let b = below_at d (end + 1) s r.1 in
       let l = b.low in
       let low : s.id ≤ end = omega arith in
-      let rests : RestsOn (why_at d s.id) id = subst (λ w. RestsOn w id) (ap (λ (q : Step). q.why) b.told) (rests_from s.why id r.3) in
+      let rests : RestsOn (why_at d s.id) id =
+      subst (λ w. RestsOn w id) (ap (λ (q : Step). q.why) b.told) (rests_from s.why id r.3) in
       let m = are.closed s.id id low (are.value s.id low ∙ r.2) rests in
-      inr (record { user = s.id; stands = core_from d end s.id low b.live r.2; rests = rests; later = m.stands.earlier }))
+      inr (record {
+        user = s.id;
+        stands = core_from d end s.id low b.live r.2;
+        rests = rests;
+        later =
+            m.stands.earlier;
+      }))
       (needed_used (steps_below d (end + 1)) end id t)
 
   -- an end that is an input is needed alone
-  only_end : (fuel id : ℕ) → end ≤ id + fuel → id ≤ end → is_needed d end id ≡ true → is_given (why_at d end) ≡ true → id ≡ end
+  only_end : (fuel id : ℕ) → end ≤ id + fuel → id ≤ end → is_needed d end id ≡ true → is_given (why_at d end) ≡ true
+      → id ≡ end
   only_end zero id enough low t given = omega arith
   only_end (suc fuel) id enough low t given =
       ⊎_elim (λ e. e)
@@ -220,17 +261,20 @@ module _ (d : State) (end : ℕ) (table : List Bool) (are : AreNeeded d end tabl
       let c = core_at d end u.user u.stands in
       let l = u.later in
       let e = only_end fuel u.user (omega arith) c.low c.need given in
-      absurd (true≢false (sym given ∙ ap (λ n. is_given (why_at d n)) (sym e) ∙ rests_given (why_at d u.user) id u.rests)))
+      absurd (true≢false (sym given ∙ ap (λ n. is_given (why_at d n)) (sym e)
+      ∙ rests_given (why_at d u.user) id u.rests)))
       (user_of id t)
 
   -- the place of what a step rests on comes before its own
-  comes_before : (p q : ℕ) → p < length ids → q < length ids → is_given (why_at d (get_or ids q 0)) ≡ false → get_or ids p 0 < get_or ids q 0 → p < q
+  comes_before : (p q : ℕ) → p < length ids → q < length ids → is_given (why_at d (get_or ids q 0)) ≡ false
+      → get_or ids p 0 < get_or ids q 0 → p < q
   comes_before p q hp hq given earlier =
       elim (two p q) [
         | inl l ↦ l
         | inr r ↦ elim r [
           | inl e ↦ absurd (let same : get_or ids p 0 ≡ get_or ids q 0 = ap (λ n. get_or ids n 0) e in omega arith)
-          | inr l ↦ absurd (⊎_elim (λ h. true≢false (sym h.0 ∙ given)) (λ h. let g : get_or ids q 0 < get_or ids p 0 = h.1 in omega arith) (core_pairs d end q p 0 l hp))
+          | inr l ↦ absurd (⊎_elim (λ h. true≢false (sym h.0 ∙ given))
+              (λ h. let g : get_or ids q 0 < get_or ids p 0 = h.1 in omega arith) (core_pairs d end q p 0 l hp))
         ]
       ]
     where
@@ -262,9 +306,12 @@ module _ (d : State) (end : ℕ) (table : List Bool) (are : AreNeeded d end tabl
         let m = are.closed id r.0 c.low (are.value id c.low ∙ c.need) r.1 in
         let e = m.stands.earlier in
         let low : r.0 ≤ end = let l = c.low in omega arith in
-        let p = has_place ids r.0 (core_from d end r.0 low (ap is_some m.stands.there) (sym (are.value r.0 low) ∙ m.marked)) in
+        let p = has_place ids r.0 (core_from d end r.0 low (ap is_some m.stands.there)
+        (sym (are.value r.0 low) ∙ m.marked)) in
         let w = p.within in
-        let before : p.place < i - 1 = comes_before p.place (i - 1) p.within below (rests_given (why_at d id) r.0 r.1) (let t = p.there in omega arith) in
+        let before : p.place < i - 1 =
+        comes_before p.place (i - 1) p.within below (rests_given (why_at d id) r.0 r.1)
+        (let t = p.there in omega arith) in
         let n : k ≡ p.place + 1 = sym r.2 ∙ p.number in (omega arith, omega arith);
     used = λ k first last. used_at k first (rw (← lines_length d ids) last);
   }
@@ -273,16 +320,26 @@ module _ (d : State) (end : ℕ) (table : List Bool) (are : AreNeeded d end tabl
       used_by k first last u =
           let p = has_place ids u.user u.stands in
           let below : k - 1 < length ids = omega arith in
-          let before : k - 1 < p.place = comes_before (k - 1) p.place below p.within (ap (λ n. is_given (why_at d n)) p.there ∙ rests_given (why_at d u.user) (get_or ids (k - 1) 0) u.rests) (let t = p.there in let l = u.later in omega arith) in
+          let before : k - 1 < p.place =
+          comes_before (k - 1) p.place below p.within
+          (ap (λ n. is_given (why_at d n)) p.there ∙ rests_given (why_at d u.user) (get_or ids (k - 1) 0) u.rests)
+          (let t = p.there in let l = u.later in omega arith) in
           let w = p.within in
           let back : p.place + 1 - 1 ≡ p.place = omega arith in
-          let number : number_in ids (get_or ids (k - 1) 0) ≡ k = number_at (Precedes d) ids (core_pairs d end) (never_itself d) (k - 1) below ∙ (let e : k - 1 + 1 ≡ k = omega arith in e) in
-          let step : step_numbered (lines_at d ids) (p.place + 1) ≡ numbered_by ids (why_at d u.user) = step_is d ids (p.place + 1) (let e = back in omega arith) ∙ ap (λ n. numbered_by ids (why_at d (get_or ids n 0))) back ∙ ap (λ n. numbered_by ids (why_at d n)) p.there in
+          let number : number_in ids (get_or ids (k - 1) 0) ≡ k =
+          number_at (Precedes d) ids (core_pairs d end) (never_itself d) (k - 1) below
+          ∙ (let e : k - 1 + 1 ≡ k = omega arith in e) in
+          let step : step_numbered (lines_at d ids) (p.place + 1) ≡ numbered_by ids (why_at d u.user) =
+          step_is d ids (p.place + 1) (let e = back in omega arith)
+          ∙ ap (λ n. numbered_by ids (why_at d (get_or ids n 0))) back
+          ∙ ap (λ n. numbered_by ids (why_at d n)) p.there in
           record {
             by = p.place + 1;
             later = omega arith;
             within = rw (lines_length d ids) (omega arith);
-            rests = subst (λ n. RestsOnNumber (step_numbered (lines_at d ids) (p.place + 1)) n) number (subst (λ s. RestsOnNumber s (number_in ids (get_or ids (k - 1) 0))) (sym step) (number_rests ids (why_at d u.user) (get_or ids (k - 1) 0) u.rests));
+            rests = subst (λ n. RestsOnNumber (step_numbered (lines_at d ids) (p.place + 1)) n) number
+                (subst (λ s. RestsOnNumber s (number_in ids (get_or ids (k - 1) 0))) (sym step)
+                (number_rests ids (why_at d u.user) (get_or ids (k - 1) 0) u.rests));
           }
 
       used_at : (k : ℕ) → 1 ≤ k → k < length ids → IsUsedLater (lines_at d ids) k

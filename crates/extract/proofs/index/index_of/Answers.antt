@@ -12,12 +12,15 @@ loop-i-init c = (
 
 pub loop-i-preserved : goal.loop-i-preserved
 loop-i-preserved c = (
-  λ x. index_more c.args.pivot c.args.core.now.lines c.loop-i.i (removals_at c.loop-i.index.items x) (removals_at c.push_line.new.index.items x) x (record { lits = []; step = Input }) (omega arith) (c.loop-i.invariant.0 x) (c.in_ok-push_line.ensures.pushed x (record { lits = []; step = Input })),
+  λ x. index_more c.args.pivot c.args.core.now.lines c.loop-i.i (removals_at c.loop-i.index.items x)
+      (removals_at c.push_line.new.index.items x) x (record { lits = []; step = Input }) (omega arith)
+      (c.loop-i.invariant.0 x) (c.in_ok-push_line.ensures.pushed x (record { lits = []; step = Input })),
   c.in_ok-push_line.ensures.stamped,
 )
 
 pub returns-clause-value : goal.returns-clause-value
-returns-clause-value c x = index_end c.args.pivot c.args.core.now.lines c.loop-i.i _ x (omega arith) (c.loop-i.invariant.0 x)
+returns-clause-value c x =
+    index_end c.args.pivot c.args.core.now.lines c.loop-i.i _ x (omega arith) (c.loop-i.invariant.0 x)
 
 pub returns-clause-within : goal.returns-clause-within
 returns-clause-within c x = (c.loop-i.invariant.0 x).within

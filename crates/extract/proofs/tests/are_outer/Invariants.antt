@@ -4,4 +4,5 @@ use Rattle.prefix.specs.Scopes.{level_of}
 use Rattle.extract.proofs.tests.are_outer.Given as goal
 
 abbrev pub invariant-loop-lit : goal.invariant-loop-lit
-invariant-loop-lit l = (m : Literal) → Contains (take l.lit-index l.assumptions) m → level_of l.prefix m.variable ≡ Some 1
+invariant-loop-lit l = (m : Literal) → Contains (take l.lit-index l.assumptions) m
+    → level_of l.prefix m.variable ≡ Some 1

@@ -4,7 +4,8 @@ use Rattle.extract.proofs.tests.assumed.Goals as goal
 
 pub loop-lit-preserved : goal.loop-lit-preserved
 loop-lit-preserved c =
-    assumed_next c.args.assumptions.now c.args.v c.loop-lit.lit-index c.lit-item.result c.loop-lit-test.true c.lit-item.is
+    assumed_next c.args.assumptions.now c.args.v c.loop-lit.lit-index c.lit-item.result c.loop-lit-test.true
+    c.lit-item.is
     (sym c.if-is_of_var.ensures)
     ∙ c.loop-lit.invariant
 
@@ -13,8 +14,10 @@ returns-then-is_of_var c =
     rw c.is_positive.ensures
     (sym
     (sym c.loop-lit.invariant
-    ∙ assumed_here c.args.assumptions.now c.args.v c.loop-lit.lit-index c.lit-item.result c.loop-lit-test.true c.lit-item.is
+    ∙ assumed_here c.args.assumptions.now c.args.v c.loop-lit.lit-index c.lit-item.result c.loop-lit-test.true
+    c.lit-item.is
     (sym c.if-is_of_var.ensures)))
 
 pub returns : goal.returns
-returns c = sym (sym c.loop-lit.invariant ∙ assumed_past c.args.assumptions.now c.args.v c.loop-lit.lit-index c.loop-lit-test.false)
+returns c = sym (sym c.loop-lit.invariant
+    ∙ assumed_past c.args.assumptions.now c.args.v c.loop-lit.lit-index c.loop-lit-test.false)

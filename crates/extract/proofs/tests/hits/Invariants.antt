@@ -5,4 +5,5 @@ use Rattle.extract.proofs.Testing.{Meets}
 use Rattle.extract.proofs.tests.hits.Given as goal
 
 abbrev pub invariant-loop-id : goal.invariant-loop-id
-invariant-loop-id l = (id tag : ℕ) → id < l.id → note_at l.derivation id ≡ Some (clause_note tag) → Meets (row_of l.derivation id) l.cube
+invariant-loop-id l = (id tag : ℕ) → id < l.id → note_at l.derivation id ≡ Some (clause_note tag)
+    → Meets (row_of l.derivation id) l.cube

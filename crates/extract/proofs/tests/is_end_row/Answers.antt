@@ -5,8 +5,10 @@ use Rattle.extract.proofs.tests.is_end_row.Goals as goal
 
 pub loop-lit-preserved : goal.loop-lit-preserved
 loop-lit-preserved c =
-    each_more (λ (l : Literal). MayEnd c.args.side c.args.prefix.now c.args.assumptions.now l) c.args.row.now c.loop-lit.lit-index c.lit-item.result c.loop-lit-test.true c.lit-item.is
-    (record { pivot = c.if-not-may_end.ensures.pivot refl; bad = c.if-not-may_end.ensures.bad refl }) c.loop-lit.invariant
+    each_more (λ (l : Literal). MayEnd c.args.side c.args.prefix.now c.args.assumptions.now l) c.args.row.now
+    c.loop-lit.lit-index c.lit-item.result c.loop-lit-test.true c.lit-item.is
+    (record { pivot = c.if-not-may_end.ensures.pivot refl; bad = c.if-not-may_end.ensures.bad refl })
+    c.loop-lit.invariant
 
 pub returns : goal.returns
 returns c e =

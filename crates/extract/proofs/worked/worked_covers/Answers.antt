@@ -35,7 +35,8 @@ returns c = record {
   row_not = λ h. false≢true (h (plus 1) (contains_head (plus 1) (plus 2 ∷ [])));
   removed = each_of (λ (r : Removed). CoversRow (one_edge same) r.row) _ _ (covers_one (one_edge same) (plus 2) refl)
       (covers_one (one_edge same) (minus 2) refl);
-  removed_not = λ h. false≢true (h _ (contains_head (record { row = minus 1 ∷ []; value = true }) (record { row = plus 1 ∷ []; value = false } ∷ [])) (minus 1) (contains_head (minus 1) []));
+  removed_not = λ h. false≢true (h _ (contains_head (record { row = minus 1 ∷ []; value = true })
+      (record { row = plus 1 ∷ []; value = false } ∷ [])) (minus 1) (contains_head (minus 1) []));
   stand = stand;
   stand_not = no_input;
   keeps = each_of_one (λ x e. edge_of (two_edges always same) x ≡ Some e) same refl;

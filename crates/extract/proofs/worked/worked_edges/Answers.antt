@@ -86,7 +86,8 @@ ready (suc n) below none r l i j = absurd (let h : suc n < 1 = below in omega ar
 
 in_order : IsReady clause_rows clause_index (2 ∷ 1 ∷ []) []
 in_order zero below none r l i j = absurd (contains_nil r i)
-in_order (suc zero) below none r l i j = inr (subst (λ (x : ℕ). Contains (2 ∷ []) x) (over_two l r i j) (contains_head 2 []))
+in_order (suc zero) below none r l i j =
+    inr (subst (λ (x : ℕ). Contains (2 ∷ []) x) (over_two l r i j) (contains_head 2 []))
 in_order (suc (suc n)) below none r l i j = absurd (let h : suc (suc n) < 2 = below in omega arith)
 
 abbrev first : Removal
@@ -98,7 +99,8 @@ second = record { step = 3; value = true }
 late : IsReady clause_rows clause_index (1 ∷ 2 ∷ []) [] → ⊥
 late h =
     ⊎_elim false≢true (contains_nil 2)
-    (h 0 (let g : 0 < 2 = omega arith in g) refl first (plus 2) (contains_head first (second ∷ [])) (contains_head (plus 2) []))
+    (h 0 (let g : 0 < 2 = omega arith in g) refl first (plus 2) (contains_head first (second ∷ []))
+    (contains_head (plus 2) []))
 
 pub returns : goal.returns
 returns c = record {

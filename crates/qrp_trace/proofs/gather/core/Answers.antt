@@ -16,13 +16,16 @@ numbers_of-requires c id i =
 pub lines_of-requires-clause-within : goal.lines_of-requires-clause-within
 lines_of-requires-clause-within c id i =
     let w = c.in_ok-ids.ensures.closed.within id (rw c.deref-3.ensures.value at i) in
-    let len : length c.deref-4.result.now ≡ length c.deref.result.now = ap length c.deref-4.ensures.value ∙ c.in_ok-numbers.ensures.len ∙ c.len.ensures ∙ sym c.deref.ensures.len in
+    let len : length c.deref-4.result.now ≡ length c.deref.result.now = ap length c.deref-4.ensures.value
+    ∙ c.in_ok-numbers.ensures.len ∙ c.len.ensures ∙ sym c.deref.ensures.len in
     (w.0, rw len w.1)
 
 pub new-requires : goal.new-requires
 new-requires c =
-    let ids : c.deref-3.result.now ≡ core_ids c.args.derivation.now c.args.end = c.deref-3.ensures.value ∙ c.in_ok-ids.ensures.value in
-    rw (c.in_ok-lines.ensures, ids) (core_numbered c.args.derivation.now c.args.end c.deref.result.now (rw c.deref.ensures.value c.in_ok-marks.ensures))
+    let ids : c.deref-3.result.now ≡ core_ids c.args.derivation.now c.args.end = c.deref-3.ensures.value
+    ∙ c.in_ok-ids.ensures.value in
+    rw (c.in_ok-lines.ensures, ids) (core_numbered c.args.derivation.now c.args.end c.deref.result.now
+    (rw c.deref.ensures.value c.in_ok-marks.ensures))
 
 pub returns-clause-proof : goal.returns-clause-proof
 returns-clause-proof c scopes assumptions legal finish =
@@ -31,6 +34,9 @@ returns-clause-proof c scopes assumptions legal finish =
     let ids : c.deref-3.result.now ≡ core_ids d end = c.deref-3.ensures.value ∙ c.in_ok-ids.ensures.value in
     let lines : c.in_ok-lines.lines.items ≡ lines_at d (core_ids d end) = c.in_ok-lines.ensures ∙ ap (lines_at d) ids in
     let fits : end < next_id d = live_below d end c.requires.live in
-    let proof = core_proves d end c.deref.result.now (rw c.deref.ensures.value c.in_ok-marks.ensures) fits c.requires.live scopes assumptions legal finish c.end_rows_give_proofs.ensures c.steps_are_listed.ensures in
-    let winner : opposite c.other_quant.result ≡ side_at d end = ap opposite c.other_quant.ensures ∙ other_twice c.side.result ∙ c.side.ensures in
+    let proof = core_proves d end c.deref.result.now
+    (rw c.deref.ensures.value c.in_ok-marks.ensures) fits c.requires.live scopes assumptions legal finish
+    c.end_rows_give_proofs.ensures c.steps_are_listed.ensures in
+    let winner : opposite c.other_quant.result ≡ side_at d end = ap opposite c.other_quant.ensures
+    ∙ other_twice c.side.result ∙ c.side.ensures in
     rw (c.new.ensures, winner, lines) proof

@@ -5,4 +5,6 @@ use Rattle.qrp_trace.specs.Writing.{Wrote}
 use Rattle.qrp_trace.proofs.text.put_literals.Given as goal
 
 abbrev pub invariant-loop-lit : goal.invariant-loop-lit
-invariant-loop-lit g l = Wrote g.S.Sink.written g.S.Sink.flushed g.S.Sink.faults g.S.Sink.has_room l.initial.sink l.sink (flat_map literal_word (take l.lit-index l.lits))
+invariant-loop-lit g l =
+    Wrote g.S.Sink.written g.S.Sink.flushed g.S.Sink.faults g.S.Sink.has_room l.initial.sink l.sink
+    (flat_map literal_word (take l.lit-index l.lits))

@@ -9,22 +9,45 @@ pub returns-in_err-put_quantifier : goal.returns-in_err-put_quantifier
 returns-in_err-put_quantifier g c =
     let scope = scope_numbered c.args.prefix.now c.args.s in
     let vars = c.vars_of-vars.ensures ∙ variables_is c.args.prefix.now c.args.s c.requires.first c.requires.last in
-    let quantifier = quantifier_found c.args.prefix.now c.args.s c.scope_quant.result c.unwrap.result c.requires.first c.requires.last c.scope_quant.ensures.value c.unwrap.ensures in
-    let line = line_some scope c.vars_of-vars.result.now c.unwrap.result vars quantifier (sym c.is_empty.ensures ∙ c.if-is_empty.false) in
-    rw line (writes_err g.S.Sink.written g.S.Sink.flushed g.S.Sink.faults g.S.Sink.has_room _ c.from_residual.result c.args.sink.now c.put_quantifier.new.sink _ c.from_residual.ensures.1 (part_more g.S.Sink.written g.S.Sink.flushed g.S.Sink.faults g.S.Sink.has_room c.args.sink.now c.put_quantifier.new.sink (quantifier_word c.unwrap.result) (flat_map number_word c.vars_of-vars.result.now ++ codes "0\n") c.in_err-put_quantifier.ensures))
+    let quantifier = quantifier_found c.args.prefix.now c.args.s c.scope_quant.result c.unwrap.result c.requires.first
+    c.requires.last c.scope_quant.ensures.value c.unwrap.ensures in
+    let line = line_some scope c.vars_of-vars.result.now c.unwrap.result vars quantifier
+    (sym c.is_empty.ensures ∙ c.if-is_empty.false) in
+    rw line (writes_err g.S.Sink.written g.S.Sink.flushed g.S.Sink.faults g.S.Sink.has_room _ c.from_residual.result
+    c.args.sink.now c.put_quantifier.new.sink _ c.from_residual.ensures.1
+    (part_more g.S.Sink.written g.S.Sink.flushed g.S.Sink.faults g.S.Sink.has_room c.args.sink.now
+    c.put_quantifier.new.sink (quantifier_word c.unwrap.result)
+    (flat_map number_word c.vars_of-vars.result.now ++ codes "0\n") c.in_err-put_quantifier.ensures))
 
 pub returns-in_err-put_variables : goal.returns-in_err-put_variables
 returns-in_err-put_variables g c =
     let scope = scope_numbered c.args.prefix.now c.args.s in
     let vars = c.vars_of-vars.ensures ∙ variables_is c.args.prefix.now c.args.s c.requires.first c.requires.last in
-    let quantifier = quantifier_found c.args.prefix.now c.args.s c.scope_quant.result c.unwrap.result c.requires.first c.requires.last c.scope_quant.ensures.value c.unwrap.ensures in
-    let line = line_some scope c.vars_of-vars.result.now c.unwrap.result vars quantifier (sym c.is_empty.ensures ∙ c.if-is_empty.false) in
-    rw line (writes_err g.S.Sink.written g.S.Sink.flushed g.S.Sink.faults g.S.Sink.has_room _ c.from_residual-in_err-put_variables.result c.args.sink.now c.put_variables.new.sink _ c.from_residual-in_err-put_variables.ensures.1 (part_then g.S.Sink.written g.S.Sink.flushed g.S.Sink.faults g.S.Sink.has_room c.args.sink.now c.put_quantifier.new.sink c.put_variables.new.sink (quantifier_word c.unwrap.result) (flat_map number_word c.vars_of-vars.result.now ++ codes "0\n") c.in_ok-put_quantifier.ensures (part_more g.S.Sink.written g.S.Sink.flushed g.S.Sink.faults g.S.Sink.has_room c.put_quantifier.new.sink c.put_variables.new.sink (flat_map number_word c.vars_of-vars.result.now) (codes "0\n") c.in_err-put_variables.ensures)))
+    let quantifier = quantifier_found c.args.prefix.now c.args.s c.scope_quant.result c.unwrap.result c.requires.first
+    c.requires.last c.scope_quant.ensures.value c.unwrap.ensures in
+    let line = line_some scope c.vars_of-vars.result.now c.unwrap.result vars quantifier
+    (sym c.is_empty.ensures ∙ c.if-is_empty.false) in
+    rw line (writes_err g.S.Sink.written g.S.Sink.flushed g.S.Sink.faults g.S.Sink.has_room _
+    c.from_residual-in_err-put_variables.result c.args.sink.now c.put_variables.new.sink _
+    c.from_residual-in_err-put_variables.ensures.1
+    (part_then g.S.Sink.written g.S.Sink.flushed g.S.Sink.faults g.S.Sink.has_room c.args.sink.now
+    c.put_quantifier.new.sink c.put_variables.new.sink (quantifier_word c.unwrap.result)
+    (flat_map number_word c.vars_of-vars.result.now ++ codes "0\n") c.in_ok-put_quantifier.ensures
+    (part_more g.S.Sink.written g.S.Sink.flushed g.S.Sink.faults g.S.Sink.has_room c.put_quantifier.new.sink
+    c.put_variables.new.sink (flat_map number_word c.vars_of-vars.result.now)
+    (codes "0\n") c.in_err-put_variables.ensures)))
 
 pub returns : goal.returns
 returns g c =
     let scope = scope_numbered c.args.prefix.now c.args.s in
     let vars = c.vars_of-vars.ensures ∙ variables_is c.args.prefix.now c.args.s c.requires.first c.requires.last in
-    let quantifier = quantifier_found c.args.prefix.now c.args.s c.scope_quant.result c.unwrap.result c.requires.first c.requires.last c.scope_quant.ensures.value c.unwrap.ensures in
-    let line = line_some scope c.vars_of-vars.result.now c.unwrap.result vars quantifier (sym c.is_empty.ensures ∙ c.if-is_empty.false) in
-    rw line (writes_then g.S.Sink.written g.S.Sink.flushed g.S.Sink.faults g.S.Sink.has_room c.put.result c.args.sink.now c.put_quantifier.new.sink c.put.new.sink (quantifier_word c.unwrap.result) (flat_map number_word c.vars_of-vars.result.now ++ codes "0\n") c.in_ok-put_quantifier.ensures (writes_then g.S.Sink.written g.S.Sink.flushed g.S.Sink.faults g.S.Sink.has_room c.put.result c.put_quantifier.new.sink c.put_variables.new.sink c.put.new.sink (flat_map number_word c.vars_of-vars.result.now) (codes "0\n") c.in_ok-put_variables.ensures (c.put.ensures)))
+    let quantifier = quantifier_found c.args.prefix.now c.args.s c.scope_quant.result c.unwrap.result c.requires.first
+    c.requires.last c.scope_quant.ensures.value c.unwrap.ensures in
+    let line = line_some scope c.vars_of-vars.result.now c.unwrap.result vars quantifier
+    (sym c.is_empty.ensures ∙ c.if-is_empty.false) in
+    rw line (writes_then g.S.Sink.written g.S.Sink.flushed g.S.Sink.faults g.S.Sink.has_room c.put.result
+    c.args.sink.now c.put_quantifier.new.sink c.put.new.sink (quantifier_word c.unwrap.result)
+    (flat_map number_word c.vars_of-vars.result.now ++ codes "0\n") c.in_ok-put_quantifier.ensures
+    (writes_then g.S.Sink.written g.S.Sink.flushed g.S.Sink.faults g.S.Sink.has_room c.put.result
+    c.put_quantifier.new.sink c.put_variables.new.sink c.put.new.sink (flat_map number_word c.vars_of-vars.result.now)
+    (codes "0\n") c.in_ok-put_variables.ensures (c.put.ensures)))

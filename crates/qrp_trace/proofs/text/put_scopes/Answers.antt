@@ -13,14 +13,31 @@ pub loop-s-preserved : goal.loop-s-preserved
 loop-s-preserved g c =
     let xs = c.args.prefix.now in
     let f = scope_line in
-    let here : f (get_or xs c.loop-s.s (record { quantifier = Exists; variables = [] })) ≡ scope_line (scope_numbered c.args.prefix.now (c.loop-s.s + 1)) = ap (λ k. scope_line (get_or c.args.prefix.now k (record { quantifier = Exists; variables = [] }))) (let e : c.loop-s.s ≡ c.loop-s.s + 1 - 1 = omega arith in e) in
+    let here : f (get_or xs c.loop-s.s (record { quantifier = Exists; variables = [] })) ≡ scope_line
+    (scope_numbered c.args.prefix.now (c.loop-s.s + 1)) =
+    ap (λ k. scope_line (get_or c.args.prefix.now k (record { quantifier = Exists; variables = [] })))
+    (let e : c.loop-s.s ≡ c.loop-s.s + 1 - 1 = omega arith in e) in
     let below : suc c.loop-s.s ≤ length xs = (omega arith) in
-    rw (flat_more f xs c.loop-s.s (record { quantifier = Exists; variables = [] }) below, here) (whole_then g.S.Sink.written g.S.Sink.flushed g.S.Sink.faults g.S.Sink.has_room c.args.sink.now c.loop-s.sink c.put_scope.new.sink (flat_map f (take c.loop-s.s xs)) (scope_line (scope_numbered c.args.prefix.now (c.loop-s.s + 1))) c.loop-s.invariant c.in_ok-put_scope.ensures)
+    rw (flat_more f xs c.loop-s.s (record { quantifier = Exists; variables = [] }) below, here)
+    (whole_then g.S.Sink.written g.S.Sink.flushed g.S.Sink.faults g.S.Sink.has_room c.args.sink.now c.loop-s.sink
+    c.put_scope.new.sink (flat_map f (take c.loop-s.s xs))
+    (scope_line (scope_numbered c.args.prefix.now (c.loop-s.s + 1))) c.loop-s.invariant c.in_ok-put_scope.ensures)
 
 pub returns-in_err-put_scope : goal.returns-in_err-put_scope
 returns-in_err-put_scope g c =
     let xs = c.args.prefix.now in
     let f = scope_line in
-    let here : f (get_or xs c.loop-s.s (record { quantifier = Exists; variables = [] })) ≡ scope_line (scope_numbered c.args.prefix.now (c.loop-s.s + 1)) = ap (λ k. scope_line (get_or c.args.prefix.now k (record { quantifier = Exists; variables = [] }))) (let e : c.loop-s.s ≡ c.loop-s.s + 1 - 1 = omega arith in e) in
+    let here : f (get_or xs c.loop-s.s (record { quantifier = Exists; variables = [] })) ≡ scope_line
+    (scope_numbered c.args.prefix.now (c.loop-s.s + 1)) =
+    ap (λ k. scope_line (get_or c.args.prefix.now k (record { quantifier = Exists; variables = [] })))
+    (let e : c.loop-s.s ≡ c.loop-s.s + 1 - 1 = omega arith in e) in
     let below : suc c.loop-s.s ≤ length xs = (omega arith) in
-    rw (flat_split f xs c.loop-s.s (record { quantifier = Exists; variables = [] }) below, here) (writes_err g.S.Sink.written g.S.Sink.flushed g.S.Sink.faults g.S.Sink.has_room _ c.from_residual.result c.args.sink.now c.put_scope.new.sink _ c.from_residual.ensures.1 (part_then g.S.Sink.written g.S.Sink.flushed g.S.Sink.faults g.S.Sink.has_room c.args.sink.now c.loop-s.sink c.put_scope.new.sink (flat_map f (take c.loop-s.s xs)) (scope_line (scope_numbered c.args.prefix.now (c.loop-s.s + 1)) ++ flat_map f (drop (c.loop-s.s + 1) xs)) c.loop-s.invariant (part_more g.S.Sink.written g.S.Sink.flushed g.S.Sink.faults g.S.Sink.has_room c.loop-s.sink c.put_scope.new.sink (scope_line (scope_numbered c.args.prefix.now (c.loop-s.s + 1))) (flat_map f (drop (c.loop-s.s + 1) xs)) c.in_err-put_scope.ensures)))
+    rw (flat_split f xs c.loop-s.s (record { quantifier = Exists; variables = [] }) below, here)
+    (writes_err g.S.Sink.written g.S.Sink.flushed g.S.Sink.faults g.S.Sink.has_room _ c.from_residual.result
+    c.args.sink.now c.put_scope.new.sink _ c.from_residual.ensures.1
+    (part_then g.S.Sink.written g.S.Sink.flushed g.S.Sink.faults g.S.Sink.has_room c.args.sink.now c.loop-s.sink
+    c.put_scope.new.sink (flat_map f (take c.loop-s.s xs))
+    (scope_line (scope_numbered c.args.prefix.now (c.loop-s.s + 1)) ++ flat_map f (drop (c.loop-s.s + 1) xs))
+    c.loop-s.invariant (part_more g.S.Sink.written g.S.Sink.flushed g.S.Sink.faults g.S.Sink.has_room
+    c.loop-s.sink c.put_scope.new.sink (scope_line (scope_numbered c.args.prefix.now (c.loop-s.s + 1)))
+    (flat_map f (drop (c.loop-s.s + 1) xs)) c.in_err-put_scope.ensures)))

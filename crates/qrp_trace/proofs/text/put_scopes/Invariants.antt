@@ -5,4 +5,6 @@ use Rattle.qrp_trace.specs.Writing.{Wrote}
 use Rattle.qrp_trace.proofs.text.put_scopes.Given as goal
 
 abbrev pub invariant-loop-s : goal.invariant-loop-s
-invariant-loop-s g l = Wrote g.S.Sink.written g.S.Sink.flushed g.S.Sink.faults g.S.Sink.has_room l.initial.sink l.sink (flat_map scope_line (take l.s l.prefix))
+invariant-loop-s g l =
+    Wrote g.S.Sink.written g.S.Sink.flushed g.S.Sink.faults g.S.Sink.has_room l.initial.sink l.sink
+    (flat_map scope_line (take l.s l.prefix))

@@ -5,4 +5,6 @@ use Rattle.qrp_trace.specs.Writing.{Wrote}
 use Rattle.qrp_trace.proofs.text.put_steps.Given as goal
 
 abbrev pub invariant-loop-i : goal.invariant-loop-i
-invariant-loop-i g l = Wrote g.S.Sink.written g.S.Sink.flushed g.S.Sink.faults g.S.Sink.has_room l.initial.sink l.sink (flat_map (step_line l.core.lines) (take l.i (range_with_len 1 (length l.core.lines))))
+invariant-loop-i g l =
+    Wrote g.S.Sink.written g.S.Sink.flushed g.S.Sink.faults g.S.Sink.has_room l.initial.sink l.sink
+    (flat_map (step_line l.core.lines) (take l.i (range_with_len 1 (length l.core.lines))))

@@ -11,14 +11,26 @@ pub loop-v-preserved : goal.loop-v-preserved
 loop-v-preserved g c =
     let xs = c.args.vars.now in
     let f = number_word in
-    let here : f (get_or xs c.loop-v.v-index c.v-item.result) ≡ number_word c.number.result = ap number_word (sym c.v-item.is ∙ sym c.number.ensures.value) in
+    let here : f (get_or xs c.loop-v.v-index c.v-item.result) ≡ number_word c.number.result =
+    ap number_word (sym c.v-item.is ∙ sym c.number.ensures.value) in
     let below : suc c.loop-v.v-index ≤ length xs = (omega arith) in
-    rw (flat_more f xs c.loop-v.v-index c.v-item.result below, here) (whole_then g.S.Sink.written g.S.Sink.flushed g.S.Sink.faults g.S.Sink.has_room c.args.sink.now c.loop-v.sink c.put_number.new.sink (flat_map f (take c.loop-v.v-index xs)) (number_word c.number.result) c.loop-v.invariant c.in_ok-put_number.ensures)
+    rw (flat_more f xs c.loop-v.v-index c.v-item.result below, here)
+    (whole_then g.S.Sink.written g.S.Sink.flushed g.S.Sink.faults g.S.Sink.has_room c.args.sink.now c.loop-v.sink
+    c.put_number.new.sink (flat_map f (take c.loop-v.v-index xs))
+    (number_word c.number.result) c.loop-v.invariant c.in_ok-put_number.ensures)
 
 pub returns-in_err-put_number : goal.returns-in_err-put_number
 returns-in_err-put_number g c =
     let xs = c.args.vars.now in
     let f = number_word in
-    let here : f (get_or xs c.loop-v.v-index c.v-item.result) ≡ number_word c.number.result = ap number_word (sym c.v-item.is ∙ sym c.number.ensures.value) in
+    let here : f (get_or xs c.loop-v.v-index c.v-item.result) ≡ number_word c.number.result =
+    ap number_word (sym c.v-item.is ∙ sym c.number.ensures.value) in
     let below : suc c.loop-v.v-index ≤ length xs = (omega arith) in
-    rw (flat_split f xs c.loop-v.v-index c.v-item.result below, here) (writes_err g.S.Sink.written g.S.Sink.flushed g.S.Sink.faults g.S.Sink.has_room _ c.from_residual.result c.args.sink.now c.put_number.new.sink _ c.from_residual.ensures.1 (part_then g.S.Sink.written g.S.Sink.flushed g.S.Sink.faults g.S.Sink.has_room c.args.sink.now c.loop-v.sink c.put_number.new.sink (flat_map f (take c.loop-v.v-index xs)) (number_word c.number.result ++ flat_map f (drop (c.loop-v.v-index + 1) xs)) c.loop-v.invariant (part_more g.S.Sink.written g.S.Sink.flushed g.S.Sink.faults g.S.Sink.has_room c.loop-v.sink c.put_number.new.sink (number_word c.number.result) (flat_map f (drop (c.loop-v.v-index + 1) xs)) c.in_err-put_number.ensures)))
+    rw (flat_split f xs c.loop-v.v-index c.v-item.result below, here)
+    (writes_err g.S.Sink.written g.S.Sink.flushed g.S.Sink.faults g.S.Sink.has_room _ c.from_residual.result
+    c.args.sink.now c.put_number.new.sink _ c.from_residual.ensures.1
+    (part_then g.S.Sink.written g.S.Sink.flushed g.S.Sink.faults g.S.Sink.has_room c.args.sink.now c.loop-v.sink
+    c.put_number.new.sink (flat_map f (take c.loop-v.v-index xs))
+    (number_word c.number.result ++ flat_map f (drop (c.loop-v.v-index + 1) xs)) c.loop-v.invariant
+    (part_more g.S.Sink.written g.S.Sink.flushed g.S.Sink.faults g.S.Sink.has_room c.loop-v.sink c.put_number.new.sink
+    (number_word c.number.result) (flat_map f (drop (c.loop-v.v-index + 1) xs)) c.in_err-put_number.ensures)))

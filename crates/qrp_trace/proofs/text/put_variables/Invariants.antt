@@ -5,4 +5,6 @@ use Rattle.qrp_trace.specs.Writing.{Wrote}
 use Rattle.qrp_trace.proofs.text.put_variables.Given as goal
 
 abbrev pub invariant-loop-v : goal.invariant-loop-v
-invariant-loop-v g l = Wrote g.S.Sink.written g.S.Sink.flushed g.S.Sink.faults g.S.Sink.has_room l.initial.sink l.sink (flat_map number_word (take l.v-index l.vars))
+invariant-loop-v g l =
+    Wrote g.S.Sink.written g.S.Sink.flushed g.S.Sink.faults g.S.Sink.has_room l.initial.sink l.sink
+    (flat_map number_word (take l.v-index l.vars))

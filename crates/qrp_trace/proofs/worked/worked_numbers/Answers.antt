@@ -14,13 +14,15 @@ unused : IsUsedLater twice 2 → ⊥
 unused u =
     ⊎_elim
     (λ e. subst (λ n. RestsOnNumber (step_numbered twice n) 2) e u.rests)
-    (λ e. ⊎_elim (λ (f : 1 ≡ 2). absurd (omega arith)) (λ (f : 3 ≡ 2). absurd (omega arith)) (subst (λ n. RestsOnNumber (step_numbered twice n) 2) e u.rests))
+    (λ e. ⊎_elim (λ (f : 1 ≡ 2). absurd (omega arith)) (λ (f : 3 ≡ 2). absurd (omega arith))
+    (subst (λ n. RestsOnNumber (step_numbered twice n) 2) e u.rests))
     (three_or_four u.by u.later u.within)
 
 pub returns : goal.returns
 returns c = record {
   one_is_enough = record {
-    earlier = λ i k low high rests. absurd (subst (λ n. RestsOnNumber (step_numbered (record { lits = []; step = Input } ∷ []) n) k) (only_one i low high) rests);
+    earlier = λ i k low high rests. absurd (subst
+        (λ n. RestsOnNumber (step_numbered (record { lits = []; step = Input } ∷ []) n) k) (only_one i low high) rests);
     used = λ k low high. absurd (let f : ⊥ = omega arith in f);
   };
   second_unused = λ h. unused (h.used 2 (omega arith) (omega arith));
