@@ -31,7 +31,8 @@ one_left b = record {
   one_left = λ e. refl;
   one_right = λ e. ap Some e;
   equal = λ e. ap Some (sym e);
-  opposites = λ e. ap Some (edge_is b zero (sym (ap (λ (x : Edge). x.node) e)) (not_true b.negated (ap (λ (x : Edge). x.negated) e)));
+  opposites = λ e. ap Some (edge_is b zero (sym (ap (λ (x : Edge). x.node) e))
+      (not_true b.negated (ap (λ (x : Edge). x.negated) e)));
 }
 
 zero_left : (b : Edge) → Folds zero b (λ e. Some zero ≡ Some e)
@@ -86,7 +87,8 @@ over_equal a b n s = let same = edge_is a b n s in record {
   opposites = λ e. absurd (not_itself b.negated (sym s ∙ ap (λ (x : Edge). x.negated) e));
 }
 
-pub over_opposite : (a b : Edge) → (IsConstant a.node → ⊥) → (IsConstant b.node → ⊥) → (a.negated ≡ b.negated → ⊥) → Folds a b (λ e. Some zero ≡ Some e)
+pub over_opposite : (a b : Edge) → (IsConstant a.node → ⊥) → (IsConstant b.node → ⊥) → (a.negated ≡ b.negated → ⊥)
+    → Folds a b (λ e. Some zero ≡ Some e)
 over_opposite a b left right differ = record {
   zero_left = λ e. refl;
   zero_right = λ e. refl;

@@ -7,7 +7,8 @@ use Rattle.aiger_out.specs.Aag.{EachAt}
 use Rattle.aiger_out.proofs.Numerals.{IsPlain}
 
 -- a word ends at the first white space
-cut : (w v : List ℕ) (b d : ℕ) (r s : List ℕ) → IsPlain w → IsPlain v → b ≤ 32 → d ≤ 32 → w ++ b ∷ r ≡ v ++ d ∷ s → (w ≡ v) × (b ≡ d) × (r ≡ s)
+cut : (w v : List ℕ) (b d : ℕ) (r s : List ℕ) → IsPlain w → IsPlain v → b ≤ 32 → d ≤ 32 → w ++ b ∷ r ≡ v ++ d ∷ s
+    → (w ≡ v) × (b ≡ d) × (r ≡ s)
 cut [] [] b d r s p q lb ld e = (refl, cc, cc)
 cut [] (y ∷ v) b d r s p q lb ld e = let same : b ≡ y = cc in absurd (omega (arith, q.0))
 cut (x ∷ w) [] b d r s p q lb ld e = let same : x ≡ d = cc in absurd (omega (arith, p.0))
@@ -23,18 +24,22 @@ IsPlainLine [] = ⊥
 IsPlainLine (w ∷ []) = IsPlain w
 IsPlainLine (w ∷ v ∷ ws) = IsPlain w × IsPlainLine (v ∷ ws)
 
-line_cut : (l m : Line) (r s : List ℕ) → IsPlainLine l → IsPlainLine m → line_text l ++ r ≡ line_text m ++ s → (l ≡ m) × (r ≡ s)
+line_cut : (l m : Line) (r s : List ℕ) → IsPlainLine l → IsPlainLine m → line_text l ++ r ≡ line_text m ++ s
+    → (l ≡ m) × (r ≡ s)
 line_cut [] m r s p q e = absurd p
 line_cut (w ∷ []) [] r s p q e = absurd q
 line_cut (w ∷ w' ∷ ws) [] r s p q e = absurd q
 line_cut (w ∷ []) (v ∷ []) r s p q e =
-    let c = cut w v 10 10 r s p q (omega arith) (omega arith) (sym (append_assoc w (10 ∷ []) r) ∙ e ∙ append_assoc v (10 ∷ []) s) in
+    let c = cut w v 10 10 r s p q (omega arith) (omega arith)
+    (sym (append_assoc w (10 ∷ []) r) ∙ e ∙ append_assoc v (10 ∷ []) s) in
     (ap (λ (z : List ℕ). z ∷ []) c.0, c.2)
 line_cut (w ∷ []) (v ∷ v' ∷ vs) r s p q e =
-    let c = cut w v 10 32 r (line_text (v' ∷ vs) ++ s) p q.0 (omega arith) (omega arith) (sym (append_assoc w (10 ∷ []) r) ∙ e ∙ append_assoc v (32 ∷ line_text (v' ∷ vs)) s) in
+    let c = cut w v 10 32 r (line_text (v' ∷ vs) ++ s) p q.0 (omega arith) (omega arith)
+    (sym (append_assoc w (10 ∷ []) r) ∙ e ∙ append_assoc v (32 ∷ line_text (v' ∷ vs)) s) in
     absurd (omega (arith, c.1))
 line_cut (w ∷ w' ∷ ws) (v ∷ []) r s p q e =
-    let c = cut w v 32 10 (line_text (w' ∷ ws) ++ r) s p.0 q (omega arith) (omega arith) (sym (append_assoc w (32 ∷ line_text (w' ∷ ws)) r) ∙ e ∙ append_assoc v (10 ∷ []) s) in
+    let c = cut w v 32 10 (line_text (w' ∷ ws) ++ r) s p.0 q (omega arith) (omega arith)
+    (sym (append_assoc w (32 ∷ line_text (w' ∷ ws)) r) ∙ e ∙ append_assoc v (10 ∷ []) s) in
     absurd (omega (arith, c.1))
 line_cut (w ∷ w' ∷ ws) (v ∷ v' ∷ vs) r s p q e =
     let c = cut w v 32 32 (line_text (w' ∷ ws) ++ r) (line_text (v' ∷ vs) ++ s) p.0 q.0 (omega arith) (omega arith)
@@ -48,7 +53,8 @@ line_has (w ∷ []) = omega (arith, length-append w (10 ∷ []))
 line_has (w ∷ v ∷ ws) = omega (arith, length-append w (32 ∷ line_text (v ∷ ws)))
 
 no_line : (l : Line) (r : List ℕ) → [] ≡ line_text l ++ r → ⊥
-no_line l r e = let n : 0 ≡ length (line_text l ++ r) = ap length e in omega (arith, length-append (line_text l) r, line_has l)
+no_line l r e = let n : 0 ≡ length (line_text l ++ r) = ap length e in
+    omega (arith, length-append (line_text l) r, line_has l)
 
 abbrev pub ArePlain : List Line → Type 0
 ArePlain [] = ⊤
@@ -80,20 +86,24 @@ same_front (l ∷ ls) (m ∷ ms) rs ss h e =
 
 -- lines of things, one each
 
-pub each_length : {X : Type 0} (R : ℕ → Line → X → Type 0) (k : ℕ) (ls : List Line) (xs : List X) → EachAt R k ls xs → length ls ≡ length xs
+pub each_length : {X : Type 0} (R : ℕ → Line → X → Type 0) (k : ℕ) (ls : List Line) (xs : List X) → EachAt R k ls xs
+    → length ls ≡ length xs
 each_length R k [] [] h = refl
 each_length R k [] (x ∷ xs) h = absurd h
 each_length R k (l ∷ ls) [] h = absurd h
 each_length R k (l ∷ ls) (x ∷ xs) h = let e = each_length R (k + 1) ls xs h.1 in omega arith
 
-pub each_plain : {X : Type 0} (R : ℕ → Line → X → Type 0) → ((k : ℕ) (l : Line) (x : X) → R k l x → IsPlainLine l) → (k : ℕ) (ls : List Line) (xs : List X) → EachAt R k ls xs → ArePlain ls
+pub each_plain : {X : Type 0} (R : ℕ → Line → X → Type 0) → ((k : ℕ) (l : Line) (x : X) → R k l x → IsPlainLine l)
+    → (k : ℕ) (ls : List Line) (xs : List X) → EachAt R k ls xs → ArePlain ls
 each_plain R plain k [] [] h = tt
 each_plain R plain k [] (x ∷ xs) h = tt
 each_plain R plain k (l ∷ ls) [] h = absurd h
 each_plain R plain k (l ∷ ls) (x ∷ xs) h = (plain k l x h.0, each_plain R plain (k + 1) ls xs h.1)
 
 -- what one line says of two things
-pub each_zip : {X : Type 0} (R Q : ℕ → Line → X → Type 0) (P : X → X → Type 0) → ((k : ℕ) (l : Line) (x y : X) → R k l x → Q k l y → P x y) → (k : ℕ) (ls : List Line) (xs ys : List X) → EachAt R k ls xs → EachAt Q k ls ys → AllZip P xs ys
+pub each_zip : {X : Type 0} (R Q : ℕ → Line → X → Type 0) (P : X → X → Type 0)
+    → ((k : ℕ) (l : Line) (x y : X) → R k l x → Q k l y → P x y) → (k : ℕ) (ls : List Line) (xs ys : List X)
+    → EachAt R k ls xs → EachAt Q k ls ys → AllZip P xs ys
 each_zip R Q P one k [] [] [] f g = tt
 each_zip R Q P one k [] [] (y ∷ ys) f g = absurd g
 each_zip R Q P one k [] (x ∷ xs) ys f g = absurd f
@@ -102,16 +112,20 @@ each_zip R Q P one k (l ∷ ls) (x ∷ xs) [] f g = absurd g
 each_zip R Q P one k (l ∷ ls) (x ∷ xs) (y ∷ ys) f g = (one k l x y f.0 g.0, each_zip R Q P one (k + 1) ls xs ys f.1 g.1)
 
 -- one thing has one line
-pub each_line : {X : Type 0} (R : ℕ → Line → X → Type 0) → ((k : ℕ) (l m : Line) (x : X) → R k l x → R k m x → l ≡ m) → (k : ℕ) (ls ms : List Line) (xs : List X) → EachAt R k ls xs → EachAt R k ms xs → ls ≡ ms
+pub each_line : {X : Type 0} (R : ℕ → Line → X → Type 0) → ((k : ℕ) (l m : Line) (x : X) → R k l x → R k m x → l ≡ m)
+    → (k : ℕ) (ls ms : List Line) (xs : List X) → EachAt R k ls xs → EachAt R k ms xs → ls ≡ ms
 each_line R one k [] [] xs f g = refl
 each_line R one k [] (m ∷ ms) [] f g = absurd g
 each_line R one k [] (m ∷ ms) (x ∷ xs) f g = absurd f
 each_line R one k (l ∷ ls) ms [] f g = absurd f
 each_line R one k (l ∷ ls) [] (x ∷ xs) f g = absurd g
-each_line R one k (l ∷ ls) (m ∷ ms) (x ∷ xs) f g = ap₂ (λ (z : Line) zs. z ∷ zs) (one k l m x f.0 g.0) (each_line R one (k + 1) ls ms xs f.1 g.1)
+each_line R one k (l ∷ ls) (m ∷ ms) (x ∷ xs) f g =
+    ap₂ (λ (z : Line) zs. z ∷ zs) (one k l m x f.0 g.0) (each_line R one (k + 1) ls ms xs f.1 g.1)
 
-pub zip_both : {X : Type 0} (P Q : X → X → Type 0) → ((x y : X) → P x y → Q x y → x ≡ y) → (xs ys : List X) → AllZip P xs ys → AllZip Q xs ys → xs ≡ ys
+pub zip_both : {X : Type 0} (P Q : X → X → Type 0) → ((x y : X) → P x y → Q x y → x ≡ y) → (xs ys : List X)
+    → AllZip P xs ys → AllZip Q xs ys → xs ≡ ys
 zip_both P Q one [] [] f g = refl
 zip_both P Q one [] (y ∷ ys) f g = absurd f
 zip_both P Q one (x ∷ xs) [] f g = absurd f
-zip_both {X} P Q one (x ∷ xs) (y ∷ ys) f g = ap₂ (λ (z : X) zs. z ∷ zs) (one x y f.0 g.0) (zip_both P Q one xs ys f.1 g.1)
+zip_both {X} P Q one (x ∷ xs) (y ∷ ys) f g =
+    ap₂ (λ (z : X) zs. z ∷ zs) (one x y f.0 g.0) (zip_both P Q one xs ys f.1 g.1)

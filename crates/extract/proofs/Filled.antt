@@ -197,12 +197,10 @@ assumed_more assumptions i first old new d e below before none puts value stands
             not_there first old l.variable before.keeps none,
             record {
               positive = l.positive;
-              assumed =
-                  assumed_first assumptions i d l.variable below unassumed refl;
+              assumed = assumed_first assumptions i d l.variable below unassumed refl;
               edge = edge;
               stands = stands;
-              value =
-                  value;
+              value = value;
             },
           )))
           (λ was. before.edges x f was)

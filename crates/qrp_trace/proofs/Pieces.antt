@@ -110,8 +110,7 @@ module _ {S : Type 0} (written flushed : S → Option (List ℕ)) (faults : S �
         kept = kept;
         later = cause.later;
         rose = cause.failed;
-        no_room =
-            λ n le h. false≢true (room n le h).0;
+        no_room = λ n le h. false≢true (room n le h).0;
       }
 
   -- what the writer of the whole says
@@ -126,8 +125,7 @@ module _ {S : Type 0} (written flushed : S → Option (List ℕ)) (faults : S �
       record {
         count = length t;
         within = omega arith;
-        appended =
-            subst (Appends (written a) (written b)) (sym (take_all (length t) t (omega arith))) h.appended;
+        appended = subst (Appends (written a) (written b)) (sym (take_all (length t) t (omega arith))) h.appended;
       }
   front_of (Err e) a b t h = h.front
 

@@ -142,8 +142,7 @@ has_place (x ∷ xs) a i =
       place = 0;
       within = omega arith;
       there = eqb-true x a t;
-      number =
-          cond-true (x == a) 1 (number_in xs a + 1) t;
+      number = cond-true (x == a) 1 (number_in xs a + 1) t;
     })
     (λ f. place_later x xs a f (has_place xs a
     (⊎_elim (λ e. absurd (true≢false (sym (eq-eqb x a e) ∙ f))) (λ j. j) (contains_cons x xs a i))))
@@ -246,8 +245,7 @@ module _ (d : State) (end : ℕ) (table : List Bool) (are : AreNeeded d end tabl
         user = s.id;
         stands = core_from d end s.id low b.live r.2;
         rests = rests;
-        later =
-            m.stands.earlier;
+        later = m.stands.earlier;
       }))
       (needed_used (steps_below d (end + 1)) end id t)
 

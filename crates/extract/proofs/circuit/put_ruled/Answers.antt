@@ -24,8 +24,7 @@ loop-v-preserved c =
             edges = turn.edges;
             keeps = turn.keeps;
             covers = turn.covers;
-            stand =
-                turn.stand;
+            stand = turn.stand;
             grows = turn.grows;
             size = turn.size;
           })),

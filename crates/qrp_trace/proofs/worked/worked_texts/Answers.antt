@@ -8,7 +8,6 @@ returns c = record {
   refutation_text = refl;
   assumed_text = refl;
   cube_text = refl;
-  empty_text =
-      refl;
+  empty_text = refl;
   greater_number_last = refl;
 }
