@@ -1,19 +1,19 @@
 -- The worked values, for either side.
-use Rattle.std.proofs.Common.{◌≡◌, zero, ℕ, suc, ◌<◌, ◌≤◌, List, Bool, true, false, [], ◌∷◌, Contains, Option, Some, None, refl, sym, subst, inl, inr, ⊎_elim, arith, ap, ◌∙◌}
-use Rattle.std.specs.Prelude.{IsTrue, IsFalse}
+use Rattle.std.proofs.Common.{◌≡◌, zero, ℕ, suc, ◌<◌, ◌≤◌, List, Bool, true, false, [], ◌∷◌, Contains, Some, None, refl, sym, subst, inl, inr, ⊎_elim, arith, ◌∙◌}
+use Rattle.std.specs.Prelude.{IsTrue}
 use Rattle.std.proofs.lemmas.Bool.{true≢false, false≢true}
 use Rattle.prefix.specs.declared.quant.Quant.{Quant}
 use Rattle.prefix.specs.declared.quant.Quant.TheVariants.{Exists, Forall}
 use Rattle.prefix.specs.Literal.{Literal}
 use Rattle.prefix.specs.Sides.{bad_of}
-use Rattle.calculus.specs.Rows.{Row, is_bad_at, is_pivot, reduce}
-use Rattle.calculus.specs.Search.{HasAssumptions, MakesUnitAt, Trail, cause_on, cut_trail, decision_level_on, must_stay, value_on}
+use Rattle.calculus.specs.Rows.{is_bad_at, is_pivot, reduce}
+use Rattle.calculus.specs.Search.{HasAssumptions, MakesUnitAt, Trail, cause_on, decision_level_on, must_stay}
 use Rattle.calculus.specs.Search.Cause.{Assumed}
 use Rattle.truth.specs.Truth.{assumed_value}
 use Rattle.calculus.specs.Worked.{plus}
 use Rattle.calculus.specs.WorkedSearch.{alternating, bad, three, with_last}
 use Rattle.calculus.proofs.Lists.{contains_cons, contains_nil}
-use Rattle.calculus.proofs.WorkingSearch.{clean_rows, units}
+use Rattle.calculus.proofs.WorkingSearch.{clean_rows}
 use Rattle.clean.proofs.Working.{blocked_stays, ours, theirs}
 use Rattle.analyse.specs.Worked.{WorkedLessons, WorkedLevels, one_between, two_decided}
 

@@ -1,6 +1,5 @@
-use Rattle.std.proofs.Common.{◌≡◌, ◌*◌, ◌+◌, ◌≤◌, ◌<◌, length, None, Err, sym, ap, subst, arith}
+use Rattle.std.proofs.Common.{◌*◌, ◌+◌, length, arith}
 use Rattle.std.proofs.lemmas.Result.{IfOk-weaker}
-use Rattle.steps.specs.Counter.{left}
 use Rattle.clean.specs.Marks.{marks_left}
 use Rattle.clean.proofs.Circling.{marks_size}
 use Rattle.clean.proofs.Looping.{spent_more, stops_more}
