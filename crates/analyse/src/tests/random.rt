@@ -22,13 +22,13 @@ impl Random {
         (self.last / 65536).checked_rem(bound).unwrap_or(0)
     }
 
-    // A row over some of six variables.
+    // A row over most of six variables.
     fn row(&mut self, alloc: Global) -> Result<Vec<Lit>, Fail> {
         let mut lits = Vec::new(alloc);
         for number in 1..7 {
             let drawn = self.below(5);
-            if drawn < 2 {
-                lits.push(Lit::new(variable(number)?, drawn == 0))?;
+            if drawn != 0 {
+                lits.push(Lit::new(variable(number)?, drawn % 2 == 0))?;
             }
         }
         Ok(lits)
@@ -157,9 +157,9 @@ impl<S: Side> Game<S> {
         }
     }
 
-    // Eight rows that are drawn, and six turns, as there are six variables.
+    // Rows that are drawn, and six turns, as there are six variables.
     fn play(&mut self, random: &mut Random) -> Result<(), Fail> {
-        for _row in 0..8 {
+        for _row in 0..32 {
             let lits = random.row(self.alloc)?;
             self.put(&lits)?;
         }
@@ -170,24 +170,33 @@ impl<S: Side> Game<S> {
     }
 }
 
-// Plays a game at random up to a conflict, if there is one, and analyses it; whether there was one.
+// A game over six variables, mostly of the side's pivot quantifier.
+fn game_of<S: Side>(alloc: Global, pivot_first: bool) -> Result<Game<S>, Fail> {
+    if pivot_first {
+        return Game::new(alloc, true, &[2, 1, 3]);
+    }
+    Game::new(alloc, false, &[1, 2, 1, 2])
+}
+
+// Plays a game at random up to a conflict, if there is one, and analyses it; whether that took a resolution.
 fn conflict_teaches<S: Side>(alloc: Global, seed: u32) -> Result<bool, Fail> {
     let mut random = Random { last: seed };
-    let mut game = Game::<S>::new(alloc, seed % 2 == 0, &[2, 1, 1, 2])?;
+    let mut steps = Steps::new(1000);
+    let mut game = game_of::<S>(alloc, seed % 2 == 0)?;
     game.play(&mut random)?;
     match game.bad_row() {
         None => Ok(false),
         Some(id) => {
-            let (told, learned) = game.board.analyse(id, &mut Steps::new(1000))?;
+            let (told, learned) = game.board.analyse(id, &mut steps)?;
             if !game.board.is_lesson(told, learned)? {
                 return Err("another lesson than the plain definitions")?;
             }
-            Ok(true)
+            Ok(steps.spent() > 0)
         }
     }
 }
 
-// At least fifty conflicts of one side.
+// At least fifty conflicts of one side that take a resolution.
 fn conflicts_teach<S: Side>(alloc: Global) -> Result<(), Fail> {
     let mut conflicts: u32 = 0;
     for seed in 0..200 {

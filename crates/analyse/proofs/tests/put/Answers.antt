@@ -11,6 +11,7 @@ returns-in_ok-input-in-Forall g c =
     let last = c.reduce.ensures in
     record {
       stored = reduced_stored g.S.Side.PIVOT scopes c.input_cube.new.self c.reduce.new.self c.reduce.result
-          (cube_stored g.S.Side.PIVOT scopes d c.input_cube.new.self c.args.lits.now c.requires.stored side c.requires.row input.gains input.legal)
+          (cube_stored g.S.Side.PIVOT scopes d c.input_cube.new.self c.args.lits.now c.requires.stored side
+          c.requires.row input.gains input.legal)
           last.gains last.legal last.err;
     }

@@ -9,4 +9,5 @@ invariant_of-self g c =
     let d = c.self.inside.derivation in
     let t = c.self.inside.trail in
     called_ready g.S.Side.PIVOT scopes d call.new.derivation t call.new.trail c.self.invariant
-    (by_cleaning scopes d call.new.derivation t call.new.trail c.args.steps.now call.new.steps _ _ call.result e.counted e.err) e.reasons e.trail e.legal
+    (by_cleaning scopes d call.new.derivation t call.new.trail c.args.steps.now call.new.steps _ _ call.result
+    e.counted e.err) e.reasons e.trail e.legal
