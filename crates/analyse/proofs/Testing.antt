@@ -1,4 +1,4 @@
--- What the tests' helpers look at, one literal further.
+-- What the tests look at before a call, and what calls keep.
 use Rattle.std.proofs.Common.{◌≡◌, ℕ, ◌<◌, ◌≤◌, true, false, List, [], ◌∷◌, ◌++◌, length, map, take, get_or, Contains, Option, Some, None, Ok, Err, refl, sym, subst, ap, ◌∙◌, ⊎_elim, arith}
 use Rattle.std.specs.Prelude.{is_some, IsTrue, IsFalse, IfOk, OnErr, OnOk, Result}
 use Rattle.std.proofs.lemmas.Bool.{true≢false, false≢true}
@@ -15,8 +15,7 @@ use Rattle.calculus.specs.Derivations.{Hits, Why}
 use Rattle.calculus.specs.Derivations.Why.{Given, ReducedFrom, ResolvedFrom, FinishedFrom}
 use Rattle.calculus.specs.Search.{Cause, IsBadRow, IsPending, Trail, is_bad_now, value_on}
 use Rattle.calculus.proofs.Ascending.{Below, IsAscendingRow, pairs_to}
-use Rattle.calculus.proofs.Lists.{contains_nil, pairs_nil}
-use Rattle.trail.specs.declared.allowed.Allowed.TheVariants.{Anything}
+use Rattle.calculus.proofs.Lists.{contains_nil}
 use Rattle.trail.specs.State.{TrailState, IsPropagated, IsTrailFor, with_literal}
 use Rattle.derive.specs.State.{Note, OpenClause, State, clauses_of, has_rows, is_live, is_step, may_be_antecedent, note_at, open_clauses, row_of, side_at, side_in, why_at, why_in, IsLegalFor}
 use Rattle.derive.specs.Told.{told}
@@ -24,7 +23,7 @@ use Rattle.derive.specs.Growing.{GainsSteps}
 use Rattle.clean.specs.Marks.{CleansReasons, KeepsReasons, StopsCleaning}
 use Rattle.clean.specs.Reasons.{HaveReasons, IsReducedStep}
 use Rattle.clean.specs.Cleaning.{MayReplace, Replaces}
-use Rattle.clean.proofs.Reasoning.{assigned_have, none_have}
+use Rattle.clean.proofs.Reasoning.{assigned_have}
 use Rattle.analyse.specs.Tested.{HasUnitRow, IsReady, IsStored, MayPend, is_finished}
 
 -- rows
@@ -32,13 +31,6 @@ pub record IsRowSoFar (scopes : List Scope) (row : Row) (last : ℕ) : Type 0 wh
   pub ascending : IsAscendingRow row
   pub over_prefix : (l : Literal) → Contains row l → Contains (all_variables scopes) l.variable
   pub below : (l : Literal) → Contains row l → l.variable ≤ last
-
-pub row_nil : (scopes : List Scope) → IsRowSoFar scopes [] 0
-row_nil scopes = record {
-  ascending = pairs_nil Below;
-  over_prefix = λ l i. absurd (contains_nil l i);
-  below = λ l i. absurd (contains_nil l i);
-}
 
 pub row_more : (scopes : List Scope) (row : Row) (last : ℕ) (v : Literal) (next : ℕ) → IsRowSoFar scopes row last
     → Contains (all_variables scopes) v.variable → last < v.variable → next ≡ v.variable
@@ -104,15 +96,6 @@ unfinished d id live told_not = by (note_at d id) live told_not
     by (Some note) l e = why note.side note.why note.tag e
 
 -- the trail
-pub first_ready : (pivot : Quant) (scopes : List Scope) (d : State) (t : TrailState) → IsStored pivot scopes d
-    → IsTrailFor scopes t → t.allowed ≡ Anything → t.placed ≡ [] → IsReady pivot scopes d t
-first_ready pivot scopes d t stored trail allowed empty = record {
-  stored = stored;
-  trail = trail;
-  allowed = allowed;
-  reasons = none_have pivot scopes d t empty;
-}
-
 pub assigned_ready : (pivot : Quant) (scopes : List Scope) (d : State) (t now : TrailState) (lit good : Literal)
     (cause : Cause) → IsReady pivot scopes d t → value_on t.placed lit.variable ≡ None → good.variable ≡ lit.variable
     → IsFalse (is_bad_at pivot good.positive lit) → HasUnitRow pivot scopes d t.placed lit cause

@@ -1,4 +1,4 @@
--- What the tests' helpers keep.
+-- What the tests keep, and what they look at before a call.
 use Rattle.std.specs.Prelude.{◌≡◌, ℕ, Bool, true, false, IsTrue, IsFalse, List, [], Option, ◌⊎◌}
 use Rattle.prefix.specs.declared.quant.Quant.{Quant}
 use Rattle.prefix.specs.declared.quant.Quant.TheVariants.{Forall}
