@@ -1,19 +1,19 @@
 -- The worked values, for either side.
-use Rattle.std.proofs.Common.{◌≡◌, zero, ℕ, suc, ◌<◌, ◌≤◌, List, Bool, true, false, [], ◌∷◌, Contains, Option, Some, None, refl, sym, subst, inl, inr, ⊎_elim, arith, ap, ◌∙◌}
-use Rattle.std.specs.Prelude.{IsTrue, IsFalse}
+use Rattle.std.proofs.Common.{◌≡◌, zero, ℕ, suc, ◌<◌, ◌≤◌, List, Bool, true, false, [], ◌∷◌, Contains, Some, None, refl, sym, subst, inl, inr, ⊎_elim, arith, ◌∙◌}
+use Rattle.std.specs.Prelude.{IsTrue}
 use Rattle.std.proofs.lemmas.Bool.{true≢false, false≢true}
 use Rattle.prefix.specs.declared.quant.Quant.{Quant}
 use Rattle.prefix.specs.declared.quant.Quant.TheVariants.{Exists, Forall}
 use Rattle.prefix.specs.Literal.{Literal}
 use Rattle.prefix.specs.Sides.{bad_of}
-use Rattle.calculus.specs.Rows.{Row, is_bad_at, is_pivot, reduce}
-use Rattle.calculus.specs.Search.{HasAssumptions, MakesUnitAt, Trail, cause_on, cut_trail, decision_level_on, must_stay, value_on}
+use Rattle.calculus.specs.Rows.{is_bad_at, is_pivot, reduce}
+use Rattle.calculus.specs.Search.{HasAssumptions, MakesUnitAt, Trail, cause_on, decision_level_on, must_stay}
 use Rattle.calculus.specs.Search.Cause.{Assumed}
 use Rattle.truth.specs.Truth.{assumed_value}
 use Rattle.calculus.specs.Worked.{plus}
 use Rattle.calculus.specs.WorkedSearch.{alternating, bad, three, with_last}
 use Rattle.calculus.proofs.Lists.{contains_cons, contains_nil}
-use Rattle.calculus.proofs.WorkingSearch.{clean_rows, units}
+use Rattle.calculus.proofs.WorkingSearch.{clean_rows}
 use Rattle.clean.proofs.Working.{blocked_stays, ours, theirs}
 use Rattle.analyse.specs.Worked.{WorkedLessons, WorkedLevels, one_between, two_decided}
 
@@ -40,7 +40,8 @@ both P a b l i =
 
 -- one literal of a level
 abbrev Counts : Quant → Trail → Literal → ℕ → Literal → Type 0
-Counts pivot trail unit level l = IsTrue (must_stay pivot (alternating pivot) unit l) → decision_level_on trail l.variable ≤ level
+Counts pivot trail unit level l = IsTrue (must_stay pivot (alternating pivot) unit l)
+    → decision_level_on trail l.variable ≤ level
 
 one_stays : (q : Quant) → must_stay q (alternating q) (plus 3) (plus 1) ≡ true
 one_stays Exists = refl
@@ -69,13 +70,18 @@ bad_is Forall x = refl
 pub levels : (pivot : Quant) → WorkedLevels pivot
 levels pivot = record {
   level = record {
-    bound = each (Counts pivot (with_last pivot (bad pivot 3)) (plus 3) 1) (λ s. (let h : 1 ≤ 1 = omega arith in h)) (λ s. (let h : 1 ≤ 1 = omega arith in h)) (λ s. absurd (true≢false (sym s ∙ three_goes pivot)));
+    bound = each (Counts pivot (with_last pivot (bad pivot 3)) (plus 3) 1) (λ s. (let h : 1 ≤ 1 = omega arith in h))
+        (λ s. (let h : 1 ≤ 1 = omega arith in h)) (λ s. absurd (true≢false (sym s ∙ three_goes pivot)));
     reached = inr (plus 1, first, one_stays pivot, refl);
   };
   too_low = λ level. let h : 1 ≤ 0 = level.bound (plus 1) first (one_stays pivot) in omega arith;
-  too_high = λ level. ⊎_elim (λ (e : 2 ≡ 0). omega arith) (λ r. each (λ l. IsTrue (must_stay pivot (alternating pivot) (plus 3) l) → decision_level_on (with_last pivot (bad pivot 3)) l.variable ≡ 2 → ⊥) (λ s (e : 1 ≡ 2). omega arith) (λ s (e : 1 ≡ 2). omega arith) (λ s e. true≢false (sym s ∙ three_goes pivot)) r.0 r.1 r.2 r.3) level.reached;
+  too_high = λ level. ⊎_elim (λ (e : 2 ≡ 0). omega arith)
+      (λ r. each (λ l. IsTrue (must_stay pivot (alternating pivot) (plus 3) l)
+      → decision_level_on (with_last pivot (bad pivot 3)) l.variable ≡ 2 → ⊥) (λ s (e : 1 ≡ 2). omega arith)
+      (λ s (e : 1 ≡ 2). omega arith) (λ s e. true≢false (sym s ∙ three_goes pivot)) r.0 r.1 r.2 r.3) level.reached;
   later_scope = record {
-    bound = both (Counts pivot (two_decided pivot) (plus 1) 0) (λ s. absurd (true≢false (sym s ∙ one_goes pivot))) (λ s. absurd (true≢false (sym s ∙ two_goes pivot)));
+    bound = both (Counts pivot (two_decided pivot) (plus 1) 0) (λ s. absurd (true≢false (sym s ∙ one_goes pivot)))
+        (λ s. absurd (true≢false (sym s ∙ two_goes pivot)));
     reached = inl refl;
   };
   first = record {
@@ -89,17 +95,29 @@ levels pivot = record {
     at_one = record { below = (let h : 1 < 3 = omega arith in h); unit = (clean_rows pivot).unit_at_one.unit }
 
     least_one : (b : ℕ) → MakesUnitAt pivot (alternating pivot) (one_between pivot) three (plus 3) b → 1 ≤ b
-    least_one zero makes = absurd ((clean_rows pivot).not_at_none (record { below = (let h : 0 < 2 = omega arith in h); unit = makes.unit }))
+    least_one zero makes = absurd ((clean_rows pivot).not_at_none
+        (record { below = (let h : 0 < 2 = omega arith in h); unit = makes.unit }))
     least_one (suc b) makes = (let h : 1 ≤ suc b = omega arith in h)
 
 pub lessons : (pivot : Quant) → WorkedLessons pivot
 lessons pivot = record {
-  learn = (record { step = refl; of_side = refl; reduced = blocked_stays pivot }, record { makes = (clean_rows pivot).unit_at_one; least = λ b makes. least_one b makes });
+  learn = (
+    record {
+      step = refl;
+      of_side = refl;
+      reduced = blocked_stays pivot;
+    },
+    record {
+      makes = (clean_rows pivot).unit_at_one;
+      least = λ b makes. least_one b makes;
+    },
+  );
   other_level = λ lesson. (clean_rows pivot).not_at_none lesson.1.makes;
   end = (
     record { step = refl; of_side = refl; reduced = lone_stays pivot },
     λ assumptions has. record {
-      pivots = λ l i p. let e : plus 2 ≡ l = alone l i in absurd (true≢false (sym p ∙ subst (λ m. is_pivot pivot (alternating pivot) m ≡ false) e (theirs pivot)));
+      pivots = λ l i p. let e : plus 2 ≡ l = alone l i in
+          absurd (true≢false (sym p ∙ subst (λ m. is_pivot pivot (alternating pivot) m ≡ false) e (theirs pivot)));
       bad = λ l b i is. by_value assumptions has l b (alone l i) is;
     },
   );
@@ -113,11 +131,15 @@ lessons pivot = record {
     alone : (l : Literal) → Contains (plus 2 ∷ []) l → plus 2 ≡ l
     alone l i = ⊎_elim (λ e. e) (λ n. absurd (contains_nil l n)) (contains_cons (plus 2) [] l i)
 
-    by_value : (assumptions : List Literal) → HasAssumptions (with_last pivot (bad pivot 3)) assumptions → (l : Literal) (b : Bool) → plus 2 ≡ l → assumed_value assumptions l.variable ≡ Some b → IsTrue (is_bad_at pivot b l)
+    by_value : (assumptions : List Literal) → HasAssumptions (with_last pivot (bad pivot 3)) assumptions
+        → (l : Literal) (b : Bool) → plus 2 ≡ l → assumed_value assumptions l.variable ≡ Some b
+        → IsTrue (is_bad_at pivot b l)
     by_value assumptions has l b e is =
-        let value : Some (bad_of pivot) ≡ Some b = has.values 2 b (subst (λ (m : Literal). assumed_value assumptions m.variable ≡ Some b) (sym e) is) in
+        let value : Some (bad_of pivot) ≡ Some b =
+        has.values 2 b (subst (λ (m : Literal). assumed_value assumptions m.variable ≡ Some b) (sym e) is) in
         let same : bad_of pivot ≡ b = cc in
-        subst (λ (m : Literal). is_bad_at pivot b m ≡ true) e (subst (λ v. is_bad_at pivot v (plus 2) ≡ true) same (bad_is pivot 2))
+        subst (λ (m : Literal). is_bad_at pivot b m ≡ true) e (subst
+        (λ v. is_bad_at pivot v (plus 2) ≡ true) same (bad_is pivot 2))
 
     none : HasAssumptions (with_last pivot (bad pivot 3)) []
     none = record {

@@ -1,3 +1,4 @@
 pub mod Levels
 pub mod Lessons
 pub mod Worked
+pub mod Tested

@@ -1,5 +1,5 @@
 -- Worked values: the row 1 2 3 of either side on small trails, and what it teaches.
-use Rattle.std.specs.Prelude.{ℕ, List, [], ◌∷◌}
+use Rattle.std.specs.Prelude.{[], ◌∷◌}
 use Rattle.prefix.specs.declared.quant.Quant.{Quant}
 use Rattle.calculus.specs.Search.{Trail}
 use Rattle.calculus.specs.Search.Cause.{Decided, Propagated}

@@ -27,7 +27,18 @@ use Rattle.clean.proofs.Moving.{caused, marked_own, marks_more, places, same_lit
 -- marks, one after the other
 
 pub marks_none : (t : TrailState) → MarksMore t t 0
-marks_none t = record { kinds = refl; depths = refl; long = refl; finished = refl; assigned = refl; room = refl; allowed = refl; stay = λ x on. (on, refl); others = λ x off. refl; marked = omega arith }
+marks_none t = record {
+  kinds = refl;
+  depths = refl;
+  long = refl;
+  finished = refl;
+  assigned = refl;
+  room = refl;
+  allowed = refl;
+  stay = λ x on. (on, refl);
+  others = λ x off. refl;
+  marked = omega arith;
+}
 
 off_before : (b c : Bool) → (b ≡ true → c ≡ true) → c ≡ false → b ≡ false
 off_before true c up off = absurd (true≢false (sym (up refl) ∙ off))
@@ -43,7 +54,8 @@ marks_twice a b c m n first second = record {
   room = second.room ∙ first.room;
   allowed = second.allowed ∙ first.allowed;
   stay = λ x on. let one = first.stay x on in let two = second.stay x one.0 in (two.0, two.1 ∙ one.1);
-  others = λ x off. let middle = off_before (is_marked b x) (is_marked c x) (λ on. (second.stay x on).0) off in second.others x off ∙ first.others x middle;
+  others = λ x off. let middle = off_before (is_marked b x) (is_marked c x) (λ on. (second.stay x on).0) off in
+      second.others x off ∙ first.others x middle;
   marked = let one = first.marked in let two = second.marked in omega arith;
 }
 
@@ -65,13 +77,15 @@ few_marks (b ∷ bs) (suc n) =
     (λ f. let one = cond-false b (suc (marks_in (take n bs))) (marks_in (take n bs)) f in omega arith)
     (cases_Bool b)
 
-gap : (bs : List Bool) (a b : ℕ) → a < b → get_or bs a false ≡ false → marks_in (take b bs) + a + 1 ≤ marks_in (take a bs) + b
+gap : (bs : List Bool) (a b : ℕ) → a < b → get_or bs a false ≡ false
+    → marks_in (take b bs) + a + 1 ≤ marks_in (take a bs) + b
 gap [] a zero below off = absurd (omega arith)
 gap [] zero (suc b) below off = omega arith
 gap [] (suc a) (suc b) below off = omega arith
 gap (m ∷ bs) a zero below off = absurd (omega arith)
 gap (m ∷ bs) zero (suc b) below off =
-    let none : marks_in (m ∷ take b bs) ≡ marks_in (take b bs) = cond-false m (suc (marks_in (take b bs))) (marks_in (take b bs)) off in
+    let none : marks_in (m ∷ take b bs) ≡ marks_in (take b bs) =
+    cond-false m (suc (marks_in (take b bs))) (marks_in (take b bs)) off in
     let is : marks_in (take (suc b) (m ∷ bs)) ≡ marks_in (m ∷ take b bs) = refl in
     let few = few_marks bs b in
     omega arith
@@ -80,19 +94,25 @@ gap (m ∷ bs) (suc a) (suc b) below off =
     let is : marks_in (take (suc b) (m ∷ bs)) ≡ marks_in (m ∷ take b bs) = refl in
     let too : marks_in (take (suc a) (m ∷ bs)) ≡ marks_in (m ∷ take a bs) = refl in
     ⊎_elim
-    (λ t. let one = cond-true m (suc (marks_in (take b bs))) (marks_in (take b bs)) t in let two = cond-true m (suc (marks_in (take a bs))) (marks_in (take a bs)) t in omega arith)
-    (λ f. let one = cond-false m (suc (marks_in (take b bs))) (marks_in (take b bs)) f in let two = cond-false m (suc (marks_in (take a bs))) (marks_in (take a bs)) f in omega arith)
+    (λ t. let one = cond-true m (suc (marks_in (take b bs))) (marks_in (take b bs)) t in
+    let two = cond-true m (suc (marks_in (take a bs))) (marks_in (take a bs)) t in omega arith)
+    (λ f. let one = cond-false m (suc (marks_in (take b bs))) (marks_in (take b bs)) f in
+    let two = cond-false m (suc (marks_in (take a bs))) (marks_in (take a bs)) f in omega arith)
     (cases_Bool m)
 
-pub frames_few : (pivot : Quant) (scopes : List Scope) (d : State) (t : TrailState) (above : ℕ) (fs : List Frame) → AreFrames pivot scopes d t above fs → marks_in (take above t.marks) + length fs ≤ above
-frames_few pivot scopes d t above [] are = let few = few_marks t.marks above in let none : length {A = Frame} [] ≡ 0 = refl in omega arith
+pub frames_few : (pivot : Quant) (scopes : List Scope) (d : State) (t : TrailState) (above : ℕ) (fs : List Frame)
+    → AreFrames pivot scopes d t above fs → marks_in (take above t.marks) + length fs ≤ above
+frames_few pivot scopes d t above [] are = let few = few_marks t.marks above in
+    let none : length {A = Frame} [] ≡ 0 = refl in omega arith
 frames_few pivot scopes d t above (f ∷ fs) are =
     let later = frames_few pivot scopes d t (place_on t.placed f.var) fs are.2 in
     let more = gap t.marks (place_on t.placed f.var) above are.0 are.1.unmarked in
     let long : length (f ∷ fs) ≡ suc (length fs) = refl in
     omega arith
 
-pub all_few : (pivot : Quant) (scopes : List Scope) (d : State) (t : TrailState) (fs : List Frame) → length t.marks ≡ length t.placed → AreFrames pivot scopes d t (length t.placed) fs → marks_in t.marks + length fs ≤ length t.placed
+pub all_few : (pivot : Quant) (scopes : List Scope) (d : State) (t : TrailState) (fs : List Frame)
+    → length t.marks ≡ length t.placed → AreFrames pivot scopes d t (length t.placed) fs
+    → marks_in t.marks + length fs ≤ length t.placed
 all_few pivot scopes d t fs long are =
     let few = frames_few pivot scopes d t (length t.placed) fs are in
     let whole : take (length t.placed) t.marks ≡ t.marks = take_all (length t.placed) t.marks (omega arith) in
@@ -111,11 +131,16 @@ spots trail (f ∷ fs) = place_on trail f.var + spots trail fs
 
 lefts_more : (fs : List Frame) (f : Frame) → lefts (fs ++ f ∷ []) ≡ lefts fs + f.left
 lefts_more [] f = omega arith
-lefts_more (g ∷ fs) f = let later = lefts_more fs f in let is : lefts ((g ∷ fs) ++ f ∷ []) ≡ g.left + lefts (fs ++ f ∷ []) = refl in let too : lefts (g ∷ fs) ≡ g.left + lefts fs = refl in omega arith
+lefts_more (g ∷ fs) f = let later = lefts_more fs f in
+    let is : lefts ((g ∷ fs) ++ f ∷ []) ≡ g.left + lefts (fs ++ f ∷ []) = refl in
+    let too : lefts (g ∷ fs) ≡ g.left + lefts fs = refl in omega arith
 
-spots_more : (trail : Trail) (fs : List Frame) (f : Frame) → spots trail (fs ++ f ∷ []) ≡ spots trail fs + place_on trail f.var
+spots_more : (trail : Trail) (fs : List Frame) (f : Frame)
+    → spots trail (fs ++ f ∷ []) ≡ spots trail fs + place_on trail f.var
 spots_more trail [] f = omega arith
-spots_more trail (g ∷ fs) f = let later = spots_more trail fs f in let is : spots trail ((g ∷ fs) ++ f ∷ []) ≡ place_on trail g.var + spots trail (fs ++ f ∷ []) = refl in let too : spots trail (g ∷ fs) ≡ place_on trail g.var + spots trail fs = refl in omega arith
+spots_more trail (g ∷ fs) f = let later = spots_more trail fs f in
+    let is : spots trail ((g ∷ fs) ++ f ∷ []) ≡ place_on trail g.var + spots trail (fs ++ f ∷ []) = refl in
+    let too : spots trail (g ∷ fs) ≡ place_on trail g.var + spots trail fs = refl in omega arith
 
 spots_same : (now t : Trail) (fs : List Frame) → literals_on now ≡ literals_on t → spots now fs ≡ spots t fs
 spots_same now t [] same = refl
@@ -126,7 +151,8 @@ times_more m n = omega arith
 
 pub times_sum : (a b n : ℕ) → (a + b) * n ≡ a * n + b * n
 times_sum zero b n = omega arith
-times_sum (suc a) b n = let later = times_sum a b n in let one : (suc a + b) * n ≡ n + (a + b) * n = omega arith in let two : suc a * n ≡ n + a * n = omega arith in omega arith
+times_sum (suc a) b n = let later = times_sum a b n in let one : (suc a + b) * n ≡ n + (a + b) * n = omega arith in
+    let two : suc a * n ≡ n + a * n = omega arith in omega arith
 
 pub times_most : (a b n : ℕ) → a ≤ b → a * n ≤ b * n
 times_most a b n most =
@@ -135,12 +161,14 @@ times_most a b n most =
     let sum = ap (λ m. m * n) is ∙ times_sum a k n in
     omega arith
 
-pub spots_few : (pivot : Quant) (scopes : List Scope) (d : State) (t : TrailState) (above most : ℕ) (fs : List Frame) → above ≤ most → AreFrames pivot scopes d t above fs → spots t.placed fs ≤ length fs * most
+pub spots_few : (pivot : Quant) (scopes : List Scope) (d : State) (t : TrailState) (above most : ℕ) (fs : List Frame)
+    → above ≤ most → AreFrames pivot scopes d t above fs → spots t.placed fs ≤ length fs * most
 spots_few pivot scopes d t above most [] fits are = omega arith
 spots_few pivot scopes d t above most (f ∷ fs) fits are =
     let place = are.0 in
     let later = spots_few pivot scopes d t (place_on t.placed f.var) most fs (omega arith) are.2 in
-    let one : length (f ∷ fs) * most ≡ (length fs + 1) * most = ap (λ n. n * most) (let e : length (f ∷ fs) ≡ length fs + 1 = omega arith in e) in
+    let one : length (f ∷ fs) * most ≡ (length fs + 1) * most = ap
+    (λ n. n * most) (let e : length (f ∷ fs) ≡ length fs + 1 = omega arith in e) in
     let two = times_more (length fs) most in
     let is : spots t.placed (f ∷ fs) ≡ place_on t.placed f.var + spots t.placed fs = refl in
     omega arith
@@ -155,7 +183,8 @@ first_of [] = 0
 first_of (f ∷ fs) = f.var
 
 -- the state of the loop
-pub record IsUnderWay (pivot : Quant) (scopes : List Scope) (old now : State) (t0 t : TrailState) (before spent : Counter) (first stack : List Frame) : Type 0 where
+pub record IsUnderWay (pivot : Quant) (scopes : List Scope) (old now : State) (t0 t : TrailState)
+    (before spent : Counter) (first stack : List Frame) : Type 0 where
   pub made : ℕ
   pub taken : ℕ
   pub marks : MarksMore t0 t made
@@ -174,35 +203,46 @@ pub record IsUnderWay (pivot : Quant) (scopes : List Scope) (old now : State) (t
 -- where a resolution is due, one was due for the first reason
 module _ (pivot : Quant) (scopes : List Scope) where
   no_top : (rest : List Frame) (top : Frame) → rest ++ top ∷ [] ≡ [] → ⊥
-  no_top rest top e = let long = length_push rest top in let none : length (rest ++ top ∷ []) ≡ 0 = ap length e in omega arith
+  no_top rest top e = let long = length_push rest top in let none : length (rest ++ top ∷ []) ≡ 0 = ap length e in
+      omega arith
 
   alone : (rest : List Frame) (f top : Frame) → rest ++ top ∷ [] ≡ f ∷ [] → top ≡ f
   alone [] f top e = let same : top ∷ [] ≡ f ∷ [] = e in cc
   alone (g ∷ rest) f top e = absurd (no_top rest top (let same : g ∷ (rest ++ top ∷ []) ≡ f ∷ [] = e in cc))
 
-  first_due : (d : State) (t : TrailState) (first rest : List Frame) (top : Frame) → length first ≡ 1 → rest ++ top ∷ [] ≡ first → IsFrameBlocked pivot scopes d t top → IsFirstBlocked pivot scopes d t first
+  first_due : (d : State) (t : TrailState) (first rest : List Frame) (top : Frame) → length first ≡ 1
+      → rest ++ top ∷ [] ≡ first → IsFrameBlocked pivot scopes d t top → IsFirstBlocked pivot scopes d t first
   first_due d t [] rest top one is blocked = absurd (no_top rest top is)
   first_due d t (f ∷ []) rest top one is blocked = subst (IsFrameBlocked pivot scopes d t) (alone rest f top is) blocked
-  first_due d t (f ∷ g ∷ fs) rest top one is blocked = absurd (let more : length (f ∷ g ∷ fs) ≡ suc (suc (length fs)) = refl in omega arith)
+  first_due d t (f ∷ g ∷ fs) rest top one is blocked =
+      absurd (let more : length (f ∷ g ∷ fs) ≡ suc (suc (length fs)) = refl in omega arith)
 
-  pub was_due : (old now : State) (t0 t : TrailState) (before spent : Counter) (first stack : List Frame) → IsUnderWay pivot scopes old now t0 t before spent first stack → IsDue pivot scopes now t stack → IsFirstBlocked pivot scopes old t0 first
+  pub was_due : (old now : State) (t0 t : TrailState) (before spent : Counter) (first stack : List Frame)
+      → IsUnderWay pivot scopes old now t0 t before spent first stack → IsDue pivot scopes now t stack
+      → IsFirstBlocked pivot scopes old t0 first
   was_due old now t0 t before spent first stack is due =
       ⊎_elim
       (λ blocked. blocked)
       (λ others. ⊎_elim
       (λ same.
       first_due old t0 first due.rest due.top is.one (sym due.is ∙ same.0)
-      (subst (λ (u : TrailState). IsFrameBlocked pivot scopes old u due.top) same.2 (subst (λ (d : State). IsFrameBlocked pivot scopes d t due.top) same.1 due.blocked)))
+      (subst (λ (u : TrailState). IsFrameBlocked pivot scopes old u due.top) same.2 (subst
+      (λ (d : State). IsFrameBlocked pivot scopes d t due.top) same.1 due.blocked)))
       (λ none. absurd (no_top due.rest due.top (sym due.is ∙ none)))
       others)
       is.due
 
 -- what grows less
 abbrev pub weight : TrailState → List Frame → ℕ
-weight t stack = (length t.marks - (marks_in t.marks + length stack)) * (length t.placed + 1) + (lefts stack + length stack)
+weight t stack = (length t.marks - (marks_in t.marks + length stack)) * (length t.placed + 1) +
+    (lefts stack + length stack)
 
 -- one turn
-module _ (pivot : Quant) (scopes : List Scope) (old now new : State) (t0 t next : TrailState) (before spent later : Counter) (first stack then : List Frame) (is : IsUnderWay pivot scopes old now t0 t before spent first stack) (reasons : KeepsReasons scopes now new t next) (legal : IsLegalFor scopes new) (trail : IsTrailFor scopes next) (frames : AreFrames pivot scopes new next (length next.placed) then) where
+module _ (pivot : Quant) (scopes : List Scope) (old now new : State) (t0 t next : TrailState)
+    (before spent later : Counter) (first stack then : List Frame)
+    (is : IsUnderWay pivot scopes old now t0 t before spent first stack)
+    (reasons : KeepsReasons scopes now new t next) (legal : IsLegalFor scopes new) (trail : IsTrailFor scopes next)
+    (frames : AreFrames pivot scopes new next (length next.placed) then) where
   abbrev Next : Type 0
   Next = IsUnderWay pivot scopes old new t0 next before later first then × (weight next then < weight t stack)
 
@@ -212,19 +252,22 @@ module _ (pivot : Quant) (scopes : List Scope) (old now new : State) (t0 t next 
   then_few : marks_in next.marks + length then ≤ length next.placed
   then_few = all_few pivot scopes new next then trail.marked frames
 
-  lighter : (k n : ℕ) → length t.marks - (marks_in t.marks + length stack) ≡ suc k → k * n + n ≡ (length t.marks - (marks_in t.marks + length stack)) * n
+  lighter : (k n : ℕ) → length t.marks - (marks_in t.marks + length stack) ≡ suc k
+      → k * n + n ≡ (length t.marks - (marks_in t.marks + length stack)) * n
   lighter k n e = let one : suc k * n ≡ k * n + n = omega arith in sym one ∙ ap (λ m. m * n) (sym e)
 
   pub turns_marked : Marks now new t next stack then spent later → Next
-  turns_marked m =
-      let x = m.top.var in
-      let own = frames_less pivot scopes now t (length t.placed) then m.top (subst (AreFrames pivot scopes now t (length t.placed)) m.taken_off is.frames) in
+  turns_marked m = let x = m.top.var in
+      let own = frames_less pivot scopes now t (length t.placed) then m.top
+      (subst (AreFrames pivot scopes now t (length t.placed)) m.taken_off is.frames) in
       let was = own.1.propagated in
       let long = is.trail.marked in
-      let one : MarksMore t next 1 = subst (λ (s : TrailState). MarksMore t s 1) (sym m.marked) (marks_more t x m.top.row was.0 was.1 long own.1.unmarked) in
+      let one : MarksMore t next 1 = subst (λ (s : TrailState). MarksMore t s 1) (sym m.marked)
+      (marks_more t x m.top.row was.0 was.1 long own.1.unmarked) in
       let size = marks_size t0 t is.made is.marks in
       let next_size = marks_size t next 1 one in
-      let same : literals_on next.placed ≡ literals_on t.placed = ap (λ (s : TrailState). literals_on s.placed) m.marked ∙ same_literals t x m.top.row was.0 was.1 long in
+      let same : literals_on next.placed ≡ literals_on t.placed = ap
+      (λ (s : TrailState). literals_on s.placed) m.marked ∙ same_literals t x m.top.row was.0 was.1 long in
       let l = ap lefts m.taken_off ∙ lefts_more then m.top in
       let s = ap (spots t.placed) m.taken_off ∙ spots_more t.placed then m.top in
       let moved = spots_same next.placed t.placed then same in
@@ -250,14 +293,19 @@ module _ (pivot : Quant) (scopes : List Scope) (old now new : State) (t0 t next 
           due = ⊎_elim
               inl
               (λ others. ⊎_elim
-              (λ same. let alone : length then ≡ 0 = (let whole = ap length same.0 in let first_long = is.one in omega arith) in inr (inr (empty then alone)))
+              (λ same. let alone : length then ≡ 0 = (let whole = ap length same.0 in let first_long = is.one in
+              omega arith) in inr (inr (empty then alone)))
               (λ none. absurd (let whole : length stack ≡ 0 = ap length none in omega arith))
               others)
               is.due;
-          base = based then m.top (first_of first) (subst (HasBase t (first_of first)) m.taken_off is.base) (ap (λ (s : TrailState). is_marked s x) m.marked ∙ marked_own t x m.top.row was.0 was.1 long);
+          base = based then m.top (first_of first) (subst (HasBase t (first_of first)) m.taken_off is.base) (ap
+              (λ (s : TrailState). is_marked s x) m.marked ∙ marked_own t x m.top.row was.0 was.1 long);
         },
-        let left : length t.marks - (marks_in t.marks + length stack) ≡ length next.marks - (marks_in next.marks + length then) = omega arith in
-            let times_same : (length t.marks - (marks_in t.marks + length stack)) * (length t.placed + 1) ≡ (length next.marks - (marks_in next.marks + length then)) * (length next.placed + 1) = ap₂ (λ (m n : ℕ). m * n) left (ap (λ n. n + 1) (sym next_size)) in
+        let left : length t.marks - (marks_in t.marks + length stack) ≡ length next.marks -
+            (marks_in next.marks + length then) = omega arith in
+            let times_same : (length t.marks - (marks_in t.marks + length stack)) * (length t.placed + 1) ≡
+            (length next.marks - (marks_in next.marks + length then)) * (length next.placed + 1) = ap₂
+            (λ (m n : ℕ). m * n) left (ap (λ n. n + 1) (sym next_size)) in
             omega arith,
       )
     where
@@ -265,28 +313,36 @@ module _ (pivot : Quant) (scopes : List Scope) (old now new : State) (t0 t next 
       empty [] e = refl
       empty (f ∷ fs) e = absurd (let more : length (f ∷ fs) ≡ suc (length fs) = refl in omega arith)
 
-      based : (fs : List Frame) (f : Frame) (x : ℕ) → HasBase t x (fs ++ f ∷ []) → IsTrue (is_marked next f.var) → HasBase next x fs
+      based : (fs : List Frame) (f : Frame) (x : ℕ) → HasBase t x (fs ++ f ∷ []) → IsTrue (is_marked next f.var)
+          → HasBase next x fs
       based [] f x has on = ap (is_marked next) (sym has) ∙ on
       based (g ∷ fs) f x has on = has
 
-  base_same : (fs gs : List Frame) (f g : Frame) (x : ℕ) → HasBase t x (fs ++ f ∷ []) → g.var ≡ f.var → HasBase next x (fs ++ g ∷ gs)
+  base_same : (fs gs : List Frame) (f g : Frame) (x : ℕ) → HasBase t x (fs ++ f ∷ []) → g.var ≡ f.var
+      → HasBase next x (fs ++ g ∷ gs)
   base_same [] gs f g x has e = e ∙ has
   base_same (h ∷ fs) gs f g x has e = has
 
   pub turns_waits : IsDue pivot scopes now t stack → WaitsFor now new t next stack then spent later → Next
   turns_waits is_due w =
       let l = ap lefts (w.more ∙ ap (λ (fs : List Frame). fs ++ w.next ∷ []) (sym w.is)) ∙ lefts_more stack w.next in
-      let s = ap (spots t.placed) (w.more ∙ ap (λ (fs : List Frame). fs ++ w.next ∷ []) (sym w.is)) ∙ spots_more t.placed stack w.next in
+      let s = ap (spots t.placed) (w.more ∙ ap (λ (fs : List Frame). fs ++ w.next ∷ []) (sym w.is))
+      ∙ spots_more t.placed stack w.next in
       let few = is.few in
       let whole = w.whole in
-      let own = (frames_less pivot scopes now t (length t.placed) w.rest w.top (subst (AreFrames pivot scopes now t (length t.placed)) w.is is.frames)).1.propagated in
-      let place : place_on t.placed w.top.var < length t.placed = place_some t.placed w.top.var (caused t.placed w.top.var _ own.1) in
+      let own = (frames_less pivot scopes now t (length t.placed) w.rest w.top
+      (subst (AreFrames pivot scopes now t (length t.placed)) w.is is.frames)).1.propagated in
+      let place : place_on t.placed w.top.var < length t.placed =
+      place_some t.placed w.top.var (caused t.placed w.top.var _ own.1) in
       let earlier = w.earlier in
-      let moved : spots next.placed then ≡ spots t.placed then = ap (λ (s : TrailState). spots s.placed then) w.same_trail in
-      let longer : length then ≡ length stack + 1 = ap length (w.more ∙ ap (λ (fs : List Frame). fs ++ w.next ∷ []) (sym w.is)) ∙ length_push stack w.next in
+      let moved : spots next.placed then ≡ spots t.placed then = ap
+      (λ (s : TrailState). spots s.placed then) w.same_trail in
+      let longer : length then ≡ length stack + 1 =
+      ap length (w.more ∙ ap (λ (fs : List Frame). fs ++ w.next ∷ []) (sym w.is)) ∙ length_push stack w.next in
       let size : length next.placed ≡ length t.placed = ap (λ (s : TrailState). length s.placed) w.same_trail in
       let marks_size_same : length next.marks ≡ length t.marks = ap (λ (s : TrailState). length s.marks) w.same_trail in
-      let marks_same : marks_in next.marks ≡ marks_in t.marks = ap (λ (s : TrailState). marks_in s.marks) w.same_trail in
+      let marks_same : marks_in next.marks ≡ marks_in t.marks = ap
+      (λ (s : TrailState). marks_in s.marks) w.same_trail in
       let long = is.trail.marked in
       let most = then_few in (
         record {
@@ -303,23 +359,26 @@ module _ (pivot : Quant) (scopes : List Scope) (old now new : State) (t0 t next 
           frames = frames;
           one = is.one;
           due = inl (was_due pivot scopes old now t0 t before spent first stack is is_due);
-          base = subst (HasBase next (first_of first)) (sym (w.more ∙ append_assoc w.rest (w.top ∷ []) (w.next ∷ []))) (base_same w.rest (w.next ∷ []) w.top w.top (first_of first) (subst (HasBase t (first_of first)) w.is is.base) refl);
+          base = subst (HasBase next (first_of first)) (sym (w.more ∙ append_assoc w.rest (w.top ∷ []) (w.next ∷ [])))
+              (base_same w.rest (w.next ∷ []) w.top w.top (first_of first)
+              (subst (HasBase t (first_of first)) w.is is.base) refl);
         },
         let k : ℕ = length next.marks - (marks_in next.marks + length then) in
             let less : length t.marks - (marks_in t.marks + length stack) ≡ suc k = omega arith in
             let heavy = lighter k (length t.placed + 1) less in
-            let times_same : (length next.marks - (marks_in next.marks + length then)) * (length next.placed + 1) ≡ k * (length t.placed + 1) = ap (λ n. k * (n + 1)) size in
+            let times_same : (length next.marks - (marks_in next.marks + length then)) * (length next.placed + 1)
+            ≡ k * (length t.placed + 1) = ap (λ n. k * (n + 1)) size in
             omega arith,
       )
 
   pub turns_turned : IsDue pivot scopes now t stack → TurnsTop scopes now new t next stack then spent later → Next
-  turns_turned is_due r =
-      let l = ap lefts r.is ∙ lefts_more r.rest r.top in
+  turns_turned is_due r = let l = ap lefts r.is ∙ lefts_more r.rest r.top in
       let m = ap lefts r.turned ∙ lefts_more r.rest r.next in
       let s = ap (spots t.placed) r.is ∙ spots_more t.placed r.rest r.top in
       let n = ap (spots t.placed) r.turned ∙ spots_more t.placed r.rest r.next in
       let place : place_on t.placed r.next.var ≡ place_on t.placed r.top.var = ap (place_on t.placed) r.same_variable in
-      let moved : spots next.placed then ≡ spots t.placed then = ap (λ (s : TrailState). spots s.placed then) r.same_trail in
+      let moved : spots next.placed then ≡ spots t.placed then = ap
+      (λ (s : TrailState). spots s.placed then) r.same_trail in
       let few = is.few in
       let fewer = r.fewer in
       let longer : length stack ≡ length r.rest + 1 = ap length r.is ∙ length_push r.rest r.top in
@@ -338,10 +397,15 @@ module _ (pivot : Quant) (scopes : List Scope) (old now new : State) (t0 t next 
           frames = frames;
           one = is.one;
           due = inl (was_due pivot scopes old now t0 t before spent first stack is is_due);
-          base = subst (HasBase next (first_of first)) (sym r.turned) (base_same r.rest [] r.top r.next (first_of first) (subst (HasBase t (first_of first)) r.is is.base) r.same_variable);
+          base = subst (HasBase next (first_of first)) (sym r.turned)
+              (base_same r.rest [] r.top r.next (first_of first)
+              (subst (HasBase t (first_of first)) r.is is.base) r.same_variable);
         },
         let size : length stack ≡ length then = omega arith in
-            let times_same : (length next.marks - (marks_in next.marks + length then)) * (length next.placed + 1) ≡ (length t.marks - (marks_in t.marks + length stack)) * (length t.placed + 1) = ap₂ (λ (s : TrailState) (n : ℕ). (length s.marks - (marks_in s.marks + n)) * (length s.placed + 1)) r.same_trail (sym size) in
+            let times_same : (length next.marks - (marks_in next.marks + length then)) * (length next.placed + 1) ≡
+            (length t.marks - (marks_in t.marks + length stack)) * (length t.placed + 1) = ap₂
+            (λ (s : TrailState) (n : ℕ). (length s.marks - (marks_in s.marks + n)) * (length s.placed + 1))
+            r.same_trail (sym size) in
             omega arith,
       )
 
@@ -352,9 +416,14 @@ module _ (pivot : Quant) (scopes : List Scope) (old now new : State) (t0 t next 
 
 -- the ways out
 
-pub starts_under_way : (pivot : Quant) (scopes : List Scope) (d : State) (t : TrailState) (c : Counter) (stack : List Frame) → IsTrue (has_rows d) → IsLegalFor scopes d → IsTrailFor scopes t → HaveReasons pivot scopes d t → AreFrames pivot scopes d t (length t.placed) stack → length stack ≡ 1 → IsUnderWay pivot scopes d d t t c c stack stack
-starts_under_way pivot scopes d t c [] rows legal trail have frames one = absurd (let none : length {A = Frame} [] ≡ 0 = refl in omega arith)
-starts_under_way pivot scopes d t c (g ∷ h ∷ fs) rows legal trail have frames one = absurd (let more : length (g ∷ h ∷ fs) ≡ suc (suc (length fs)) = refl in omega arith)
+pub starts_under_way : (pivot : Quant) (scopes : List Scope) (d : State) (t : TrailState) (c : Counter)
+    (stack : List Frame) → IsTrue (has_rows d) → IsLegalFor scopes d → IsTrailFor scopes t
+    → HaveReasons pivot scopes d t → AreFrames pivot scopes d t (length t.placed) stack → length stack ≡ 1
+    → IsUnderWay pivot scopes d d t t c c stack stack
+starts_under_way pivot scopes d t c [] rows legal trail have frames one =
+    absurd (let none : length {A = Frame} [] ≡ 0 = refl in omega arith)
+starts_under_way pivot scopes d t c (g ∷ h ∷ fs) rows legal trail have frames one =
+    absurd (let more : length (g ∷ h ∷ fs) ≡ suc (suc (length fs)) = refl in omega arith)
 starts_under_way pivot scopes d t c (f ∷ []) rows legal trail have frames one = record {
   made = 0;
   taken = 0;
@@ -372,12 +441,16 @@ starts_under_way pivot scopes d t c (f ∷ []) rows legal trail have frames one 
   due = inr (inl (refl, refl, refl));
 }
 
-pub ends_marked : (t : TrailState) (first : List Frame) → length first ≡ 1 → HasBase t (first_of first) [] → AreMarkedOn t first
+pub ends_marked : (t : TrailState) (first : List Frame) → length first ≡ 1 → HasBase t (first_of first) []
+    → AreMarkedOn t first
 ends_marked t [] one has = tt
 ends_marked t (f ∷ []) one has = (has, tt)
-ends_marked t (f ∷ g ∷ fs) one has = absurd (let more : length (f ∷ g ∷ fs) ≡ suc (suc (length fs)) = refl in omega arith)
+ends_marked t (f ∷ g ∷ fs) one has = absurd (let more : length (f ∷ g ∷ fs) ≡ suc (suc (length fs)) = refl in
+    omega arith)
 
-pub ends_clean : (pivot : Quant) (scopes : List Scope) (old now : State) (t0 t : TrailState) (before spent : Counter) (first : List Frame) → IsUnderWay pivot scopes old now t0 t before spent first [] → CleansReasons scopes old now t0 t before spent 0
+pub ends_clean : (pivot : Quant) (scopes : List Scope) (old now : State) (t0 t : TrailState) (before spent : Counter)
+    (first : List Frame) → IsUnderWay pivot scopes old now t0 t before spent first []
+    → CleansReasons scopes old now t0 t before spent 0
 ends_clean pivot scopes old now t0 t before spent first is = record {
   made = is.made;
   taken = is.taken;
@@ -388,7 +461,10 @@ ends_clean pivot scopes old now t0 t before spent first is = record {
 }
 
 -- a step is due: fewer were taken than the square of the trail's length
-pub under_square : (pivot : Quant) (scopes : List Scope) (old now : State) (t0 t : TrailState) (before spent : Counter) (first stack : List Frame) (is : IsUnderWay pivot scopes old now t0 t before spent first stack) → IsDue pivot scopes now t stack → is.taken + 1 ≤ marks_left t0 * length t0.placed
+pub under_square : (pivot : Quant) (scopes : List Scope) (old now : State) (t0 t : TrailState)
+    (before spent : Counter) (first stack : List Frame)
+    (is : IsUnderWay pivot scopes old now t0 t before spent first stack) → IsDue pivot scopes now t stack
+    → is.taken + 1 ≤ marks_left t0 * length t0.placed
 under_square pivot scopes old now t0 t before spent first stack is due =
     let size = marks_size t0 t is.made is.marks in
     let few = all_few pivot scopes now t stack is.trail.marked is.frames in
@@ -398,12 +474,17 @@ under_square pivot scopes old now t0 t before spent first stack is due =
     let parts = times_sum is.made (length stack) (length t0.placed) in
     let most = times_most (is.made + length stack) (marks_left t0) (length t0.placed) (omega arith) in
     let l = ap lefts due.is ∙ lefts_more due.rest due.top in
-    let top = (frames_less pivot scopes now t (length t.placed) due.rest due.top (subst (AreFrames pivot scopes now t (length t.placed)) due.is is.frames)).1 in
+    let top = (frames_less pivot scopes now t (length t.placed) due.rest due.top
+    (subst (AreFrames pivot scopes now t (length t.placed)) due.is is.frames)).1 in
     let some = top.blockers due.blocked.blocker due.blocked.blocked due.blocked.blocks in
     let counts = is.few in
     omega arith
 
-pub stops_clean : (pivot : Quant) (scopes : List Scope) (old now new : State) (t0 t next : TrailState) (before spent later : Counter) (first stack : List Frame) (is : IsUnderWay pivot scopes old now t0 t before spent first stack) → IsDue pivot scopes now t stack → next ≡ t → StopsAfter scopes 1 now new spent later → StopsCleaning scopes old new t0 next before later (marks_left t0 * length t0.placed)
+pub stops_clean : (pivot : Quant) (scopes : List Scope) (old now new : State) (t0 t next : TrailState)
+    (before spent later : Counter) (first stack : List Frame)
+    (is : IsUnderWay pivot scopes old now t0 t before spent first stack) → IsDue pivot scopes now t stack → next ≡ t
+    → StopsAfter scopes 1 now new spent later
+    → StopsCleaning scopes old new t0 next before later (marks_left t0 * length t0.placed)
 stops_clean pivot scopes old now new t0 t next before spent later first stack is due same stops =
     let square = under_square pivot scopes old now t0 t before spent first stack is due in
     let few = stops.few in
@@ -415,11 +496,13 @@ stops_clean pivot scopes old now new t0 t next before spent later first stack is
       marks = subst (λ (s : TrailState). MarksMore t0 s is.made) (sym same) is.marks;
       few = omega arith;
       fewer = omega arith;
-      counted = stops.counted ∙ (ap (λ (c : Counter). after c stops.taken) is.counted ∙ after_more before is.taken stops.taken);
+      counted = stops.counted ∙ (ap (λ (c : Counter). after c stops.taken) is.counted
+          ∙ after_more before is.taken stops.taken);
       resolves = resolves_more scopes old now new is.taken stops.came is.resolves stops.resolves;
     }
 
-pub spent_under : (before spent : Counter) (taken most : ℕ) → spent ≡ after before taken → spent.spent ≡ spent.budget → taken + 1 ≤ most → left before < most
+pub spent_under : (before spent : Counter) (taken most : ℕ) → spent ≡ after before taken → spent.spent ≡ spent.budget
+    → taken + 1 ≤ most → left before < most
 spent_under before spent taken most e full few =
     let s : spent.spent ≡ before.spent + taken = ap (λ (c : Counter). c.spent) e in
     let b : spent.budget ≡ before.budget = ap (λ (c : Counter). c.budget) e in
@@ -432,7 +515,8 @@ kinds_cause (p ∷ trail) x =
     let q : Placed = record { literal = p.literal; cause = kind_of p.cause } in
     ⊎_elim
     (λ t. cause_here q (kinds_on trail) x t ∙ sym (ap (option_map kind_of) (cause_here p trail x t)))
-    (λ f. cause_past q (kinds_on trail) x f ∙ (kinds_cause trail x ∙ sym (ap (option_map kind_of) (cause_past p trail x f))))
+    (λ f. cause_past q (kinds_on trail) x f ∙ (kinds_cause trail x
+    ∙ sym (ap (option_map kind_of) (cause_past p trail x f))))
     (cases_Bool (nat_eq p.literal.variable x))
 
 is_of_kind : (o : Option Cause) → option_map kind_of o ≡ Some (Propagated 0) → (id : ℕ) × (o ≡ Some (Propagated id))
@@ -441,9 +525,11 @@ is_of_kind (Some Assumed) e = absurd (let f : Some Assumed ≡ Some (Propagated 
 is_of_kind (Some Decided) e = absurd (let f : Some Decided ≡ Some (Propagated 0) = e in cc)
 is_of_kind (Some (Propagated id)) e = (id, refl)
 
-pub propagated_stays : (a b : TrailState) (m x : ℕ) → MarksMore a b m → IsPropagated a.placed x → IsPropagated b.placed x
+pub propagated_stays : (a b : TrailState) (m x : ℕ) → MarksMore a b m → IsPropagated a.placed x
+    → IsPropagated b.placed x
 propagated_stays a b m x more is =
-    is_of_kind (cause_on b.placed x) (sym (kinds_cause b.placed x) ∙ (ap (λ (t : Trail). cause_on t x) more.kinds ∙ (kinds_cause a.placed x ∙ ap (option_map kind_of) is.1)))
+    is_of_kind (cause_on b.placed x) (sym (kinds_cause b.placed x)
+    ∙ (ap (λ (t : Trail). cause_on t x) more.kinds ∙ (kinds_cause a.placed x ∙ ap (option_map kind_of) is.1)))
 
 pub same_placed : (a b : TrailState) (m : ℕ) → MarksMore a b m → literals_on b.placed ≡ literals_on a.placed
 same_placed a b m more =
@@ -455,8 +541,26 @@ same_placed a b m more =
     go (p ∷ trail) = ap (λ (ls : List Literal). p.literal ∷ ls) (go trail)
 
 -- nothing was done
-pub cleans_none : (scopes : List Scope) (d : State) (t : TrailState) (c : Counter) → IsTrue (has_rows d) → CleansReasons scopes d d t t c c 0
-cleans_none scopes d t c rows = record { made = 0; taken = 0; marks = marks_none t; few = omega arith; counted = after_none c; resolves = resolves_none scopes d rows }
+pub cleans_none : (scopes : List Scope) (d : State) (t : TrailState) (c : Counter) → IsTrue (has_rows d)
+    → CleansReasons scopes d d t t c c 0
+cleans_none scopes d t c rows = record {
+  made = 0;
+  taken = 0;
+  marks = marks_none t;
+  few = omega arith;
+  counted = after_none c;
+  resolves = resolves_none scopes d rows;
+}
 
-pub stops_none : (scopes : List Scope) (d : State) (t : TrailState) (c : Counter) (most : ℕ) → IsTrue (has_rows d) → StopsCleaning scopes d d t t c c most
-stops_none scopes d t c most rows = record { made = 0; taken = 0; came = 0; marks = marks_none t; few = omega arith; fewer = omega arith; counted = after_none c; resolves = resolves_none scopes d rows }
+pub stops_none : (scopes : List Scope) (d : State) (t : TrailState) (c : Counter) (most : ℕ) → IsTrue (has_rows d)
+    → StopsCleaning scopes d d t t c c most
+stops_none scopes d t c most rows = record {
+  made = 0;
+  taken = 0;
+  came = 0;
+  marks = marks_none t;
+  few = omega arith;
+  fewer = omega arith;
+  counted = after_none c;
+  resolves = resolves_none scopes d rows;
+}

@@ -28,30 +28,43 @@ abbrev pub lowest : TrailState → ℕ → List Frame → ℕ
 lowest t above [] = above
 lowest t above (f ∷ rest) = lowest t (place_on t.placed f.var) rest
 
-pub lowest_last : (t : TrailState) (above : ℕ) (fs : List Frame) (f : Frame) → lowest t above (fs ++ f ∷ []) ≡ place_on t.placed f.var
+pub lowest_last : (t : TrailState) (above : ℕ) (fs : List Frame) (f : Frame)
+    → lowest t above (fs ++ f ∷ []) ≡ place_on t.placed f.var
 lowest_last t above [] f = refl
 lowest_last t above (g ∷ fs) f = lowest_last t (place_on t.placed g.var) fs f
 
 module _ (pivot : Quant) (scopes : List Scope) (d : State) (t : TrailState) where
-  pub frames_more : (above : ℕ) (fs : List Frame) (f : Frame) → AreFrames pivot scopes d t above fs → IsFrame pivot scopes d t f → place_on t.placed f.var < lowest t above fs → AreFrames pivot scopes d t above (fs ++ f ∷ [])
+  pub frames_more : (above : ℕ) (fs : List Frame) (f : Frame) → AreFrames pivot scopes d t above fs
+      → IsFrame pivot scopes d t f → place_on t.placed f.var < lowest t above fs
+      → AreFrames pivot scopes d t above (fs ++ f ∷ [])
   frames_more above [] f are is below = (below, is, tt)
   frames_more above (g ∷ fs) f are is below = (are.0, are.1, frames_more (place_on t.placed g.var) fs f are.2 is below)
 
-  pub frames_less : (above : ℕ) (fs : List Frame) (f : Frame) → AreFrames pivot scopes d t above (fs ++ f ∷ []) → AreFrames pivot scopes d t above fs × IsFrame pivot scopes d t f × (place_on t.placed f.var < lowest t above fs)
+  pub frames_less : (above : ℕ) (fs : List Frame) (f : Frame) → AreFrames pivot scopes d t above (fs ++ f ∷ [])
+      → AreFrames pivot scopes d t above fs × IsFrame pivot scopes d t f ×
+      (place_on t.placed f.var < lowest t above fs)
   frames_less above [] f are = (tt, are.1, are.0)
-  frames_less above (g ∷ fs) f are = let later = frames_less (place_on t.placed g.var) fs f are.2 in ((are.0, are.1, later.0), later.1, later.2)
+  frames_less above (g ∷ fs) f are = let later = frames_less (place_on t.placed g.var) fs f are.2 in
+      ((are.0, are.1, later.0), later.1, later.2)
 
   pub lowest_most : (above : ℕ) (fs : List Frame) → AreFrames pivot scopes d t above fs → lowest t above fs ≤ above
   lowest_most above [] are = omega arith
-  lowest_most above (g ∷ fs) are = let later = lowest_most (place_on t.placed g.var) fs are.2 in let here = are.0 in omega arith
+  lowest_most above (g ∷ fs) are = let later = lowest_most (place_on t.placed g.var) fs are.2 in let here = are.0 in
+      omega arith
 
 -- where the derivation grows and the trail keeps its literals
-pub frame_moves : (pivot : Quant) (scopes : List Scope) (d new : State) (t now : TrailState) (f : Frame) → Grows d new → literals_on now.placed ≡ literals_on t.placed → IsPropagated now.placed f.var → is_marked now f.var ≡ false → IsFrame pivot scopes d t f → IsFrame pivot scopes new now f
+pub frame_moves : (pivot : Quant) (scopes : List Scope) (d new : State) (t now : TrailState) (f : Frame) → Grows d new
+    → literals_on now.placed ≡ literals_on t.placed → IsPropagated now.placed f.var → is_marked now f.var ≡ false
+    → IsFrame pivot scopes d t f → IsFrame pivot scopes new now f
 frame_moves pivot scopes d new t now f grows same propagated unmarked is =
     let row = row_stays d new grows f.row is.step.step in
     let place = places now.placed t.placed same f.var in
-    let front : value_on (front_of now f.var) ≡ value_on (front_of t f.var) = ap (λ n. value_on (take n now.placed)) place ∙ front_values now.placed t.placed same (place_on t.placed f.var) in
-    let spots : (y : ℕ) → place_on (front_of now f.var) y ≡ place_on (front_of t f.var) y = (λ y. ap (λ n. place_on (take n now.placed) y) place ∙ places (front_of_at now.placed (place_on t.placed f.var)) (front_of_at t.placed (place_on t.placed f.var)) (front_same now.placed t.placed same (place_on t.placed f.var)) y) in
+    let front : value_on (front_of now f.var) ≡ value_on (front_of t f.var) = ap
+    (λ n. value_on (take n now.placed)) place ∙ front_values now.placed t.placed same (place_on t.placed f.var) in
+    let spots : (y : ℕ) → place_on (front_of now f.var) y ≡ place_on (front_of t f.var) y =
+    (λ y. ap (λ n. place_on (take n now.placed) y) place
+    ∙ places (front_of_at now.placed (place_on t.placed f.var)) (front_of_at t.placed (place_on t.placed f.var))
+    (front_same now.placed t.placed same (place_on t.placed f.var)) y) in
     record {
       bad = is.bad;
       over = is.over;
@@ -60,9 +73,12 @@ frame_moves pivot scopes d new t now f grows same propagated unmarked is =
       propagated = propagated;
       unmarked = unmarked;
       step = reduced_stays pivot scopes d new f.row grows is.step;
-      way = subst (λ (r : Row). IsOnTheWay pivot scopes (front_of now f.var) (Some (negation is.bad)) r) (sym row) (way_moves pivot scopes (front_of t f.var) (front_of now f.var) (Some (negation is.bad)) (row_of d f.row) (sym front) is.way);
+      way = subst (λ (r : Row). IsOnTheWay pivot scopes (front_of now f.var) (Some (negation is.bad)) r) (sym row)
+          (way_moves pivot scopes (front_of t f.var) (front_of now f.var) (Some (negation is.bad)) (row_of d f.row)
+          (sym front) is.way);
       blockers = λ g u blocks.
-          let below = is.blockers g u (subst (λ (r : Row). Blocks pivot scopes (value_on (front_of t f.var)) r g u) row (subst (λ (v : Values). Blocks pivot scopes v (row_of new f.row) g u) front blocks)) in
+          let below = is.blockers g u (subst (λ (r : Row). Blocks pivot scopes (value_on (front_of t f.var)) r g u)
+          row (subst (λ (v : Values). Blocks pivot scopes v (row_of new f.row) g u) front blocks)) in
           let spot = spots g.variable in
           omega arith;
       within = let low = is.within in omega arith;
@@ -71,11 +87,16 @@ frame_moves pivot scopes d new t now f grows same propagated unmarked is =
     front_of_at : Trail → ℕ → Trail
     front_of_at trail n = take n trail
 
-    front_same : (a b : Trail) → literals_on a ≡ literals_on b → (n : ℕ) → literals_on (front_of_at a n) ≡ literals_on (front_of_at b n)
+    front_same : (a b : Trail) → literals_on a ≡ literals_on b → (n : ℕ)
+        → literals_on (front_of_at a n) ≡ literals_on (front_of_at b n)
     front_same a b same n = front_literals a b same n
 
 -- all of them
-pub frames_move : (pivot : Quant) (scopes : List Scope) (d new : State) (t now : TrailState) (p above : ℕ) (fs : List Frame) → Grows d new → literals_on now.placed ≡ literals_on t.placed → ((f : Frame) → p < place_on t.placed f.var → IsFrame pivot scopes d t f → IsPropagated now.placed f.var × (is_marked now f.var ≡ false)) → p < lowest t above fs → AreFrames pivot scopes d t above fs → AreFrames pivot scopes new now above fs
+pub frames_move : (pivot : Quant) (scopes : List Scope) (d new : State) (t now : TrailState) (p above : ℕ)
+    (fs : List Frame) → Grows d new → literals_on now.placed ≡ literals_on t.placed
+    → ((f : Frame) → p < place_on t.placed f.var → IsFrame pivot scopes d t f
+    → IsPropagated now.placed f.var × (is_marked now f.var ≡ false)) → p < lowest t above fs
+    → AreFrames pivot scopes d t above fs → AreFrames pivot scopes new now above fs
 frames_move pivot scopes d new t now p above [] grows same others low are = tt
 frames_move pivot scopes d new t now p above (f ∷ fs) grows same others low are =
     let place = places now.placed t.placed same f.var in
@@ -84,15 +105,21 @@ frames_move pivot scopes d new t now p above (f ∷ fs) grows same others low ar
     let own = others f (omega arith) are.1 in (
       omega arith,
       frame_moves pivot scopes d new t now f grows same own.0 own.1 are.1,
-      subst (λ n. AreFrames pivot scopes new now n fs) (sym place) (frames_move pivot scopes d new t now p (place_on t.placed f.var) fs grows same others low are.2),
+      subst (λ n. AreFrames pivot scopes new now n fs) (sym place)
+          (frames_move pivot scopes d new t now p (place_on t.placed f.var) fs grows same others low are.2),
     )
 
 -- a new one
-pub frame_starts : (pivot : Quant) (scopes : List Scope) (d : State) (t : TrailState) (f : Frame) (l : Literal) → HaveReasons pivot scopes d t → l.variable ≡ f.var → IsTrue (is_pivot pivot scopes l) → IsTrue (is_bad_now pivot (value_on t.placed) l) → cause_on t.placed f.var ≡ Some (Propagated f.row) → is_marked t f.var ≡ false → f.left ≡ place_on t.placed f.var → IsFrame pivot scopes d t f
+pub frame_starts : (pivot : Quant) (scopes : List Scope) (d : State) (t : TrailState) (f : Frame) (l : Literal)
+    → HaveReasons pivot scopes d t → l.variable ≡ f.var → IsTrue (is_pivot pivot scopes l)
+    → IsTrue (is_bad_now pivot (value_on t.placed) l) → cause_on t.placed f.var ≡ Some (Propagated f.row)
+    → is_marked t f.var ≡ false → f.left ≡ place_on t.placed f.var → IsFrame pivot scopes d t f
 frame_starts pivot scopes d t f l have e pivot_type bad cause unmarked whole =
     let reason = have l f.row pivot_type bad (ap (cause_on t.placed) e ∙ cause) in
-    let front : before_on t.placed l.variable ≡ front_of t f.var = ap (before_on t.placed) e ∙ before_take t.placed f.var in
-    let way = starts_on pivot scopes t.placed (front_of t f.var) (Some (negation l)) (row_of d f.row) front reason.unit in
+    let front : before_on t.placed l.variable ≡ front_of t f.var = ap (before_on t.placed) e
+    ∙ before_take t.placed f.var in
+    let way = starts_on pivot scopes t.placed (front_of t f.var) (Some (negation l))
+    (row_of d f.row) front reason.unit in
     record {
       bad = l;
       over = e;
@@ -111,7 +138,9 @@ frame_starts pivot scopes d t f l have e pivot_type bad cause unmarked whole =
     }
 
 -- what its last blocker gives
-module _ (pivot : Quant) (scopes : List Scope) (d : State) (t : TrailState) (f : Frame) (is : IsFrame pivot scopes d t f) (legal : IsLegalFor scopes d) (b : Literal) (last : IsLastBlocker pivot scopes (front_of t f.var) (row_of d f.row) b) where
+module _ (pivot : Quant) (scopes : List Scope) (d : State) (t : TrailState) (f : Frame)
+    (is : IsFrame pivot scopes d t f) (legal : IsLegalFor scopes d) (b : Literal)
+    (last : IsLastBlocker pivot scopes (front_of t f.var) (row_of d f.row) b) where
   abbrev kept : Option Literal
   kept = Some (negation is.bad)
 
@@ -126,8 +155,7 @@ module _ (pivot : Quant) (scopes : List Scope) (d : State) (t : TrailState) (f :
 
   -- it stands before the place
   pub blocker_left : place_on t.placed b.variable < f.left
-  blocker_left =
-      let both = place_on_front t.placed (place_on t.placed f.var) b.variable assigned in
+  blocker_left = let both = place_on_front t.placed (place_on t.placed f.var) b.variable assigned in
       let place = both.0 in
       let below = is.blockers b last.blocked last.blocks in
       omega arith
@@ -141,7 +169,8 @@ module _ (pivot : Quant) (scopes : List Scope) (d : State) (t : TrailState) (f :
         (step_row scopes d f.row legal is.step.step)
         (step_row scopes d id legal reason.step.step)
         is.way last
-        (clean_on_front pivot t.placed (place_on t.placed f.var) (negation b) (row_of d id) assigned (reason.clean marked))
+        (clean_on_front pivot t.placed (place_on t.placed f.var) (negation b) (row_of d id) assigned
+        (reason.clean marked))
 
     pub frame_resolvable : IsResolvable pivot scopes d f.row b id
     frame_resolvable = record {
@@ -156,9 +185,9 @@ module _ (pivot : Quant) (scopes : List Scope) (d : State) (t : TrailState) (f :
     }
 
     -- the same reason with its new row
-    pub frame_turns : (new : State) (next : Frame) → Turns pivot scopes d new f.row b id next.row → next.var ≡ f.var → next.left ≡ place_on t.placed b.variable → IsFrame pivot scopes new t next
-    frame_turns new next turns same left =
-        let result = turns.result in
+    pub frame_turns : (new : State) (next : Frame) → Turns pivot scopes d new f.row b id next.row → next.var ≡ f.var
+        → next.left ≡ place_on t.placed b.variable → IsFrame pivot scopes new t next
+    frame_turns new next turns same left = let result = turns.result in
         let front : front_of t next.var ≡ front_of t f.var = ap (front_of t) same in
         record {
           bad = is.bad;
@@ -170,38 +199,63 @@ module _ (pivot : Quant) (scopes : List Scope) (d : State) (t : TrailState) (f :
           step = record {
             step = turns.step;
             of_side = turns.of_side;
-            reduced = ap (reduce pivot scopes) result ∙ (reduce_twice pivot scopes (resolved_with (row_of d f.row) (row_of d id) b) ∙ sym result);
+            reduced = ap (reduce pivot scopes) result
+                ∙ (reduce_twice pivot scopes (resolved_with (row_of d f.row) (row_of d id) b) ∙ sym result);
           };
-          way = subst (λ (r : Row). IsOnTheWay pivot scopes (front_of t next.var) kept r) (sym result) (subst (λ (a : Trail). IsOnTheWay pivot scopes a kept (reduce pivot scopes (resolved_with (row_of d f.row) (row_of d id) b))) (sym front) turn_is.way);
+          way = subst (λ (r : Row). IsOnTheWay pivot scopes (front_of t next.var) kept r) (sym result) (subst
+              (λ (a : Trail). IsOnTheWay pivot scopes a kept
+              (reduce pivot scopes (resolved_with (row_of d f.row) (row_of d id) b))) (sym front) turn_is.way);
           blockers = λ g u blocks.
-              let on : Blocks pivot scopes (value_on (front_of t f.var)) (reduce pivot scopes (resolved_with (row_of d f.row) (row_of d id) b)) g u = subst (λ (r : Row). Blocks pivot scopes (value_on (front_of t f.var)) r g u) result (subst (λ (a : Trail). Blocks pivot scopes (value_on a) (row_of new next.row) g u) front blocks) in
+              let on : Blocks pivot scopes (value_on (front_of t f.var))
+              (reduce pivot scopes (resolved_with (row_of d f.row) (row_of d id) b)) g u = subst
+              (λ (r : Row). Blocks pivot scopes (value_on (front_of t f.var)) r g u) result (subst
+              (λ (a : Trail). Blocks pivot scopes (value_on a) (row_of new next.row) g u) front blocks) in
               let below = turn_is.blockers g u on in
-              let spot : place_on (front_of t next.var) g.variable ≡ place_on (front_of t f.var) g.variable = ap (λ (a : Trail). place_on a g.variable) front in
+              let spot : place_on (front_of t next.var) g.variable ≡ place_on (front_of t f.var) g.variable = ap
+              (λ (a : Trail). place_on a g.variable) front in
               let both = place_on_front t.placed (place_on t.placed f.var) b.variable assigned in
               let place = both.0 in
               omega arith;
-          within = let low = blocker_earlier in let place : place_on t.placed next.var ≡ place_on t.placed f.var = ap (place_on t.placed) same in omega arith;
+          within = let low = blocker_earlier in let place : place_on t.placed next.var ≡ place_on t.placed f.var =
+              ap (place_on t.placed) same in omega arith;
         }
 
 -- where nothing keeps an open literal from reduction the reason is clean
-pub frame_ends : (pivot : Quant) (scopes : List Scope) (d : State) (t : TrailState) (f : Frame) (is : IsFrame pivot scopes d t f) → ((g u : Literal) → Blocks pivot scopes (value_on (front_of t f.var)) (row_of d f.row) g u → ⊥) → IsUnitIn pivot scopes (value_on (before_on t.placed is.bad.variable)) (row_of d f.row) (negation is.bad) × IsCleanReason pivot scopes d t.placed (negation is.bad) f.row
+pub frame_ends : (pivot : Quant) (scopes : List Scope) (d : State) (t : TrailState) (f : Frame)
+    (is : IsFrame pivot scopes d t f) → ((g u : Literal)
+    → Blocks pivot scopes (value_on (front_of t f.var)) (row_of d f.row) g u → ⊥)
+    → IsUnitIn pivot scopes (value_on (before_on t.placed is.bad.variable)) (row_of d f.row)
+    (negation is.bad) × IsCleanReason pivot scopes d t.placed (negation is.bad) f.row
 frame_ends pivot scopes d t f is free =
     let kept = negation is.bad in
-    let front : before_on t.placed is.bad.variable ≡ front_of t f.var = ap (before_on t.placed) is.over ∙ before_take t.placed f.var in
+    let front : before_on t.placed is.bad.variable ≡ front_of t f.var = ap (before_on t.placed) is.over
+    ∙ before_take t.placed f.var in
     let was = is.way.keeps kept refl in
-    let cleaned = way_ends pivot scopes t.placed (Some kept) (place_on t.placed f.var) (row_of d f.row) front is.step.reduced is.way free in (
-      subst (λ (a : Trail). IsUnitIn pivot scopes (value_on a) (row_of d f.row) kept) (sym front) (record { stands = was.0; pivot_type = was.1; open_yet = was.2; others = is.way.pending }),
+    let cleaned = way_ends pivot scopes t.placed (Some kept) (place_on t.placed f.var)
+    (row_of d f.row) front is.step.reduced is.way free in (
+      subst (λ (a : Trail). IsUnitIn pivot scopes (value_on a) (row_of d f.row) kept) (sym front)
+          (record { stands = was.0; pivot_type = was.1; open_yet = was.2; others = is.way.pending }),
       record { step = is.step; holds = cleaned.0; clean = cleaned.1 },
     )
 
 -- the others where the last one is marked
-pub frames_marked : (pivot : Quant) (scopes : List Scope) (d : State) (t : TrailState) (above : ℕ) (fs : List Frame) (f : Frame) → length t.marks ≡ length t.placed → AreFrames pivot scopes d t above (fs ++ f ∷ []) → AreFrames pivot scopes d (with_clean t f.var f.row) above fs
+pub frames_marked : (pivot : Quant) (scopes : List Scope) (d : State) (t : TrailState) (above : ℕ) (fs : List Frame)
+    (f : Frame) → length t.marks ≡ length t.placed → AreFrames pivot scopes d t above (fs ++ f ∷ [])
+    → AreFrames pivot scopes d (with_clean t f.var f.row) above fs
 frames_marked pivot scopes d t above fs f long are =
     let parts = frames_less pivot scopes d t above fs f are in
     let was = parts.1.propagated in
     let now = with_clean t f.var f.row in
-    frames_move pivot scopes d d t now (place_on t.placed f.var) above fs (grows_itself d) (same_literals t f.var f.row was.0 was.1 long)
+    frames_move pivot scopes d d t now (place_on t.placed f.var) above fs (grows_itself d)
+    (same_literals t f.var f.row was.0 was.1 long)
     (λ g later is.
-    let differs : f.var ≡ g.var → ⊥ = (λ e. let same : place_on t.placed f.var ≡ place_on t.placed g.var = ap (place_on t.placed) e in omega arith) in
-    ((is.propagated.0, cause_else f.var f.row t.placed g.var differs ∙ is.propagated.1), marked_else t f.var f.row was.0 was.1 long g.var differs ∙ is.unmarked))
+    let differs : f.var ≡ g.var → ⊥ = (λ e. let same : place_on t.placed f.var ≡ place_on t.placed g.var =
+    ap (place_on t.placed) e in omega arith) in (
+      (
+        is.propagated.0,
+        cause_else f.var f.row t.placed g.var differs
+            ∙ is.propagated.1,
+      ),
+      marked_else t f.var f.row was.0 was.1 long g.var differs ∙ is.unmarked,
+    ))
     parts.2 parts.0

@@ -47,7 +47,8 @@ module _ (before after : State) (grows : Grows before after) (id : ℕ) (step : 
   pub row_stays : row_of after id ≡ row_of before id
   row_stays = ap literals_of same_step.row
 
-pub reduced_stays : (pivot : Quant) (scopes : List Scope) (before after : State) (id : ℕ) → Grows before after → IsReducedStep pivot scopes before id → IsReducedStep pivot scopes after id
+pub reduced_stays : (pivot : Quant) (scopes : List Scope) (before after : State) (id : ℕ) → Grows before after
+    → IsReducedStep pivot scopes before id → IsReducedStep pivot scopes after id
 reduced_stays pivot scopes before after id grows is =
     let row = row_stays before after grows id is.step in
     record {
@@ -56,30 +57,37 @@ reduced_stays pivot scopes before after id grows is =
       reduced = ap (reduce pivot scopes) row ∙ (is.reduced ∙ sym row);
     }
 
-pub reason_stays : (pivot : Quant) (scopes : List Scope) (before after : State) (t : TrailState) (kept : Literal) (id : ℕ) → Grows before after → IsReason pivot scopes before t kept id → IsReason pivot scopes after t kept id
+pub reason_stays : (pivot : Quant) (scopes : List Scope) (before after : State) (t : TrailState) (kept : Literal)
+    (id : ℕ) → Grows before after → IsReason pivot scopes before t kept id → IsReason pivot scopes after t kept id
 reason_stays pivot scopes before after t kept id grows is =
     let row = sym (row_stays before after grows id is.step.step) in
     record {
       step = reduced_stays pivot scopes before after id grows is.step;
-      unit = subst (λ (r : Row). IsUnitIn pivot scopes (value_on (before_on t.placed kept.variable)) r kept) row is.unit;
+      unit = subst (λ (r : Row). IsUnitIn pivot scopes (value_on (before_on t.placed kept.variable)) r kept) row
+          is.unit;
       clean = λ m. subst (λ (r : Row). IsCleanBut pivot t.placed kept r) row (is.clean m);
     }
 
-pub reasons_stay : (pivot : Quant) (scopes : List Scope) (before after : State) (t : TrailState) → Grows before after → HaveReasons pivot scopes before t → HaveReasons pivot scopes after t
-reasons_stay pivot scopes before after t grows have l id p bad cause = reason_stays pivot scopes before after t (negation l) id grows (have l id p bad cause)
+pub reasons_stay : (pivot : Quant) (scopes : List Scope) (before after : State) (t : TrailState) → Grows before after
+    → HaveReasons pivot scopes before t → HaveReasons pivot scopes after t
+reasons_stay pivot scopes before after t grows have l id p bad cause =
+    reason_stays pivot scopes before after t (negation l) id grows (have l id p bad cause)
 
 -- the row of a step is a row
-pub step_row : (scopes : List Scope) (d : State) (id : ℕ) → IsLegalFor scopes d → IsTrue (is_step d id) → IsRow scopes (row_of d id)
+pub step_row : (scopes : List Scope) (d : State) (id : ℕ) → IsLegalFor scopes d → IsTrue (is_step d id)
+    → IsRow scopes (row_of d id)
 step_row scopes d id legal step = legal.rows _ (listed_told d id step)
 
-pub resolves_more : (scopes : List Scope) (a b c : State) (m n : ℕ) → Resolves scopes a b m → Resolves scopes b c n → Resolves scopes a c (m + n)
+pub resolves_more : (scopes : List Scope) (a b c : State) (m n : ℕ) → Resolves scopes a b m → Resolves scopes b c n
+    → Resolves scopes a c (m + n)
 resolves_more scopes a b c m n first second =
     let r = first.resolvents in let s = second.resolvents in
     let p = first.reductions in let q = second.reductions in
     record {
       grows = grows_twice a b c first.grows second.grows;
       has_rows = second.has_rows;
-      unlinked = λ (dead : AreUnlinked a a). unlinked_twice a b c (first.unlinked dead) first.grows.others second.grows.others second.unlinked;
+      unlinked = λ (dead : AreUnlinked a a). unlinked_twice a b c
+          (first.unlinked dead) first.grows.others second.grows.others second.unlinked;
       clauses = second.clauses ∙ first.clauses;
       resolvents = omega arith;
       reductions = omega arith;
@@ -103,4 +111,5 @@ pub after_none : (c : Counter) → c ≡ after c 0
 after_none c = ap (λ n. record { spent = n; budget = c.budget }) (let e : c.spent ≡ c.spent + 0 = omega arith in e)
 
 pub after_more : (c : Counter) (m n : ℕ) → after (after c m) n ≡ after c (m + n)
-after_more c m n = ap (λ k. record { spent = k; budget = c.budget }) (let e : (c.spent + m) + n ≡ c.spent + (m + n) = omega arith in e)
+after_more c m n = ap (λ k. record { spent = k; budget = c.budget })
+    (let e : (c.spent + m) + n ≡ c.spent + (m + n) = omega arith in e)

@@ -1,13 +1,12 @@
 -- The worked values, for either side.
-use Rattle.std.proofs.Common.{◌≡◌, ℕ, ◌<◌, Bool, true, false, not, [], ◌∷◌, Contains, Option, Some, None, refl, sym, inl, inr, ⊎_elim, arith, ap, ◌∙◌, length, is_none}
-use Rattle.std.specs.Prelude.{IsTrue, IsFalse}
+use Rattle.std.proofs.Common.{◌≡◌, ◌<◌, Bool, true, false, not, [], ◌∷◌, Contains, Option, Some, None, refl, sym, inl, ⊎_elim, arith, ap, ◌∙◌, is_none}
 use Rattle.std.specs.List.{list_any}
 use Rattle.std.proofs.lemmas.Bool.{true≢false, false≢true}
 use Rattle.prefix.specs.declared.quant.Quant.{Quant}
 use Rattle.prefix.specs.declared.quant.Quant.TheVariants.{Exists, Forall}
 use Rattle.prefix.specs.Literal.{Literal}
-use Rattle.prefix.specs.Sides.{bad_of, opposite, same_quantifier}
-use Rattle.calculus.specs.Rows.{Row, is_bad_at, is_pivot, reduce}
+use Rattle.prefix.specs.Sides.{bad_of, opposite}
+use Rattle.calculus.specs.Rows.{is_bad_at, is_pivot, reduce}
 use Rattle.calculus.specs.Search.{is_bad_if}
 use Rattle.calculus.specs.Worked.{plus}
 use Rattle.calculus.specs.WorkedSearch.{alternating, three}
@@ -66,7 +65,8 @@ reasons pivot = record {
     unit = (units pivot).unit_with_later;
     clean = λ marked. absurd (false≢true marked);
   };
-  not_clean = λ reason. ⊎_elim (λ e. let same : 2 ≡ 1 = ap (λ (l : Literal). l.variable) e in omega arith) (λ r. false≢true r.0) (reason.clean refl (plus 2) second);
+  not_clean = λ reason. ⊎_elim (λ e. let same : 2 ≡ 1 = ap (λ (l : Literal). l.variable) e in omega arith)
+      (λ r. false≢true r.0) (reason.clean refl (plus 2) second);
 }
 
 pub cleaning : (pivot : Quant) → WorkedCleaning pivot
@@ -83,10 +83,12 @@ cleaning pivot = record {
       later = (let h : 2 < 3 = omega arith in h);
     };
   };
-  not_blocked = λ b. not_both pivot _ b.blocked b.blocks.open_yet ((clean_rows pivot).clean b.blocked b.blocks.blocked_stands);
+  not_blocked = λ b. not_both pivot _ b.blocked b.blocks.open_yet
+      ((clean_rows pivot).clean b.blocked b.blocks.blocked_stands);
   bad_row = λ l i. (units pivot).is_bad l i;
   unit_row = (units pivot).unit;
-  unit_not_kept = λ row. ⊎_elim (λ k. k) (λ r. ⊎_elim (λ b. true≢false (sym b ∙ good_not pivot)) (λ o. false≢true o.0) r) (row (plus 3) third);
+  unit_not_kept = λ row. ⊎_elim (λ k. k) (λ r. ⊎_elim (λ b. true≢false (sym b ∙ good_not pivot))
+      (λ o. false≢true o.0) r) (row (plus 3) third);
   cleaned = inl (clean_rows pivot).clean;
   kept = (third, (clean_rows pivot).clean_but);
   one_open = ⊎_elim (λ clean. false≢true (clean (plus 2) second)) (λ none. true≢false (sym (some_are pivot) ∙ none.0));

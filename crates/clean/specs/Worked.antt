@@ -1,7 +1,6 @@
 -- Worked values: the row 1 2 3 of either side, as a reason and as a row to be cleaned.
-use Rattle.std.specs.Prelude.{ℕ, true, List, [], ◌∷◌, Some, None}
+use Rattle.std.specs.Prelude.{[], ◌∷◌, Some, None}
 use Rattle.prefix.specs.declared.quant.Quant.{Quant}
-use Rattle.prefix.specs.Literal.{Literal}
 use Rattle.prefix.specs.Sides.{opposite}
 use Rattle.calculus.specs.Derivations.Why.{Given}
 use Rattle.calculus.specs.Rows.{Row}

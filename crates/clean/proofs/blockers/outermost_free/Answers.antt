@@ -13,7 +13,8 @@ loop-lit-preserved-then-not-is_free g c =
     let values = value_on (take c.args.end c.args.trail.now.placed) in
     subst (λ (r : Row). IsOutermost g.S.Side.PIVOT c.args.prefix.now values r c.loop-lit.outermost)
     (sym (one_more row i c.lit-item.result c.loop-lit-test.true c.lit-item.is))
-    (outermost_skip g.S.Side.PIVOT c.args.prefix.now values (take i row) c.lit-item.result c.loop-lit.outermost (sym c.is_free.ensures ∙ c.if-not-is_free.true) c.loop-lit.invariant)
+    (outermost_skip g.S.Side.PIVOT c.args.prefix.now values (take i row) c.lit-item.result c.loop-lit.outermost
+    (sym c.is_free.ensures ∙ c.if-not-is_free.true) c.loop-lit.invariant)
 
 pub loop-lit-preserved-then-not-is_smaller : goal.loop-lit-preserved-then-not-is_smaller
 loop-lit-preserved-then-not-is_smaller g c =
@@ -22,7 +23,10 @@ loop-lit-preserved-then-not-is_smaller g c =
     let values = value_on (take c.args.end c.args.trail.now.placed) in
     subst (λ (r : Row). IsOutermost g.S.Side.PIVOT c.args.prefix.now values r c.loop-lit.outermost)
     (sym (one_more row i c.lit-item.result c.loop-lit-test.true c.lit-item.is))
-    (outermost_keeps g.S.Side.PIVOT c.args.prefix.now values (take i row) c.lit-item.result c.loop-lit.outermost c.depth-depth.result (c.depth-depth.ensures.value ∙ ap (depth_of c.args.prefix.now) c.var.ensures) (sym c.is_smaller.ensures ∙ c.if-not-is_smaller.true) c.loop-lit.invariant)
+    (outermost_keeps g.S.Side.PIVOT c.args.prefix.now values
+    (take i row) c.lit-item.result c.loop-lit.outermost c.depth-depth.result (c.depth-depth.ensures.value
+    ∙ ap (depth_of c.args.prefix.now) c.var.ensures) (sym c.is_smaller.ensures
+    ∙ c.if-not-is_smaller.true) c.loop-lit.invariant)
 
 pub loop-lit-preserved : goal.loop-lit-preserved
 loop-lit-preserved g c =
@@ -30,9 +34,13 @@ loop-lit-preserved g c =
     let i = c.loop-lit.lit-index in
     let values = value_on (take c.args.end c.args.trail.now.placed) in
     let all = one_more row i c.lit-item.result c.loop-lit-test.true c.lit-item.is in
-    rw all (outermost_takes g.S.Side.PIVOT c.args.prefix.now values (take i row) c.lit-item.result c.loop-lit.outermost c.depth-depth.result (c.depth-depth.ensures.value ∙ ap (depth_of c.args.prefix.now) c.var.ensures) (sym c.is_free.ensures ∙ c.if-not-is_free.false) (sym c.is_smaller.ensures ∙ c.if-not-is_smaller.false) c.loop-lit.invariant)
+    rw all (outermost_takes g.S.Side.PIVOT c.args.prefix.now values
+    (take i row) c.lit-item.result c.loop-lit.outermost c.depth-depth.result (c.depth-depth.ensures.value
+    ∙ ap (depth_of c.args.prefix.now) c.var.ensures) (sym c.is_free.ensures ∙ c.if-not-is_free.false)
+    (sym c.is_smaller.ensures ∙ c.if-not-is_smaller.false) c.loop-lit.invariant)
 
 pub returns : goal.returns
 returns g c =
     let values = value_on (take c.args.end c.args.trail.now.placed) in
-    subst (λ (r : Row). IsOutermost g.S.Side.PIVOT c.args.prefix.now values r c.loop-lit.outermost) (take_all c.loop-lit.lit-index c.args.row.now c.loop-lit-test.false) c.loop-lit.invariant
+    subst (λ (r : Row). IsOutermost g.S.Side.PIVOT c.args.prefix.now values r c.loop-lit.outermost)
+    (take_all c.loop-lit.lit-index c.args.row.now c.loop-lit-test.false) c.loop-lit.invariant

@@ -16,13 +16,21 @@ returns-clause-counted g c = cleans_counted c.clean_row.result _ _ (λ id cleans
 
 pub returns-clause-gains : goal.returns-clause-gains
 returns-clause-gains g c =
-    gains_on c.args.prefix.now c.args.derivation.now c.clean_row.new.derivation c.args.trail.now c.clean_row.new.trail c.args.steps.now c.clean_row.new.steps (length c.args.trail.now.placed) (marks_left c.args.trail.now * length c.args.trail.now.placed + length c.args.trail.now.placed) c.clean_row.result
-    (unlinked_now c.args.derivation.now c.requires.rows c.next_id.ensures.fits) (cleans_counted c.clean_row.result _ _ (λ id cleans. cleans.cleans) c.clean_row.ensures.ok) c.clean_row.ensures.err
+    gains_on c.args.prefix.now c.args.derivation.now c.clean_row.new.derivation c.args.trail.now c.clean_row.new.trail
+    c.args.steps.now c.clean_row.new.steps (length c.args.trail.now.placed)
+    (marks_left c.args.trail.now * length c.args.trail.now.placed + length c.args.trail.now.placed)
+    c.clean_row.result
+    (unlinked_now c.args.derivation.now c.requires.rows c.next_id.ensures.fits) (cleans_counted c.clean_row.result _ _
+    (λ id cleans. cleans.cleans) c.clean_row.ensures.ok) c.clean_row.ensures.err
 
 pub returns-clause-rises : goal.returns-clause-rises
 returns-clause-rises g c =
-    rises_on c.args.prefix.now c.args.derivation.now c.clean_row.new.derivation c.args.trail.now c.clean_row.new.trail c.args.steps.now c.clean_row.new.steps (length c.args.trail.now.placed) (marks_left c.args.trail.now * length c.args.trail.now.placed + length c.args.trail.now.placed) c.clean_row.result
+    rises_on c.args.prefix.now c.args.derivation.now c.clean_row.new.derivation c.args.trail.now c.clean_row.new.trail
+    c.args.steps.now c.clean_row.new.steps (length c.args.trail.now.placed)
+    (marks_left c.args.trail.now * length c.args.trail.now.placed + length c.args.trail.now.placed)
+    c.clean_row.result
     (cleans_counted c.clean_row.result _ _ (λ id cleans. cleans.cleans) c.clean_row.ensures.ok) c.clean_row.ensures.err
 
 pub returns-clause-limit : goal.returns-clause-limit
-returns-clause-limit g c = λ e. under_limit c.args.trail.now (left c.args.steps.now) (length c.args.trail.now.placed) (c.clean_row.ensures.spent e).1 (omega arith)
+returns-clause-limit g c = λ e. under_limit c.args.trail.now (left c.args.steps.now) (length c.args.trail.now.placed)
+    (c.clean_row.ensures.spent e).1 (omega arith)

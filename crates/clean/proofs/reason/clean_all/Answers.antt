@@ -8,41 +8,60 @@ use Rattle.clean.proofs.Rounds.{on_err, same_error}
 use Rattle.clean.proofs.reason.clean_all.Goals as goal
 
 pub loop-derivation-init : goal.loop-derivation-init
-loop-derivation-init g c = starts_under_way g.S.Side.PIVOT c.args.prefix.now c.args.derivation.now c.args.trail.now c.args.steps.now c.args.stack.now.items c.requires.rows c.requires.legal c.requires.trail c.requires.reasons c.requires.frames c.requires.one
+loop-derivation-init g c = starts_under_way g.S.Side.PIVOT c.args.prefix.now c.args.derivation.now c.args.trail.now
+    c.args.steps.now c.args.stack.now.items c.requires.rows c.requires.legal c.requires.trail c.requires.reasons
+    c.requires.frames c.requires.one
 
 pub loop-derivation-smaller : goal.loop-derivation-smaller
 loop-derivation-smaller g c =
-    (turns_once g.S.Side.PIVOT c.args.prefix.now c.args.derivation.now c.loop-derivation.derivation c.turn.new.derivation c.args.trail.now c.loop-derivation.trail c.turn.new.trail c.args.steps.now c.loop-derivation.steps c.turn.new.steps c.args.stack.now.items c.loop-derivation.stack.items c.turn.new.stack.items
-    c.loop-derivation.invariant c.in_ok-turn.ensures.reasons c.in_ok-turn.ensures.legal c.in_ok-turn.ensures.trail c.in_ok-turn.ensures.frames c.in_ok-turn.ensures.ok).1
+    (turns_once g.S.Side.PIVOT c.args.prefix.now c.args.derivation.now c.loop-derivation.derivation
+    c.turn.new.derivation c.args.trail.now c.loop-derivation.trail c.turn.new.trail c.args.steps.now
+    c.loop-derivation.steps c.turn.new.steps c.args.stack.now.items c.loop-derivation.stack.items
+    c.turn.new.stack.items
+    c.loop-derivation.invariant c.in_ok-turn.ensures.reasons c.in_ok-turn.ensures.legal c.in_ok-turn.ensures.trail
+    c.in_ok-turn.ensures.frames c.in_ok-turn.ensures.ok).1
 
 pub loop-derivation-preserved : goal.loop-derivation-preserved
 loop-derivation-preserved g c =
-    (turns_once g.S.Side.PIVOT c.args.prefix.now c.args.derivation.now c.loop-derivation.derivation c.turn.new.derivation c.args.trail.now c.loop-derivation.trail c.turn.new.trail c.args.steps.now c.loop-derivation.steps c.turn.new.steps c.args.stack.now.items c.loop-derivation.stack.items c.turn.new.stack.items
-    c.loop-derivation.invariant c.in_ok-turn.ensures.reasons c.in_ok-turn.ensures.legal c.in_ok-turn.ensures.trail c.in_ok-turn.ensures.frames c.in_ok-turn.ensures.ok).0
+    (turns_once g.S.Side.PIVOT c.args.prefix.now c.args.derivation.now c.loop-derivation.derivation
+    c.turn.new.derivation c.args.trail.now c.loop-derivation.trail c.turn.new.trail c.args.steps.now
+    c.loop-derivation.steps c.turn.new.steps c.args.stack.now.items c.loop-derivation.stack.items
+    c.turn.new.stack.items
+    c.loop-derivation.invariant c.in_ok-turn.ensures.reasons c.in_ok-turn.ensures.legal c.in_ok-turn.ensures.trail
+    c.in_ok-turn.ensures.frames c.in_ok-turn.ensures.ok).0
 
 pub returns-in_err-turn-clause-err : goal.returns-in_err-turn-clause-err
 returns-in_err-turn-clause-err g c =
     on_err c.from_residual.result
-    (stops_clean g.S.Side.PIVOT c.args.prefix.now c.args.derivation.now c.loop-derivation.derivation c.turn.new.derivation c.args.trail.now c.loop-derivation.trail c.turn.new.trail c.args.steps.now c.loop-derivation.steps c.turn.new.steps c.args.stack.now.items c.loop-derivation.stack.items
+    (stops_clean g.S.Side.PIVOT c.args.prefix.now c.args.derivation.now c.loop-derivation.derivation
+    c.turn.new.derivation c.args.trail.now c.loop-derivation.trail c.turn.new.trail c.args.steps.now
+    c.loop-derivation.steps c.turn.new.steps c.args.stack.now.items c.loop-derivation.stack.items
     c.loop-derivation.invariant c.in_err-turn.ensures.due c.in_err-turn.ensures.stays c.in_err-turn.ensures.err)
 
 pub returns-in_err-turn-clause-reasons : goal.returns-in_err-turn-clause-reasons
-returns-in_err-turn-clause-reasons g c = λ side have. c.in_err-turn.ensures.reasons side (c.loop-derivation.invariant.reasons side have)
+returns-in_err-turn-clause-reasons g c =
+    λ side have. c.in_err-turn.ensures.reasons side (c.loop-derivation.invariant.reasons side have)
 
 pub returns-in_err-turn-clause-spent : goal.returns-in_err-turn-clause-spent
 returns-in_err-turn-clause-spent g c =
     let p = err_from_is_err_and c.from_residual.result c.from_residual.ensures.1 in
     let is = c.loop-derivation.invariant in
     λ e.
-    let own = c.in_err-turn.ensures.spent (ap Err (same_error c.from_residual.result p.0 spent c.in_err-turn.field-0.0 p.1 p.2 e)) in
+    let own = c.in_err-turn.ensures.spent (ap Err
+    (same_error c.from_residual.result p.0 spent c.in_err-turn.field-0.0 p.1 p.2 e)) in
     let full = ap (λ (n : Counter). n.spent) own.1 ∙ (own.0 ∙ ap (λ (n : Counter). n.budget) (sym own.1)) in (
       full,
-      spent_under c.args.steps.now c.loop-derivation.steps is.taken (marks_left c.args.trail.now * length c.args.trail.now.placed) is.counted own.0
-          (under_square g.S.Side.PIVOT c.args.prefix.now c.args.derivation.now c.loop-derivation.derivation c.args.trail.now c.loop-derivation.trail c.args.steps.now c.loop-derivation.steps c.args.stack.now.items c.loop-derivation.stack.items is c.in_err-turn.ensures.due),
+      spent_under c.args.steps.now c.loop-derivation.steps is.taken
+          (marks_left c.args.trail.now * length c.args.trail.now.placed) is.counted own.0
+          (under_square g.S.Side.PIVOT c.args.prefix.now c.args.derivation.now c.loop-derivation.derivation
+          c.args.trail.now c.loop-derivation.trail c.args.steps.now c.loop-derivation.steps c.args.stack.now.items
+          c.loop-derivation.stack.items is c.in_err-turn.ensures.due),
     )
 
 pub returns-in_err-turn-clause-due : goal.returns-in_err-turn-clause-due
 returns-in_err-turn-clause-due g c =
     on_err c.from_residual.result
-    (was_due g.S.Side.PIVOT c.args.prefix.now c.args.derivation.now c.loop-derivation.derivation c.args.trail.now c.loop-derivation.trail c.args.steps.now c.loop-derivation.steps c.args.stack.now.items c.loop-derivation.stack.items
+    (was_due g.S.Side.PIVOT c.args.prefix.now c.args.derivation.now c.loop-derivation.derivation c.args.trail.now
+    c.loop-derivation.trail c.args.steps.now c.loop-derivation.steps c.args.stack.now.items
+    c.loop-derivation.stack.items
     c.loop-derivation.invariant c.in_err-turn.ensures.due)
