@@ -4,6 +4,7 @@ ghost use Rattle.prefix.specs.declared.quant.Quant.TheVariants.{Exists as exists
 ghost use Rattle.truth.specs.Matrix.{clause_true};
 ghost use Rattle.calculus.specs.Rows.{Row as Clause};
 ghost use Rattle.calculus.specs.Search.{value_on};
+ghost use Rattle.derive.specs.Growing.{GainsSteps};
 ghost use Rattle.derive.specs.State.{has_rows, open_clauses, IsLegalFor};
 ghost use Rattle.trail.specs.State.{IsTrailFor};
 ghost use Rattle.cover.specs.Choices.{AreChoices, AreHit, AreHitWith};
@@ -30,6 +31,7 @@ pub fn cover(
     requires satisfied { (clause : Clause) → Contains matrix.now clause →
         IsTrue (clause_true (value_on trail.now.placed) clause) }
     ensures ok { IfOk result (λ id. Covers prefix.now trail.now.placed matrix.now derivation.old derivation.new id) }
+    ensures gains { OnOk result (GainsSteps derivation.old derivation.new) }
     ensures legal { IsLegalFor prefix.now derivation.old → IsLegalFor prefix.now derivation.new }
     ensures err { OnErr result (derivation.new ≡ derivation.old) }
 {

@@ -1,0 +1,23 @@
+use Rattle.std.proofs.Common.{◌≡◌, Some, None, refl}
+use Rattle.engine.specs.State.{VerdictState}
+use Rattle.engine.proofs.worked.worked_engines.Goals as goal
+
+apart : (v : VerdictState) → None ≡ Some v → ⊥
+apart v e = absurd (cc)
+
+pub returns : goal.returns
+returns c = record {
+  one = refl;
+  stays = refl;
+  clauses = refl;
+  solves = refl;
+  dropped = refl;
+  counted = refl;
+  frames = refl;
+  popped = refl;
+  refuted = refl;
+  whole = refl;
+  finish = refl;
+  cube_finish = refl;
+  none = λ f v p. apart p.state p.there;
+}

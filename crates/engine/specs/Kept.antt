@@ -1,0 +1,58 @@
+-- How an engine is kept: frames and a search that belong together.
+use Rattle.std.specs.Prelude.{◌≡◌, ℕ, ◌+◌, ◌≤◌, List, [], ◌∷◌, ◌++◌, length, map, Option, IfSome}
+use Rattle.prefix.specs.Literal.{Literal}
+use Rattle.calculus.specs.Rows.{Row}
+use Rattle.calculus.specs.Verdicts.{AreOuter}
+use Rattle.derive.specs.State.{OpenClause, State, clauses_of}
+use Rattle.frames.specs.State.{Frame, OpenFormula, clauses_in}
+use Rattle.search.specs.declared.outcome.Outcome.{Outcome}
+use Rattle.search.specs.Forcing.{HasNoCubes}
+use Rattle.search.specs.State.{IsResting, SearchState}
+use Rattle.search.specs.Stops.{IsOutcome}
+use Rattle.engine.specs.declared.counts.Counts.{Counts}
+use Rattle.engine.specs.declared.verdict.Verdict.{Verdict}
+use Rattle.engine.specs.Verdicts.{loser_of}
+
+-- a clause with the number of its frame
+pub record FramedClause : Type 0 where
+  pub frame : ℕ
+  pub row : Row
+
+abbrev pub framed_as : ℕ → Row → FramedClause
+framed_as frame row = record { frame = frame; row = row }
+
+-- the clauses of frames that are numbered from a number on
+abbrev pub framed_from : ℕ → List Frame → List FramedClause
+framed_from n [] = []
+framed_from n (f ∷ frames) = map (framed_as n) f.clauses ++ framed_from (n + 1) frames
+
+-- the clauses of all open frames
+abbrev pub framed : List Frame → List FramedClause
+framed frames = framed_from 0 frames
+
+-- the open clauses of a derivation
+abbrev pub framed_in : State → List FramedClause
+framed_in d = map (λ (c : OpenClause). framed_as c.frame c.row) (clauses_of d)
+
+-- A search is at rest, and its open clauses are those of the formula, each with the number of its frame, in the same
+-- order, so that with the top frame exactly its clauses go.
+pub record AreTied (formula : OpenFormula) (s : SearchState) : Type 0 where
+  pub resting : IsResting formula.scopes s
+  pub frames : 1 ≤ length formula.frames
+  pub clauses : framed_in s.derivation ≡ framed formula.frames
+
+-- what the search found of a verdict
+abbrev pub outcome_of : Verdict → Outcome
+outcome_of verdict = record { loser = loser_of verdict.truth; end = verdict.end }
+
+-- a verdict, if there is one, is an outcome of the formula under these assumptions, which are of the first scope
+pub record IsHeld (formula : OpenFormula) (d : State) (assumptions : List Literal) (verdict : Verdict) : Type 0 where
+  pub outer : AreOuter formula.scopes assumptions
+  pub outcome : IsOutcome formula.scopes (clauses_in formula.frames) assumptions d (outcome_of verdict)
+
+-- what holds of an engine between calls
+pub record IsEngine (formula : OpenFormula) (s : SearchState) (assumed : List Literal) (verdict : Option Verdict)
+    (counts : Counts) : Type 0 where
+  pub tied : AreTied formula s
+  pub held : IfSome verdict (IsHeld formula s.derivation assumed)
+  pub cubes : counts.solves ≡ 0 → HasNoCubes s

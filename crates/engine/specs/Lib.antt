@@ -1,0 +1,5 @@
+pub mod Counting
+pub mod Kept
+pub mod State
+pub mod Verdicts
+pub mod Worked

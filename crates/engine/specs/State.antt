@@ -1,0 +1,31 @@
+-- An engine, as contracts see it.
+use Rattle.std.specs.Prelude.{ℕ, Bool, List, Option, None}
+use Rattle.prefix.specs.Literal.{Literal}
+use Rattle.calculus.specs.Rows.{Row}
+use Rattle.calculus.specs.Derivations.{Inference}
+use Rattle.frames.specs.State.{OpenFormula, empty_formula}
+use Rattle.frames.specs.Commands.{Command, formula_after}
+use Rattle.engine.specs.declared.counts.Counts.{Counts}
+use Rattle.engine.specs.Counting.{no_counts}
+
+-- a verdict that is kept: the truth, the assumptions that it was found under, its proof, and the step that this ends
+-- in, by its id and with its row
+pub record VerdictState : Type 0 where
+  pub truth : Bool
+  pub assumptions : List Literal
+  pub proof : List Inference
+  pub end : ℕ
+  pub row : Row
+
+-- the open formula with its assumptions, the verdict where no change came after it, and the counts
+pub record EngineState : Type 0 where
+  pub formula : OpenFormula
+  pub verdict : Option VerdictState
+  pub counts : Counts
+
+abbrev pub new_engine : EngineState
+new_engine = record { formula = empty_formula; verdict = None; counts = no_counts }
+
+-- an engine after an accepted change of its formula: there is no verdict
+abbrev pub changed : EngineState → Command → EngineState
+changed e command = record e { formula = formula_after e.formula command; verdict = None }

@@ -1,0 +1,73 @@
+-- Worked values: counts, changes, clauses with their frames, and proofs of verdicts of both sides.
+use Rattle.std.specs.Prelude.{◌≡◌, ◌-◌, ◌^◌, false, List, [], ◌∷◌, Option, Some, None}
+use Rattle.prefix.specs.declared.quant.Quant.TheVariants.{Forall}
+use Rattle.calculus.specs.Derivations.{Inference, Why}
+use Rattle.calculus.specs.Derivations.Reason.{Input, One}
+use Rattle.calculus.specs.Derivations.Why.{Given, FinishedFrom}
+use Rattle.calculus.specs.Worked.{minus, plus, refutation}
+use Rattle.derive.specs.State.{Note, State}
+use Rattle.frames.specs.Commands.{Push}
+use Rattle.frames.specs.Fold.{state_of}
+use Rattle.frames.specs.State.{Frame, OpenFormula, popped}
+use Rattle.frames.specs.Worked.{framed as framed_commands}
+use Rattle.qrp_trace.specs.Worked.{clause, derived, stored}
+use Rattle.engine.specs.declared.counts.Counts.{Counts}
+use Rattle.engine.specs.declared.verdict.Verdict.{Verdict}
+use Rattle.engine.specs.Counting.{one_more, with_clause, with_solve}
+use Rattle.engine.specs.Kept.{framed, framed_as}
+use Rattle.engine.specs.State.{EngineState, changed}
+use Rattle.engine.specs.Verdicts.{HasProof, proof_at, told}
+
+abbrev pub some_counts : Counts
+some_counts = record { clauses = 5; solves = 1; budget = 200; vars = 2 }
+
+-- the clause 1 in frame 0 and the clause -1 2 in a pushed one
+abbrev pub two_frames : List Frame
+two_frames = (state_of framed_commands).formula.frames
+
+-- what is kept of an initial cube
+abbrev pub cube : Why → Option Note
+cube why = Some (record { side = Forall; why = why; tag = 0 })
+
+-- the row 1 2 and its finish where 1 alone is assumed
+abbrev pub finished_with : (Why → Option Note) → State
+finished_with note = record {
+  notes = note Given ∷ note (FinishedFrom 0) ∷ [];
+  rows = Some (stored (plus 1 ∷ plus 2 ∷ []) ∷ stored (plus 1 ∷ []) ∷ []);
+}
+
+-- the proof that ends in the finish
+abbrev pub finished_proof : List Inference
+finished_proof =
+    record { row = plus 1 ∷ plus 2 ∷ []; reason = Input }
+    ∷ record { row = plus 1 ∷ []; reason = One (plus 1 ∷ plus 2 ∷ []) }
+    ∷ []
+
+-- an engine with a verdict
+abbrev pub decided : EngineState
+decided = record {
+  formula = (state_of framed_commands).formula;
+  verdict = Some (told derived [] (record { truth = false; end = 6 }));
+  counts = some_counts;
+}
+
+pub record WorkedEngines : Type 0 where
+  -- a count stays at its last value
+  pub one : one_more 0 ≡ 1
+  pub stays : one_more (2 ^ 64 - 1) ≡ 2 ^ 64 - 1
+  pub clauses : (with_clause some_counts).clauses ≡ 6
+  pub solves : with_solve 100 3 some_counts ≡ record { clauses = 5; solves = 2; budget = 200; vars = 3 }
+  -- a change drops the verdict, and counts nothing else
+  pub dropped : (changed decided Push).verdict ≡ None
+  pub counted : (changed decided Push).counts ≡ some_counts
+  -- clauses with the numbers of their frames, and without the top frame's
+  pub frames : framed two_frames ≡ framed_as 0 (plus 1 ∷ []) ∷ framed_as 1 (minus 1 ∷ plus 2 ∷ []) ∷ []
+  pub popped : framed (popped two_frames) ≡ framed_as 0 (plus 1 ∷ []) ∷ []
+  -- proofs: of the empty clause; of a clause that is left whole under its assumptions; and of a finish, of both sides
+  pub refuted : proof_at derived [] 6 ≡ refutation
+  pub whole : proof_at (finished_with clause) (minus 1 ∷ minus 2 ∷ []) 0
+      ≡ record { row = plus 1 ∷ plus 2 ∷ []; reason = Input } ∷ []
+  pub finish : proof_at (finished_with clause) (minus 1 ∷ []) 1 ≡ finished_proof
+  pub cube_finish : proof_at (finished_with cube) (plus 1 ∷ []) 1 ≡ finished_proof
+  -- no verdict, no proof
+  pub none : (formula : OpenFormula) (verdict : Verdict) → HasProof formula verdict None → ⊥

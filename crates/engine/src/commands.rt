@@ -1,0 +1,118 @@
+//! Commands that change the formula.
+ghost use Rattle.std.specs.Prelude.{◌≡◌, IsOk, OnOk, OnErr, IsOkUnless, MatchOption};
+ghost use Rattle.frames.specs.Commands.{AddClause, AddScope, AddVariable, Assume, Pop, Push, refusal_of};
+ghost use Rattle.engine.specs.Counting.{with_clause};
+ghost use Rattle.engine.specs.State.{changed};
+
+use crate::engine::Engine;
+use crate::tied::{drop_top, forget_outcome, put_clause};
+use crate::variables::variable_for;
+use calculus::prefixes_grow;
+use frames::FrameRefusal;
+use prefix::Quant;
+use search::resting_grows;
+
+impl Engine {
+    /// Puts in a scope without variables as number `at`, or as the last; scopes from there on move up by one.
+    ///
+    /// Refused, in this order, with AssumptionsHeld where an assumption stands, as `Prefix::add_scope` refuses it, and
+    /// with NoMemory.
+    pub fn scope(&mut self, quant: Quant, at: Option<u64>) -> Result<(), FrameRefusal>
+        ensures ok { OnOk result (self.new ≡ changed self.old (AddScope quant at)) }
+        ensures refused { MatchOption (refusal_of self.old.formula (AddScope quant at))
+            (IsOkUnless result FrameRefusal.NoMemory) (λ e. result ≡ Err e) }
+        ensures err { OnErr result (self.new ≡ self.old) }
+    {
+        self.frames.scope(quant, at)?;
+        prefixes_grow();
+        resting_grows();
+        forget_outcome(&mut self.search, &self.frames);
+        self.verdict = None;
+        Ok(())
+    }
+
+    /// Puts the variable of number `var` into scope number `scope`.
+    ///
+    /// Refused, in this order, with AssumptionsHeld where an assumption stands, as `Prefix::add_var` refuses it, and
+    /// with NoMemory.
+    pub fn var(&mut self, var: u64, scope: u64) -> Result<(), FrameRefusal>
+        ensures ok { OnOk result (self.new ≡ changed self.old (AddVariable var scope)) }
+        ensures refused { MatchOption (refusal_of self.old.formula (AddVariable var scope))
+            (IsOkUnless result FrameRefusal.NoMemory) (λ e. result ≡ Err e) }
+        ensures err { OnErr result (self.new ≡ self.old) }
+    {
+        let v = variable_for(&self.frames, var, scope)?;
+        if self.search.reserve(v).is_err() {
+            return Err(FrameRefusal::NoMemory);
+        }
+        self.frames.var(var, scope)?;
+        prefixes_grow();
+        resting_grows();
+        forget_outcome(&mut self.search, &self.frames);
+        self.verdict = None;
+        Ok(())
+    }
+
+    /// Puts a clause into the top frame, given by signed numbers as QDIMACS 1.1 writes literals.
+    ///
+    /// Refused, in this order, with UnknownVar where a number's variable isn't in the prefix, with Limit where the
+    /// clause is no tautology and goes beyond `Frames::MAX_CLAUSES` or `Frames::MAX_LITERALS`, and with NoMemory.
+    pub fn clause(&mut self, lits: &[i64]) -> Result<(), FrameRefusal>
+        ensures ok { OnOk result (self.new ≡ record (changed self.old (AddClause lits.now)) {
+          counts = with_clause self.old.counts;
+        }) }
+        ensures refused { MatchOption (refusal_of self.old.formula (AddClause lits.now))
+            (IsOkUnless result FrameRefusal.NoMemory) (λ e. result ≡ Err e) }
+        ensures err { OnErr result (self.new ≡ self.old) }
+    {
+        put_clause(&mut self.frames, &mut self.search, lits)?;
+        forget_outcome(&mut self.search, &self.frames);
+        self.verdict = None;
+        self.counts = self.counts.with_clause();
+        Ok(())
+    }
+
+    /// Opens a frame. Refused with Limit where `Frames::MAX_PUSHED` pushed frames are open, then with NoMemory.
+    pub fn push(&mut self) -> Result<(), FrameRefusal>
+        ensures ok { OnOk result (self.new ≡ changed self.old Push) }
+        ensures refused { MatchOption (refusal_of self.old.formula Push)
+            (IsOkUnless result FrameRefusal.NoMemory) (λ e. result ≡ Err e) }
+        ensures err { OnErr result (self.new ≡ self.old) }
+    {
+        self.frames.push()?;
+        forget_outcome(&mut self.search, &self.frames);
+        self.verdict = None;
+        Ok(())
+    }
+
+    /// Drops the top pushed frame with its clauses, and all that was learned from them. Refused with NoFrame where no
+    /// pushed frame is open; it takes no memory.
+    pub fn pop(&mut self) -> Result<(), FrameRefusal>
+        ensures ok { OnOk result (self.new ≡ changed self.old Pop) }
+        ensures refused { MatchOption (refusal_of self.old.formula Pop) (IsOk result) (λ e. result ≡ Err e) }
+        ensures err { OnErr result (self.new ≡ self.old) }
+    {
+        let top = self.frames.depth();
+        self.frames.pop()?;
+        drop_top(&mut self.search, &self.frames, top);
+        forget_outcome(&mut self.search, &self.frames);
+        self.verdict = None;
+        Ok(())
+    }
+
+    /// Assumes a literal for the next verdict, given as QDIMACS 1.1 writes it. Assuming it again changes no assumption.
+    ///
+    /// Refused, in this order, with UnknownVar where the number's variable isn't in the prefix, with AssumeScope where
+    /// it isn't in the first scope, with AssumeClash where the negation is assumed, and with NoMemory.
+    pub fn assume(&mut self, lit: i64) -> Result<(), FrameRefusal>
+        ensures ok { OnOk result (self.new ≡ changed self.old (Assume lit)) }
+        ensures refused { MatchOption (refusal_of self.old.formula (Assume lit))
+            (IsOkUnless result FrameRefusal.NoMemory) (λ e. result ≡ Err e) }
+        ensures err { OnErr result (self.new ≡ self.old) }
+    {
+        self.frames.assume(lit)?;
+        forget_outcome(&mut self.search, &self.frames);
+        self.verdict = None;
+        Ok(())
+    }
+}

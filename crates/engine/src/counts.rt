@@ -1,0 +1,49 @@
+//! What an engine counts.
+ghost use Rattle.std.specs.Prelude.{◌≡◌};
+ghost use Rattle.engine.specs.Counting.{no_counts, with_clause, with_solve};
+
+// The accepted clauses and the solves so far, however these ended, and the greatest budget and the greatest number of
+// variables at a solve. A count at its greatest value stays.
+#[derive(Clone, Copy, Debug)]
+pub(crate) struct Counts {
+    pub clauses: u64,
+    pub solves: u64,
+    pub budget: u64,
+    pub vars: u64,
+}
+
+impl Counts {
+    // Nothing counted yet.
+    pub(crate) fn new() -> Self
+        ensures { result ≡ no_counts }
+    {
+        Self {
+            clauses: 0,
+            solves: 0,
+            budget: 0,
+            vars: 0,
+        }
+    }
+
+    // Counts an accepted clause.
+    pub(crate) fn with_clause(self) -> Self
+        ensures { result ≡ with_clause self }
+    {
+        Self {
+            clauses: self.clauses.saturating_add(1),
+            ..self
+        }
+    }
+
+    // Counts a solve.
+    pub(crate) fn with_solve(self, budget: u64, vars: u64) -> Self
+        ensures { result ≡ with_solve budget vars self }
+    {
+        Self {
+            clauses: self.clauses,
+            solves: self.solves.saturating_add(1),
+            budget: self.budget.max(budget),
+            vars: self.vars.max(vars),
+        }
+    }
+}

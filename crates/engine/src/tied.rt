@@ -1,0 +1,106 @@
+//! Frames and a search that belong together.
+ghost use Rattle.std.specs.Prelude.{◌≡◌, ◌≤◌, ◌==◌, ◌++◌, ◌∷◌, [], not, filter, length, List, IfOk, IfErr, OnOk, OnErr, IsOkUnless, MatchOption};
+ghost use Rattle.calculus.specs.Rows.{Row};
+ghost use Rattle.calculus.specs.Search.{IsRefuted};
+ghost use Rattle.derive.specs.State.{OpenClause, clauses_of};
+ghost use Rattle.frames.specs.State.{clauses_in, depth};
+ghost use Rattle.frames.specs.Commands.{AddClause, formula_after, refusal_of};
+ghost use Rattle.search.specs.Changing.{AddsClause};
+ghost use Rattle.search.specs.Moves.{SameSteps};
+ghost use Rattle.search.specs.State.{IsResting};
+ghost use Rattle.search.specs.Counting.{size_of};
+ghost use Rattle.search.specs.Forcing.{HasNoCubes};
+ghost use Rattle.search.specs.Stops.{IsQuickStop};
+ghost use Rattle.engine.specs.Kept.{AreTied, IsHeld};
+ghost use Rattle.engine.specs.Verdicts.{IsStopFor};
+
+use crate::verdict::{Verdict, truth_against};
+use frames::{FrameRefusal, Frames};
+use search::{Search, SolveStop};
+use steps::{NoMemory, Steps};
+
+// Drops the finish of the last outcome.
+pub(crate) fn forget_outcome(search: &mut Search, frames: &Frames)
+    requires { AreTied frames.now.formula search.old }
+    ensures tied { AreTied frames.now.formula search.new }
+    ensures cubes { HasNoCubes search.old → HasNoCubes search.new }
+{
+    search.drop_finish(frames.prefix());
+}
+
+// Decides the open formula under its assumptions.
+pub(crate) fn decide(
+    search: &mut Search,
+    frames: &Frames,
+    steps: &mut Steps,
+) -> Result<Verdict, SolveStop>
+    requires { AreTied frames.now.formula search.old }
+    ensures tied { AreTied frames.now.formula search.new }
+    ensures held { IfOk result (IsHeld frames.now.formula search.new.derivation frames.now.formula.assumptions) }
+    ensures stop { IfErr result (IsStopFor frames.now.formula steps.old steps.new) }
+    ensures quick { HasNoCubes search.old → IsRefuted frames.now.formula.scopes (clauses_in frames.now.formula.frames)
+        frames.now.formula.assumptions → IfErr result (IsQuickStop (size_of frames.now.formula.scopes) steps.old) }
+    ensures budget { steps.new.budget ≡ steps.old.budget }
+    ensures rises { steps.old.spent ≤ steps.new.spent }
+{
+    let matrix = frames.open_clauses();
+    let outcome = search.solve(frames.prefix(), matrix, frames.assumptions(), steps)?;
+    Ok(Verdict {
+        truth: truth_against(outcome.loser),
+        end: outcome.end,
+    })
+}
+
+// Puts a clause into the frames, and its row into the search. With no memory the formula and the steps stay.
+pub(crate) fn put_clause(
+    frames: &mut Frames,
+    search: &mut Search,
+    lits: &[i64],
+) -> Result<(), FrameRefusal>
+    requires { AreTied frames.old.formula search.old }
+    ensures ok { OnOk result (frames.new.formula ≡ formula_after frames.old.formula (AddClause lits.now)) }
+    ensures refused { MatchOption (refusal_of frames.old.formula (AddClause lits.now))
+        (IsOkUnless result FrameRefusal.NoMemory) (λ e. result ≡ Err e) }
+    ensures err { OnErr result (frames.new.formula ≡ frames.old.formula) }
+    ensures same { OnErr result (SameSteps search.old.derivation search.new.derivation) }
+    ensures tied { AreTied frames.new.formula search.new }
+    ensures cubes { HasNoCubes search.old → HasNoCubes search.new }
+{
+    let count = frames.open_clauses().len();
+    frames.add_clause(lits)?;
+    if frames.open_clauses().len() == count {
+        return Ok(());
+    }
+    if put_last(search, frames).is_err() {
+        frames.take_back();
+        return Err(FrameRefusal::NoMemory);
+    }
+    Ok(())
+}
+
+// Puts the last clause of the frames into the search.
+fn put_last(search: &mut Search, frames: &Frames) -> Result<(), NoMemory>
+    requires resting { IsResting frames.now.formula.scopes search.old }
+    requires some { 1 ≤ length (clauses_in frames.now.formula.frames) }
+    ensures ok { (rows : List Row) (row : Row) → clauses_in frames.now.formula.frames ≡ rows ++ row ∷ [] →
+        OnOk result (AddsClause (depth frames.now.formula.frames) row (clauses_of search.old.derivation)
+        (clauses_of search.new.derivation)) }
+    ensures err { OnErr result (SameSteps search.old.derivation search.new.derivation) }
+    ensures resting { IsResting frames.now.formula.scopes search.new }
+    ensures cubes { HasNoCubes search.old → HasNoCubes search.new }
+{
+    let clauses = frames.open_clauses();
+    let last = &clauses[clauses.len() - 1];
+    search.add_clause(frames.prefix(), last.lits(), frames.depth())
+}
+
+// Drops the clauses of the frame that was the top one.
+pub(crate) fn drop_top(search: &mut Search, frames: &Frames, top: usize)
+    requires { IsResting frames.now.formula.scopes search.old }
+    ensures clauses { clauses_of search.new.derivation ≡ filter (λ (c : OpenClause). not (c.frame == top))
+        (clauses_of search.old.derivation) }
+    ensures resting { IsResting frames.now.formula.scopes search.new }
+    ensures cubes { HasNoCubes search.old → HasNoCubes search.new }
+{
+    search.drop_frame(frames.prefix(), top);
+}

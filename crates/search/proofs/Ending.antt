@@ -1,0 +1,68 @@
+-- Searches that end.
+use Rattle.std.proofs.Common.{◌≡◌, ℕ, ◌+◌, ◌-◌, ◌*◌, ◌^◌, ◌<◌, ◌≤◌, List, refl, sym, ap, subst, ◌∙◌, arith}
+use Rattle.std.proofs.Math.Nat.{mul-le-mul_left}
+use Rattle.prefix.specs.declared.quant.Quant.{Quant}
+use Rattle.prefix.specs.Literal.{Literal}
+use Rattle.prefix.specs.Sides.{bad_of}
+use Rattle.prefix.specs.Scopes.{Scope, IsPrefix}
+use Rattle.steps.specs.Counter.{Counter, left, step_limit}
+use Rattle.calculus.specs.Derivations.Why.{FinishedFrom}
+use Rattle.calculus.specs.Limits.{assignment_limit}
+use Rattle.calculus.specs.Rows.{Row}
+use Rattle.calculus.specs.VerdictTheorems.{EndRowsGiveProofs, ProofsDecide}
+use Rattle.calculus.specs.Verdicts.{AreOuter, IsEndRow, proof_of}
+use Rattle.calculus.specs.Derivations.{Step}
+use Rattle.trail.specs.State.{Account, TrailState, IsTrailFor, account_of}
+use Rattle.trail.proofs.Keeping.{assigned_few}
+use Rattle.derive.specs.State.{State, IsLegalFor, clauses_of, row_of, side_at, steps_of, why_at}
+use Rattle.derive.specs.Adding.{Removes, finish_at}
+use Rattle.derive.specs.Theorems.{SameClausesServe, StepsAreListed}
+use Rattle.qrp_trace.specs.Theorems.{FinishesEndProofs}
+use Rattle.clean.specs.Reasons.{IsReducedStep}
+use Rattle.search.specs.Counting.{IsBounded, size_of}
+use Rattle.search.specs.Moves.{IsMatrix}
+use Rattle.search.specs.Stops.{IsOutcome, IsSpent, WasSpentWhenDue}
+use Rattle.search.specs.Stops.WasSpentWhenDue.{assuming, searching}
+
+-- the finish of an end row is an outcome
+pub is_outcome : (scopes : List Scope) (matrix : List Row) (assumptions : List Literal) (old new : State) (side : Quant) (row id : ℕ) → StepsAreListed → SameClausesServe → EndRowsGiveProofs → ProofsDecide → FinishesEndProofs → IsPrefix scopes → IsLegalFor scopes old → IsMatrix old matrix → AreOuter scopes assumptions → IsReducedStep side scopes old row → IsEndRow side scopes assumptions (row_of old row) → Removes old new id row (FinishedFrom row) (finish_at assumptions old row) → IsOutcome scopes matrix assumptions new (record { loser = side; end = id })
+is_outcome scopes matrix assumptions old new side row id listed serve give decide finishes valid legal is_matrix outer step end removes =
+    let last : Step = record { id = row; side = side_at old row; row = row_of old row; why = why_at old row } in
+    let derivation = serve scopes old matrix is_matrix.there is_matrix.none_else legal in
+    let ends = subst (λ q. IsEndRow q scopes assumptions (row_of old row)) (sym step.of_side) end in
+    let proof = give.step scopes matrix assumptions (steps_of old) last derivation (listed.listed old row step.step) ends in
+    record {
+      truth = decide (side_at old row) scopes matrix assumptions (proof_of (steps_of old) last assumptions) valid.distinct outer proof.proof ∙ ap bad_of step.of_side;
+      live = removes.live;
+      of_side = removes.has_side ∙ step.of_side;
+      finish = finishes scopes assumptions old new id row step.step ends removes;
+    }
+
+-- fewer steps than suffice
+few_below : (n p assigned spent : ℕ) → assigned + 1 < 1 * p → spent < (4 * n + 4) * (assigned + 1) → spent < (4 * n + 4) * p
+few_below n p assigned spent few h =
+    let one : (4 * n + 4) * (assigned + 1) ≤ (4 * n + 4) * p = mul-le-mul_left (4 * n + 4) (omega arith) in
+    omega arith
+
+few_limit : (n assigned spent : ℕ) → assigned + 1 < assignment_limit 0 n → spent < (4 * n + 4) * (assigned + 1) → spent < step_limit n
+few_limit n assigned spent few h = few_below n (2 ^ (n + 1)) assigned spent few h
+
+-- the same clauses at the start
+pub due_first : (scopes : List Scope) (old new : State) (assumptions : List Literal) (before : Counter) (assigned : ℕ) → clauses_of new ≡ clauses_of old → WasSpentWhenDue scopes new assumptions before assigned → WasSpentWhenDue scopes old assumptions before assigned
+due_first scopes old new assumptions before assigned same (assuming few) = assuming few
+due_first scopes old new assumptions before assigned same (searching at is clauses assumed count due) = searching at is (clauses ∙ same) assumed count due
+
+-- the budget is spent
+pub is_spent : (scopes : List Scope) (first : State) (assumptions : List Literal) (before now : Counter) (t : TrailState) (stopped : Account) → IsTrailFor scopes t → now.spent ≡ now.budget → now.budget ≡ before.budget → WasSpentWhenDue scopes first assumptions before t.assigned → IsBounded (size_of scopes) before.spent t now → stopped ≡ account_of scopes t now.budget → IsSpent scopes first assumptions before now stopped
+is_spent scopes first assumptions before now t stopped trail spent budget due bounded is =
+    let few = bounded.few in
+    let limit : now.spent - before.spent < step_limit (size_of scopes) = few_limit (size_of scopes) t.assigned (now.spent - before.spent) (assigned_few scopes t trail) few in
+    let same : left before ≡ now.spent - before.spent = omega arith in
+    rw is (record {
+      spent = spent;
+      budget = budget;
+      vars = refl;
+      due = due;
+      few = few;
+      short = rw same limit;
+    })

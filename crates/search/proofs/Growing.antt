@@ -1,0 +1,206 @@
+-- Searches at rest: at first, with more room, and under a larger prefix.
+use Rattle.std.proofs.Common.{◌≡◌, ℕ, ◌≤◌, ◌++◌, Bool, true, false, List, [], length, replicate, length-append, Option, Some, None, Contains, get_or, refl, sym, ap, subst, ◌∙◌, inl, arith}
+use Rattle.std.proofs.lemmas.Bool.{false≢true}
+use Rattle.std.proofs.lemmas.List.{get_or_past}
+use Rattle.calculus.proofs.Lists.{contains_nil}
+use Rattle.prefix.specs.declared.quant.Quant.{Quant}
+use Rattle.prefix.specs.declared.quant.Quant.TheVariants.{Exists}
+use Rattle.prefix.specs.Scopes.{Scope}
+use Rattle.rows.specs.Arena.{StoredRow, links_of}
+use Rattle.calculus.specs.Rows.{IsRow}
+use Rattle.calculus.specs.RowTheorems.{ReductionsStay}
+use Rattle.calculus.specs.Derivations.{Extends}
+use Rattle.calculus.specs.Search.{literals_on}
+use Rattle.trail.specs.State.{IsTrailFor, TrailState, new_trail}
+use Rattle.decide.specs.Memory.{Memory}
+use Rattle.derive.specs.State.{IsLegalFor, OpenClause, State, arena_of, clauses_of, has_rows, may_be_antecedent, row_of, side_at}
+use Rattle.derive.specs.Adding.{IsReductionOf}
+use Rattle.derive.specs.Theorems.{ClausesAreListed, PrefixesMayGrow}
+use Rattle.watch.specs.State.{GoesOnHolding, Holds, IsFront, IsUnattached, WatchState, looked, new_watch}
+use Rattle.watch.specs.Laws.{HoldingLaws}
+use Rattle.clean.specs.Reasons.{IsReducedStep}
+use Rattle.clean.proofs.Keeping.{step_row}
+use Rattle.search.specs.State.{AreAttachedIf, AreWatched, IsAttached, IsResting, SearchState, rows_of, watch_of}
+use Rattle.search.specs.Changing.{RestingGrows}
+use Rattle.search.proofs.Marks.{not_attached}
+
+-- at first
+
+-- a derivation of no steps
+abbrev pub no_steps : State
+no_steps = record { notes = []; rows = Some [] }
+
+no_links : (d : State) → d ≡ no_steps → (id : ℕ) → IsUnattached (arena_of d) id
+no_links d e id = rw e (ap (λ (o : Option StoredRow). get_or (links_of o) 6 None) (get_or_past [] id None (omega arith)))
+
+pub record IsNew (s : SearchState) : Type 0 where
+  pub derivation : s.derivation ≡ no_steps
+  pub legal : IsLegalFor [] s.derivation
+  pub trail : s.trail ≡ new_trail
+  pub kept : (scopes : List Scope) → IsTrailFor scopes s.trail
+  pub watches : (side : Quant) → watch_of side s ≡ new_watch
+  pub watched : s.watched ≡ []
+  pub joined : s.joined ≡ false
+
+module _ (laws : HoldingLaws) (s : SearchState) (new : IsNew s) where
+  none_attached : (side : Quant) (id : ℕ) → IsAttached s side id → ⊥
+  none_attached side id a = false≢true (sym (not_attached side (rows_of s) id (no_links s.derivation new.derivation id)) ∙ a)
+
+  none_listed : (id : ℕ) → Contains s.watched id → ⊥
+  none_listed id at = contains_nil id (subst (λ ids. Contains ids id) new.watched at)
+
+  none_open : (c : OpenClause) → Contains (clauses_of s.derivation) c → ⊥
+  none_open c at = contains_nil c (subst (λ (d : State). Contains (clauses_of d) c) new.derivation at)
+
+  new_watched : AreWatched [] s
+  new_watched = record {
+    marked = λ id. inl (no_links s.derivation new.derivation id);
+    sides = λ side id a. absurd (none_attached side id a);
+    listed = λ side id a. absurd (none_attached side id a);
+    given = λ id at. absurd (none_listed id at);
+    steps = λ id at live. absurd (none_listed id at);
+    clauses = λ c at. absurd (none_open c at);
+  }
+
+  new_holds : (side : Quant) → Holds side [] (watch_of side s) (rows_of s)
+  new_holds side = subst (λ (w : WatchState). Holds side [] w (rows_of s)) (sym (new.watches side)) (laws.begins side [] (rows_of s) (λ id. not_attached side (rows_of s) id (no_links s.derivation new.derivation id)))
+
+  new_front : (side : Quant) → IsFront (looked (watch_of side s)) (literals_on s.trail.placed)
+  new_front side = subst (λ (w : WatchState). IsFront (looked w) (literals_on s.trail.placed)) (sym (new.watches side)) refl
+
+  new_room : (side : Quant) → s.trail.room ≤ (watch_of side s).room
+  new_room side = let t = ap (λ (t : TrailState). t.room) new.trail in omega arith
+
+  pub resting_new : IsResting [] s
+  resting_new = record {
+    rest = record {
+      empty = ap (λ (t : TrailState). t.placed) new.trail;
+      allowed = ap (λ (t : TrailState). t.allowed) new.trail;
+      begun = ap (λ (t : TrailState). t.assigned) new.trail;
+      kept = new.kept;
+    };
+    intact = record {
+      trail = new.kept [];
+      has_rows = ap has_rows new.derivation;
+      legal = new.legal;
+      watched = new_watched;
+      watching = record { holds = new_holds; front = new_front; room = new_room };
+      room = record { trail = λ x at. absurd (contains_nil x at); signs = λ x at. absurd (contains_nil x at) };
+    };
+    attached = subst (λ b. AreAttachedIf b s) (sym new.joined) (λ id. no_links s.derivation new.derivation id);
+  }
+
+-- with more room
+
+pub longer : (old new : Memory) → (more : ℕ) × (new ≡ old ++ replicate more None) → length old ≤ length new
+longer old new grown = let e = ap length grown.1 in omega (arith, e, length-append old (replicate grown.0 None))
+
+-- only the room grows: that of the trail no further than that of the watches
+pub record Widens (old new : SearchState) : Type 0 where
+  pub derivation : new.derivation ≡ old.derivation
+  pub watched : new.watched ≡ old.watched
+  pub joined : new.joined ≡ old.joined
+  pub placed : new.trail.placed ≡ old.trail.placed
+  pub allowed : new.trail.allowed ≡ old.trail.allowed
+  pub assigned : new.trail.assigned ≡ old.trail.assigned
+  pub kept : (scopes : List Scope) → IsTrailFor scopes old.trail → IsTrailFor scopes new.trail
+  pub room : old.trail.room ≤ new.trail.room
+  pub signs : length old.signs ≤ length new.signs
+  pub holds : (side : Quant) → GoesOnHolding side (watch_of side old) (rows_of old) (watch_of side new) (rows_of old)
+  pub looked : (side : Quant) → looked (watch_of side new) ≡ looked (watch_of side old)
+  pub wide : (side : Quant) → old.trail.room ≤ (watch_of side old).room → new.trail.room ≤ (watch_of side new).room
+
+module _ (scopes : List Scope) (old new : SearchState) (widens : Widens old new) (resting : IsResting scopes old) where
+  wide_watched : AreWatched scopes new
+  wide_watched =
+      let h = resting.intact.watched in
+      record {
+        marked = rw widens.derivation h.marked;
+        sides = rw widens.derivation h.sides;
+        listed = rw (widens.derivation, widens.watched) h.listed;
+        given = rw (widens.derivation, widens.watched) h.given;
+        steps = rw (widens.derivation, widens.watched) h.steps;
+        clauses = rw (widens.derivation, widens.watched) h.clauses;
+      }
+
+  wide_holds : (side : Quant) → Holds side scopes (watch_of side new) (rows_of new)
+  wide_holds side = subst (λ (d : State). Holds side scopes (watch_of side new) (arena_of d)) (sym widens.derivation) (widens.holds side scopes (resting.intact.watching.holds side))
+
+  wide_front : (side : Quant) → IsFront (looked (watch_of side new)) (literals_on new.trail.placed)
+  wide_front side = rw (widens.looked side, widens.placed) (resting.intact.watching.front side)
+
+  attached_wide : (b : Bool) → AreAttachedIf b old → AreAttachedIf b new
+  attached_wide true h = rw (widens.derivation, widens.watched) h
+  attached_wide false h = rw widens.derivation h
+
+  pub resting_wide : IsResting scopes new
+  resting_wide = record {
+    rest = record {
+      empty = widens.placed ∙ resting.rest.empty;
+      allowed = widens.allowed ∙ resting.rest.allowed;
+      begun = widens.assigned ∙ resting.rest.begun;
+      kept = λ prefix. widens.kept prefix (resting.rest.kept prefix);
+    };
+    intact = record {
+      trail = widens.kept scopes resting.intact.trail;
+      has_rows = rw widens.derivation resting.intact.has_rows;
+      legal = rw widens.derivation resting.intact.legal;
+      watched = wide_watched;
+      watching = record { holds = wide_holds; front = wide_front; room = λ side. widens.wide side (resting.intact.watching.room side) };
+      room = record {
+        trail = λ x at. let h = resting.intact.room.trail x at in let w = widens.room in omega arith;
+        signs = λ x at. let h = resting.intact.room.signs x at in let w = widens.signs in omega arith;
+      };
+    };
+    attached = subst (λ b. AreAttachedIf b new) (sym widens.joined) (attached_wide old.joined resting.attached);
+  }
+
+-- under a larger prefix
+
+module _ (extends_all : PrefixesMayGrow) (listed : ClausesAreListed) (stay : ReductionsStay) (holding : HoldingLaws) where
+  reduced_under : (pivot : Quant) (old new : List Scope) (d : State) (id : ℕ) → Extends old new → IsLegalFor old d → IsReducedStep pivot old d id → IsReducedStep pivot new d id
+  reduced_under pivot old new d id extends legal is = record {
+    step = is.step;
+    of_side = is.of_side;
+    reduced = sym (stay.reduced pivot old new (row_of d id) extends (step_row old d id legal is.step)) ∙ is.reduced;
+  }
+
+  clause_row : (scopes : List Scope) (d : State) (c : OpenClause) → IsLegalFor scopes d → Contains (clauses_of d) c → IsRow scopes c.row
+  clause_row scopes d c legal at = subst (IsRow scopes) (listed.row d c at) (step_row scopes d c.id legal (ap may_be_antecedent (listed.note d c at)))
+
+  reduction_under : (old new : List Scope) (d : State) (c : OpenClause) (id : ℕ) → Extends old new → IsLegalFor old d → Contains (clauses_of d) c → IsReductionOf old d c id → IsReductionOf new d c id
+  reduction_under old new d c id extends legal at is = record {
+    step = is.step;
+    of_side = is.of_side;
+    literals = is.literals ∙ stay.reduced Exists old new c.row extends (clause_row old d c legal at);
+    tag = is.tag;
+    rests = is.rests;
+  }
+
+  pub resting_grows : RestingGrows
+  resting_grows old new s extends room resting =
+      let intact = resting.intact in
+      let h = intact.watched in
+      record {
+        rest = resting.rest;
+        intact = record {
+          trail = resting.rest.kept new;
+          has_rows = intact.has_rows;
+          legal = extends_all old new s.derivation extends intact.legal;
+          watched = record {
+            marked = h.marked;
+            sides = λ side id a. reduced_under side old new s.derivation id extends intact.legal (h.sides side id a);
+            listed = h.listed;
+            given = h.given;
+            steps = λ id at live. reduced_under (side_at s.derivation id) old new s.derivation id extends intact.legal (h.steps id at live);
+            clauses = λ c at. let r = h.clauses c at in (r.0, r.1, reduction_under old new s.derivation c r.0 extends intact.legal at r.2);
+          };
+          watching = record {
+            holds = λ side. holding.grows side old new (watch_of side s) (rows_of s) extends (intact.watching.holds side);
+            front = intact.watching.front;
+            room = intact.watching.room;
+          };
+          room = room;
+        };
+        attached = resting.attached;
+      }

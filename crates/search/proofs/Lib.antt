@@ -1,0 +1,17 @@
+pub mod Counting
+pub mod Covering
+pub mod Dropping
+pub mod Ending
+pub mod Following
+pub mod Forcing
+pub mod Growing
+pub mod Inputs
+pub mod Joining
+pub mod Learning
+pub mod Listing
+pub mod Looking
+pub mod Marks
+pub mod Rows
+pub mod Starting
+pub mod Turning
+pub mod Undoing

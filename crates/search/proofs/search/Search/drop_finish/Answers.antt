@@ -1,0 +1,25 @@
+use Rattle.std.proofs.Common.{List, Contains, sym, subst}
+use Rattle.derive.specs.Dropping.{finishes}
+use Rattle.derive.specs.State.{OpenClause}
+use Rattle.search.specs.Forcing.{HasNoCubes}
+use Rattle.search.specs.State.{IsResting}
+use Rattle.search.specs.contracts.search.Search.{the_view}
+use Rattle.search.proofs.Dropping.{no_cubes_left, resting_left, step_unfinished}
+use Rattle.search.proofs.search.Search.drop_finish.Goals as goal
+
+pub returns-clause-resting : goal.returns-clause-resting
+returns-clause-resting c =
+    let s = the_view c.self.inside in
+    let d = c.drop_finish.new.self in
+    let scopes = c.args.prefix.now in
+    let resting = subst (IsResting scopes) (sym c.self.view_is) c.requires in
+    resting_left scopes s d finishes c.drop_finish.ensures.drops
+    (λ k at. (subst (λ (cs : List OpenClause). Contains cs k) c.drop_finish.ensures.clauses at, λ id r. step_unfinished s.derivation d c.drop_finish.ensures.exactly id r.step))
+    c.holding_laws.ensures c.agreeing_laws.ensures resting
+    (c.drop_finish.ensures.legal scopes resting.intact.legal)
+    (λ side id a. step_unfinished s.derivation d c.drop_finish.ensures.exactly id (resting.intact.watched.sides side id a).step)
+
+pub returns-clause-cubes : goal.returns-clause-cubes
+returns-clause-cubes c = λ none.
+    no_cubes_left c.args.prefix.now (the_view c.self.inside) c.drop_finish.new.self finishes c.drop_finish.ensures.drops
+    (subst HasNoCubes (sym c.self.view_is) none)

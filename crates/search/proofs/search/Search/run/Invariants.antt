@@ -1,0 +1,26 @@
+use Rattle.std.proofs.Common.{◌≡◌, ◌-◌, ◌≤◌}
+use Rattle.calculus.specs.Limits.{assignment_limit}
+use Rattle.calculus.specs.Search.{AreTheAssumptions, IsRefuted}
+use Rattle.trail.specs.declared.allowed.Allowed.TheVariants.{Anything}
+use Rattle.derive.specs.State.{clauses_of}
+use Rattle.search.specs.Counting.{IsCounted, size_of}
+use Rattle.search.specs.Forcing.{IsRefuting, NoCubeAttached}
+use Rattle.search.specs.Moves.{IsMatrix}
+use Rattle.search.specs.State.{IsSearching}
+use Rattle.search.proofs.search.Search.run.Given as goal
+
+abbrev pub invariant-turns : goal.invariant-turns
+invariant-turns l = record {
+  searching : IsSearching l.prefix l.self;
+  allowed : l.self.trail.allowed ≡ Anything;
+  assumed : AreTheAssumptions l.self.trail.placed l.assumptions;
+  counted : IsCounted (size_of l.prefix) 0 l.fn.steps.spent l.self.trail l.steps;
+  clauses : clauses_of l.self.derivation ≡ clauses_of l.fn.self.derivation;
+  budget : l.steps.budget ≡ l.fn.steps.budget;
+  rises : l.fn.steps.spent ≤ l.steps.spent;
+  forced : NoCubeAttached l.fn.self → IsRefuted l.prefix l.matrix l.assumptions → IsRefuting l.prefix l.matrix l.fn.steps.spent l.self l.steps;
+  matrix : IsMatrix l.self.derivation l.matrix;
+}
+
+abbrev pub decreases-turns : goal.decreases-turns
+decreases-turns l = assignment_limit 0 (size_of l.prefix) - l.self.trail.assigned

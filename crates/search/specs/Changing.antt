@@ -1,0 +1,26 @@
+-- What a search keeps where the formula changes.
+use Rattle.std.specs.Prelude.{◌≡◌, ℕ, ◌≤◌, List, [], ◌∷◌, ◌++◌, length}
+use Rattle.prefix.specs.Scopes.{Scope}
+use Rattle.calculus.specs.Derivations.{Extends}
+use Rattle.calculus.specs.Rows.{Row}
+use Rattle.derive.specs.State.{OpenClause}
+use Rattle.search.specs.State.{HasRoom, IsResting, SearchState}
+
+-- one more open clause, of a frame
+pub record AddsClause (frame : ℕ) (row : Row) (old new : List OpenClause) : Type 0 where
+  pub id : ℕ
+  pub clauses : new ≡ old ++ (record { id = id; frame = frame; row = row }) ∷ []
+
+-- there is room for the variables up to a number, on the trail and for their signs
+pub record IsRoomy (vars : ℕ) (s : SearchState) : Type 0 where
+  pub trail : (x : ℕ) → x ≤ vars → x ≤ s.trail.room
+  pub signs : (x : ℕ) → x ≤ vars → x ≤ length s.signs
+
+-- at rest before, at rest after
+abbrev pub StaysResting : SearchState → SearchState → Type 0
+StaysResting old new = (scopes : List Scope) → IsResting scopes old → IsResting scopes new
+
+-- A search at rest is so under a larger prefix, where there is room for its variables.
+abbrev pub RestingGrows : Type 0
+RestingGrows = (old new : List Scope) (s : SearchState) → Extends old new → HasRoom new s → IsResting old s
+    → IsResting new s

@@ -1,0 +1,24 @@
+-- How the steps of a search are counted.
+use Rattle.std.specs.Prelude.{ℕ, ◌+◌, ◌-◌, ◌*◌, ◌^◌, ◌<◌, ◌≤◌, List, length}
+use Rattle.prefix.specs.Scopes.{Scope, all_variables}
+use Rattle.steps.specs.Counter.{Counter}
+use Rattle.trail.specs.State.{TrailState}
+use Rattle.clean.specs.Marks.{marks_left}
+
+-- the number of variables
+abbrev pub size_of : List Scope → ℕ
+size_of scopes = length (all_variables scopes)
+
+-- The steps since a start are few: each assignment pays for its own step, for making its reason clean once, and, while
+-- it stands, for the lesson that undoes it. A slack stands for what a lesson has cost that isn't undone yet.
+pub record IsCounted (n slack start : ℕ) (t : TrailState) (steps : Counter) : Type 0 where
+  pub later : start ≤ steps.spent
+  pub few : (steps.spent - start) + (2 * n * length t.placed + n * marks_left t) ≤ (3 * n + 1) * t.assigned + slack
+  pub less : t.assigned ≤ steps.spent - start
+  pub within : steps.spent ≤ steps.budget
+  pub fits : steps.budget < 2 ^ 64
+
+-- the same where a solve stops
+pub record IsBounded (n start : ℕ) (t : TrailState) (steps : Counter) : Type 0 where
+  pub later : start ≤ steps.spent
+  pub few : steps.spent - start < (4 * n + 4) * (t.assigned + 1)

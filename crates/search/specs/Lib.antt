@@ -1,0 +1,7 @@
+pub mod Changing
+pub mod Counting
+pub mod Forcing
+pub mod Moves
+pub mod State
+pub mod Stops
+pub mod Watching

@@ -1,0 +1,125 @@
+-- What a search does in a turn.
+use Rattle.std.specs.Prelude.{◌≡◌, ◌≢◌, ℕ, ◌*◌, ◌<◌, ◌≤◌, IsTrue, List, Contains}
+use Rattle.prefix.specs.declared.quant.Quant.{Quant}
+use Rattle.prefix.specs.Literal.{Literal}
+use Rattle.prefix.specs.Scopes.{Scope}
+use Rattle.steps.specs.Counter.{Counter, after}
+use Rattle.calculus.specs.Rows.{Row}
+use Rattle.calculus.specs.Search.{AreTheAssumptions, Cause, IsBadRow, IsUnitIn, cut_trail, last_level, value_on}
+use Rattle.calculus.specs.Verdicts.{IsEndRow}
+use Rattle.trail.specs.Open.{placed_with}
+use Rattle.trail.specs.State.{TrailState}
+use Rattle.trail.specs.declared.allowed.Allowed.TheVariants.{Anything, Nothing}
+use Rattle.decide.specs.Decision.{IsDecision}
+use Rattle.derive.specs.State.{State, clauses_of, has_rows, open_clauses, row_of}
+use Rattle.watch.specs.Events.{AreQuiet}
+use Rattle.clean.specs.Reasons.{IsReducedStep}
+use Rattle.analyse.specs.Lessons.{NeedsResolution}
+use Rattle.search.specs.State.{IsAttached, IsPaused, IsSearching, SearchState, rows_of}
+use Rattle.search.specs.Counting.{IsBounded, IsCounted, size_of}
+use Rattle.search.specs.declared.outcome.Found.{Found}
+use Rattle.search.specs.declared.outcome.Found.TheVariants.{Unit as IsUnit, Bad, Quiet}
+
+-- a derivation with the same steps and rows, in which links may differ
+pub record SameSteps (old new : State) : Type 0 where
+  pub notes : new.notes ≡ old.notes
+  pub has_rows : IsTrue (has_rows new)
+  pub literals : (id : ℕ) → row_of new id ≡ row_of old id
+  pub clauses : clauses_of new ≡ clauses_of old
+
+-- the clauses of a matrix are the open clauses
+pub record IsMatrix (d : State) (matrix : List Row) : Type 0 where
+  pub there : (row : Row) → Contains (open_clauses d) row → Contains matrix row
+  pub none_else : (row : Row) → Contains matrix row → Contains (open_clauses d) row
+
+-- whatever the assumptions of one trail are, they are those of the other
+abbrev pub KeepsAssumptions : TrailState → TrailState → Type 0
+KeepsAssumptions old new = (assumptions : List Literal) → AreTheAssumptions old.placed assumptions
+    → AreTheAssumptions new.placed assumptions
+
+-- the search goes on, with more assignments, and may decide
+pub record Advances (scopes : List Scope) (slack : ℕ) (old new : SearchState) (before now : Counter) : Type 0 where
+  pub searching : IsSearching scopes new
+  pub clauses : clauses_of new.derivation ≡ clauses_of old.derivation
+  pub assumed : KeepsAssumptions old.trail new.trail
+  pub allowed : new.trail.allowed ≡ Anything
+  pub budget : now.budget ≡ before.budget
+  pub rises : before.spent ≤ now.spent
+  pub counted : (start : ℕ) → IsCounted (size_of scopes) slack start old.trail before
+      → IsCounted (size_of scopes) 0 start new.trail now × (old.trail.assigned < new.trail.assigned)
+
+-- a row was analysed: what that costs is owed until the trail is cut
+pub record Analyses (scopes : List Scope) (old new : SearchState) (before now : Counter) : Type 0 where
+  pub searching : IsSearching scopes new
+  pub clauses : clauses_of new.derivation ≡ clauses_of old.derivation
+  pub assumed : KeepsAssumptions old.trail new.trail
+  pub level : last_level new.trail.placed ≡ last_level old.trail.placed
+  pub assigned : new.trail.assigned ≡ old.trail.assigned
+  pub budget : now.budget ≡ before.budget
+  pub rises : before.spent ≤ now.spent
+  pub owed : (start : ℕ) → IsCounted (size_of scopes) 0 start old.trail before
+      → IsCounted (size_of scopes) (2 * size_of scopes) start new.trail now
+
+-- a literal was assigned from this cause, in one step, and nothing else changed
+pub record Pushes (old new : SearchState) (literal : Literal) (cause : Cause) (before now : Counter) : Type 0 where
+  pub derivation : new.derivation ≡ old.derivation
+  pub placed : new.trail.placed ≡ placed_with old.trail.placed literal cause
+  pub counted : now ≡ after before 1
+
+-- the search stops
+pub record Halts (scopes : List Scope) (slack : ℕ) (old new : SearchState) (before now : Counter) : Type 0 where
+  pub paused : IsPaused scopes new
+  pub clauses : clauses_of new.derivation ≡ clauses_of old.derivation
+  pub budget : now.budget ≡ before.budget
+  pub rises : before.spent ≤ now.spent
+  pub bounded : (start : ℕ) → IsCounted (size_of scopes) slack start old.trail before
+      → IsBounded (size_of scopes) start new.trail now
+
+-- the search ends with an end row of a side
+pub record Ends (scopes : List Scope) (old new : SearchState) (before now : Counter) (side : Quant)
+    (id : ℕ) : Type 0 where
+  pub paused : IsPaused scopes new
+  pub clauses : clauses_of new.derivation ≡ clauses_of old.derivation
+  pub budget : now.budget ≡ before.budget
+  pub rises : before.spent ≤ now.spent
+  pub row : IsReducedStep side scopes new.derivation id
+  pub end : (assumptions : List Literal) → AreTheAssumptions old.trail.placed assumptions
+      → IsEndRow side scopes assumptions (row_of new.derivation id)
+
+-- the search is undone to a level
+pub record Undoes (scopes : List Scope) (level : ℕ) (old new : SearchState) : Type 0 where
+  pub searching : IsSearching scopes new
+  pub derivation : new.derivation ≡ old.derivation
+  pub placed : new.trail.placed ≡ cut_trail level old.trail.placed
+  pub assigned : new.trail.assigned ≡ old.trail.assigned
+  pub allowed : new.trail.allowed ≢ Nothing
+  pub assumed : KeepsAssumptions old.trail new.trail
+  pub paid : (start : ℕ) (steps : Counter) → IsCounted (size_of scopes) (2 * size_of scopes) start old.trail steps
+      → IsCounted (size_of scopes) 0 start new.trail steps
+
+-- what is found: an attached row that is unit or bad, or that none is
+abbrev pub IsFound : List Scope → SearchState → Found → Type 0
+IsFound scopes s (IsUnit side id literal) = IsAttached s side id
+    × IsUnitIn side scopes (value_on s.trail.placed) (row_of s.derivation id) literal
+IsFound scopes s (Bad side id) = IsAttached s side id
+    × IsBadRow side scopes (value_on s.trail.placed) (row_of s.derivation id)
+IsFound scopes s Quiet = (side : Quant) → AreQuiet side scopes (value_on s.trail.placed) (rows_of s)
+
+-- A step is due: a row of a side is unit in a literal, which is to be assigned; a bad one is to be resolved; or a
+-- variable is to be decided.
+pub data IsDue (scopes : List Scope) (s : SearchState) : Type 0 where
+  unit : (side : Quant) (id : ℕ) (literal : Literal) → IsReducedStep side scopes s.derivation id
+      → IsUnitIn side scopes (value_on s.trail.placed) (row_of s.derivation id) literal → IsDue scopes s
+  bad : (side : Quant) (id : ℕ) → IsReducedStep side scopes s.derivation id
+      → IsBadRow side scopes (value_on s.trail.placed) (row_of s.derivation id)
+      → NeedsResolution side scopes s.trail.placed (row_of s.derivation id) → IsDue scopes s
+  decision : (x : ℕ) → IsDecision scopes s.trail.placed x → IsDue scopes s
+
+-- a step was due in a search that this one came to, with the same clauses, assumptions and assignments so far
+pub record WasDue (scopes : List Scope) (old new : SearchState) : Type 0 where
+  pub at : SearchState
+  pub searching : IsSearching scopes at
+  pub clauses : clauses_of at.derivation ≡ clauses_of old.derivation
+  pub assumed : KeepsAssumptions old.trail at.trail
+  pub assigned : new.trail.assigned ≡ at.trail.assigned
+  pub due : IsDue scopes at

@@ -1,0 +1,70 @@
+-- What calls of a watch leave.
+use Rattle.std.specs.Prelude.{◌≡◌, ◌≢◌, ℕ, ◌⊎◌, IsFalse, List, None}
+use Rattle.prefix.specs.declared.quant.Quant.{Quant}
+use Rattle.prefix.specs.Scopes.{Scope}
+use Rattle.rows.specs.Arena.{Arena, is_live, link_at, literals_at, next_id}
+use Rattle.derive.specs.State.{State, IsLegalFor, arena_of}
+use Rattle.watch.specs.Links.{is_attached}
+use Rattle.watch.specs.State.{AgreesOn}
+use Rattle.search.specs.Moves.{SameSteps}
+use Rattle.search.specs.State.{IsAttached, IsIntact, IsSearching, SearchState, rows_of}
+
+-- each row is attached as it was
+abbrev pub KeepsMarks : Arena → Arena → Type 0
+KeepsMarks old new = (id : ℕ) → link_at new id 6 ≡ link_at old id 6
+
+-- the rows that are attached to the watch of another side are as they were
+abbrev pub AgreesElsewhere : Quant → Arena → Arena → Type 0
+AgreesElsewhere pivot old new = (other : Quant) → pivot ≢ other → AgreesOn other old new
+
+-- the same ids are live with the same literals
+pub record KeepsRows (old new : Arena) : Type 0 where
+  pub same_next : next_id new ≡ next_id old
+  pub same_live : (id : ℕ) → is_live new id ≡ is_live old id
+  pub same_literals : (id : ℕ) → literals_at new id ≡ literals_at old id
+
+-- the same steps, which are as legal as they were, and the rows of other watches as they were
+pub record Touches (pivot : Quant) (old new : State) : Type 0 where
+  pub steps : SameSteps old new
+  pub legal : (scopes : List Scope) → IsLegalFor scopes old → IsLegalFor scopes new
+  pub agrees : AgreesElsewhere pivot (arena_of old) (arena_of new)
+
+-- a row isn't attached to the watch any more, and each one is attached as it was or to none
+pub record Unmarks (pivot : Quant) (old new : Arena) (id : ℕ) : Type 0 where
+  pub gone : IsFalse (is_attached pivot new id)
+  pub marks : (i : ℕ) → (link_at new i 6 ≡ link_at old i 6) ⊎ (link_at new i 6 ≡ None)
+
+-- a row is attached, and what was attached is so still; nothing else changes
+pub record Joins (scopes : List Scope) (old new : SearchState) (id : ℕ) : Type 0 where
+  pub intact : IsIntact scopes new
+  pub steps : SameSteps old.derivation new.derivation
+  pub trail : new.trail ≡ old.trail
+  pub signs : new.signs ≡ old.signs
+  pub watched : new.watched ≡ old.watched
+  pub joined : new.joined ≡ old.joined
+  pub here : (side : Quant) × IsAttached new side id
+  pub stays : (side : Quant) (i : ℕ) → IsAttached old side i → IsAttached new side i
+
+-- a row isn't attached any more, and what isn't stays so; nothing else changes
+pub record Parts (scopes : List Scope) (old new : SearchState) (id : ℕ) : Type 0 where
+  pub intact : IsIntact scopes new
+  pub steps : SameSteps old.derivation new.derivation
+  pub trail : new.trail ≡ old.trail
+  pub signs : new.signs ≡ old.signs
+  pub watched : new.watched ≡ old.watched
+  pub joined : new.joined ≡ old.joined
+  pub gone : (side : Quant) → IsAttached new side id → ⊥
+  pub stays : (side : Quant) (i : ℕ) → IsAttached new side i → IsAttached old side i
+
+-- a row may be attached; the search is else as it was
+pub record Keeps (scopes : List Scope) (old new : SearchState) : Type 0 where
+  pub searching : IsSearching scopes new
+  pub steps : SameSteps old.derivation new.derivation
+  pub trail : new.trail ≡ old.trail
+
+-- the watches were asked: the search is as it was, but for what they looked at
+pub record Looks (scopes : List Scope) (old new : SearchState) : Type 0 where
+  pub searching : IsSearching scopes new
+  pub steps : SameSteps old.derivation new.derivation
+  pub trail : new.trail ≡ old.trail
+  pub marks : KeepsMarks (rows_of old) (rows_of new)

@@ -1,0 +1,172 @@
+//! Rows that are attached to the watches, and detached.
+ghost use Rattle.std.specs.Prelude.{◌≡◌, ◌≤◌, ◌<◌, ◌⊎◌, ℕ, IsTrue, IfOk, OnOk, OnErr, Contains, length, slice_index, true, false, filter, List};
+ghost use Rattle.prefix.specs.declared.quant.Quant.{Quant as Q};
+ghost use Rattle.derive.specs.State.{has_rows, is_live, side_at};
+ghost use Rattle.watch.specs.Links.{is_attached};
+ghost use Rattle.clean.specs.Reasons.{IsReducedStep};
+ghost use Rattle.search.specs.State.{IsIntact, IsPaused, IsResting, IsSearching, rows_of};
+ghost use Rattle.search.specs.Moves.{SameSteps};
+ghost use Rattle.search.specs.Forcing.{HasNoCubes, NoCubeAttached};
+ghost use Rattle.search.specs.Watching.{Joins, Keeps, Parts};
+
+use crate::search::Search;
+use crate::watching::{attach_to, detach_from, has_row};
+use derive::{Derivation, StepId};
+use prefix::{Prefix, Quant};
+use steps::NoMemory;
+use watch::holding_laws;
+
+impl Search {
+    // Attaches a row to watch to the watch of its side, unless it is attached.
+    pub(crate) fn attach(&mut self, prefix: &Prefix, id: StepId)
+        requires intact { IsIntact prefix.now self.old }
+        requires live { IsTrue (is_live self.old.derivation id) }
+        requires listed { Contains self.old.watched id }
+        ensures { Joins prefix.now self.old self.new id }
+    {
+        holding_laws();
+        match self.derivation.side(id) {
+            Quant::Exists => attach_to(
+                &mut self.clauses,
+                &mut self.derivation,
+                &self.trail,
+                prefix,
+                id,
+            ),
+            Quant::Forall => attach_to(
+                &mut self.cubes,
+                &mut self.derivation,
+                &self.trail,
+                prefix,
+                id,
+            ),
+        }
+    }
+
+    // Detaches a row to watch from the watch of its side, if it is attached.
+    fn detach(&mut self, prefix: &Prefix, id: StepId)
+        requires intact { IsIntact prefix.now self.old }
+        requires live { IsTrue (is_live self.old.derivation id) }
+        ensures { Parts prefix.now self.old self.new id }
+    {
+        holding_laws();
+        match self.derivation.side(id) {
+            Quant::Exists => detach_from(&mut self.clauses, &mut self.derivation, id),
+            Quant::Forall => detach_from(&mut self.cubes, &mut self.derivation, id),
+        }
+    }
+
+    // Attaches every row to watch, and forgets those of steps that were dropped. Where all are attached, this takes
+    // constant time.
+    pub(crate) fn attach_all(&mut self, prefix: &Prefix)
+        requires { IsResting prefix.now self.old }
+        ensures paused { IsPaused prefix.now self.new }
+        ensures trail { self.new.trail ≡ self.old.trail }
+        ensures steps { SameSteps self.old.derivation self.new.derivation }
+        ensures cubes { HasNoCubes self.old → NoCubeAttached self.new }
+    {
+        if !self.joined {
+            self.join_all(prefix);
+        }
+    }
+
+    // The same where none is attached.
+    fn join_all(&mut self, prefix: &Prefix)
+        requires { IsIntact prefix.now self.old }
+        ensures paused { IsPaused prefix.now self.new }
+        ensures trail { self.new.trail ≡ self.old.trail }
+        ensures steps { SameSteps self.old.derivation self.new.derivation }
+        ensures part { (id : ℕ) → Contains self.new.watched id → Contains self.old.watched id }
+    {
+        forget_dropped(&mut self.watched, &self.derivation);
+        for k in 0..self.watched.len() {
+            self.attach_at(prefix, k);
+        }
+    }
+
+    // Attaches the row to watch with this place on the list.
+    fn attach_at(&mut self, prefix: &Prefix, k: usize)
+        requires intact { IsIntact prefix.now self.old }
+        requires within { k < length self.old.watched }
+        requires live { IsTrue (is_live self.old.derivation (slice_index self.old.watched k)) }
+        ensures { Joins prefix.now self.old self.new (slice_index self.old.watched k) }
+    {
+        let id = self.watched[k];
+        self.attach(prefix, id);
+    }
+
+    // Detaches every row. Where none is attached, this takes constant time.
+    pub(crate) fn detach_all(&mut self, prefix: &Prefix)
+        requires { IsResting prefix.now self.old }
+        ensures resting { IsResting prefix.now self.new }
+        ensures steps { SameSteps self.old.derivation self.new.derivation }
+        ensures trail { self.new.trail ≡ self.old.trail }
+        ensures watched { self.new.watched ≡ self.old.watched }
+        ensures joined { self.new.joined ≡ false }
+    {
+        if self.joined {
+            self.part_all(prefix);
+        }
+    }
+
+    // The same where all are attached.
+    fn part_all(&mut self, prefix: &Prefix)
+        requires resting { IsResting prefix.now self.old }
+        requires joined { self.old.joined ≡ true }
+        ensures resting { IsResting prefix.now self.new }
+        ensures steps { SameSteps self.old.derivation self.new.derivation }
+        ensures trail { self.new.trail ≡ self.old.trail }
+        ensures watched { self.new.watched ≡ self.old.watched }
+        ensures joined { self.new.joined ≡ false }
+    {
+        for k in 0..self.watched.len() {
+            self.detach_at(prefix, k);
+        }
+        self.joined = false;
+    }
+
+    // Detaches the row to watch with this place on the list.
+    fn detach_at(&mut self, prefix: &Prefix, k: usize)
+        requires intact { IsIntact prefix.now self.old }
+        requires within { k < length self.old.watched }
+        requires live { IsTrue (is_live self.old.derivation (slice_index self.old.watched k)) }
+        ensures { Parts prefix.now self.old self.new (slice_index self.old.watched k) }
+    {
+        let id = self.watched[k];
+        self.detach(prefix, id);
+    }
+
+    // Keeps a row that was learned: it is watched from now on, and attached, unless it is attached already.
+    pub(crate) fn keep(&mut self, prefix: &Prefix, row: StepId) -> Result<(), NoMemory>
+        requires searching { IsSearching prefix.now self.old }
+        requires reduced { IsReducedStep (side_at self.old.derivation row) prefix.now self.old.derivation row }
+        ensures { Keeps prefix.now self.old self.new }
+    {
+        if self.has(row) {
+            return Ok(());
+        }
+        self.watched.push(row)?;
+        self.attach(prefix, row);
+        Ok(())
+    }
+
+    // Whether a live row is attached to the watch of its side.
+    fn has(&mut self, row: StepId) -> bool
+        requires live { IsTrue (is_live self.old.derivation row) }
+        requires rows { IsTrue (has_rows self.old.derivation) }
+        ensures same { self.new ≡ self.old }
+        ensures has { result ≡ is_attached (side_at self.old.derivation row) (rows_of self.old) row }
+    {
+        match self.derivation.side(row) {
+            Quant::Exists => has_row(&self.clauses, &mut self.derivation, row),
+            Quant::Forall => has_row(&self.cubes, &mut self.derivation, row),
+        }
+    }
+}
+
+// Takes out the ids of steps that were dropped.
+fn forget_dropped(watched: &mut Vec<StepId>, derivation: &Derivation)
+    ensures { watched.new.items ≡ filter (λ id. is_live derivation.now id) watched.old.items }
+{
+    watched.retain(|id| derivation.is_live(*id));
+}

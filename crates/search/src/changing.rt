@@ -1,0 +1,118 @@
+//! Changes of the formula, between solves.
+ghost use Rattle.std.specs.Prelude.{◌≡◌, ◌++◌, ◌∷◌, [], ◌==◌, false, not, filter, OnOk, OnErr};
+ghost use Rattle.calculus.specs.Rows.{IsRow};
+ghost use Rattle.derive.specs.State.{OpenClause, clauses_of};
+ghost use Rattle.search.specs.State.{IsResting};
+ghost use Rattle.search.specs.Forcing.{HasNoCubes};
+ghost use Rattle.search.specs.Moves.{SameSteps};
+ghost use Rattle.search.specs.Changing.{AddsClause, IsRoomy, RestingGrows, StaysResting};
+
+use crate::search::Search;
+use calculus::{prefix_laws, reductions_stay};
+use derive::{Derivation, StepId, clauses_are_listed, growth_laws, prefixes_may_grow};
+use prefix::{Lit, Prefix, Var};
+use steps::NoMemory;
+use watch::{agreeing_laws, holding_laws};
+
+impl Search {
+    /// The derivation: what was put in, what was learned, and the finish of the last outcome.
+    pub fn derivation(&self) -> &Derivation
+        ensures { result.now ≡ self.now.derivation }
+    {
+        &self.derivation
+    }
+
+    /// Makes room for the variables up to this one: on the trail, for their signs, and in both watches. It only grows.
+    /// With no memory there may be more room in some of them, and all else is as it was.
+    pub fn reserve(&mut self, v: Var) -> Result<(), NoMemory>
+        ensures ok { OnOk result (IsRoomy v self.new) }
+        ensures resting { StaysResting self.old self.new }
+        ensures derivation { self.new.derivation ≡ self.old.derivation }
+        ensures watched { self.new.watched ≡ self.old.watched }
+    {
+        let vars = v.number() as usize;
+        self.clauses.reserve(vars)?;
+        self.cubes.reserve(vars)?;
+        self.decider.reserve(vars)?;
+        self.trail.reserve(vars)?;
+        Ok(())
+    }
+
+    /// Puts in a clause of a frame; every cube that was learned goes, since it may miss the clause. With no memory the
+    /// steps are as they were.
+    pub fn add_clause(
+        &mut self,
+        prefix: &Prefix,
+        lits: &[Lit],
+        frame: usize,
+    ) -> Result<(), NoMemory>
+        requires resting { IsResting prefix.now self.old }
+        requires row { IsRow prefix.now lits.now }
+        ensures ok { OnOk result (AddsClause frame lits.now (clauses_of self.old.derivation)
+            (clauses_of self.new.derivation)) }
+        ensures err { OnErr result (SameSteps self.old.derivation self.new.derivation) }
+        ensures resting { IsResting prefix.now self.new }
+        ensures cubes { HasNoCubes self.old → HasNoCubes self.new }
+    {
+        self.watched.reserve(1)?;
+        self.detach_all(prefix);
+        self.input(prefix, lits, frame)
+    }
+
+    // Puts in a clause of a frame where nothing is attached, and there is room for one more row to watch.
+    fn input(&mut self, prefix: &Prefix, lits: &[Lit], frame: usize) -> Result<(), NoMemory>
+        requires resting { IsResting prefix.now self.old }
+        requires joined { self.old.joined ≡ false }
+        requires row { IsRow prefix.now lits.now }
+        ensures ok { OnOk result (AddsClause frame lits.now (clauses_of self.old.derivation)
+            (clauses_of self.new.derivation)) }
+        ensures err { OnErr result (SameSteps self.old.derivation self.new.derivation) }
+        ensures resting { IsResting prefix.now self.new }
+        ensures cubes { HasNoCubes self.old → HasNoCubes self.new }
+    {
+        holding_laws();
+        agreeing_laws();
+        growth_laws();
+        self.watched.reserve(1)?;
+        let (_, id) = self.derivation.input_clause(prefix, lits, frame)?;
+        let _ = self.watched.push(id);
+        Ok(())
+    }
+
+    /// Drops the clauses of a frame, with all that rests on them. This takes no memory.
+    pub fn drop_frame(&mut self, prefix: &Prefix, frame: usize)
+        requires { IsResting prefix.now self.old }
+        ensures clauses { clauses_of self.new.derivation ≡ filter (λ (c : OpenClause). not (c.frame == frame))
+            (clauses_of self.old.derivation) }
+        ensures resting { IsResting prefix.now self.new }
+        ensures cubes { HasNoCubes self.old → HasNoCubes self.new }
+    {
+        self.detach_all(prefix);
+        holding_laws();
+        agreeing_laws();
+        clauses_are_listed();
+        self.derivation.drop_frame(frame);
+    }
+
+    /// Drops the finish of the last outcome. This takes no memory.
+    pub fn drop_finish(&mut self, prefix: &Prefix)
+        requires { IsResting prefix.now self.old }
+        ensures resting { IsResting prefix.now self.new }
+        ensures clauses { clauses_of self.new.derivation ≡ clauses_of self.old.derivation }
+        ensures cubes { HasNoCubes self.old → HasNoCubes self.new }
+    {
+        holding_laws();
+        agreeing_laws();
+        self.derivation.drop_finish();
+    }
+}
+
+/// A search at rest is so under a larger prefix, where there is room for its variables.
+pub fn resting_grows()
+    ensures { RestingGrows }
+{
+    holding_laws();
+    prefixes_may_grow();
+    clauses_are_listed();
+    reductions_stay();
+}

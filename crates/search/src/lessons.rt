@@ -1,0 +1,243 @@
+//! What bad rows teach, and what is done about it.
+ghost use Rattle.std.specs.Prelude.{◌≡◌, ◌≢◌, ◌≤◌, ◌<◌, ◌+◌, ◌*◌, ℕ, IsTrue, IfOk, IfSome, OnOk, OnErr, Ok, Err, None, length, List};
+ghost use Rattle.prefix.specs.Literal.{Literal};
+ghost use Rattle.prefix.specs.declared.quant.Quant.{Quant as Q};
+ghost use Rattle.steps.specs.Counter.{left};
+ghost use Rattle.steps.specs.declared.stop.Stop.TheVariants.{Spent as spent};
+ghost use Rattle.calculus.specs.Search.{IsBadRow, IsUnitIn, MakesUnitAt, good_literal, last_level, value_on};
+ghost use Rattle.calculus.specs.Search.Cause.{Propagated as propagated};
+ghost use Rattle.decide.specs.Decision.{IsDecision};
+ghost use Rattle.trail.specs.State.{IsTrailFor};
+ghost use Rattle.trail.specs.declared.allowed.Allowed.TheVariants.{Anything, Nothing};
+ghost use Rattle.derive.specs.State.{has_rows, row_of, IsLegalFor};
+ghost use Rattle.derive.specs.Growing.{GainsSteps};
+ghost use Rattle.clean.specs.Reasons.{HaveReasons, IsReducedStep};
+ghost use Rattle.clean.specs.Marks.{CleansReasons, KeepsReasons, StopsCleaning, marks_left};
+ghost use Rattle.analyse.specs.Lessons.{IsLesson, NeedsResolution};
+ghost use Rattle.search.specs.State.{IsSearching};
+ghost use Rattle.search.specs.Counting.{size_of};
+ghost use Rattle.search.specs.Moves.{Advances, Analyses, Ends, Halts, Pushes, Undoes, WasDue};
+
+use crate::outcome::EndRow;
+use crate::search::Search;
+use analyse::{Lesson, analyse};
+use clean::reason_laws;
+use decide::Decider;
+use derive::{Derivation, StepId};
+use prefix::{Clauses, Cubes, Lit, Prefix, Quant};
+use steps::{Spent, Steps, Stop};
+use trail::{Trail, Why};
+use watch::{agreeing_laws, holding_laws, looking_laws};
+
+impl Search {
+    // Learns from a bad row of a side: the search goes on, or ends with an end row.
+    pub(crate) fn learn(
+        &mut self,
+        prefix: &Prefix,
+        side: Quant,
+        row: StepId,
+        steps: &mut Steps,
+    ) -> Result<Option<EndRow>, Stop>
+        requires searching { IsSearching prefix.now self.old }
+        requires row { IsReducedStep side prefix.now self.old.derivation row }
+        requires bad { IsBadRow side prefix.now (value_on self.old.trail.placed) (row_of self.old.derivation row) }
+        ensures go { result ≡ Ok None → Advances prefix.now 0 self.old self.new steps.old steps.new }
+        ensures end { IfOk result (λ end. IfSome end (λ e.
+            Ends prefix.now self.old self.new steps.old steps.new e.side e.row)) }
+        ensures err { OnErr result (Halts prefix.now 0 self.old self.new steps.old steps.new) }
+        ensures spent { result ≡ Err spent → steps.new.spent ≡ steps.new.budget }
+        ensures due { result ≡ Err spent → WasDue prefix.now self.old self.new }
+        ensures ends { last_level self.old.trail.placed ≡ 0 → result ≢ Ok None }
+        ensures few { last_level self.old.trail.placed ≡ 0 → result ≡ Err spent → left steps.old
+            < marks_left self.old.trail * length self.old.trail.placed + 2 * length self.old.trail.placed }
+    {
+        match self.analysed(prefix, side, row, steps)? {
+            Lesson::End { row } => Ok(Some(EndRow { side, row })),
+            Lesson::Learn { row, lit, level } => {
+                self.backjump(prefix, side, row, lit, level, steps)?;
+                Ok(None)
+            }
+        }
+    }
+
+    // What a bad row of a side teaches.
+    fn analysed(
+        &mut self,
+        prefix: &Prefix,
+        side: Quant,
+        row: StepId,
+        steps: &mut Steps,
+    ) -> Result<Lesson, Stop>
+        requires searching { IsSearching prefix.now self.old }
+        requires row { IsReducedStep side prefix.now self.old.derivation row }
+        requires bad { IsBadRow side prefix.now (value_on self.old.trail.placed) (row_of self.old.derivation row) }
+        ensures ok { OnOk result (Analyses prefix.now self.old self.new steps.old steps.new) }
+        ensures lesson { IfOk result (λ lesson.
+            IsLesson side prefix.now self.new.trail.placed self.new.derivation lesson) }
+        ensures err { OnErr result (Halts prefix.now 0 self.old self.new steps.old steps.new) }
+        ensures spent { result ≡ Err spent → steps.new.spent ≡ steps.new.budget }
+        ensures due { result ≡ Err spent → WasDue prefix.now self.old self.new }
+        ensures few { result ≡ Err spent → left steps.old
+            < marks_left self.old.trail * length self.old.trail.placed + 2 * length self.old.trail.placed }
+    {
+        holding_laws();
+        agreeing_laws();
+        bump(&mut self.decider, self.derivation.lits(row));
+        self.decider.decay();
+        let lesson = lesson_of(
+            &mut self.derivation,
+            &mut self.trail,
+            prefix,
+            side,
+            row,
+            steps,
+        );
+        // The counter is within its budget.
+        let _budget = steps.budget();
+        lesson
+    }
+
+    // Undoes to the level of a learned row, keeps the row, and assigns the literal in which it is unit then.
+    fn backjump(
+        &mut self,
+        prefix: &Prefix,
+        side: Quant,
+        row: StepId,
+        lit: Lit,
+        level: usize,
+        steps: &mut Steps,
+    ) -> Result<(), Stop>
+        requires searching { IsSearching prefix.now self.old }
+        requires row { IsReducedStep side prefix.now self.old.derivation row }
+        requires unit { MakesUnitAt side prefix.now self.old.trail.placed (row_of self.old.derivation row) lit level }
+        ensures ok { OnOk result (Advances prefix.now (2 * size_of prefix.now) self.old self.new steps.old steps.new) }
+        ensures err { OnErr result (Halts prefix.now (2 * size_of prefix.now) self.old self.new steps.old steps.new) }
+        ensures spent { result ≡ Err spent → steps.new.spent ≡ steps.new.budget }
+        ensures due { result ≡ Err spent → WasDue prefix.now self.old self.new }
+    {
+        bump(&mut self.decider, self.derivation.lits(row));
+        self.undo(prefix, level);
+        self.keep(prefix, row)?;
+        self.propagate(prefix, side, row, lit, steps)?;
+        Ok(())
+    }
+
+    // Undoes to a level below that of the trail.
+    fn undo(&mut self, prefix: &Prefix, level: usize)
+        requires searching { IsSearching prefix.now self.old }
+        requires below { level < last_level self.old.trail.placed }
+        ensures { Undoes prefix.now level self.old self.new }
+    {
+        holding_laws();
+        looking_laws();
+        reason_laws();
+        let keep = self.trail.len_to(level);
+        self.decider.undoing(&self.trail, prefix, keep);
+        self.trail.undo_to(level);
+        self.clauses.undone(keep);
+        self.cubes.undone(keep);
+    }
+
+    // Assigns the literal that a unit row of a side asks for; the row is its reason.
+    pub(crate) fn propagate(
+        &mut self,
+        prefix: &Prefix,
+        side: Quant,
+        row: StepId,
+        lit: Lit,
+        steps: &mut Steps,
+    ) -> Result<(), Spent>
+        requires searching { IsSearching prefix.now self.old }
+        requires row { IsReducedStep side prefix.now self.old.derivation row }
+        requires unit { IsUnitIn side prefix.now (value_on self.old.trail.placed) (row_of self.old.derivation row) lit }
+        requires allowed { self.old.trail.allowed ≢ Nothing }
+        ensures ok { OnOk result (Advances prefix.now 0 self.old self.new steps.old steps.new) }
+        ensures pushes { OnOk result (Pushes self.old self.new (good_literal side lit) (propagated row)
+            steps.old steps.new) }
+        ensures same { OnErr result (self.new ≡ self.old) }
+        ensures uncounted { OnErr result (steps.new ≡ steps.old) }
+        ensures spent { OnErr result (steps.new.spent ≡ steps.new.budget) }
+    {
+        reason_laws();
+        looking_laws();
+        let value = good(side, lit);
+        self.trail
+            .assign(prefix, value, Why::Propagated(row), steps)?;
+        Ok(())
+    }
+
+    // Assigns a decision.
+    pub(crate) fn decide(
+        &mut self,
+        prefix: &Prefix,
+        lit: Lit,
+        steps: &mut Steps,
+    ) -> Result<(), Spent>
+        requires searching { IsSearching prefix.now self.old }
+        requires decision { IsDecision prefix.now self.old.trail.placed lit.variable }
+        requires allowed { self.old.trail.allowed ≡ Anything }
+        ensures ok { OnOk result (Advances prefix.now 0 self.old self.new steps.old steps.new) }
+        ensures same { OnErr result (self.new ≡ self.old) }
+        ensures uncounted { OnErr result (steps.new ≡ steps.old) }
+        ensures spent { OnErr result (steps.new.spent ≡ steps.new.budget) }
+    {
+        reason_laws();
+        looking_laws();
+        self.trail.assign(prefix, lit, Why::Decided, steps)?;
+        Ok(())
+    }
+}
+
+// What a bad row of a side teaches.
+fn lesson_of(
+    derivation: &mut Derivation,
+    trail: &mut Trail,
+    prefix: &Prefix,
+    side: Quant,
+    row: StepId,
+    steps: &mut Steps,
+) -> Result<Lesson, Stop>
+    requires rows { IsTrue (has_rows derivation.old) }
+    requires legal { IsLegalFor prefix.now derivation.old }
+    requires trail { IsTrailFor prefix.now trail.old }
+    requires reasons { HaveReasons side prefix.now derivation.old trail.old }
+    requires row { IsReducedStep side prefix.now derivation.old row }
+    requires bad { IsBadRow side prefix.now (value_on trail.old.placed) (row_of derivation.old row) }
+    ensures lesson { IfOk result (λ lesson. IsLesson side prefix.now trail.new.placed derivation.new lesson) }
+    ensures counted { OnOk result (CleansReasons prefix.now derivation.old derivation.new trail.old trail.new
+        steps.old steps.new (2 * length trail.old.placed)) }
+    ensures err { OnErr result (StopsCleaning prefix.now derivation.old derivation.new trail.old trail.new
+        steps.old steps.new (marks_left trail.old * length trail.old.placed + 2 * length trail.old.placed)) }
+    ensures due { OnErr result (NeedsResolution side prefix.now trail.old.placed (row_of derivation.old row)) }
+    ensures spent { result ≡ Err spent → steps.new.spent ≡ steps.new.budget }
+    ensures few { result ≡ Err spent →
+        left steps.old < marks_left trail.old * length trail.old.placed + 2 * length trail.old.placed }
+    ensures reasons { KeepsReasons prefix.now derivation.old derivation.new trail.old trail.new }
+    ensures trail { IsTrailFor prefix.now trail.new }
+    ensures gains { GainsSteps derivation.old derivation.new }
+    ensures legal { IsLegalFor prefix.now derivation.new }
+{
+    match side {
+        Quant::Exists => analyse::<Clauses>(derivation, trail, prefix, row, steps),
+        Quant::Forall => analyse::<Cubes>(derivation, trail, prefix, row, steps),
+    }
+}
+
+// Raises the priorities of the variables of a row.
+fn bump(decider: &mut Decider, row: &[Lit])
+    ensures { decider.new ≡ decider.old }
+{
+    for lit in row {
+        decider.bump(lit.var());
+    }
+}
+
+// The literal that a unit row of a side makes good: its own for a clause, its opposite for a cube.
+fn good(side: Quant, lit: Lit) -> Lit
+    ensures { result ≡ good_literal side lit }
+{
+    match side {
+        Quant::Exists => lit,
+        Quant::Forall => lit.negate(),
+    }
+}

@@ -1,0 +1,15 @@
+//! The search: conflict-driven clause and cube learning on one formula, from a trail at rest to one at rest.
+#![tactic(auto)]
+
+mod attaching;
+mod changing;
+mod lessons;
+mod outcome;
+mod search;
+mod solving;
+mod turns;
+mod watching;
+
+pub use changing::resting_grows;
+pub use outcome::{Outcome, SolveStop};
+pub use search::Search;

@@ -1,0 +1,66 @@
+//! A search.
+ghost use Rattle.std.specs.Prelude.{◌≡◌, []};
+ghost use Rattle.derive.specs.State.{clauses_of};
+ghost use Rattle.search.specs.State.{IsResting};
+
+use decide::Decider;
+use derive::{Derivation, StepId};
+use prefix::{Clauses, Cubes};
+use std::alloc::Global;
+use std::marker::Model;
+use trail::Trail;
+use watch::{Watch, holding_laws};
+
+/// A search with what it learned so far. Contracts see it as the derivation, the trail, both watches, the signs that
+/// variables had last, the ids of the rows to watch, and whether these are attached.
+///
+/// Between its public calls it is at rest: nothing is assigned, and each live step is legal for the prefix that the
+/// calls are given, which may grow between them.
+#[derive(Debug, Drop)]
+pub struct Search {
+    pub(crate) derivation: Derivation,
+    pub(crate) trail: Trail,
+    pub(crate) clauses: Watch<Clauses>,
+    pub(crate) cubes: Watch<Cubes>,
+    pub(crate) decider: Decider,
+    // The ids of the rows to watch. Those of steps that were dropped go before rows are attached.
+    pub(crate) watched: Vec<StepId>,
+    // Whether the rows to watch are attached; else none is.
+    pub(crate) joined: bool,
+}
+
+impl Model for Search {
+    ghost use Rattle.search.specs.State.{SearchState};
+
+    ghost Value = { SearchState };
+
+    ghost view = { λ s. record {
+      derivation = s.derivation;
+      trail = s.trail;
+      clauses = s.clauses;
+      cubes = s.cubes;
+      signs = s.decider;
+      watched = s.watched.items;
+      joined = s.joined;
+    } };
+}
+
+impl Search {
+    /// A search of no clauses, without room for variables. This takes no memory.
+    pub fn new(alloc: Global) -> Self
+        ensures resting { IsResting [] result }
+        ensures clauses { clauses_of result.derivation ≡ [] }
+        ensures watched { result.watched ≡ [] }
+    {
+        holding_laws();
+        Self {
+            derivation: Derivation::new(alloc),
+            trail: Trail::new(alloc),
+            clauses: Watch::new(alloc),
+            cubes: Watch::new(alloc),
+            decider: Decider::new(alloc),
+            watched: Vec::new(alloc),
+            joined: false,
+        }
+    }
+}

@@ -1,0 +1,221 @@
+//! A solve, from rest to rest.
+ghost use Rattle.std.specs.Prelude.{◌≡◌, ◌+◌, ◌*◌, ◌<◌, ◌≤◌, IfOk, IfErr, OnOk, OnErr, Err, length};
+ghost use Rattle.prefix.specs.Scopes.{IsAscending};
+ghost use Rattle.prefix.specs.declared.quant.Quant.{Quant as Q};
+ghost use Rattle.steps.specs.Counter.{left};
+ghost use Rattle.steps.specs.declared.stop.Stop.TheVariants.{Spent as spent};
+ghost use Rattle.calculus.specs.Rows.{variables_in};
+ghost use Rattle.calculus.specs.Search.{AreTheAssumptions, IsRefuted};
+ghost use Rattle.calculus.specs.Verdicts.{AreOuter, IsEndRow};
+ghost use Rattle.trail.specs.State.{account_of};
+ghost use Rattle.trail.specs.declared.allowed.Allowed.TheVariants.{Anything};
+ghost use Rattle.derive.specs.State.{clauses_of, row_of};
+ghost use Rattle.clean.specs.Reasons.{IsReducedStep};
+ghost use Rattle.search.specs.State.{IsAtRest, IsPaused, IsResting, IsSearching};
+ghost use Rattle.search.specs.Counting.{IsBounded, IsCounted, size_of};
+ghost use Rattle.search.specs.Forcing.{HasNoCubes, IsForced, NoCubeAttached};
+ghost use Rattle.search.specs.Moves.{IsMatrix};
+ghost use Rattle.search.specs.Stops.{IsOutcome, IsQuickStop, IsStop, WasSpentWhenDue};
+
+use crate::outcome::{EndRow, Outcome, SolveStop};
+use crate::search::Search;
+use calculus::{end_rows_give_proofs, proofs_decide};
+use derive::{StepId, same_clauses_serve, steps_are_listed};
+use prefix::{Lit, LitList, Prefix};
+use qrp_trace::finishes_end_proofs;
+use steps::{NoMemory, Spent, Steps, Stop};
+use trail::Stopped;
+use watch::{agreeing_laws, holding_laws, looking_laws};
+
+impl Search {
+    /// Decides the formula of the prefix and the clauses of the matrix, which are the open clauses, under assumptions
+    /// of the first scope, by search with learned clauses and cubes (QCDCL). What it learns stays for the next call.
+    ///
+    /// Spent comes only where a step is due and the budget is spent, which with as many steps left as suffice for the
+    /// variables is never so. After it and after want of memory the search is at rest, with the same open clauses.
+    pub fn solve(
+        &mut self,
+        prefix: &Prefix,
+        matrix: &[LitList],
+        assumptions: &[Lit],
+        steps: &mut Steps,
+    ) -> Result<Outcome, SolveStop>
+        requires resting { IsResting prefix.now self.old }
+        requires matrix { IsMatrix self.old.derivation matrix.now }
+        requires outer { AreOuter prefix.now assumptions.now }
+        requires ascending { IsAscending (variables_in assumptions.now) }
+        ensures outcome { IfOk result (IsOutcome prefix.now matrix.now assumptions.now self.new.derivation) }
+        ensures stop { IfErr result (IsStop prefix.now self.old.derivation assumptions.now steps.old steps.new) }
+        ensures quick { HasNoCubes self.old → IsRefuted prefix.now matrix.now assumptions.now →
+            IfErr result (IsQuickStop (size_of prefix.now) steps.old) }
+        ensures resting { IsResting prefix.now self.new }
+        ensures clauses { clauses_of self.new.derivation ≡ clauses_of self.old.derivation }
+        ensures budget { steps.new.budget ≡ steps.old.budget }
+        ensures rises { steps.old.spent ≤ steps.new.spent }
+    {
+        self.attach_all(prefix);
+        match self.run(prefix, matrix, assumptions, steps) {
+            Ok(end) => self.conclude(prefix, matrix, end, assumptions),
+            Err(Stop::Spent) => Err(SolveStop::Spent(self.stop(prefix, steps))),
+            Err(Stop::NoMemory) => {
+                self.settle(prefix);
+                Err(SolveStop::NoMemory)
+            }
+        }
+    }
+
+    // Searches from an empty trail, to an end row.
+    fn run(
+        &mut self,
+        prefix: &Prefix,
+        matrix: &[LitList],
+        assumptions: &[Lit],
+        steps: &mut Steps,
+    ) -> Result<EndRow, Stop>
+        requires paused { IsPaused prefix.now self.old }
+        requires rest { IsAtRest self.old.trail }
+        requires matrix { IsMatrix self.old.derivation matrix.now }
+        requires outer { AreOuter prefix.now assumptions.now }
+        requires ascending { IsAscending (variables_in assumptions.now) }
+        ensures paused { IsPaused prefix.now self.new }
+        ensures clauses { clauses_of self.new.derivation ≡ clauses_of self.old.derivation }
+        ensures row { IfOk result (λ e. IsReducedStep e.side prefix.now self.new.derivation e.row) }
+        ensures end { IfOk result (λ e. IsEndRow e.side prefix.now assumptions.now (row_of self.new.derivation e.row)) }
+        ensures bounded { OnErr result (IsBounded (size_of prefix.now) steps.old.spent self.new.trail steps.new) }
+        ensures due { result ≡ Err spent → WasSpentWhenDue prefix.now self.old.derivation assumptions.now steps.old
+            self.new.trail.assigned }
+        ensures spent { result ≡ Err spent → steps.new.spent ≡ steps.new.budget }
+        ensures refuted { NoCubeAttached self.old → IsRefuted prefix.now matrix.now assumptions.now →
+            result ≡ Err spent → left steps.old < size_of prefix.now * (size_of prefix.now + 3) }
+        ensures budget { steps.new.budget ≡ steps.old.budget }
+        ensures rises { steps.old.spent ≤ steps.new.spent }
+    {
+        self.assume(prefix, assumptions, steps)?;
+        'turns: loop {
+            if let Some(end) = self.turn(prefix, matrix, steps)? {
+                return Ok(end);
+            }
+        }
+    }
+
+    // Assumes literals on an empty trail.
+    fn assume(
+        &mut self,
+        prefix: &Prefix,
+        assumptions: &[Lit],
+        steps: &mut Steps,
+    ) -> Result<(), Spent>
+        requires paused { IsPaused prefix.now self.old }
+        requires rest { IsAtRest self.old.trail }
+        requires outer { AreOuter prefix.now assumptions.now }
+        requires ascending { IsAscending (variables_in assumptions.now) }
+        ensures searching { OnOk result (IsSearching prefix.now self.new) }
+        ensures allowed { OnOk result (self.new.trail.allowed ≡ Anything) }
+        ensures assumed { OnOk result (AreTheAssumptions self.new.trail.placed assumptions.now) }
+        ensures counted { OnOk result (IsCounted (size_of prefix.now) 0 steps.old.spent self.new.trail steps.new) }
+        ensures paused { IsPaused prefix.now self.new }
+        ensures derivation { self.new.derivation ≡ self.old.derivation }
+        ensures forced { NoCubeAttached self.old →
+            OnOk result (IsForced prefix.now steps.old.spent self.new steps.new) }
+        ensures bounded { OnErr result (IsBounded (size_of prefix.now) steps.old.spent self.new.trail steps.new) }
+        ensures due { OnErr result (left steps.old < length assumptions.now) }
+        ensures spent { OnErr result (steps.new.spent ≡ steps.new.budget) }
+        ensures budget { steps.new.budget ≡ steps.old.budget }
+        ensures rises { steps.old.spent ≤ steps.new.spent }
+    {
+        looking_laws();
+        let _budget = steps.budget();
+        self.trail.assume_all(prefix, assumptions, steps)?;
+        Ok(())
+    }
+
+    // Ends with an end row: the trail is emptied, and the row's finish comes in.
+    fn conclude(
+        &mut self,
+        prefix: &Prefix,
+        matrix: &[LitList],
+        end: EndRow,
+        assumptions: &[Lit],
+    ) -> Result<Outcome, SolveStop>
+        requires paused { IsPaused prefix.now self.old }
+        requires matrix { IsMatrix self.old.derivation matrix.now }
+        requires outer { AreOuter prefix.now assumptions.now }
+        requires ascending { IsAscending (variables_in assumptions.now) }
+        requires row { IsReducedStep end.side prefix.now self.old.derivation end.row }
+        requires end { IsEndRow end.side prefix.now assumptions.now (row_of self.old.derivation end.row) }
+        ensures outcome { IfOk result (IsOutcome prefix.now matrix.now assumptions.now self.new.derivation) }
+        ensures err { OnErr result (result ≡ Err SolveStop.NoMemory) }
+        ensures resting { IsResting prefix.now self.new }
+        ensures clauses { clauses_of self.new.derivation ≡ clauses_of self.old.derivation }
+    {
+        self.settle(prefix);
+        let id = self.finish(prefix, matrix, end, assumptions)?;
+        Ok(Outcome {
+            loser: end.side,
+            end: id,
+        })
+    }
+
+    // Puts in the finish of an end row.
+    fn finish(
+        &mut self,
+        prefix: &Prefix,
+        matrix: &[LitList],
+        end: EndRow,
+        assumptions: &[Lit],
+    ) -> Result<StepId, NoMemory>
+        requires resting { IsResting prefix.now self.old }
+        requires matrix { IsMatrix self.old.derivation matrix.now }
+        requires outer { AreOuter prefix.now assumptions.now }
+        requires ascending { IsAscending (variables_in assumptions.now) }
+        requires row { IsReducedStep end.side prefix.now self.old.derivation end.row }
+        requires end { IsEndRow end.side prefix.now assumptions.now (row_of self.old.derivation end.row) }
+        ensures outcome { IfOk result (λ id. IsOutcome prefix.now matrix.now assumptions.now self.new.derivation
+            (record { loser = end.side; end = id })) }
+        ensures resting { IsResting prefix.now self.new }
+        ensures clauses { clauses_of self.new.derivation ≡ clauses_of self.old.derivation }
+    {
+        let _valid = prefix.scopes();
+        steps_are_listed();
+        same_clauses_serve();
+        end_rows_give_proofs();
+        proofs_decide();
+        finishes_end_proofs();
+        holding_laws();
+        agreeing_laws();
+        self.derivation.finish(prefix, end.row, assumptions)
+    }
+
+    // Empties the trail; what is watched stays attached.
+    fn settle(&mut self, prefix: &Prefix)
+        requires paused { IsPaused prefix.now self.old }
+        ensures resting { IsResting prefix.now self.new }
+        ensures derivation { self.new.derivation ≡ self.old.derivation }
+    {
+        holding_laws();
+        looking_laws();
+        self.decider.undoing(&self.trail, prefix, 0);
+        self.trail.clear();
+        self.clauses.undone(0);
+        self.cubes.undone(0);
+        self.joined = true;
+    }
+
+    // Empties the trail where the budget is spent; what is watched stays attached.
+    fn stop(&mut self, prefix: &Prefix, steps: &Steps) -> Stopped
+        requires paused { IsPaused prefix.now self.old }
+        requires spent { steps.now.spent ≡ steps.now.budget }
+        ensures resting { IsResting prefix.now self.new }
+        ensures derivation { self.new.derivation ≡ self.old.derivation }
+        ensures stopped { result ≡ account_of prefix.now self.old.trail steps.now.budget }
+    {
+        holding_laws();
+        looking_laws();
+        self.decider.undoing(&self.trail, prefix, 0);
+        let stopped = self.trail.stop(prefix, steps);
+        self.clauses.undone(0);
+        self.cubes.undone(0);
+        self.joined = true;
+        stopped
+    }
+}

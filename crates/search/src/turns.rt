@@ -1,0 +1,145 @@
+//! The turns of a search.
+ghost use Rattle.std.specs.Prelude.{◌≡◌, ◌-◌, ◌+◌, ◌*◌, ◌<◌, ℕ, IfOk, IfSome, OnOk, OnErr, Ok, Err, None, List};
+ghost use Rattle.prefix.specs.Literal.{Literal};
+ghost use Rattle.prefix.specs.declared.quant.Quant.{Quant as Q};
+ghost use Rattle.prefix.specs.declared.quant.Quant.TheVariants.{Exists as exists, Forall as forall};
+ghost use Rattle.steps.specs.declared.stop.Stop.TheVariants.{Spent as spent};
+ghost use Rattle.calculus.specs.Search.{IsBadRow, value_on};
+ghost use Rattle.trail.specs.Open.{AreAssigned};
+ghost use Rattle.trail.specs.declared.allowed.Allowed.TheVariants.{Anything};
+ghost use Rattle.derive.specs.State.{clauses_of, row_of};
+ghost use Rattle.watch.specs.Events.{AreQuiet, IsEvent};
+ghost use Rattle.clean.specs.Reasons.{IsReducedStep};
+ghost use Rattle.search.specs.State.{IsSearching, rows_of};
+ghost use Rattle.search.specs.Counting.{size_of};
+ghost use Rattle.search.specs.Forcing.{IsRefuting};
+ghost use Rattle.search.specs.Moves.{Advances, Ends, Halts, IsFound, IsMatrix, SameSteps, WasDue};
+ghost use Rattle.search.specs.Watching.{Looks};
+
+use crate::outcome::{EndRow, Found};
+use crate::search::Search;
+use crate::watching::next_of;
+use calculus::{reductions_keep_unit, row_laws, value_laws};
+use cover::cover;
+use derive::StepId;
+use prefix::{LitList, Prefix, Quant};
+use steps::{NoMemory, Steps, Stop};
+use watch::{Event, agreeing_laws, holding_laws};
+
+impl Search {
+    // One turn: a literal is propagated, a bad row teaches, a variable is decided, or a solution teaches.
+    pub(crate) fn turn(
+        &mut self,
+        prefix: &Prefix,
+        matrix: &[LitList],
+        steps: &mut Steps,
+    ) -> Result<Option<EndRow>, Stop>
+        requires searching { IsSearching prefix.now self.old }
+        requires allowed { self.old.trail.allowed ≡ Anything }
+        requires matrix { IsMatrix self.old.derivation matrix.now }
+        ensures go { result ≡ Ok None → Advances prefix.now 0 self.old self.new steps.old steps.new }
+        ensures end { IfOk result (λ end. IfSome end (λ e.
+            Ends prefix.now self.old self.new steps.old steps.new e.side e.row)) }
+        ensures err { OnErr result (Halts prefix.now 0 self.old self.new steps.old steps.new) }
+        ensures spent { result ≡ Err spent → steps.new.spent ≡ steps.new.budget }
+        ensures due { result ≡ Err spent → WasDue prefix.now self.old self.new }
+        ensures forced { (start : ℕ) → IsRefuting prefix.now matrix.now start self.old steps.old → result ≡ Ok None →
+            IsRefuting prefix.now matrix.now start self.new steps.new }
+        ensures refuted { (start : ℕ) → IsRefuting prefix.now matrix.now start self.old steps.old →
+            result ≡ Err spent → steps.new.budget - start < size_of prefix.now * (size_of prefix.now + 3) }
+    {
+        match self.next_found(prefix) {
+            Found::Unit(side, row, lit) => {
+                self.propagate(prefix, side, row, lit, steps)?;
+                Ok(None)
+            }
+            Found::Bad(side, row) => self.learn(prefix, side, row, steps),
+            Found::Quiet => self.quiet(prefix, matrix, steps),
+        }
+    }
+
+    // What the watches find, that of clauses first.
+    fn next_found(&mut self, prefix: &Prefix) -> Found
+        requires searching { IsSearching prefix.now self.old }
+        ensures looks { Looks prefix.now self.old self.new }
+        ensures found { IsFound prefix.now self.new result }
+    {
+        match self.next_clause(prefix) {
+            Event::Unit(id, lit) => Found::Unit(Quant::Exists, id, lit),
+            Event::Bad(id) => Found::Bad(Quant::Exists, id),
+            Event::Quiet => match self.next_cube(prefix) {
+                Event::Unit(id, lit) => Found::Unit(Quant::Forall, id, lit),
+                Event::Bad(id) => Found::Bad(Quant::Forall, id),
+                Event::Quiet => Found::Quiet,
+            },
+        }
+    }
+
+    // What the watch of clauses finds.
+    fn next_clause(&mut self, prefix: &Prefix) -> Event
+        requires searching { IsSearching prefix.now self.old }
+        ensures looks { Looks prefix.now self.old self.new }
+        ensures event { IsEvent exists prefix.now (value_on self.new.trail.placed) (rows_of self.new) result }
+    {
+        holding_laws();
+        next_of(&mut self.clauses, &mut self.derivation, &self.trail, prefix)
+    }
+
+    // What the watch of cubes finds.
+    fn next_cube(&mut self, prefix: &Prefix) -> Event
+        requires searching { IsSearching prefix.now self.old }
+        ensures looks { Looks prefix.now self.old self.new }
+        ensures event { IsEvent forall prefix.now (value_on self.new.trail.placed) (rows_of self.new) result }
+    {
+        holding_laws();
+        next_of(&mut self.cubes, &mut self.derivation, &self.trail, prefix)
+    }
+
+    // A turn where the watches are quiet: a variable is decided, or a solution teaches.
+    fn quiet(
+        &mut self,
+        prefix: &Prefix,
+        matrix: &[LitList],
+        steps: &mut Steps,
+    ) -> Result<Option<EndRow>, Stop>
+        requires searching { IsSearching prefix.now self.old }
+        requires quiet { AreQuiet exists prefix.now (value_on self.old.trail.placed) (rows_of self.old) }
+        requires allowed { self.old.trail.allowed ≡ Anything }
+        requires matrix { IsMatrix self.old.derivation matrix.now }
+        ensures go { result ≡ Ok None → Advances prefix.now 0 self.old self.new steps.old steps.new }
+        ensures end { IfOk result (λ end. IfSome end (λ e.
+            Ends prefix.now self.old self.new steps.old steps.new e.side e.row)) }
+        ensures err { OnErr result (Halts prefix.now 0 self.old self.new steps.old steps.new) }
+        ensures spent { result ≡ Err spent → steps.new.spent ≡ steps.new.budget }
+        ensures due { result ≡ Err spent → WasDue prefix.now self.old self.new }
+    {
+        let Some(lit) = self.decider.next_decision(&self.trail, prefix) else {
+            let cube = self.solution(prefix, matrix)?;
+            return self.learn(prefix, Quant::Forall, cube, steps);
+        };
+        self.decide(prefix, lit, steps)?;
+        Ok(None)
+    }
+
+    // The reduction of an initial cube that a solution gives.
+    fn solution(&mut self, prefix: &Prefix, matrix: &[LitList]) -> Result<StepId, NoMemory>
+        requires searching { IsSearching prefix.now self.old }
+        requires quiet { AreQuiet exists prefix.now (value_on self.old.trail.placed) (rows_of self.old) }
+        requires assigned { AreAssigned prefix.now self.old.trail.placed }
+        requires matrix { IsMatrix self.old.derivation matrix.now }
+        ensures searching { IsSearching prefix.now self.new }
+        ensures clauses { clauses_of self.new.derivation ≡ clauses_of self.old.derivation }
+        ensures trail { self.new.trail ≡ self.old.trail }
+        ensures row { IfOk result (λ id. IsReducedStep forall prefix.now self.new.derivation id) }
+        ensures bad { IfOk result (λ id. IsBadRow forall prefix.now (value_on self.new.trail.placed)
+            (row_of self.new.derivation id)) }
+    {
+        value_laws();
+        reductions_keep_unit();
+        row_laws();
+        holding_laws();
+        agreeing_laws();
+        let cube = cover(&mut self.derivation, &self.trail, prefix, matrix)?;
+        self.derivation.reduce(prefix, cube)
+    }
+}

@@ -1,0 +1,136 @@
+//! Calls of a watch on the rows of a derivation.
+ghost use Rattle.std.specs.Prelude.{◌≡◌, ◌≤◌, ◌⊎◌, ℕ, IsTrue, None, Some, List};
+ghost use Rattle.prefix.specs.Scopes.{Scope};
+ghost use Rattle.rows.specs.Arena.{literals_at, is_live as is_stored};
+ghost use Rattle.calculus.specs.Search.{literals_on, value_on};
+ghost use Rattle.derive.specs.State.{arena_of, has_rows, is_live, row_of};
+ghost use Rattle.watch.specs.Events.{IsEvent};
+ghost use Rattle.watch.specs.Links.{is_attached, mark_of};
+ghost use Rattle.watch.specs.State.{Attaches, Holds, IsFront, IsRoomFor, IsThreaded, IsUnattached, GoesOnHolding, KeepsLooked, looked};
+ghost use Rattle.search.specs.Watching.{AgreesElsewhere, KeepsMarks, KeepsRows, Touches, Unmarks};
+
+use derive::{Derivation, StepId};
+use prefix::{Prefix, Side};
+use rows::{RowId, Rows};
+use trail::Trail;
+use watch::{Event, Watch, agreeing_laws, looking_laws};
+
+// What a watch tells of the rows of a derivation.
+pub(crate) fn next_of<S: Side>(
+    watch: &mut Watch<S>,
+    derivation: &mut Derivation,
+    trail: &Trail,
+    prefix: &Prefix,
+) -> Event
+    requires rows { IsTrue (has_rows derivation.old) }
+    requires holds { Holds S.PIVOT prefix.now watch.old (arena_of derivation.old) }
+    requires front { IsFront (looked watch.old) (literals_on trail.now.placed) }
+    requires room { trail.now.room ≤ watch.old.room }
+    ensures event { IsEvent S.PIVOT prefix.now (value_on trail.now.placed) (arena_of derivation.new) result }
+    ensures touches { Touches S.PIVOT derivation.old derivation.new }
+    ensures holds { Holds S.PIVOT prefix.now watch.new (arena_of derivation.new) }
+    ensures looked { looked watch.new ≡ literals_on trail.now.placed }
+    ensures room { watch.new.room ≡ watch.old.room }
+    ensures marks { KeepsMarks (arena_of derivation.old) (arena_of derivation.new) }
+{
+    // The room tells that it is enough for the trail.
+    let _room = trail.room();
+    looking_laws();
+    agreeing_laws();
+    let mut rows = derivation.take_rows();
+    let event = watch.next(&mut rows, trail, prefix);
+    derivation.put_rows(rows);
+    event
+}
+
+// Attaches a row that is attached to no watch of the other side, unless it is attached to this one.
+pub(crate) fn attach_to<S: Side>(
+    watch: &mut Watch<S>,
+    derivation: &mut Derivation,
+    trail: &Trail,
+    prefix: &Prefix,
+    id: StepId,
+)
+    requires rows { IsTrue (has_rows derivation.old) }
+    requires live { IsTrue (is_live derivation.old id) }
+    requires holds { Holds S.PIVOT prefix.now watch.old (arena_of derivation.old) }
+    requires marked { IsUnattached (arena_of derivation.old) id
+        ⊎ IsTrue (is_attached S.PIVOT (arena_of derivation.old) id) }
+    requires known { IsRoomFor prefix.now watch.old.room (row_of derivation.old id) }
+    ensures touches { Touches S.PIVOT derivation.old derivation.new }
+    ensures holds { Holds S.PIVOT prefix.now watch.new (arena_of derivation.new) }
+    ensures looked { KeepsLooked watch.old watch.new }
+    ensures attached { Attaches S.PIVOT (arena_of derivation.old) (arena_of derivation.new) id
+        (Some (mark_of S.PIVOT)) }
+{
+    let mut rows = derivation.take_rows();
+    attach_unless::<S>(watch, &mut rows, trail, prefix, id);
+    derivation.put_rows(rows);
+}
+
+// Attaches a row unless it is attached.
+fn attach_unless<S: Side>(
+    watch: &mut Watch<S>,
+    rows: &mut Rows,
+    trail: &Trail,
+    prefix: &Prefix,
+    id: RowId,
+)
+    requires live { IsTrue (is_stored rows.old id) }
+    requires holds { Holds S.PIVOT prefix.now watch.old rows.old }
+    requires marked { IsUnattached rows.old id ⊎ IsTrue (is_attached S.PIVOT rows.old id) }
+    requires known { IsRoomFor prefix.now watch.old.room (literals_at rows.old id) }
+    ensures holds { Holds S.PIVOT prefix.now watch.new rows.new }
+    ensures looked { KeepsLooked watch.old watch.new }
+    ensures attached { Attaches S.PIVOT rows.old rows.new id (Some (mark_of S.PIVOT)) }
+    ensures agrees { AgreesElsewhere S.PIVOT rows.old rows.new }
+{
+    agreeing_laws();
+    if !watch.has(rows, id) {
+        watch.attach(rows, trail, prefix, id);
+    }
+}
+
+// Detaches a row, if it is attached to this watch.
+pub(crate) fn detach_from<S: Side>(watch: &mut Watch<S>, derivation: &mut Derivation, id: StepId)
+    requires rows { IsTrue (has_rows derivation.old) }
+    requires live { IsTrue (is_live derivation.old id) }
+    requires threaded { IsThreaded S.PIVOT watch.old (arena_of derivation.old) }
+    ensures touches { Touches S.PIVOT derivation.old derivation.new }
+    ensures holds { GoesOnHolding S.PIVOT watch.old (arena_of derivation.old) watch.new (arena_of derivation.new) }
+    ensures looked { KeepsLooked watch.old watch.new }
+    ensures detached { Unmarks S.PIVOT (arena_of derivation.old) (arena_of derivation.new) id }
+{
+    let mut rows = derivation.take_rows();
+    detach_if::<S>(watch, &mut rows, id);
+    derivation.put_rows(rows);
+}
+
+// Detaches a row if it is attached.
+fn detach_if<S: Side>(watch: &mut Watch<S>, rows: &mut Rows, id: RowId)
+    requires live { IsTrue (is_stored rows.old id) }
+    requires threaded { IsThreaded S.PIVOT watch.old rows.old }
+    ensures holds { GoesOnHolding S.PIVOT watch.old rows.old watch.new rows.new }
+    ensures looked { KeepsLooked watch.old watch.new }
+    ensures same { KeepsRows rows.old rows.new }
+    ensures detached { Unmarks S.PIVOT rows.old rows.new id }
+    ensures agrees { AgreesElsewhere S.PIVOT rows.old rows.new }
+{
+    agreeing_laws();
+    if watch.has(rows, id) {
+        watch.detach(rows, id);
+    }
+}
+
+// Whether a row is attached to this watch.
+pub(crate) fn has_row<S: Side>(watch: &Watch<S>, derivation: &mut Derivation, id: StepId) -> bool
+    requires rows { IsTrue (has_rows derivation.old) }
+    requires live { IsTrue (is_live derivation.old id) }
+    ensures same { derivation.new ≡ derivation.old }
+    ensures has { result ≡ is_attached S.PIVOT (arena_of derivation.old) id }
+{
+    let rows = derivation.take_rows();
+    let has = watch.has(&rows, id);
+    derivation.put_rows(rows);
+    has
+}
