@@ -36,45 +36,59 @@ use Rattle.engine.proofs.Framing.{added_clauses, framed_pushed, popped_clauses, 
 -- refusals
 
 -- what is accepted wasn't refused
-pub accepted : (o : Option FrameRefusal) (r : Result (Unit {0}) FrameRefusal) (u : Unit {0}) → r ≡ Ok u → MatchOption o (IsOkUnless r NoMemory) (λ e. r ≡ Err e) → o ≡ None
+pub accepted : (o : Option FrameRefusal) (r : Result (Unit {0}) FrameRefusal) (u : Unit {0}) → r ≡ Ok u
+    → MatchOption o (IsOkUnless r NoMemory) (λ e. r ≡ Err e) → o ≡ None
 accepted None r u is m = refl
 accepted (Some e) r u is m = absurd (let f : Ok u ≡ Err e = sym is ∙ m in cc)
 
-prefix_accepts : (held : Bool) (o : Option PrefixRefusal) → (if held then Some AssumptionsHeld else first_of (prefix_refusals o)) ≡ None → o ≡ None
+prefix_accepts : (held : Bool) (o : Option PrefixRefusal)
+    → (if held then Some AssumptionsHeld else first_of (prefix_refusals o)) ≡ None → o ≡ None
 prefix_accepts true o e = absurd (let f : Some AssumptionsHeld ≡ None = e in cc)
 prefix_accepts false None e = refl
-prefix_accepts false (Some r) e = absurd (let f : is_some (first_of (prefix_refusals (Some r))) ≡ false = ap is_some e in cc)
+prefix_accepts false (Some r) e =
+    absurd (let f : is_some (first_of (prefix_refusals (Some r))) ≡ false = ap is_some e in cc)
 
-scope_place : (scopes : List Scope) (at : Option ℕ) → scope_refusal scopes at ≡ None → place_of scopes at ≤ length scopes
+scope_place : (scopes : List Scope) (at : Option ℕ) → scope_refusal scopes at ≡ None
+    → place_of scopes at ≤ length scopes
 scope_place scopes None e = omega arith
 scope_place scopes (Some n) e = grind (arith, nat_tests)
 
-pub scope_fits : (f : OpenFormula) (quant : Quant) (at : Option ℕ) → refusal_of f (AddScope quant at) ≡ None → place_of f.scopes at ≤ length f.scopes
-scope_fits f quant at e = scope_place f.scopes at (prefix_accepts (not (is_empty f.assumptions)) (scope_refusal f.scopes at) e)
+pub scope_fits : (f : OpenFormula) (quant : Quant) (at : Option ℕ) → refusal_of f (AddScope quant at) ≡ None
+    → place_of f.scopes at ≤ length f.scopes
+scope_fits f quant at e =
+    scope_place f.scopes at (prefix_accepts (not (is_empty f.assumptions)) (scope_refusal f.scopes at) e)
 
-variable_place : (scopes : List Scope) (var scope : ℕ) → variable_refusal scopes var scope ≡ None → (scope - 1 < length scopes) × (level_of scopes var ≡ None)
+variable_place : (scopes : List Scope) (var scope : ℕ) → variable_refusal scopes var scope ≡ None
+    → (scope - 1 < length scopes) × (level_of scopes var ≡ None)
 variable_place scopes var scope e = by (level_of scopes var) refl
   where
     by : (o : Option ℕ) → level_of scopes var ≡ o → (scope - 1 < length scopes) × (level_of scopes var ≡ None)
     by None l = (grind (arith, nat_tests), l)
     by (Some n) l = absurd (grind (arith, nat_tests))
 
-pub variable_fits : (f : OpenFormula) (var scope : ℕ) → refusal_of f (AddVariable var scope) ≡ None → (scope - 1 < length f.scopes) × (level_of f.scopes var ≡ None)
-variable_fits f var scope e = variable_place f.scopes var scope (prefix_accepts (not (is_empty f.assumptions)) (variable_refusal f.scopes var scope) e)
+pub variable_fits : (f : OpenFormula) (var scope : ℕ) → refusal_of f (AddVariable var scope) ≡ None
+    → (scope - 1 < length f.scopes) × (level_of f.scopes var ≡ None)
+variable_fits f var scope e =
+    variable_place f.scopes var scope (prefix_accepts (not (is_empty f.assumptions))
+    (variable_refusal f.scopes var scope) e)
 
 -- prefixes
 
-pub grown : (f : OpenFormula) (scopes : List Scope) (s : SearchState) → AreTied f s → Extends f.scopes scopes → HasRoom scopes s → RestingGrows → AreTied (record f { scopes = scopes }) s
+pub grown : (f : OpenFormula) (scopes : List Scope) (s : SearchState) → AreTied f s → Extends f.scopes scopes
+    → HasRoom scopes s → RestingGrows → AreTied (record f { scopes = scopes }) s
 grown f scopes s tied extends room grows = record {
   resting = grows f.scopes scopes s extends room tied.resting;
   frames = tied.frames;
   clauses = tied.clauses;
 }
 
-pub scope_added : (f : OpenFormula) (s : SearchState) (quant : Quant) (at : Option ℕ) → AreTied f s → refusal_of f (AddScope quant at) ≡ None → PrefixesGrow → RestingGrows → AreTied (formula_after f (AddScope quant at)) s
+pub scope_added : (f : OpenFormula) (s : SearchState) (quant : Quant) (at : Option ℕ) → AreTied f s
+    → refusal_of f (AddScope quant at) ≡ None → PrefixesGrow → RestingGrows
+    → AreTied (formula_after f (AddScope quant at)) s
 scope_added f s quant at tied accepts prefixes grows =
     let fits = scope_fits f quant at accepts in
-    let same : all_variables (with_scope f.scopes quant at) ≡ all_variables f.scopes = all_variables-insert f.scopes (place_of f.scopes at) quant fits in
+    let same : all_variables (with_scope f.scopes quant at) ≡ all_variables f.scopes =
+    all_variables-insert f.scopes (place_of f.scopes at) quant fits in
     let room = tied.resting.intact.room in
     grown f (with_scope f.scopes quant at) s tied (prefixes.scope f.scopes quant at fits)
     (record {
@@ -83,24 +97,32 @@ scope_added f s quant at tied accepts prefixes grows =
     })
     grows
 
-pub reserved : (f : OpenFormula) (old new : SearchState) → StaysResting old new → new.derivation ≡ old.derivation → AreTied f old → AreTied f new
+pub reserved : (f : OpenFormula) (old new : SearchState) → StaysResting old new → new.derivation ≡ old.derivation
+    → AreTied f old → AreTied f new
 reserved f old new stays same tied = record {
   resting = stays f.scopes tied.resting;
   frames = tied.frames;
   clauses = ap framed_in same ∙ tied.clauses;
 }
 
-one_of : (scopes : List Scope) (n v x : ℕ) → n < length scopes → Contains (all_variables (with_variable_at scopes n v)) x → (v ≡ x) ⊎ Contains (all_variables scopes) x
+one_of : (scopes : List Scope) (n v x : ℕ) → n < length scopes
+    → Contains (all_variables (with_variable_at scopes n v)) x → (v ≡ x) ⊎ Contains (all_variables scopes) x
 one_of scopes n v x within i =
-    let among : (v == x || is_among x (all_variables scopes)) ≡ true = sym (is_among-all_variables-with scopes n v x within) ∙ among_from (all_variables (with_variable_at scopes n v)) x i in
-    ⊎_elim (λ t. inl (eqb-true v x t)) (λ t. inr (among_at (all_variables scopes) x t)) (or_cases (v == x) (is_among x (all_variables scopes)) among)
+    let among : (v == x || is_among x (all_variables scopes)) ≡ true =
+    sym (is_among-all_variables-with scopes n v x within)
+    ∙ among_from (all_variables (with_variable_at scopes n v)) x i in
+    ⊎_elim (λ t. inl (eqb-true v x t)) (λ t. inr (among_at (all_variables scopes) x t))
+    (or_cases (v == x) (is_among x (all_variables scopes)) among)
 
-pub variable_added : (f : OpenFormula) (s : SearchState) (var scope : ℕ) → AreTied f s → IsRoomy var s → refusal_of f (AddVariable var scope) ≡ None → PrefixesGrow → RestingGrows → AreTied (formula_after f (AddVariable var scope)) s
+pub variable_added : (f : OpenFormula) (s : SearchState) (var scope : ℕ) → AreTied f s → IsRoomy var s
+    → refusal_of f (AddVariable var scope) ≡ None → PrefixesGrow → RestingGrows
+    → AreTied (formula_after f (AddVariable var scope)) s
 variable_added f s var scope tied roomy accepts prefixes grows =
     let fits = variable_fits f var scope accepts in
     let room = tied.resting.intact.room in
     let one = λ (x : ℕ). one_of f.scopes (scope - 1) var x fits.0 in
-    grown f (with_variable_at f.scopes (scope - 1) var) s tied (prefixes.variable f.scopes (scope - 1) var fits.0 fits.1)
+    grown f (with_variable_at f.scopes (scope - 1) var) s tied
+    (prefixes.variable f.scopes (scope - 1) var fits.0 fits.1)
     (record {
       trail = λ x i. ⊎_elim (λ e. roomy.trail x (omega (arith, e))) (λ j. room.trail x j) (one x i);
       signs = λ x i. ⊎_elim (λ e. roomy.signs x (omega (arith, e))) (λ j. room.signs x j) (one x i);
@@ -112,7 +134,8 @@ variable_added f s var scope tied roomy accepts prefixes grows =
 pub frame_pushed : (f : OpenFormula) (s : SearchState) → AreTied f s → AreTied (formula_after f Push) s
 frame_pushed f s tied = record {
   resting = tied.resting;
-  frames = let count : length (pushed f.frames) ≡ length f.frames + 1 = length-append f.frames (record { clauses = [] } ∷ []) in omega (arith, count);
+  frames = let count : length (pushed f.frames) ≡ length f.frames + 1 =
+      length-append f.frames (record { clauses = [] } ∷ []) in omega (arith, count);
   clauses = tied.clauses ∙ sym (framed_pushed f.frames);
 }
 
@@ -126,8 +149,10 @@ pop_fits frames e =
     by true t n = absurd (let g : Some NoFrame ≡ None = n in cc)
     by false t n = grind (arith, nat_tests)
 
-pub frame_popped : (f : OpenFormula) (old new : SearchState) → AreTied f old → refusal_of f Pop ≡ None → IsResting f.scopes new
-    → clauses_of new.derivation ≡ filter (λ (c : OpenClause). not (c.frame == depth f.frames)) (clauses_of old.derivation) → AreTied (formula_after f Pop) new
+pub frame_popped : (f : OpenFormula) (old new : SearchState) → AreTied f old → refusal_of f Pop ≡ None
+    → IsResting f.scopes new
+    → clauses_of new.derivation ≡ filter (λ (c : OpenClause). not (c.frame == depth f.frames))
+    (clauses_of old.derivation) → AreTied (formula_after f Pop) new
 frame_popped f old new tied accepts resting clauses = record {
   resting = resting;
   frames = pop_fits f.frames accepts;
@@ -136,7 +161,8 @@ frame_popped f old new tied accepts resting clauses = record {
 
 -- clauses
 
-pub row_added : (f : OpenFormula) (old new : SearchState) (row : Row) → AreTied f old → IsResting f.scopes new → AddsClause (depth f.frames) row (clauses_of old.derivation) (clauses_of new.derivation)
+pub row_added : (f : OpenFormula) (old new : SearchState) (row : Row) → AreTied f old → IsResting f.scopes new
+    → AddsClause (depth f.frames) row (clauses_of old.derivation) (clauses_of new.derivation)
     → AreTied (record f { frames = with_row row f.frames }) new
 row_added f old new row tied resting adds = record {
   resting = resting;
@@ -152,28 +178,35 @@ module _ (d e : State) (same : SameSteps d e) where
 
   steps_kept : steps_of e ≡ steps_of d
   steps_kept =
-      let step : step_at e ≡ step_at d = λ i id. ap₂ (λ (row : Row) (note : Option Note). option_and_then (step_from id row) note) (same.literals id) (note_kept id) i in
+      let step : step_at e ≡ step_at d =
+      λ i id. ap₂ (λ (row : Row) (note : Option Note). option_and_then (step_from id row) note) (same.literals id)
+      (note_kept id) i in
       ap₂ (λ (step : ℕ → Option Step) (n : ℕ). filter_map step (range_with_len 0 n)) step (ap length same.notes)
 
   under_kept : (id : ℕ) → step_under e id ≡ step_under d id
-  under_kept id = ap₂ (λ (row : Row) (note : Option Note). record { id = id; side = side_in note; row = row; why = why_in note }) (same.literals id) (note_kept id)
+  under_kept id = ap₂ (λ (row : Row) (note : Option Note).
+      record { id = id; side = side_in note; row = row; why = why_in note }) (same.literals id) (note_kept id)
 
   proof_kept : (assumptions : List Literal) (end : ℕ) → proof_at e assumptions end ≡ proof_at d assumptions end
   proof_kept assumptions end =
       let step : step_under e (end_row_in (why_at e end) end) ≡ step_under d (end_row_in (why_at d end) end)
-      = ap (λ note. step_under e (end_row_in (why_in note) end)) (note_kept end) ∙ under_kept (end_row_in (why_at d end) end) in
+      = ap (λ note. step_under e (end_row_in (why_in note) end)) (note_kept end)
+      ∙ under_kept (end_row_in (why_at d end) end) in
       ap₂ (λ (steps : List Step) (s : Step). proof_of steps s assumptions) steps_kept step
 
   pub told_kept : (assumptions : List Literal) (v : Verdict) → told e assumptions v ≡ told d assumptions v
   told_kept assumptions v =
-      ap₂ (λ (proof : List Inference) (row : Row). record { truth = v.truth; assumptions = assumptions; proof = proof; end = v.end; row = row })
+      ap₂ (λ (proof : List Inference) (row : Row).
+      record { truth = v.truth; assumptions = assumptions; proof = proof; end = v.end; row = row })
       (proof_kept assumptions v.end) (same.literals v.end)
 
-  pub verdict_kept : (assumptions : List Literal) (v : Option Verdict) → option_map (told e assumptions) v ≡ option_map (told d assumptions) v
+  pub verdict_kept : (assumptions : List Literal) (v : Option Verdict)
+      → option_map (told e assumptions) v ≡ option_map (told d assumptions) v
   verdict_kept assumptions None = refl
   verdict_kept assumptions (Some v) = ap Some (told_kept assumptions v)
 
-  finish_kept : (scopes : List Scope) (assumptions : List Literal) (end : ℕ) → IsFinishAt scopes assumptions d end → IsFinishAt scopes assumptions e end
+  finish_kept : (scopes : List Scope) (assumptions : List Literal) (end : ℕ) → IsFinishAt scopes assumptions d end
+      → IsFinishAt scopes assumptions e end
   finish_kept scopes assumptions end f = record {
     before = f.before;
     step = subst (λ note. IsTrue (may_be_antecedent note)) (sym (note_kept f.before)) f.step;
@@ -185,7 +218,8 @@ module _ (d e : State) (same : SameSteps d e) where
         f.stands;
   }
 
-  pub held_kept : (f : OpenFormula) (assumptions : List Literal) (v : Option Verdict) → IfSome v (IsHeld f d assumptions) → IfSome v (IsHeld f e assumptions)
+  pub held_kept : (f : OpenFormula) (assumptions : List Literal) (v : Option Verdict)
+      → IfSome v (IsHeld f d assumptions) → IfSome v (IsHeld f e assumptions)
   held_kept f assumptions None held = tt
   held_kept f assumptions (Some v) held = record {
     outer = held.outer;
@@ -197,18 +231,21 @@ module _ (d e : State) (same : SameSteps d e) where
     };
   }
 
-pub cubes_kept : (old new : SearchState) → new.watched ≡ old.watched → new.derivation ≡ old.derivation → HasNoCubes old → HasNoCubes new
+pub cubes_kept : (old new : SearchState) → new.watched ≡ old.watched → new.derivation ≡ old.derivation
+    → HasNoCubes old → HasNoCubes new
 cubes_kept old new watched derivation none id i live =
     ap (λ (d : State). side_at d id) derivation
     ∙ none id (subst (λ ids. Contains ids id) watched i) (subst (λ (d : State). IsTrue (is_live d id)) derivation live)
 
 -- the variable that a refusal's absence gives
-pub variable_is : (o : Option FrameRefusal) (r : Result ℕ FrameRefusal) (v var : ℕ) → r ≡ Ok v → MatchOption o (r ≡ Ok var) (λ e. r ≡ Err e) → v ≡ var
+pub variable_is : (o : Option FrameRefusal) (r : Result ℕ FrameRefusal) (v var : ℕ) → r ≡ Ok v
+    → MatchOption o (r ≡ Ok var) (λ e. r ≡ Err e) → v ≡ var
 variable_is None r v var is m = let f : Ok v ≡ Ok var = sym is ∙ m in cc
 variable_is (Some e) r v var is m = absurd (let f : Ok v ≡ Err e = sym is ∙ m in cc)
 
 -- the same where no memory is taken
-pub accepted_pop : (o : Option FrameRefusal) (r : Result (Unit {0}) FrameRefusal) (u : Unit {0}) → r ≡ Ok u → MatchOption o (IsOk r) (λ e. r ≡ Err e) → o ≡ None
+pub accepted_pop : (o : Option FrameRefusal) (r : Result (Unit {0}) FrameRefusal) (u : Unit {0}) → r ≡ Ok u
+    → MatchOption o (IsOk r) (λ e. r ≡ Err e) → o ≡ None
 accepted_pop None r u is m = refl
 accepted_pop (Some e) r u is m = absurd (let f : Ok u ≡ Err e = sym is ∙ m in cc)
 
@@ -218,22 +255,37 @@ on_ok_at (Err x) P e p = absurd (cc)
 
 -- a clause is left out or put into the top frame, as the number of open clauses tells
 
-grows_or_not : (lits : List ℤ) (frames : List Frame) → 1 ≤ length frames → (with_clause lits frames ≡ frames) ⊎ ((with_clause lits frames ≡ with_row (as_row lits) frames) × (length (clauses_in (with_clause lits frames)) ≡ length (clauses_in frames) + 1))
+grows_or_not : (lits : List ℤ) (frames : List Frame) → 1 ≤ length frames
+    → (with_clause lits frames ≡ frames) ⊎ ((with_clause lits frames ≡ with_row (as_row lits) frames) ×
+    (length (clauses_in (with_clause lits frames)) ≡ length (clauses_in frames) + 1))
 grows_or_not lits frames some = by (is_tautology lits) refl
   where
-    by : (b : Bool) → is_tautology lits ≡ b → (with_clause lits frames ≡ frames) ⊎ ((with_clause lits frames ≡ with_row (as_row lits) frames) × (length (clauses_in (with_clause lits frames)) ≡ length (clauses_in frames) + 1))
+    by : (b : Bool) → is_tautology lits ≡ b
+        → (with_clause lits frames ≡ frames) ⊎ ((with_clause lits frames ≡ with_row (as_row lits) frames) ×
+        (length (clauses_in (with_clause lits frames)) ≡ length (clauses_in frames) + 1))
     by true e = inl (cond-true (is_tautology lits) frames (with_row (as_row lits) frames) e)
     by false e =
-        let kept : with_clause lits frames ≡ with_row (as_row lits) frames = cond-false (is_tautology lits) frames (with_row (as_row lits) frames) e in
-        inr (kept, ap (λ fs. length (clauses_in fs)) kept ∙ ap length (rows_with_row (as_row lits) frames some) ∙ length-append (clauses_in frames) (as_row lits ∷ []))
+        let kept : with_clause lits frames ≡ with_row (as_row lits) frames =
+        cond-false (is_tautology lits) frames (with_row (as_row lits) frames) e in
+        inr (
+          kept,
+          ap (λ fs. length (clauses_in fs)) kept ∙ ap length (rows_with_row (as_row lits) frames some)
+              ∙ length-append (clauses_in frames) (as_row lits ∷ []),
+        )
 
-pub left_out : (lits : List ℤ) (frames : List Frame) → 1 ≤ length frames → length (clauses_in (with_clause lits frames)) ≡ length (clauses_in frames) → with_clause lits frames ≡ frames
-left_out lits frames some same = ⊎_elim (λ e. e) (λ p. absurd (let more = p.1 in omega (arith, more, same))) (grows_or_not lits frames some)
+pub left_out : (lits : List ℤ) (frames : List Frame) → 1 ≤ length frames
+    → length (clauses_in (with_clause lits frames)) ≡ length (clauses_in frames) → with_clause lits frames ≡ frames
+left_out lits frames some same =
+    ⊎_elim (λ e. e) (λ p. absurd (let more = p.1 in omega (arith, more, same))) (grows_or_not lits frames some)
 
-pub put_in : (lits : List ℤ) (frames : List Frame) → 1 ≤ length frames → length (clauses_in (with_clause lits frames)) ≢ length (clauses_in frames) → with_clause lits frames ≡ with_row (as_row lits) frames
-put_in lits frames some apart = ⊎_elim (λ e. absurd (apart (ap (λ fs. length (clauses_in fs)) e))) (λ p. p.0) (grows_or_not lits frames some)
+pub put_in : (lits : List ℤ) (frames : List Frame) → 1 ≤ length frames
+    → length (clauses_in (with_clause lits frames)) ≢ length (clauses_in frames)
+    → with_clause lits frames ≡ with_row (as_row lits) frames
+put_in lits frames some apart =
+    ⊎_elim (λ e. absurd (apart (ap (λ fs. length (clauses_in fs)) e))) (λ p. p.0) (grows_or_not lits frames some)
 
-module _ (f new : OpenFormula) (lits : List ℤ) (old : SearchState) (tied : AreTied f old) (is : new ≡ formula_after f (AddClause lits)) where
+module _ (f new : OpenFormula) (lits : List ℤ) (old : SearchState) (tied : AreTied f old)
+    (is : new ≡ formula_after f (AddClause lits)) where
   abbrev Same : Type 0
   Same = length (clauses_in new.frames) ≡ length (clauses_in f.frames)
 
@@ -241,21 +293,28 @@ module _ (f new : OpenFormula) (lits : List ℤ) (old : SearchState) (tied : Are
   counted same = ap (λ (g : OpenFormula). length (clauses_in g.frames)) (sym is) ∙ same
 
   pub left_tied : Same → AreTied new old
-  left_tied same = subst (λ (g : OpenFormula). AreTied g old) (sym (is ∙ ap (λ (fs : List Frame). record f { frames = fs }) (left_out lits f.frames tied.frames (counted same)))) tied
+  left_tied same = subst (λ (g : OpenFormula). AreTied g old)
+      (sym (is ∙ ap (λ (fs : List Frame). record f { frames = fs })
+      (left_out lits f.frames tied.frames (counted same)))) tied
 
   with_put : (Same → ⊥) → new ≡ record f { frames = with_row (as_row lits) f.frames }
-  with_put apart = is ∙ ap (λ (fs : List Frame). record f { frames = fs }) (put_in lits f.frames tied.frames (λ e. apart (ap (λ (g : OpenFormula). length (clauses_in g.frames)) is ∙ e)))
+  with_put apart = is ∙ ap (λ (fs : List Frame). record f { frames = fs })
+      (put_in lits f.frames tied.frames (λ e. apart (ap (λ (g : OpenFormula). length (clauses_in g.frames)) is ∙ e)))
 
   pub put_rows : (Same → ⊥) → clauses_in new.frames ≡ clauses_in f.frames ++ as_row lits ∷ []
-  put_rows apart = ap (λ (g : OpenFormula). clauses_in g.frames) (with_put apart) ∙ rows_with_row (as_row lits) f.frames tied.frames
+  put_rows apart = ap (λ (g : OpenFormula). clauses_in g.frames) (with_put apart)
+      ∙ rows_with_row (as_row lits) f.frames tied.frames
 
   pub some_put : (Same → ⊥) → 1 ≤ length (clauses_in new.frames)
-  some_put apart = let count : length (clauses_in new.frames) ≡ length (clauses_in f.frames) + 1 = ap length (put_rows apart) ∙ length-append (clauses_in f.frames) (as_row lits ∷ []) in omega (arith, count)
+  some_put apart = let count : length (clauses_in new.frames) ≡ length (clauses_in f.frames) + 1 =
+      ap length (put_rows apart) ∙ length-append (clauses_in f.frames) (as_row lits ∷ []) in omega (arith, count)
 
   depth_with : (frames : List Frame) → depth (with_row (as_row lits) frames) ≡ depth frames
   depth_with frames = ap (λ n. n - 1) (some_with_row (as_row lits) frames)
 
-  pub put_tied : (s : SearchState) → (Same → ⊥) → IsResting new.scopes s → AddsClause (depth new.frames) (as_row lits) (clauses_of old.derivation) (clauses_of s.derivation) → AreTied new s
+  pub put_tied : (s : SearchState) → (Same → ⊥) → IsResting new.scopes s
+      → AddsClause (depth new.frames) (as_row lits) (clauses_of old.derivation) (clauses_of s.derivation)
+      → AreTied new s
   put_tied s apart resting adds =
       let e = with_put apart in
       let at : depth new.frames ≡ depth f.frames = ap (λ (g : OpenFormula). depth g.frames) e ∙ depth_with f.frames in

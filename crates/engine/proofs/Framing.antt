@@ -43,42 +43,51 @@ is_matrix d frames e = record {
 
 -- pushed frames
 
-framed_append : (n : ℕ) (first rest : List Frame) → framed_from n (first ++ rest) ≡ framed_from n first ++ framed_from (n + length first) rest
+framed_append : (n : ℕ) (first rest : List Frame) → framed_from n (first ++ rest) ≡ framed_from n first
+    ++ framed_from (n + length first) rest
 framed_append n [] rest = let same : n ≡ n + length {A = Frame} [] = omega arith in ap (λ k. framed_from k rest) same
 framed_append n (f ∷ first) rest =
     let count : (n + 1) + length first ≡ n + length (f ∷ first) = omega arith in
-    ap (λ cs. map (framed_as n) f.clauses ++ cs) (framed_append (n + 1) first rest ∙ ap (λ k. framed_from (n + 1) first ++ framed_from k rest) count)
-    ∙ sym (append_assoc (map (framed_as n) f.clauses) (framed_from (n + 1) first) (framed_from (n + length (f ∷ first)) rest))
+    ap (λ cs. map (framed_as n) f.clauses ++ cs)
+    (framed_append (n + 1) first rest ∙ ap (λ k. framed_from (n + 1) first ++ framed_from k rest) count)
+    ∙ sym (append_assoc (map (framed_as n) f.clauses) (framed_from (n + 1) first)
+    (framed_from (n + length (f ∷ first)) rest))
 
 pub framed_pushed : (frames : List Frame) → framed (pushed frames) ≡ framed frames
 framed_pushed frames = framed_append 0 frames (record { clauses = [] } ∷ []) ∙ append-nil (framed frames)
 
 -- one more row in the top frame
 
-framed_row_from : (n top : ℕ) (row : Row) (f : Frame) (frames : List Frame) → top ≡ n + length frames → framed_from n (with_row row (f ∷ frames)) ≡ framed_from n (f ∷ frames) ++ framed_as top row ∷ []
+framed_row_from : (n top : ℕ) (row : Row) (f : Frame) (frames : List Frame) → top ≡ n + length frames
+    → framed_from n (with_row row (f ∷ frames)) ≡ framed_from n (f ∷ frames) ++ framed_as top row ∷ []
 framed_row_from n top row f [] is =
     let same : n ≡ top = omega (arith, is) in
     append-nil (map (framed_as n) (f.clauses ++ row ∷ []))
     ∙ map-append (framed_as n) f.clauses (row ∷ [])
-    ∙ ap₂ (λ (cs : List FramedClause) (k : ℕ). cs ++ framed_as k row ∷ []) (sym (append-nil (map (framed_as n) f.clauses))) same
+    ∙ ap₂ (λ (cs : List FramedClause) (k : ℕ). cs ++ framed_as k row ∷ [])
+    (sym (append-nil (map (framed_as n) f.clauses))) same
 framed_row_from n top row f (g ∷ frames) is =
     let same : top ≡ (n + 1) + length frames = omega (arith, is) in
     ap (λ cs. map (framed_as n) f.clauses ++ cs) (framed_row_from (n + 1) top row g frames same)
     ∙ sym (append_assoc (map (framed_as n) f.clauses) (framed_from (n + 1) (g ∷ frames)) (framed_as top row ∷ []))
 
-pub framed_with_row : (row : Row) (frames : List Frame) → 1 ≤ length frames → framed (with_row row frames) ≡ framed frames ++ framed_as (depth frames) row ∷ []
+pub framed_with_row : (row : Row) (frames : List Frame) → 1 ≤ length frames
+    → framed (with_row row frames) ≡ framed frames ++ framed_as (depth frames) row ∷ []
 framed_with_row row [] some = absurd (omega (arith, some))
-framed_with_row row (f ∷ frames) some = let top : depth (f ∷ frames) ≡ 0 + length frames = omega arith in framed_row_from 0 (depth (f ∷ frames)) row f frames top
+framed_with_row row (f ∷ frames) some = let top : depth (f ∷ frames) ≡ 0 + length frames = omega arith in
+    framed_row_from 0 (depth (f ∷ frames)) row f frames top
 
 pub some_with_row : (row : Row) (frames : List Frame) → length (with_row row frames) ≡ length frames
 some_with_row row [] = refl
 some_with_row row (f ∷ []) = refl
 some_with_row row (f ∷ g ∷ rest) = ap suc (some_with_row row (g ∷ rest))
 
-pub rows_with_row : (row : Row) (frames : List Frame) → 1 ≤ length frames → clauses_in (with_row row frames) ≡ clauses_in frames ++ row ∷ []
+pub rows_with_row : (row : Row) (frames : List Frame) → 1 ≤ length frames
+    → clauses_in (with_row row frames) ≡ clauses_in frames ++ row ∷ []
 rows_with_row row frames some =
     sym (framed_rows 0 (with_row row frames)) ∙ ap (map row_of_framed) (framed_with_row row frames some)
-    ∙ map-append row_of_framed (framed frames) (framed_as (depth frames) row ∷ []) ∙ ap (λ rs. rs ++ row ∷ []) (framed_rows 0 frames)
+    ∙ map-append row_of_framed (framed frames) (framed_as (depth frames) row ∷ [])
+    ∙ ap (λ rs. rs ++ row ∷ []) (framed_rows 0 frames)
 
 -- the top frame goes
 
@@ -87,18 +96,24 @@ is_other top c = not (c.frame == top)
 
 none_of : (n : ℕ) (rows : List Row) → filter (is_other n) (map (framed_as n) rows) ≡ []
 none_of n [] = refl
-none_of n (row ∷ rows) = cond-false (not (n == n)) (framed_as n row ∷ filter (is_other n) (map (framed_as n) rows)) (filter (is_other n) (map (framed_as n) rows)) (ap not (eq-eqb n n refl)) ∙ none_of n rows
+none_of n (row ∷ rows) =
+    cond-false (not (n == n)) (framed_as n row ∷ filter (is_other n) (map (framed_as n) rows))
+    (filter (is_other n) (map (framed_as n) rows)) (ap not (eq-eqb n n refl)) ∙ none_of n rows
 
-all_of : (n top : ℕ) (rows : List Row) → n < top → filter (is_other top) (map (framed_as n) rows) ≡ map (framed_as n) rows
+all_of : (n top : ℕ) (rows : List Row) → n < top
+    → filter (is_other top) (map (framed_as n) rows) ≡ map (framed_as n) rows
 all_of n top [] low = refl
 all_of n top (row ∷ rows) low =
-    cond-true (not (n == top)) (framed_as n row ∷ filter (is_other top) (map (framed_as n) rows)) (filter (is_other top) (map (framed_as n) rows)) (ap not (ne_eqb n top (λ e. omega (arith, low, e))))
+    cond-true (not (n == top)) (framed_as n row ∷ filter (is_other top) (map (framed_as n) rows))
+    (filter (is_other top) (map (framed_as n) rows)) (ap not (ne_eqb n top (λ e. omega (arith, low, e))))
     ∙ ap (λ cs. framed_as n row ∷ cs) (all_of n top rows low)
 
-popped_from : (n top count : ℕ) (f : Frame) (frames : List Frame) → top ≡ n + length frames → count ≡ length frames → framed_from n (take count (f ∷ frames)) ≡ filter (is_other top) (framed_from n (f ∷ frames))
+popped_from : (n top count : ℕ) (f : Frame) (frames : List Frame) → top ≡ n + length frames → count ≡ length frames
+    → framed_from n (take count (f ∷ frames)) ≡ filter (is_other top) (framed_from n (f ∷ frames))
 popped_from n top zero f [] is less =
     let same : n ≡ top = omega (arith, is) in
-    sym (ap (filter (is_other top)) (append-nil (map (framed_as n) f.clauses)) ∙ ap (λ k. filter (is_other k) (map (framed_as n) f.clauses)) (sym same) ∙ none_of n f.clauses)
+    sym (ap (filter (is_other top)) (append-nil (map (framed_as n) f.clauses))
+    ∙ ap (λ k. filter (is_other k) (map (framed_as n) f.clauses)) (sym same) ∙ none_of n f.clauses)
 popped_from n top (suc count) f [] is less = absurd (omega (arith, less))
 popped_from n top zero f (g ∷ frames) is less = absurd (omega (arith, less))
 popped_from n top (suc count) f (g ∷ frames) is less =
@@ -109,26 +124,33 @@ popped_from n top (suc count) f (g ∷ frames) is less =
     ∙ ap (λ cs. cs ++ filter (is_other top) (framed_from (n + 1) (g ∷ frames))) (sym (all_of n top f.clauses low))
     ∙ sym (filter-append (is_other top) (map (framed_as n) f.clauses) (framed_from (n + 1) (g ∷ frames)))
 
-pub framed_popped : (frames : List Frame) → 1 ≤ length frames → framed (popped frames) ≡ filter (is_other (depth frames)) (framed frames)
+pub framed_popped : (frames : List Frame) → 1 ≤ length frames
+    → framed (popped frames) ≡ filter (is_other (depth frames)) (framed frames)
 framed_popped [] some = absurd (omega (arith, some))
 framed_popped (f ∷ frames) some =
     let top : depth (f ∷ frames) ≡ 0 + length frames = omega arith in
     let count : depth (f ∷ frames) ≡ length frames = omega arith in
     popped_from 0 (depth (f ∷ frames)) (depth (f ∷ frames)) f frames top count
 
-open_filtered : (top : ℕ) (cs : List OpenClause) → map framed_open (filter (λ (c : OpenClause). not (c.frame == top)) cs) ≡ filter (is_other top) (map framed_open cs)
+open_filtered : (top : ℕ) (cs : List OpenClause)
+    → map framed_open (filter (λ (c : OpenClause). not (c.frame == top)) cs) ≡ filter (is_other top)
+    (map framed_open cs)
 open_filtered top [] = refl
 open_filtered top (c ∷ cs) = by (not (c.frame == top)) (open_filtered top cs)
   where
-    by : (b : Bool) → map framed_open (filter (λ (d : OpenClause). not (d.frame == top)) cs) ≡ filter (is_other top) (map framed_open cs)
-        → map framed_open (cond b (c ∷ filter (λ (d : OpenClause). not (d.frame == top)) cs) (filter (λ (d : OpenClause). not (d.frame == top)) cs))
-        ≡ cond b (framed_open c ∷ filter (is_other top) (map framed_open cs)) (filter (is_other top) (map framed_open cs))
+    by : (b : Bool) → map framed_open (filter (λ (d : OpenClause). not (d.frame == top)) cs) ≡ filter (is_other top)
+        (map framed_open cs)
+        → map framed_open (cond b (c ∷ filter (λ (d : OpenClause). not (d.frame == top)) cs)
+        (filter (λ (d : OpenClause). not (d.frame == top)) cs))
+        ≡ cond b (framed_open c ∷ filter (is_other top) (map framed_open cs))
+        (filter (is_other top) (map framed_open cs))
     by true e = ap (λ xs. framed_open c ∷ xs) e
     by false e = e
 
 -- the clauses of a search without the top frame's are those of the popped frames
 pub popped_clauses : (old new : State) (frames : List Frame) → 1 ≤ length frames → framed_in old ≡ framed frames
-    → clauses_of new ≡ filter (λ (c : OpenClause). not (c.frame == depth frames)) (clauses_of old) → framed_in new ≡ framed (popped frames)
+    → clauses_of new ≡ filter (λ (c : OpenClause). not (c.frame == depth frames)) (clauses_of old)
+    → framed_in new ≡ framed (popped frames)
 popped_clauses old new frames some tied e =
     ap (map framed_open) e
     ∙ open_filtered (depth frames) (clauses_of old)
@@ -136,7 +158,8 @@ popped_clauses old new frames some tied e =
     ∙ sym (framed_popped frames some)
 
 -- those of a search with one more are those of the frames with one more row
-pub added_clauses : (old new : State) (frames : List Frame) (row : Row) → 1 ≤ length frames → framed_in old ≡ framed frames
+pub added_clauses : (old new : State) (frames : List Frame) (row : Row) → 1 ≤ length frames
+    → framed_in old ≡ framed frames
     → AddsClause (depth frames) row (clauses_of old) (clauses_of new) → framed_in new ≡ framed (with_row row frames)
 added_clauses old new frames row some tied adds =
     ap (map framed_open) adds.clauses

@@ -34,7 +34,8 @@ truth_again true = refl
 truth_again false = refl
 
 -- a stop of a search for the formula
-pub stops : (f : OpenFormula) (s : SearchState) (before now : Counter) (stop : SolveStop) → AreTied f s → IsStop f.scopes s.derivation f.assumptions before now stop → IsStopFor f before now stop
+pub stops : (f : OpenFormula) (s : SearchState) (before now : Counter) (stop : SolveStop) → AreTied f s
+    → IsStop f.scopes s.derivation f.assumptions before now stop → IsStopFor f before now stop
 stops f s before now stop tied is = record {
   derivation = s.derivation;
   clauses = same_rows s.derivation f.frames tied.clauses;
@@ -42,15 +43,18 @@ stops f s before now stop tied is = record {
 }
 
 -- an outcome as a verdict
-pub holds : (f : OpenFormula) (d : State) (outcome : Outcome) → AreOuter f.scopes f.assumptions → IsOutcome f.scopes (clauses_in f.frames) f.assumptions d outcome
+pub holds : (f : OpenFormula) (d : State) (outcome : Outcome) → AreOuter f.scopes f.assumptions
+    → IsOutcome f.scopes (clauses_in f.frames) f.assumptions d outcome
     → (t : Bool) → t ≡ bad_of outcome.loser → IsHeld f d f.assumptions (record { truth = t; end = outcome.end })
 holds f d outcome outer is t same = record {
   outer = outer;
-  outcome = subst (λ (q : Quant). IsOutcome f.scopes (clauses_in f.frames) f.assumptions d (record { loser = q; end = outcome.end })) (sym (ap loser_of same ∙ loser_again outcome.loser)) is;
+  outcome = subst (λ (q : Quant). IsOutcome f.scopes (clauses_in f.frames) f.assumptions d
+      (record { loser = q; end = outcome.end })) (sym (ap loser_of same ∙ loser_again outcome.loser)) is;
 }
 
 -- the truth of a verdict
-pub is_truth : (f : OpenFormula) (d : State) (v : Verdict) → IsHeld f d f.assumptions v → v.truth ≡ truth_under f.assumptions f.scopes (clauses_in f.frames)
+pub is_truth : (f : OpenFormula) (d : State) (v : Verdict) → IsHeld f d f.assumptions v
+    → v.truth ≡ truth_under f.assumptions f.scopes (clauses_in f.frames)
 is_truth f d v held = sym (held.outcome.truth ∙ truth_again v.truth)
 
 -- the step of the end row is the one that the finish tells
@@ -65,7 +69,8 @@ step_is_whole (Some note) id e = by note.why refl e
     by (ResolvedFrom a b x) same t = ap (λ w. end_row_in w id) same
     by (FinishedFrom a) same t = absurd (cc)
 
-end_row_is : (scopes : List Scope) (assumptions : List Literal) (d : State) (end : ℕ) (finish : IsFinishAt scopes assumptions d end) → end_row_in (why_at d end) end ≡ finish.before
+end_row_is : (scopes : List Scope) (assumptions : List Literal) (d : State) (end : ℕ)
+    (finish : IsFinishAt scopes assumptions d end) → end_row_in (why_at d end) end ≡ finish.before
 end_row_is scopes assumptions d end finish = ⊎_elim
     (λ same. step_is_whole (note_at d end) end (subst (λ id. is_step d id ≡ true) (sym same) finish.step) ∙ same)
     (λ r. ap (λ w. end_row_in w end) r.0)
@@ -79,9 +84,11 @@ bad_apart Forall Forall e = refl
 
 -- a proof with its last row
 abbrev WithLast : Quant → List Scope → List Row → List Literal → Row → List Inference → Type 0
-WithLast pivot scopes clauses assumptions row steps = (proof : IsProof pivot scopes clauses assumptions steps) × (proof.last.row ≡ row)
+WithLast pivot scopes clauses assumptions row steps =
+    (proof : IsProof pivot scopes clauses assumptions steps) × (proof.last.row ≡ row)
 
-module _ (f : OpenFormula) (d : State) (v : Verdict) (distinct : AreDistinct (all_variables f.scopes)) (same : open_clauses d ≡ clauses_in f.frames) (legal : IsLegalFor f.scopes d) (held : IsHeld f d f.assumptions v)
+module _ (f : OpenFormula) (d : State) (v : Verdict) (distinct : AreDistinct (all_variables f.scopes))
+    (same : open_clauses d ≡ clauses_in f.frames) (legal : IsLegalFor f.scopes d) (held : IsHeld f d f.assumptions v)
     (gives : EndRowsGiveProofs) (decide : ProofsDecide) (listed : StepsAreListed) where
   abbrev before : ℕ
   before = held.outcome.finish.before
@@ -99,17 +106,22 @@ module _ (f : OpenFormula) (d : State) (v : Verdict) (distinct : AreDistinct (al
 
   side : side_at d before ≡ loser_of v.truth
   side = bad_apart (side_at d before) (loser_of v.truth)
-      (sym (decide (side_at d before) f.scopes (clauses_in f.frames) f.assumptions found distinct held.outer ends.proof) ∙ held.outcome.truth)
+      (sym (decide (side_at d before) f.scopes
+      (clauses_in f.frames) f.assumptions found distinct held.outer ends.proof) ∙ held.outcome.truth)
 
   row : finished f.assumptions (row_of d before) ≡ row_of d v.end
   row = sym held.outcome.finish.finish
 
   place : proof_at d f.assumptions v.end ≡ found
-  place = ap (λ id. proof_of (steps_of d) (step_under d id) f.assumptions) (end_row_is f.scopes f.assumptions d v.end held.outcome.finish)
+  place = ap (λ id. proof_of (steps_of d) (step_under d id) f.assumptions)
+      (end_row_is f.scopes f.assumptions d v.end held.outcome.finish)
 
-  pub with_last : WithLast (loser_of v.truth) f.scopes (clauses_in f.frames) f.assumptions (row_of d v.end) (proof_at d f.assumptions v.end)
-  with_last = subst (λ steps. WithLast (loser_of v.truth) f.scopes (clauses_in f.frames) f.assumptions (row_of d v.end) steps) (sym place)
-      (subst (λ q. WithLast q f.scopes (clauses_in f.frames) f.assumptions (row_of d v.end) found) side (ends.proof, ends.last_row ∙ row))
+  pub with_last : WithLast (loser_of v.truth) f.scopes (clauses_in f.frames) f.assumptions (row_of d v.end)
+      (proof_at d f.assumptions v.end)
+  with_last = subst (λ steps. WithLast (loser_of v.truth) f.scopes (clauses_in f.frames) f.assumptions
+      (row_of d v.end) steps) (sym place)
+      (subst (λ q. WithLast q f.scopes (clauses_in f.frames) f.assumptions (row_of d v.end) found) side
+      (ends.proof, ends.last_row ∙ row))
 
   pub has_proof : HasProof f v (Some (told d f.assumptions v))
   has_proof = record {

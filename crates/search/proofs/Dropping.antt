@@ -25,12 +25,18 @@ use Rattle.search.proofs.Marks.{marked_as_was, not_attached, reduced_by, reducti
 abbrev pub rederived : SearchState → State → List ℕ → SearchState
 rederived s d ids = record s { derivation = d; watched = ids }
 
-same_watch : (s : SearchState) (d : State) (ids : List ℕ) (side : Quant) → watch_of side (rederived s d ids) ≡ watch_of side s
+same_watch : (s : SearchState) (d : State) (ids : List ℕ) (side : Quant)
+    → watch_of side (rederived s d ids) ≡ watch_of side s
 same_watch s d ids Exists = refl
 same_watch s d ids Forall = refl
 
 -- the rows that are attached are as they were
-pub resting_rederived : HoldingLaws → AgreeingLaws → (scopes : List Scope) (s : SearchState) (d : State) (ids : List ℕ) → IsResting scopes s → IsTrue (is_some d.rows) → IsLegalFor scopes d → AreWatched scopes (rederived s d ids) → ((side : Quant) (id : ℕ) → IsAttached s side id → stored_at (arena_of d) id ≡ stored_at (rows_of s) id) → ((side : Quant) (id : ℕ) → IsAttached (rederived s d ids) side id → IsAttached s side id) → AreAttachedIf s.joined (rederived s d ids) → IsResting scopes (rederived s d ids)
+pub resting_rederived : HoldingLaws → AgreeingLaws
+    → (scopes : List Scope) (s : SearchState) (d : State) (ids : List ℕ) → IsResting scopes s
+    → IsTrue (is_some d.rows) → IsLegalFor scopes d → AreWatched scopes (rederived s d ids)
+    → ((side : Quant) (id : ℕ) → IsAttached s side id → stored_at (arena_of d) id ≡ stored_at (rows_of s) id)
+    → ((side : Quant) (id : ℕ) → IsAttached (rederived s d ids) side id → IsAttached s side id)
+    → AreAttachedIf s.joined (rederived s d ids) → IsResting scopes (rederived s d ids)
 resting_rederived holding agreeing scopes s d ids resting rows legal watched same was attached =
     let intact = resting.intact in
     record {
@@ -44,7 +50,8 @@ resting_rederived holding agreeing scopes s d ids resting rows legal watched sam
           holds =
               λ side.
               subst (λ (w : WatchState). Holds side scopes w (arena_of d)) (sym (same_watch s d ids side))
-              (holding.agrees side scopes (watch_of side s) (rows_of s) (arena_of d) (agreeing.same_rows side (rows_of s) (arena_of d) (same side) (was side)) (intact.watching.holds side));
+              (holding.agrees side scopes (watch_of side s) (rows_of s) (arena_of d)
+              (agreeing.same_rows side (rows_of s) (arena_of d) (same side) (was side)) (intact.watching.holds side));
           front = λ side. rw (same_watch s d ids side) (intact.watching.front side);
           room = λ side. rw (same_watch s d ids side) (intact.watching.room side);
         };
@@ -53,18 +60,22 @@ resting_rederived holding agreeing scopes s d ids resting rows legal watched sam
       attached = attached;
     }
 
-module _ (scopes : List Scope) (s : SearchState) (d : State) (is_root : StepTest) (drops : Drops is_root s.derivation d) where
+module _ (scopes : List Scope) (s : SearchState) (d : State) (is_root : StepTest)
+    (drops : Drops is_root s.derivation d) where
   stays_live : (id : ℕ) → IsTrue (is_live d id) → IsTrue (is_live s.derivation id)
   stays_live id live = ap is_some (sym (drops.others id live).note) ∙ live
 
-  mark_left : (id : ℕ) → (link_at (arena_of d) id 6 ≡ link_at (rows_of s) id 6 × IsTrue (is_live d id)) ⊎ (link_at (arena_of d) id 6 ≡ None)
+  mark_left : (id : ℕ) → (link_at (arena_of d) id 6 ≡ link_at (rows_of s) id 6 × IsTrue (is_live d id)) ⊎
+      (link_at (arena_of d) id 6 ≡ None)
   mark_left id =
       ⊎_elim
       (λ live. inl (ap (λ (o : Option StoredRow). get_or (links_of o) 6 None) (drops.others id live).row, live))
-      (λ dead. inr (ap (λ (o : Option StoredRow). get_or (links_of o) 6 None) (drops.exactly.rows id ∙ cond-false (is_some (note_in d.notes id)) (stored_at (rows_of s) id) None dead)))
+      (λ dead. inr (ap (λ (o : Option StoredRow). get_or (links_of o) 6 None)
+      (drops.exactly.rows id ∙ cond-false (is_some (note_in d.notes id)) (stored_at (rows_of s) id) None dead)))
       (cases_Bool (is_live d id))
 
-  pub attached_was : (side : Quant) (id : ℕ) → IsAttached (rederived s d s.watched) side id → IsAttached s side id × IsTrue (is_live d id)
+  pub attached_was : (side : Quant) (id : ℕ) → IsAttached (rederived s d s.watched) side id
+      → IsAttached s side id × IsTrue (is_live d id)
   attached_was side id a =
       ⊎_elim
       (λ kept. (sym (same_mark side (rows_of s) (arena_of d) id kept.0) ∙ a, kept.1))
@@ -72,16 +83,21 @@ module _ (scopes : List Scope) (s : SearchState) (d : State) (is_root : StepTest
       (mark_left id)
 
   marks_left : AreMarked (rows_of s) → AreMarked (arena_of d)
-  marks_left marked id = ⊎_elim (λ kept. marked_as_was (rows_of s) (arena_of d) id kept.0 (marked id)) inl (mark_left id)
+  marks_left marked id =
+      ⊎_elim (λ kept. marked_as_was (rows_of s) (arena_of d) id kept.0 (marked id)) inl (mark_left id)
 
   literals_left : (id : ℕ) → IsTrue (is_live d id) → row_of d id ≡ row_of s.derivation id
   literals_left id live = ap literals_of (drops.others id live).row
 
-  reduced_left : (side : Quant) (id : ℕ) → IsTrue (is_live d id) → IsReducedStep side scopes s.derivation id → IsReducedStep side scopes d id
-  reduced_left side id live is = reduced_by side scopes s.derivation d id (drops.others id live).note (literals_left id live) is
+  reduced_left : (side : Quant) (id : ℕ) → IsTrue (is_live d id) → IsReducedStep side scopes s.derivation id
+      → IsReducedStep side scopes d id
+  reduced_left side id live is =
+      reduced_by side scopes s.derivation d id (drops.others id live).note (literals_left id live) is
 
   -- the reductions of the clauses that are left
-  module _ (clauses : (c : OpenClause) → Contains (clauses_of d) c → Contains (clauses_of s.derivation) c × ((id : ℕ) → IsReductionOf scopes s.derivation c id → IsTrue (is_live d id))) where
+  module _ (clauses : (c : OpenClause) → Contains (clauses_of d) c
+      → Contains (clauses_of s.derivation) c ×
+      ((id : ℕ) → IsReductionOf scopes s.derivation c id → IsTrue (is_live d id))) where
     pub watched_left : AreWatched scopes s → AreWatched scopes (rederived s d s.watched)
     watched_left h = record {
       marked = marks_left h.marked;
@@ -96,24 +112,34 @@ module _ (scopes : List Scope) (s : SearchState) (d : State) (is_root : StepTest
           λ c at.
           let was = clauses c at in
           let r = h.clauses c was.0 in
-          let live = was.1 r.0 r.2 in
-          (r.0, r.1, reduction_by scopes s.derivation d c r.0 (drops.others r.0 live).note (literals_left r.0 live) r.2);
+          let live = was.1 r.0 r.2 in (
+            r.0,
+            r.1,
+            reduction_by scopes s.derivation d c r.0 (drops.others r.0 live).note
+                (literals_left r.0 live) r.2,
+          );
     }
 
     -- where no attached row goes
-    module _ (holding : HoldingLaws) (agreeing : AgreeingLaws) (resting : IsResting scopes s) (legal : IsLegalFor scopes d) (stay : (side : Quant) (id : ℕ) → IsAttached s side id → IsTrue (is_live d id)) where
-      attached_left : (b : Bool) → AreAttachedIf b s → AreAttachedIf b (rederived s d s.watched)
-      attached_left true h = λ id at.
-          let a = h id at in
-          (a.0, ap (λ (o : Option StoredRow). is_at (get_or (links_of o) 6 None) (mark_of a.0)) (drops.others id (stay a.0 id a.1)).row ∙ a.1)
-      attached_left false h = λ id. ⊎_elim (λ kept. kept.0 ∙ h id) (λ none. none) (mark_left id)
+    module _ (holding : HoldingLaws) (agreeing : AgreeingLaws) (resting : IsResting scopes s)
+        (legal : IsLegalFor scopes d) (stay : (side : Quant) (id : ℕ) → IsAttached s side id → IsTrue (is_live d id))
+      where
+        attached_left : (b : Bool) → AreAttachedIf b s → AreAttachedIf b (rederived s d s.watched)
+        attached_left true h = λ id at.
+            let a = h id at in (
+              a.0,
+              ap (λ (o : Option StoredRow). is_at (get_or (links_of o) 6 None) (mark_of a.0))
+                  (drops.others id (stay a.0 id a.1)).row ∙ a.1,
+            )
+        attached_left false h = λ id. ⊎_elim (λ kept. kept.0 ∙ h id) (λ none. none) (mark_left id)
 
-      pub resting_left : IsResting scopes (rederived s d s.watched)
-      resting_left =
-          resting_rederived holding agreeing scopes s d s.watched resting drops.has_rows legal (watched_left resting.intact.watched)
-          (λ side id a. (drops.others id (stay side id a)).row)
-          (λ side id a. (attached_was side id a).0)
-          (attached_left s.joined resting.attached)
+        pub resting_left : IsResting scopes (rederived s d s.watched)
+        resting_left =
+            resting_rederived holding agreeing scopes s d s.watched resting drops.has_rows legal
+            (watched_left resting.intact.watched)
+            (λ side id a. (drops.others id (stay side id a)).row)
+            (λ side id a. (attached_was side id a).0)
+            (attached_left s.joined resting.attached)
 
   pub no_cubes_left : HasNoCubes s → HasNoCubes (rederived s d s.watched)
   no_cubes_left none id at live = ap side_in (drops.others id live).note ∙ none id at (stays_live id live)
@@ -121,7 +147,10 @@ module _ (scopes : List Scope) (s : SearchState) (d : State) (is_root : StepTest
 -- a frame goes
 
 -- the reduction of a clause of another frame doesn't fall with a frame
-falls_not : (frame : ℕ) (d : State) (c : OpenClause) (id : ℕ) → note_at d c.id ≡ Some (record { side = Exists; why = Given; tag = c.frame }) → (Falls (has_tag frame) d.notes c.id → ⊥) → nat_eq c.frame frame ≡ false → tag_at d id ≡ c.frame → (id ≡ c.id) ⊎ (why_at d id ≡ ReducedFrom c.id) → Falls (has_tag frame) d.notes id → ⊥
+falls_not : (frame : ℕ) (d : State) (c : OpenClause) (id : ℕ)
+    → note_at d c.id ≡ Some (record { side = Exists; why = Given; tag = c.frame })
+    → (Falls (has_tag frame) d.notes c.id → ⊥) → nat_eq c.frame frame ≡ false → tag_at d id ≡ c.frame
+    → (id ≡ c.id) ⊎ (why_at d id ≡ ReducedFrom c.id) → Falls (has_tag frame) d.notes id → ⊥
 falls_not frame d c id input stands other tag rests_so (root i note there test) =
     let is : note.tag ≡ c.frame = ap tag_in (sym there) ∙ tag in
     false≢true (sym (ap (λ n. nat_eq n frame) is ∙ other) ∙ test)
@@ -140,15 +169,23 @@ not_false : (b : Bool) → not b ≡ true → b ≡ false
 not_false true h = absurd (false≢true h)
 not_false false h = refl
 
-pub clauses_in_frames : (scopes : List Scope) (old d : State) (frame : ℕ) → ClausesAreListed → Drops (has_tag frame) old d → clauses_of d ≡ filter (λ (c : OpenClause). not (nat_eq c.frame frame)) (clauses_of old) → (c : OpenClause) → Contains (clauses_of d) c → Contains (clauses_of old) c × ((id : ℕ) → IsReductionOf scopes old c id → IsTrue (is_live d id))
+pub clauses_in_frames : (scopes : List Scope) (old d : State) (frame : ℕ) → ClausesAreListed
+    → Drops (has_tag frame) old d
+    → clauses_of d ≡ filter (λ (c : OpenClause). not (nat_eq c.frame frame)) (clauses_of old) → (c : OpenClause)
+    → Contains (clauses_of d) c
+    → Contains (clauses_of old) c × ((id : ℕ) → IsReductionOf scopes old c id → IsTrue (is_live d id))
 clauses_in_frames scopes old d frame listed drops clauses c at =
-    let f = filter_at (λ (c : OpenClause). not (nat_eq c.frame frame)) (clauses_of old) c (subst (λ cs. Contains cs c) clauses at) in
+    let f = filter_at (λ (c : OpenClause). not (nat_eq c.frame frame)) (clauses_of old) c
+    (subst (λ cs. Contains cs c) clauses at) in
     let here = listed.note d c at in
-    let stands : Falls (has_tag frame) old.notes c.id → ⊥ = ⊎_elim (λ gone. absurd (let g : None ≡ Some (record { side = Exists; why = Given; tag = c.frame }) = sym gone.1 ∙ here in cc)) (λ kept. kept.0) (drops.exactly.steps c.id) in (
+    let stands : Falls (has_tag frame) old.notes c.id → ⊥ =
+    ⊎_elim (λ gone. absurd (let g : None ≡ Some (record { side = Exists; why = Given; tag = c.frame }) = sym gone.1
+    ∙ here in cc)) (λ kept. kept.0) (drops.exactly.steps c.id) in (
       f.0,
       λ id r.
           ⊎_elim
-          (λ gone. absurd (falls_not frame old c id (listed.note old c f.0) stands (not_false (nat_eq c.frame frame) f.1) r.tag r.rests gone.0))
+          (λ gone. absurd (falls_not frame old c id (listed.note old c f.0) stands
+          (not_false (nat_eq c.frame frame) f.1) r.tag r.rests gone.0))
           (λ kept. ap is_some kept.1 ∙ step_live (note_at old id) r.step)
           (drops.exactly.steps id),
     )
@@ -157,7 +194,9 @@ clauses_in_frames scopes old d frame listed drops clauses c at =
 
 unfinished : (o : Option Note) → may_be_antecedent o ≡ true → is_some (unless_finish o) ≡ true
 unfinished None h = absurd (false≢true h)
-unfinished (Some note) h = ap is_some (cond-false (is_finish note.why) None (Some note) (not_false (is_finish note.why) h))
+unfinished (Some note) h =
+    ap is_some (cond-false (is_finish note.why) None (Some note) (not_false (is_finish note.why) h))
 
-pub step_unfinished : (old d : State) → ((id : ℕ) → note_at d id ≡ unless_finish (note_at old id)) → (id : ℕ) → IsTrue (is_step old id) → IsTrue (is_live d id)
+pub step_unfinished : (old d : State) → ((id : ℕ) → note_at d id ≡ unless_finish (note_at old id)) → (id : ℕ)
+    → IsTrue (is_step old id) → IsTrue (is_live d id)
 step_unfinished old d exactly id step = ap is_some (exactly id) ∙ unfinished (note_at old id) step

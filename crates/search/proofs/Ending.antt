@@ -25,38 +25,55 @@ use Rattle.search.specs.Stops.{IsOutcome, IsSpent, WasSpentWhenDue}
 use Rattle.search.specs.Stops.WasSpentWhenDue.{assuming, searching}
 
 -- the finish of an end row is an outcome
-pub is_outcome : (scopes : List Scope) (matrix : List Row) (assumptions : List Literal) (old new : State) (side : Quant) (row id : ℕ) → StepsAreListed → SameClausesServe → EndRowsGiveProofs → ProofsDecide → FinishesEndProofs → IsPrefix scopes → IsLegalFor scopes old → IsMatrix old matrix → AreOuter scopes assumptions → IsReducedStep side scopes old row → IsEndRow side scopes assumptions (row_of old row) → Removes old new id row (FinishedFrom row) (finish_at assumptions old row) → IsOutcome scopes matrix assumptions new (record { loser = side; end = id })
-is_outcome scopes matrix assumptions old new side row id listed serve give decide finishes valid legal is_matrix outer step end removes =
+pub is_outcome : (scopes : List Scope) (matrix : List Row) (assumptions : List Literal) (old new : State)
+    (side : Quant) (row id : ℕ) → StepsAreListed → SameClausesServe → EndRowsGiveProofs → ProofsDecide
+    → FinishesEndProofs → IsPrefix scopes → IsLegalFor scopes old → IsMatrix old matrix → AreOuter scopes assumptions
+    → IsReducedStep side scopes old row → IsEndRow side scopes assumptions (row_of old row)
+    → Removes old new id row (FinishedFrom row) (finish_at assumptions old row)
+    → IsOutcome scopes matrix assumptions new (record { loser = side; end = id })
+is_outcome scopes matrix assumptions old new side row id listed serve give decide finishes valid legal is_matrix outer
+    step end removes =
     let last : Step = record { id = row; side = side_at old row; row = row_of old row; why = why_at old row } in
     let derivation = serve scopes old matrix is_matrix.there is_matrix.none_else legal in
     let ends = subst (λ q. IsEndRow q scopes assumptions (row_of old row)) (sym step.of_side) end in
-    let proof = give.step scopes matrix assumptions (steps_of old) last derivation (listed.listed old row step.step) ends in
+    let proof = give.step scopes matrix assumptions (steps_of old) last derivation
+    (listed.listed old row step.step) ends in
     record {
-      truth = decide (side_at old row) scopes matrix assumptions (proof_of (steps_of old) last assumptions) valid.distinct outer proof.proof ∙ ap bad_of step.of_side;
+      truth = decide (side_at old row) scopes matrix assumptions
+          (proof_of (steps_of old) last assumptions) valid.distinct outer proof.proof ∙ ap bad_of step.of_side;
       live = removes.live;
       of_side = removes.has_side ∙ step.of_side;
       finish = finishes scopes assumptions old new id row step.step ends removes;
     }
 
 -- fewer steps than suffice
-few_below : (n p assigned spent : ℕ) → assigned + 1 < 1 * p → spent < (4 * n + 4) * (assigned + 1) → spent < (4 * n + 4) * p
+few_below : (n p assigned spent : ℕ) → assigned + 1 < 1 * p → spent < (4 * n + 4) * (assigned + 1)
+    → spent < (4 * n + 4) * p
 few_below n p assigned spent few h =
     let one : (4 * n + 4) * (assigned + 1) ≤ (4 * n + 4) * p = mul-le-mul_left (4 * n + 4) (omega arith) in
     omega arith
 
-few_limit : (n assigned spent : ℕ) → assigned + 1 < assignment_limit 0 n → spent < (4 * n + 4) * (assigned + 1) → spent < step_limit n
+few_limit : (n assigned spent : ℕ) → assigned + 1 < assignment_limit 0 n → spent < (4 * n + 4) * (assigned + 1)
+    → spent < step_limit n
 few_limit n assigned spent few h = few_below n (2 ^ (n + 1)) assigned spent few h
 
 -- the same clauses at the start
-pub due_first : (scopes : List Scope) (old new : State) (assumptions : List Literal) (before : Counter) (assigned : ℕ) → clauses_of new ≡ clauses_of old → WasSpentWhenDue scopes new assumptions before assigned → WasSpentWhenDue scopes old assumptions before assigned
+pub due_first : (scopes : List Scope) (old new : State) (assumptions : List Literal) (before : Counter) (assigned : ℕ)
+    → clauses_of new ≡ clauses_of old → WasSpentWhenDue scopes new assumptions before assigned
+    → WasSpentWhenDue scopes old assumptions before assigned
 due_first scopes old new assumptions before assigned same (assuming few) = assuming few
-due_first scopes old new assumptions before assigned same (searching at is clauses assumed count due) = searching at is (clauses ∙ same) assumed count due
+due_first scopes old new assumptions before assigned same (searching at is clauses assumed count due) =
+    searching at is (clauses ∙ same) assumed count due
 
 -- the budget is spent
-pub is_spent : (scopes : List Scope) (first : State) (assumptions : List Literal) (before now : Counter) (t : TrailState) (stopped : Account) → IsTrailFor scopes t → now.spent ≡ now.budget → now.budget ≡ before.budget → WasSpentWhenDue scopes first assumptions before t.assigned → IsBounded (size_of scopes) before.spent t now → stopped ≡ account_of scopes t now.budget → IsSpent scopes first assumptions before now stopped
+pub is_spent : (scopes : List Scope) (first : State) (assumptions : List Literal) (before now : Counter)
+    (t : TrailState) (stopped : Account) → IsTrailFor scopes t → now.spent ≡ now.budget → now.budget ≡ before.budget
+    → WasSpentWhenDue scopes first assumptions before t.assigned → IsBounded (size_of scopes) before.spent t now
+    → stopped ≡ account_of scopes t now.budget → IsSpent scopes first assumptions before now stopped
 is_spent scopes first assumptions before now t stopped trail spent budget due bounded is =
     let few = bounded.few in
-    let limit : now.spent - before.spent < step_limit (size_of scopes) = few_limit (size_of scopes) t.assigned (now.spent - before.spent) (assigned_few scopes t trail) few in
+    let limit : now.spent - before.spent < step_limit (size_of scopes) =
+    few_limit (size_of scopes) t.assigned (now.spent - before.spent) (assigned_few scopes t trail) few in
     let same : left before ≡ now.spent - before.spent = omega arith in
     rw is (record {
       spent = spent;

@@ -41,11 +41,14 @@ none_of : (o : Option Bool) → is_some o ≡ false → o ≡ None
 none_of None h = refl
 none_of (Some b) h = absurd (false≢true (sym h))
 
-pub forced_level : (scopes : List Scope) (start : ℕ) (s : SearchState) (steps : Counter) → IsForced scopes start s steps → last_level s.trail.placed ≡ 0
+pub forced_level : (scopes : List Scope) (start : ℕ) (s : SearchState) (steps : Counter)
+    → IsForced scopes start s steps → last_level s.trail.placed ≡ 0
 forced_level scopes start s steps forced = level_none 0 s.trail.placed forced.undecided
 
 -- where propagation refutes the matrix, the clauses aren't quiet
-pub never_quiet : (scopes : List Scope) (matrix : List Row) (start : ℕ) (s : SearchState) (steps : Counter) → IsPaused scopes s → IsMatrix s.derivation matrix → IsRefuting scopes matrix start s steps → AreQuiet Exists scopes (value_on s.trail.placed) (rows_of s) → ⊥
+pub never_quiet : (scopes : List Scope) (matrix : List Row) (start : ℕ) (s : SearchState) (steps : Counter)
+    → IsPaused scopes s → IsMatrix s.derivation matrix → IsRefuting scopes matrix start s steps
+    → AreQuiet Exists scopes (value_on s.trail.placed) (rows_of s) → ⊥
 never_quiet scopes matrix start s steps paused is_matrix refuting quiet =
     propagation_refutes scopes matrix (value_on s.trail.placed) refuting.assumptions
     (record {
@@ -53,45 +56,61 @@ never_quiet scopes matrix start s steps paused is_matrix refuting quiet =
       others_open = λ x q n. open_at x q n (cases_Bool (is_some (value_on s.trail.placed x)));
     })
     (record {
-      none_bad = λ clause i is_bad. let r = (attached_clause scopes s clause paused (is_matrix.none_else clause i)).1 in quiet.none_bad r.0 r.1 (subst (IsBadRow Exists scopes (value_on s.trail.placed)) (sym r.2) is_bad);
-      none_unit = λ clause literal i is_unit. let r = (attached_clause scopes s clause paused (is_matrix.none_else clause i)).1 in quiet.none_unit r.0 literal r.1 (subst (λ row. IsUnitIn Exists scopes (value_on s.trail.placed) row literal) (sym r.2) is_unit);
+      none_bad = λ clause i is_bad. let r =
+          (attached_clause scopes s clause paused (is_matrix.none_else clause i)).1 in
+          quiet.none_bad r.0 r.1 (subst (IsBadRow Exists scopes (value_on s.trail.placed)) (sym r.2) is_bad);
+      none_unit = λ clause literal i is_unit. let r =
+          (attached_clause scopes s clause paused (is_matrix.none_else clause i)).1 in
+          quiet.none_unit r.0 literal r.1 (subst (λ row. IsUnitIn Exists scopes (value_on s.trail.placed) row literal)
+          (sym r.2) is_unit);
     })
     refuting.refuted
   where
-    open_at : (x : ℕ) → quantifier_of scopes x ≢ Some Exists → assumed_value refuting.assumptions x ≡ None → (is_some (value_on s.trail.placed x) ≡ true) ⊎ (is_some (value_on s.trail.placed x) ≡ false) → value_on s.trail.placed x ≡ None
+    open_at : (x : ℕ) → quantifier_of scopes x ≢ Some Exists → assumed_value refuting.assumptions x ≡ None
+        → (is_some (value_on s.trail.placed x) ≡ true) ⊎ (is_some (value_on s.trail.placed x) ≡ false)
+        → value_on s.trail.placed x ≡ None
     open_at x q n c =
         ⊎_elim
         (λ t. ⊎_elim
-        (λ (a : cause_on s.trail.placed x ≡ Some Assumed). absurd (false≢true (sym (ap is_some n) ∙ refuting.assumed.entries x a)))
+        (λ (a : cause_on s.trail.placed x ≡ Some Assumed). absurd
+        (false≢true (sym (ap is_some n) ∙ refuting.assumed.entries x a)))
         (λ (e : quantifier_of scopes x ≡ Some Exists). absurd (q e))
         (refuting.forced.others x t))
         (λ f. none_of (value_on s.trail.placed x) f)
         c
 
 -- the watches were asked
-pub refuting_looked : (scopes : List Scope) (matrix : List Row) (start : ℕ) (s between : SearchState) (steps : Counter) → Looks scopes s between → IsRefuting scopes matrix start s steps → IsRefuting scopes matrix start between steps
+pub refuting_looked : (scopes : List Scope) (matrix : List Row) (start : ℕ) (s between : SearchState)
+    (steps : Counter) → Looks scopes s between → IsRefuting scopes matrix start s steps
+    → IsRefuting scopes matrix start between steps
 refuting_looked scopes matrix start s between steps looks h =
-    let same : (id : ℕ) → is_attached Forall (rows_of between) id ≡ is_attached Forall (rows_of s) id = λ id. ap (λ (o : Option ℕ). is_at o (mark_of Forall)) (looks.marks id) in
+    let same : (id : ℕ) → is_attached Forall (rows_of between) id ≡ is_attached Forall (rows_of s) id =
+    λ id. ap (λ (o : Option ℕ). is_at o (mark_of Forall)) (looks.marks id) in
     record {
       assumptions = h.assumptions;
       assumed = subst (λ (t : TrailState). AreTheAssumptions t.placed h.assumptions) (sym looks.trail) h.assumed;
       refuted = h.refuted;
       forced = record {
-        undecided = subst (λ (t : TrailState). (p : Placed) → Contains t.placed p → IsFalse (is_decision p.cause)) (sym looks.trail) h.forced.undecided;
-        others = subst (λ (t : TrailState). (x : ℕ) → IsTrue (is_some (value_on t.placed x)) → (cause_on t.placed x ≡ Some Assumed) ⊎ (quantifier_of scopes x ≡ Some Exists)) (sym looks.trail) h.forced.others;
+        undecided = subst (λ (t : TrailState). (p : Placed) → Contains t.placed p → IsFalse (is_decision p.cause))
+            (sym looks.trail) h.forced.undecided;
+        others = subst (λ (t : TrailState). (x : ℕ) → IsTrue (is_some (value_on t.placed x))
+            → (cause_on t.placed x ≡ Some Assumed) ⊎ (quantifier_of scopes x ≡ Some Exists))
+            (sym looks.trail) h.forced.others;
         no_cubes = λ id. same id ∙ h.forced.no_cubes id;
         counted = h.forced.counted ∙ ap (λ (t : TrailState). start + length t.placed) (sym looks.trail);
       };
     }
 
 -- no cube is found
-no_cube_found : (side : Quant) (s : SearchState) (id : ℕ) → NoCubeAttached s → is_attached side (rows_of s) id ≡ true → side ≡ Exists
+no_cube_found : (side : Quant) (s : SearchState) (id : ℕ) → NoCubeAttached s → is_attached side (rows_of s) id ≡ true
+    → side ≡ Exists
 no_cube_found Exists s id none h = refl
 no_cube_found Forall s id none h = absurd (false≢true (sym (none id) ∙ h))
 
 -- a clause is propagated
 
-cause_back : (front : Trail) (p : Placed) (x : ℕ) → is_some (value_on front x) ≡ false → cause_on (front ++ p ∷ []) x ≡ cause_on (p ∷ []) x
+cause_back : (front : Trail) (p : Placed) (x : ℕ) → is_some (value_on front x) ≡ false
+    → cause_on (front ++ p ∷ []) x ≡ cause_on (p ∷ []) x
 cause_back [] p x a = refl
 cause_back (q ∷ front) p x a =
     ⊎_elim
@@ -106,18 +125,28 @@ one_variable p x c e =
     (λ f. absurd (let g : None ≡ Some c = sym (cause_past p [] x f) ∙ e in cc))
     (cases_Bool (nat_eq p.literal.variable x))
 
-new_exists : (scopes : List Scope) (front : Trail) (kept : Literal) (id : ℕ) (row : Row) → IsUnitIn Exists scopes (value_on front) row kept → (x : ℕ) → is_some (value_on front x) ≡ false → is_some (value_on (placed_with front kept (Propagated id)) x) ≡ true → quantifier_of scopes x ≡ Some Exists
+new_exists : (scopes : List Scope) (front : Trail) (kept : Literal) (id : ℕ) (row : Row)
+    → IsUnitIn Exists scopes (value_on front) row kept → (x : ℕ) → is_some (value_on front x) ≡ false
+    → is_some (value_on (placed_with front kept (Propagated id)) x) ≡ true → quantifier_of scopes x ≡ Some Exists
 new_exists scopes front kept id row unit x f t =
     let p : Placed = record { literal = kept; cause = Propagated id } in
     let c = cause_of_assigned (front ++ p ∷ []) x t in
     let same : kept.variable ≡ x = one_variable p x c.0 (sym (cause_back front p x f) ∙ c.1) in
     ap (quantifier_of scopes) (sym same) ∙ same_true (quantifier_of scopes kept.variable) Exists unit.pivot_type
 
-pub refuting_push : (scopes : List Scope) (matrix : List Row) (start : ℕ) (old new : SearchState) (side : Quant) (id : ℕ) (kept : Literal) (before now : Counter) → IsRefuting scopes matrix start old before → is_attached side (rows_of old) id ≡ true → IsUnitIn side scopes (value_on old.trail.placed) (row_of old.derivation id) kept → ((assumptions : List Literal) → AreTheAssumptions old.trail.placed assumptions → AreTheAssumptions new.trail.placed assumptions) → Pushes old new (good_literal side kept) (Propagated id) before now → IsRefuting scopes matrix start new now
+pub refuting_push : (scopes : List Scope) (matrix : List Row) (start : ℕ) (old new : SearchState) (side : Quant)
+    (id : ℕ) (kept : Literal) (before now : Counter) → IsRefuting scopes matrix start old before
+    → is_attached side (rows_of old) id ≡ true
+    → IsUnitIn side scopes (value_on old.trail.placed) (row_of old.derivation id) kept
+    → ((assumptions : List Literal) → AreTheAssumptions old.trail.placed assumptions
+    → AreTheAssumptions new.trail.placed assumptions)
+    → Pushes old new (good_literal side kept) (Propagated id) before now → IsRefuting scopes matrix start new now
 refuting_push scopes matrix start old new side id kept before now h attached unit keeps push =
     let exists = no_cube_found side old id h.forced.no_cubes attached in
-    let clause = subst (λ q. IsUnitIn q scopes (value_on old.trail.placed) (row_of old.derivation id) kept) exists unit in
-    let pushed : new.trail.placed ≡ placed_with old.trail.placed kept (Propagated id) = push.placed ∙ ap (λ q. placed_with old.trail.placed (good_literal q kept) (Propagated id)) exists in
+    let clause = subst (λ q. IsUnitIn q scopes (value_on old.trail.placed) (row_of old.derivation id) kept) exists
+    unit in
+    let pushed : new.trail.placed ≡ placed_with old.trail.placed kept (Propagated id) = push.placed
+    ∙ ap (λ q. placed_with old.trail.placed (good_literal q kept) (Propagated id)) exists in
     let front = old.trail.placed in
     let p : Placed = record { literal = kept; cause = Propagated id } in
     let long : length new.trail.placed ≡ length front + 1 = ap length pushed ∙ length_push front p in
@@ -128,7 +157,9 @@ refuting_push scopes matrix start old new side id kept before now h attached uni
       assumed = keeps h.assumptions h.assumed;
       refuted = h.refuted;
       forced = record {
-        undecided = rw pushed (λ q i. ⊎_elim (h.forced.undecided q) (λ j. ⊎_elim (λ e. ap (λ (r : Placed). is_decision r.cause) (sym e)) (λ k. absurd (contains_nil q k)) (contains_cons p [] q j)) (Contains-append_cases front (p ∷ []) q i));
+        undecided = rw pushed (λ q i. ⊎_elim (h.forced.undecided q)
+            (λ j. ⊎_elim (λ e. ap (λ (r : Placed). is_decision r.cause) (sym e)) (λ k. absurd (contains_nil q k))
+            (contains_cons p [] q j)) (Contains-append_cases front (p ∷ []) q i));
         others = rw pushed (λ x t. ⊎_elim
             (λ a. ⊎_elim (λ c. inl (cause_front front (p ∷ []) x a ∙ c)) inr (h.forced.others x a))
             (λ f. inr (new_exists scopes front kept id (row_of old.derivation id) clause x f t))
@@ -144,31 +175,45 @@ few_square : (n : ℕ) → n ≤ n * (n + 3)
 few_square n = let r : n * 1 ≤ n * (n + 3) = mul-le-mul_left n (omega arith) in omega arith
 
 -- of an assignment
-pub few_assignment : (scopes : List Scope) (start : ℕ) (s : SearchState) (steps : Counter) (side : Quant) (row : Row) (kept : Literal) → IsSearching scopes s → Contains (all_variables scopes) kept.variable → IsUnitIn side scopes (value_on s.trail.placed) row kept → IsForced scopes start s steps → steps.spent ≡ steps.budget → steps.budget - start < size_of scopes * (size_of scopes + 3)
+pub few_assignment : (scopes : List Scope) (start : ℕ) (s : SearchState) (steps : Counter) (side : Quant) (row : Row)
+    (kept : Literal) → IsSearching scopes s → Contains (all_variables scopes) kept.variable
+    → IsUnitIn side scopes (value_on s.trail.placed) row kept → IsForced scopes start s steps
+    → steps.spent ≡ steps.budget → steps.budget - start < size_of scopes * (size_of scopes + 3)
 few_assignment scopes start s steps side row kept searching known unit forced spent =
-    let short : length s.trail.placed < size_of scopes = short_of scopes s.trail.placed kept.variable searching.paused.intact.trail.ordered known (none_open (value_on s.trail.placed kept.variable) unit.open_yet) in
+    let short : length s.trail.placed < size_of scopes =
+    short_of scopes s.trail.placed kept.variable searching.paused.intact.trail.ordered known
+    (none_open (value_on s.trail.placed kept.variable) unit.open_yet) in
     let was = forced.counted in
     let n : size_of scopes ≤ size_of scopes * (size_of scopes + 3) = few_square (size_of scopes) in
     omega arith
 
 -- of an analysis
-few_analysed : (n len marks start spent budget : ℕ) → len ≤ n → marks ≤ len → spent ≡ start + len → budget - spent < marks * len + 2 * len → budget - start < n * (n + 3)
+few_analysed : (n len marks start spent budget : ℕ) → len ≤ n → marks ≤ len → spent ≡ start + len
+    → budget - spent < marks * len + 2 * len → budget - start < n * (n + 3)
 few_analysed n len marks start spent budget short few was h =
     let one : marks * len ≤ n * len = mul-le-mul_right len (omega arith) in
     let two : n * len ≤ n * n = mul-le-mul_left n short in
     let three : n * (n + 3) ≡ n * n + 3 * n = omega arith in
     omega arith
 
-pub few_analysis : (scopes : List Scope) (start : ℕ) (s : SearchState) (steps : Counter) → IsSearching scopes s → IsForced scopes start s steps → left steps < marks_left s.trail * length s.trail.placed + 2 * length s.trail.placed → steps.budget - start < size_of scopes * (size_of scopes + 3)
+pub few_analysis : (scopes : List Scope) (start : ℕ) (s : SearchState) (steps : Counter) → IsSearching scopes s
+    → IsForced scopes start s steps
+    → left steps < marks_left s.trail * length s.trail.placed + 2 * length s.trail.placed
+    → steps.budget - start < size_of scopes * (size_of scopes + 3)
 few_analysis scopes start s steps searching forced h =
-    let short : length s.trail.placed ≤ size_of scopes = trail_length scopes s.trail.placed searching.paused.intact.trail.ordered in
-    few_analysed (size_of scopes) (length s.trail.placed) (marks_left s.trail) start steps.spent steps.budget short (omega arith) forced.counted h
+    let short : length s.trail.placed ≤ size_of scopes =
+    trail_length scopes s.trail.placed searching.paused.intact.trail.ordered in
+    few_analysed (size_of scopes) (length s.trail.placed) (marks_left s.trail) start steps.spent steps.budget short
+    (omega arith) forced.counted h
 
 -- the start
-pub forced_start : (scopes : List Scope) (s : SearchState) (assumptions : List Literal) (before : Counter) → NoCubeAttached s → s.trail.placed ≡ map assumed assumptions → IsForced scopes before.spent s (after before (length assumptions))
+pub forced_start : (scopes : List Scope) (s : SearchState) (assumptions : List Literal) (before : Counter)
+    → NoCubeAttached s → s.trail.placed ≡ map assumed assumptions
+    → IsForced scopes before.spent s (after before (length assumptions))
 forced_start scopes s assumptions before none is = record {
   undecided = rw is (λ p i. ap is_decision (all_assumed assumptions p i));
-  others = rw is (λ x t. let c = cause_of_assigned (map assumed assumptions) x t in inl (c.1 ∙ ap Some (assumed_cause assumptions x c.0 c.1)));
+  others = rw is (λ x t. let c = cause_of_assigned (map assumed assumptions) x t in
+      inl (c.1 ∙ ap Some (assumed_cause assumptions x c.0 c.1)));
   no_cubes = none;
   counted = ap (λ n. before.spent + n) (sym (ap length is ∙ length-map assumptions assumed));
 }
@@ -182,9 +227,12 @@ forced_start scopes s assumptions before none is = record {
         (cases_Bool (nat_eq l.variable x))
 
 -- of an assumption
-pub assumptions_few : (scopes : List Scope) (lits : List Literal) → AreOuter scopes lits → AreDistinct (variables_in lits) → length lits ≤ size_of scopes * (size_of scopes + 3)
+pub assumptions_few : (scopes : List Scope) (lits : List Literal) → AreOuter scopes lits
+    → AreDistinct (variables_in lits) → length lits ≤ size_of scopes * (size_of scopes + 3)
 assumptions_few scopes lits outer different =
-    let short : length (map assumed lits) ≤ size_of scopes = trail_length scopes (map assumed lits) (ordered_from scopes [] lits outer different (λ l i. refl) (λ p i. absurd (contains_nil p i))) in
+    let short : length (map assumed lits) ≤ size_of scopes =
+    trail_length scopes (map assumed lits) (ordered_from scopes [] lits outer different (λ l i. refl)
+    (λ p i. absurd (contains_nil p i))) in
     let same : length (map assumed lits) ≡ length lits = length-map lits assumed in
     let n : size_of scopes ≤ size_of scopes * (size_of scopes + 3) = few_square (size_of scopes) in
     omega arith

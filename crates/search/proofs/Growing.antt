@@ -4,14 +4,14 @@ use Rattle.std.proofs.lemmas.Bool.{false≢true}
 use Rattle.std.proofs.lemmas.List.{get_or_past}
 use Rattle.calculus.proofs.Lists.{contains_nil}
 use Rattle.prefix.specs.declared.quant.Quant.{Quant}
-use Rattle.prefix.specs.declared.quant.Quant.TheVariants.{Exists}
+use Rattle.prefix.specs.declared.quant.Quant.TheVariants.{Exists, Forall}
 use Rattle.prefix.specs.Scopes.{Scope}
-use Rattle.rows.specs.Arena.{StoredRow, links_of}
+use Rattle.rows.specs.Arena.{Arena, StoredRow, links_of}
 use Rattle.calculus.specs.Rows.{IsRow}
 use Rattle.calculus.specs.RowTheorems.{ReductionsStay}
 use Rattle.calculus.specs.Derivations.{Extends}
 use Rattle.calculus.specs.Search.{literals_on}
-use Rattle.trail.specs.State.{IsTrailFor, TrailState, new_trail}
+use Rattle.trail.specs.State.{IsTrailFor, TrailState, new_trail, with_room}
 use Rattle.decide.specs.Memory.{Memory}
 use Rattle.derive.specs.State.{IsLegalFor, OpenClause, State, arena_of, clauses_of, has_rows, may_be_antecedent, row_of, side_at}
 use Rattle.derive.specs.Adding.{IsReductionOf}
@@ -31,7 +31,8 @@ abbrev pub no_steps : State
 no_steps = record { notes = []; rows = Some [] }
 
 no_links : (d : State) → d ≡ no_steps → (id : ℕ) → IsUnattached (arena_of d) id
-no_links d e id = rw e (ap (λ (o : Option StoredRow). get_or (links_of o) 6 None) (get_or_past [] id None (omega arith)))
+no_links d e id = rw e (ap (λ (o : Option StoredRow). get_or (links_of o) 6 None)
+    (get_or_past [] id None (omega arith)))
 
 pub record IsNew (s : SearchState) : Type 0 where
   pub derivation : s.derivation ≡ no_steps
@@ -44,7 +45,8 @@ pub record IsNew (s : SearchState) : Type 0 where
 
 module _ (laws : HoldingLaws) (s : SearchState) (new : IsNew s) where
   none_attached : (side : Quant) (id : ℕ) → IsAttached s side id → ⊥
-  none_attached side id a = false≢true (sym (not_attached side (rows_of s) id (no_links s.derivation new.derivation id)) ∙ a)
+  none_attached side id a =
+      false≢true (sym (not_attached side (rows_of s) id (no_links s.derivation new.derivation id)) ∙ a)
 
   none_listed : (id : ℕ) → Contains s.watched id → ⊥
   none_listed id at = contains_nil id (subst (λ ids. Contains ids id) new.watched at)
@@ -63,10 +65,13 @@ module _ (laws : HoldingLaws) (s : SearchState) (new : IsNew s) where
   }
 
   new_holds : (side : Quant) → Holds side [] (watch_of side s) (rows_of s)
-  new_holds side = subst (λ (w : WatchState). Holds side [] w (rows_of s)) (sym (new.watches side)) (laws.begins side [] (rows_of s) (λ id. not_attached side (rows_of s) id (no_links s.derivation new.derivation id)))
+  new_holds side = subst (λ (w : WatchState). Holds side [] w (rows_of s)) (sym (new.watches side))
+      (laws.begins side [] (rows_of s) (λ id. not_attached side (rows_of s) id
+      (no_links s.derivation new.derivation id)))
 
   new_front : (side : Quant) → IsFront (looked (watch_of side s)) (literals_on s.trail.placed)
-  new_front side = subst (λ (w : WatchState). IsFront (looked w) (literals_on s.trail.placed)) (sym (new.watches side)) refl
+  new_front side = subst (λ (w : WatchState). IsFront (looked w) (literals_on s.trail.placed))
+      (sym (new.watches side)) refl
 
   new_room : (side : Quant) → s.trail.room ≤ (watch_of side s).room
   new_room side = let t = ap (λ (t : TrailState). t.room) new.trail in omega arith
@@ -95,20 +100,65 @@ module _ (laws : HoldingLaws) (s : SearchState) (new : IsNew s) where
 pub longer : (old new : Memory) → (more : ℕ) × (new ≡ old ++ replicate more None) → length old ≤ length new
 longer old new grown = let e = ap length grown.1 in omega (arith, e, length-append old (replicate grown.0 None))
 
+-- only the room of a trail grows
+pub record WidensTrail (old new : TrailState) : Type 0 where
+  pub placed : new.placed ≡ old.placed
+  pub allowed : new.allowed ≡ old.allowed
+  pub assigned : new.assigned ≡ old.assigned
+  pub kept : (scopes : List Scope) → IsTrailFor scopes old → IsTrailFor scopes new
+  pub room : old.room ≤ new.room
+
+pub same_trail : (old new : TrailState) → new ≡ old → WidensTrail old new
+same_trail old new e = record {
+  placed = ap (λ (t : TrailState). t.placed) e;
+  allowed = ap (λ (t : TrailState). t.allowed) e;
+  assigned = ap (λ (t : TrailState). t.assigned) e;
+  kept = λ scopes kept. subst (IsTrailFor scopes) (sym e) kept;
+  room = let r = ap (λ (t : TrailState). t.room) e in omega arith;
+}
+
+pub wider_trail : (old new : TrailState) (vars : ℕ) → new ≡ with_room old vars
+    → ((scopes : List Scope) → IsTrailFor scopes old → IsTrailFor scopes new) → WidensTrail old new
+wider_trail old new vars e kept = record {
+  placed = ap (λ (t : TrailState). t.placed) e;
+  allowed = ap (λ (t : TrailState). t.allowed) e;
+  assigned = ap (λ (t : TrailState). t.assigned) e;
+  kept = kept;
+  room = let r = ap (λ (t : TrailState). t.room) e in omega arith;
+}
+
+-- a watch holds what it held and has looked at what it had, and has room for a wider trail
+pub record WidensWatch (pivot : Quant) (arena : Arena) (old new : WatchState) (narrow wide : ℕ) : Type 0 where
+  pub holds : GoesOnHolding pivot old arena new arena
+  pub looked : looked new ≡ looked old
+  pub room : narrow ≤ old.room → wide ≤ new.room
+
 -- only the room grows: that of the trail no further than that of the watches
 pub record Widens (old new : SearchState) : Type 0 where
   pub derivation : new.derivation ≡ old.derivation
   pub watched : new.watched ≡ old.watched
   pub joined : new.joined ≡ old.joined
-  pub placed : new.trail.placed ≡ old.trail.placed
-  pub allowed : new.trail.allowed ≡ old.trail.allowed
-  pub assigned : new.trail.assigned ≡ old.trail.assigned
-  pub kept : (scopes : List Scope) → IsTrailFor scopes old.trail → IsTrailFor scopes new.trail
-  pub room : old.trail.room ≤ new.trail.room
+  pub trail : WidensTrail old.trail new.trail
   pub signs : length old.signs ≤ length new.signs
-  pub holds : (side : Quant) → GoesOnHolding side (watch_of side old) (rows_of old) (watch_of side new) (rows_of old)
-  pub looked : (side : Quant) → looked (watch_of side new) ≡ looked (watch_of side old)
-  pub wide : (side : Quant) → old.trail.room ≤ (watch_of side old).room → new.trail.room ≤ (watch_of side new).room
+  pub watches : (side : Quant)
+      → WidensWatch side (rows_of old) (watch_of side old) (watch_of side new) old.trail.room new.trail.room
+
+module _ (s : SearchState) (t : TrailState) (clauses cubes : WatchState) (signs : Memory) where
+  abbrev widened : SearchState
+  widened = record s { trail = t; clauses = clauses; cubes = cubes; signs = signs }
+
+  pub widens : WidensTrail s.trail t → length s.signs ≤ length signs
+      → WidensWatch Exists (rows_of s) s.clauses clauses s.trail.room t.room
+      → WidensWatch Forall (rows_of s) s.cubes cubes s.trail.room t.room → Widens s widened
+  widens trail more ones twos = record {
+    derivation = refl;
+    watched = refl;
+    joined = refl;
+    trail = trail;
+    signs = more;
+    watches = λ side. elim side as (λ p. WidensWatch p (rows_of s) (watch_of p s)
+        (watch_of p widened) s.trail.room t.room) [ Exists ↦ ones | Forall ↦ twos ];
+  }
 
 module _ (scopes : List Scope) (old new : SearchState) (widens : Widens old new) (resting : IsResting scopes old) where
   wide_watched : AreWatched scopes new
@@ -124,10 +174,11 @@ module _ (scopes : List Scope) (old new : SearchState) (widens : Widens old new)
       }
 
   wide_holds : (side : Quant) → Holds side scopes (watch_of side new) (rows_of new)
-  wide_holds side = subst (λ (d : State). Holds side scopes (watch_of side new) (arena_of d)) (sym widens.derivation) (widens.holds side scopes (resting.intact.watching.holds side))
+  wide_holds side = subst (λ (d : State). Holds side scopes (watch_of side new) (arena_of d)) (sym widens.derivation)
+      ((widens.watches side).holds scopes (resting.intact.watching.holds side))
 
   wide_front : (side : Quant) → IsFront (looked (watch_of side new)) (literals_on new.trail.placed)
-  wide_front side = rw (widens.looked side, widens.placed) (resting.intact.watching.front side)
+  wide_front side = rw ((widens.watches side).looked, widens.trail.placed) (resting.intact.watching.front side)
 
   attached_wide : (b : Bool) → AreAttachedIf b old → AreAttachedIf b new
   attached_wide true h = rw (widens.derivation, widens.watched) h
@@ -136,19 +187,24 @@ module _ (scopes : List Scope) (old new : SearchState) (widens : Widens old new)
   pub resting_wide : IsResting scopes new
   resting_wide = record {
     rest = record {
-      empty = widens.placed ∙ resting.rest.empty;
-      allowed = widens.allowed ∙ resting.rest.allowed;
-      begun = widens.assigned ∙ resting.rest.begun;
-      kept = λ prefix. widens.kept prefix (resting.rest.kept prefix);
+      empty = widens.trail.placed ∙ resting.rest.empty;
+      allowed = widens.trail.allowed ∙ resting.rest.allowed;
+      begun = widens.trail.assigned ∙ resting.rest.begun;
+      kept = λ prefix. widens.trail.kept prefix (resting.rest.kept prefix);
     };
     intact = record {
-      trail = widens.kept scopes resting.intact.trail;
+      trail = widens.trail.kept scopes resting.intact.trail;
       has_rows = rw widens.derivation resting.intact.has_rows;
       legal = rw widens.derivation resting.intact.legal;
       watched = wide_watched;
-      watching = record { holds = wide_holds; front = wide_front; room = λ side. widens.wide side (resting.intact.watching.room side) };
+      watching = record {
+        holds = wide_holds;
+        front = wide_front;
+        room =
+            λ side. (widens.watches side).room (resting.intact.watching.room side);
+      };
       room = record {
-        trail = λ x at. let h = resting.intact.room.trail x at in let w = widens.room in omega arith;
+        trail = λ x at. let h = resting.intact.room.trail x at in let w = widens.trail.room in omega arith;
         signs = λ x at. let h = resting.intact.room.signs x at in let w = widens.signs in omega arith;
       };
     };
@@ -157,18 +213,24 @@ module _ (scopes : List Scope) (old new : SearchState) (widens : Widens old new)
 
 -- under a larger prefix
 
-module _ (extends_all : PrefixesMayGrow) (listed : ClausesAreListed) (stay : ReductionsStay) (holding : HoldingLaws) where
-  reduced_under : (pivot : Quant) (old new : List Scope) (d : State) (id : ℕ) → Extends old new → IsLegalFor old d → IsReducedStep pivot old d id → IsReducedStep pivot new d id
+module _ (extends_all : PrefixesMayGrow) (listed : ClausesAreListed) (stay : ReductionsStay)
+    (holding : HoldingLaws) where
+  reduced_under : (pivot : Quant) (old new : List Scope) (d : State) (id : ℕ) → Extends old new → IsLegalFor old d
+      → IsReducedStep pivot old d id → IsReducedStep pivot new d id
   reduced_under pivot old new d id extends legal is = record {
     step = is.step;
     of_side = is.of_side;
     reduced = sym (stay.reduced pivot old new (row_of d id) extends (step_row old d id legal is.step)) ∙ is.reduced;
   }
 
-  clause_row : (scopes : List Scope) (d : State) (c : OpenClause) → IsLegalFor scopes d → Contains (clauses_of d) c → IsRow scopes c.row
-  clause_row scopes d c legal at = subst (IsRow scopes) (listed.row d c at) (step_row scopes d c.id legal (ap may_be_antecedent (listed.note d c at)))
+  clause_row : (scopes : List Scope) (d : State) (c : OpenClause) → IsLegalFor scopes d → Contains (clauses_of d) c
+      → IsRow scopes c.row
+  clause_row scopes d c legal at =
+      subst (IsRow scopes) (listed.row d c at)
+      (step_row scopes d c.id legal (ap may_be_antecedent (listed.note d c at)))
 
-  reduction_under : (old new : List Scope) (d : State) (c : OpenClause) (id : ℕ) → Extends old new → IsLegalFor old d → Contains (clauses_of d) c → IsReductionOf old d c id → IsReductionOf new d c id
+  reduction_under : (old new : List Scope) (d : State) (c : OpenClause) (id : ℕ) → Extends old new → IsLegalFor old d
+      → Contains (clauses_of d) c → IsReductionOf old d c id → IsReductionOf new d c id
   reduction_under old new d c id extends legal at is = record {
     step = is.step;
     of_side = is.of_side;
@@ -192,11 +254,14 @@ module _ (extends_all : PrefixesMayGrow) (listed : ClausesAreListed) (stay : Red
             sides = λ side id a. reduced_under side old new s.derivation id extends intact.legal (h.sides side id a);
             listed = h.listed;
             given = h.given;
-            steps = λ id at live. reduced_under (side_at s.derivation id) old new s.derivation id extends intact.legal (h.steps id at live);
-            clauses = λ c at. let r = h.clauses c at in (r.0, r.1, reduction_under old new s.derivation c r.0 extends intact.legal at r.2);
+            steps = λ id at live. reduced_under (side_at s.derivation id) old new s.derivation id extends intact.legal
+                (h.steps id at live);
+            clauses = λ c at. let r = h.clauses c at in
+                (r.0, r.1, reduction_under old new s.derivation c r.0 extends intact.legal at r.2);
           };
           watching = record {
-            holds = λ side. holding.grows side old new (watch_of side s) (rows_of s) extends (intact.watching.holds side);
+            holds = λ side. holding.grows side old new (watch_of side s) (rows_of s) extends
+                (intact.watching.holds side);
             front = intact.watching.front;
             room = intact.watching.room;
           };

@@ -35,16 +35,20 @@ pub record Inputs (scopes : List Scope) (old new : State) (first second frame : 
   pub clauses : clauses_of new ≡ clauses_of old ++ (record { id = first; frame = frame; row = row }) ∷ []
 
 -- the note of a clause that is a step
-note_there : (o : Option Note) → may_be_antecedent o ≡ true → side_in o ≡ Exists → (n : Note) × (o ≡ Some n) × (n.side ≡ Exists)
+note_there : (o : Option Note) → may_be_antecedent o ≡ true → side_in o ≡ Exists
+    → (n : Note) × (o ≡ Some n) × (n.side ≡ Exists)
 note_there None step side = absurd (false≢true step)
 note_there (Some n) step side = (n, refl, side)
 
-module _ (laws : GrowthLaws) (scopes : List Scope) (s : SearchState) (new : State) (first second frame : ℕ) (row : Row) (is : Inputs scopes s.derivation new first second frame row) where
+module _ (laws : GrowthLaws) (scopes : List Scope) (s : SearchState) (new : State) (first second frame : ℕ)
+    (row : Row) (is : Inputs scopes s.derivation new first second frame row) where
   grown : Grows s.derivation is.inputs.added
   grown =
       let adds = is.inputs.adds in
-      laws.removes s.derivation adds.with_input is.inputs.added second first (ReducedFrom first) (reduce Exists scopes row)
-      (laws.adds s.derivation s.derivation adds.with_input first (clause_note frame) row (laws.itself s.derivation) adds.input)
+      laws.removes s.derivation adds.with_input is.inputs.added second first (ReducedFrom first)
+      (reduce Exists scopes row)
+      (laws.adds s.derivation s.derivation adds.with_input first (clause_note frame) row
+      (laws.itself s.derivation) adds.input)
       adds.reduction
 
   no_fewer : next_id s.derivation ≤ next_id new
@@ -60,7 +64,9 @@ module _ (laws : GrowthLaws) (scopes : List Scope) (s : SearchState) (new : Stat
       (λ was.
       ⊎_elim
       (λ live. ap (λ (o : Option StoredRow). get_or (links_of o) 6 None) (is.others id was live).row ∙ none id)
-      (λ dead. ap (λ (o : Option StoredRow). get_or (links_of o) 6 None) (is.inputs.cubes.exactly.rows id ∙ cond-false (is_some (note_in new.notes id)) (stored_at (arena_of is.inputs.added) id) None dead))
+      (λ dead. ap (λ (o : Option StoredRow). get_or (links_of o) 6 None)
+      (is.inputs.cubes.exactly.rows id
+      ∙ cond-false (is_some (note_in new.notes id)) (stored_at (arena_of is.inputs.added) id) None dead))
       (cases_Bool (is_live new id)))
       (λ fresh. is.unlinked id 6 fresh)
       (cases_Bool (is_live s.derivation id))
@@ -73,7 +79,8 @@ module _ (laws : GrowthLaws) (scopes : List Scope) (s : SearchState) (new : Stat
       subst (λ p. IsReducedStep p scopes new second) (sym is.reduction.of_side) (record {
         step = is.reduction.step;
         of_side = is.reduction.of_side;
-        reduced = ap (reduce Exists scopes) is.reduction.literals ∙ (reduce_twice Exists scopes row ∙ sym is.reduction.literals);
+        reduced = ap (reduce Exists scopes) is.reduction.literals
+            ∙ (reduce_twice Exists scopes row ∙ sym is.reduction.literals);
       })
 
   -- with the reduction to watch
@@ -85,7 +92,8 @@ module _ (laws : GrowthLaws) (scopes : List Scope) (s : SearchState) (new : Stat
         (Contains-append_cases s.watched (second ∷ []) id (subst (λ ws. Contains ws id) more at))
 
     -- a row to watch that is live is the reduction, or stayed
-    stayed : (id : ℕ) → Contains ids id → IsTrue (is_live new id) → (second ≡ id) ⊎ (Contains s.watched id × SameStep s.derivation new id × IsTrue (is_live s.derivation id))
+    stayed : (id : ℕ) → Contains ids id → IsTrue (is_live new id)
+        → (second ≡ id) ⊎ (Contains s.watched id × SameStep s.derivation new id × IsTrue (is_live s.derivation id))
     stayed id at live =
         ⊎_elim
         (λ was. let before = was_live id (h.given id was) live in inr (was, is.others id before live, before))
@@ -105,7 +113,8 @@ module _ (laws : GrowthLaws) (scopes : List Scope) (s : SearchState) (new : Stat
         (λ e. subst (λ j. IsReducedStep (side_at new j) scopes new j) e reduction_reduced)
         (λ was.
         subst (λ p. IsReducedStep p scopes new id) (sym (ap side_in was.1.note))
-        (reduced_by (side_at s.derivation id) scopes s.derivation new id was.1.note (ap literals_of was.1.row) (h.steps id was.0 was.2)))
+        (reduced_by (side_at s.derivation id) scopes s.derivation new id was.1.note (ap literals_of was.1.row)
+        (h.steps id was.0 was.2)))
         (stayed id at live)
 
     still_reduction : (c : OpenClause) (id : ℕ) → IsReductionOf scopes s.derivation c id → IsReductionOf scopes new c id
@@ -114,23 +123,39 @@ module _ (laws : GrowthLaws) (scopes : List Scope) (s : SearchState) (new : Stat
         let same = is.kept id n.0 n.1 n.2 in
         reduction_by scopes s.derivation new c id same.note (ap literals_of same.row) r
 
-    now_clauses : (c : OpenClause) → Contains (clauses_of new) c → (id : ℕ) × Contains ids id × IsReductionOf scopes new c id
+    now_clauses : (c : OpenClause) → Contains (clauses_of new) c
+        → (id : ℕ) × Contains ids id × IsReductionOf scopes new c id
     now_clauses c at =
         ⊎_elim
-        (λ was. let r = h.clauses c was in (r.0, subst (λ ws. Contains ws r.0) (sym more) (Contains-append_left s.watched (second ∷ []) r.0 r.1), still_reduction c r.0 r.2))
+        (λ was. let r = h.clauses c was in (
+          r.0,
+          subst (λ ws. Contains ws r.0) (sym more)
+              (Contains-append_left s.watched (second ∷ []) r.0 r.1),
+          still_reduction c r.0 r.2,
+        ))
         (λ last.
         ⊎_elim
-        (λ e. (second, subst (λ ws. Contains ws second) (sym more) (Contains-append_right s.watched (second ∷ []) second (contains_head second [])), subst (λ k. IsReductionOf scopes new k second) e is.reduction))
+        (λ e. (
+          second,
+          subst (λ ws. Contains ws second) (sym more)
+              (Contains-append_right s.watched (second ∷ []) second (contains_head second [])),
+          subst
+              (λ k. IsReductionOf scopes new k second) e is.reduction,
+        ))
         (λ none. absurd (contains_nil c none))
         (contains_cons (record { id = first; frame = frame; row = row }) [] c last))
-        (Contains-append_cases (clauses_of s.derivation) ((record { id = first; frame = frame; row = row }) ∷ []) c (subst (λ cs. Contains cs c) is.clauses at))
+        (Contains-append_cases (clauses_of s.derivation) ((record { id = first; frame = frame; row = row }) ∷ []) c
+        (subst (λ cs. Contains cs c) is.clauses at))
 
-    pub resting_input : HoldingLaws → AgreeingLaws → IsResting scopes s → s.joined ≡ false → IsTrue (is_some new.rows) → IsLegalFor scopes new → IsResting scopes (rederived s new ids)
+    pub resting_input : HoldingLaws → AgreeingLaws → IsResting scopes s → s.joined ≡ false → IsTrue (is_some new.rows)
+        → IsLegalFor scopes new → IsResting scopes (rederived s new ids)
     resting_input holding agreeing resting joined rows legal =
         let none = resting_detached scopes s resting joined in
         let gone = none_attached none in
-        let was_none : (side : Quant) (id : ℕ) → IsAttached s side id → ⊥ = λ side id a. false≢true (sym (not_attached side (rows_of s) id (none id)) ∙ a) in
-        let is_none : (side : Quant) (id : ℕ) → IsAttached (rederived s new ids) side id → ⊥ = λ side id a. false≢true (sym (not_attached side (arena_of new) id (gone id)) ∙ a) in
+        let was_none : (side : Quant) (id : ℕ) → IsAttached s side id → ⊥ =
+        λ side id a. false≢true (sym (not_attached side (rows_of s) id (none id)) ∙ a) in
+        let is_none : (side : Quant) (id : ℕ) → IsAttached (rederived s new ids) side id → ⊥ =
+        λ side id a. false≢true (sym (not_attached side (arena_of new) id (gone id)) ∙ a) in
         resting_rederived holding agreeing scopes s new ids resting rows legal
         (record {
           marked = λ id. inl (gone id);
@@ -152,7 +177,8 @@ module _ (laws : GrowthLaws) (scopes : List Scope) (s : SearchState) (new : Stat
         (stayed id at live)
 
 -- the same steps and rows to watch
-pub no_cubes_same : (old new : SearchState) → HasNoCubes old → SameSteps old.derivation new.derivation → new.watched ≡ old.watched → HasNoCubes new
+pub no_cubes_same : (old new : SearchState) → HasNoCubes old → SameSteps old.derivation new.derivation
+    → new.watched ≡ old.watched → HasNoCubes new
 no_cubes_same old new none same watched id at live =
     ap side_in (note_same old.derivation new.derivation same id)
     ∙ none id (subst (λ ids. Contains ids id) watched at) (sym (live_same old.derivation new.derivation same id) ∙ live)

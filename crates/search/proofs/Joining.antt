@@ -15,7 +15,9 @@ use Rattle.search.specs.Watching.{Joins, Parts, Touches, Unmarks}
 use Rattle.search.proofs.Marks.{MayJoin, StaysWatched, by_mark, by_side, intact_stays, marked_as_was, not_attached, one_side, same_mark}
 
 -- the variables of a live step have room in each watch
-pub row_known : (scopes : List Scope) (s : SearchState) (id : ℕ) → IsIntact scopes s → IsTrue (is_step s.derivation id) → (side : Quant) → IsRoomFor scopes (watch_of side s).room (row_of s.derivation id)
+pub row_known : (scopes : List Scope) (s : SearchState) (id : ℕ) → IsIntact scopes s
+    → IsTrue (is_step s.derivation id) → (side : Quant)
+    → IsRoomFor scopes (watch_of side s).room (row_of s.derivation id)
 row_known scopes s id intact step side literal stands =
     let known = (step_row scopes s.derivation id intact.legal step).over_prefix literal stands in
     let on_trail = intact.room.trail literal.variable known in
@@ -24,7 +26,8 @@ row_known scopes s id intact step side literal stands =
 
 -- the same number, or another one
 pub same_or_not : (i id : ℕ) → (i ≡ id) ⊎ (i ≢ id)
-same_or_not i id = ⊎_elim (λ t. inl (eqb-true i id t)) (λ f. inr (λ e. false≢true (sym f ∙ eq-eqb i id e))) (cases_Bool (nat_eq i id))
+same_or_not i id = ⊎_elim (λ t. inl (eqb-true i id t)) (λ f. inr (λ e. false≢true (sym f ∙ eq-eqb i id e)))
+    (cases_Bool (nat_eq i id))
 
 -- all but a derivation and a watch is as it was, and the watch looked at what it had
 pub record IsElseSame (pivot : Quant) (old new : SearchState) : Type 0 where
@@ -36,7 +39,8 @@ pub record IsElseSame (pivot : Quant) (old new : SearchState) : Type 0 where
   pub touches : Touches pivot old.derivation new.derivation
   pub looked : KeepsLooked (watch_of pivot old) (watch_of pivot new)
 
-module _ (laws : HoldingLaws) (pivot : Quant) (scopes : List Scope) (old new : SearchState) (same : IsElseSame pivot old new) (intact : IsIntact scopes old) where
+module _ (laws : HoldingLaws) (pivot : Quant) (scopes : List Scope) (old new : SearchState)
+    (same : IsElseSame pivot old new) (intact : IsIntact scopes old) where
   else_intact : StaysWatched old new → Holds pivot scopes (watch_of pivot new) (rows_of new) → IsIntact scopes new
   else_intact stays holds =
       intact_stays laws pivot scopes old new (record {
@@ -47,11 +51,13 @@ module _ (laws : HoldingLaws) (pivot : Quant) (scopes : List Scope) (old new : S
         others = same.others;
         agrees = same.touches.agrees;
         holds = holds;
-        front = subst (λ (ls : List Literal). IsFront ls (literals_on old.trail.placed)) (sym same.looked.looked) (intact.watching.front pivot);
+        front = subst (λ (ls : List Literal). IsFront ls (literals_on old.trail.placed)) (sym same.looked.looked)
+            (intact.watching.front pivot);
         room = same.looked.room;
       }) intact
 
-  module _ (id : ℕ) (attaches : Attaches pivot (rows_of old) (rows_of new) id (Some (mark_of pivot))) (may : MayJoin old pivot id) where
+  module _ (id : ℕ) (attaches : Attaches pivot (rows_of old) (rows_of new) id (Some (mark_of pivot)))
+      (may : MayJoin old pivot id) where
     here : IsAttached new pivot id
     here = by_mark pivot (rows_of new) id attaches.marked
 
@@ -75,14 +81,21 @@ module _ (laws : HoldingLaws) (pivot : Quant) (scopes : List Scope) (old new : S
     joined_stays side i a =
         ⊎_elim
         (λ e.
-        let of_side : side_at old.derivation id ≡ side = (intact.watched.sides side id (subst (λ j. IsAttached old side j) e a)).of_side in
+        let of_side : side_at old.derivation id ≡ side =
+        (intact.watched.sides side id (subst (λ j. IsAttached old side j) e a)).of_side in
         subst (λ p. IsAttached new p i) (sym may.2 ∙ of_side) (subst (λ j. IsAttached new pivot j) (sym e) here))
         (λ ne. same_mark side (rows_of old) (rows_of new) i (attaches.same_attached i ne) ∙ a)
         (same_or_not i id)
 
     pub joins : Holds pivot scopes (watch_of pivot new) (rows_of new) → Joins scopes old new id
     joins holds = record {
-      intact = else_intact (record { steps = same.touches.steps; watched = same.watched; marked = joined_marks; attached = joined_was }) holds;
+      intact = else_intact (record {
+        steps = same.touches.steps;
+        watched = same.watched;
+        marked =
+            joined_marks;
+        attached = joined_was;
+      }) holds;
       steps = same.touches.steps;
       trail = same.trail;
       signs = same.signs;
@@ -92,7 +105,8 @@ module _ (laws : HoldingLaws) (pivot : Quant) (scopes : List Scope) (old new : S
       stays = joined_stays;
     }
 
-  module _ (id : ℕ) (unmarks : Unmarks pivot (rows_of old) (rows_of new) id) (of_side : side_at old.derivation id ≡ pivot) where
+  module _ (id : ℕ) (unmarks : Unmarks pivot (rows_of old) (rows_of new) id)
+      (of_side : side_at old.derivation id ≡ pivot) where
     parted_marks : AreMarked (rows_of new)
     parted_marks i =
         ⊎_elim
@@ -113,9 +127,17 @@ module _ (laws : HoldingLaws) (pivot : Quant) (scopes : List Scope) (old new : S
         (λ a. false≢true (sym unmarks.gone ∙ a))
         (λ other apart a. apart (sym of_side ∙ (intact.watched.sides other id (parted_stays other id a)).of_side))
 
-    pub parts : GoesOnHolding pivot (watch_of pivot old) (rows_of old) (watch_of pivot new) (rows_of new) → Parts scopes old new id
+    pub parts : GoesOnHolding pivot (watch_of pivot old) (rows_of old) (watch_of pivot new) (rows_of new)
+        → Parts scopes old new id
     parts holds = record {
-      intact = else_intact (record { steps = same.touches.steps; watched = same.watched; marked = parted_marks; attached = λ side i a. inl (parted_stays side i a) }) (holds scopes (intact.watching.holds pivot));
+      intact = else_intact (record {
+        steps = same.touches.steps;
+        watched = same.watched;
+        marked =
+            parted_marks;
+        attached = λ side i a. inl (parted_stays side i a);
+      })
+          (holds scopes (intact.watching.holds pivot));
       steps = same.touches.steps;
       trail = same.trail;
       signs = same.signs;

@@ -41,24 +41,32 @@ module _ (scopes : List Scope) (old new : State) (gains : GainsSteps old new) wh
   mark_live : (id : ℕ) → is_live old id ≡ true → link_at (arena_of new) id 6 ≡ link_at (arena_of old) id 6
   mark_live id live = ap (λ (o : Option StoredRow). slice_index_or (links_of o) 6 None) (gains.grows.others id live).row
 
-  module _ (sides : (side : Quant) (id : ℕ) → IsTrue (is_attached side (arena_of old) id) → IsReducedStep side scopes old id) where
-    attached_stays : (side : Quant) (id : ℕ) → is_attached side (arena_of old) id ≡ true → is_attached side (arena_of new) id ≡ true
-    attached_stays side id h = ap (λ (o : Option ℕ). is_at o (mark_of side)) (mark_live id (live_of side id (sides side id h))) ∙ h
+  module _ (sides : (side : Quant) (id : ℕ) → IsTrue (is_attached side (arena_of old) id)
+      → IsReducedStep side scopes old id) where
+    attached_stays : (side : Quant) (id : ℕ) → is_attached side (arena_of old) id ≡ true
+        → is_attached side (arena_of new) id ≡ true
+    attached_stays side id h =
+        ap (λ (o : Option ℕ). is_at o (mark_of side)) (mark_live id (live_of side id (sides side id h))) ∙ h
 
-    attached_before : (side : Quant) (id : ℕ) → is_attached side (arena_of new) id ≡ true → is_attached side (arena_of old) id ≡ true
+    attached_before : (side : Quant) (id : ℕ) → is_attached side (arena_of new) id ≡ true
+        → is_attached side (arena_of old) id ≡ true
     attached_before side id h =
         ⊎_elim
         (λ live. ap (λ (o : Option ℕ). is_at o (mark_of side)) (sym (mark_live id live)) ∙ h)
-        (λ dead. absurd (false≢true (ap (λ (o : Option ℕ). is_at o (mark_of side)) (sym (gains.unlinked id 6 dead)) ∙ h)))
+        (λ dead. absurd (false≢true (ap (λ (o : Option ℕ). is_at o (mark_of side)) (sym (gains.unlinked id 6 dead))
+        ∙ h)))
         (cases_Bool (is_live old id))
 
     agrees_gained : AgreeingLaws → (side : Quant) → AgreesOn side (arena_of old) (arena_of new)
-    agrees_gained laws side = laws.same_rows side (arena_of old) (arena_of new) (λ id h. (gains.grows.others id (live_of side id (sides side id h))).row) (attached_before side)
+    agrees_gained laws side =
+        laws.same_rows side (arena_of old) (arena_of new)
+        (λ id h. (gains.grows.others id (live_of side id (sides side id h))).row) (attached_before side)
 
   marked_gained : AreMarked (arena_of old) → AreMarked (arena_of new)
   marked_gained marked id =
       ⊎_elim
-      (λ live. ⊎_elim (λ none. inl (mark_live id live ∙ none)) (λ some. inr (some.0, ap (λ (o : Option ℕ). is_at o (mark_of some.0)) (mark_live id live) ∙ some.1)) (marked id))
+      (λ live. ⊎_elim (λ none. inl (mark_live id live ∙ none))
+      (λ some. inr (some.0, ap (λ (o : Option ℕ). is_at o (mark_of some.0)) (mark_live id live) ∙ some.1)) (marked id))
       (λ dead. inl (gains.unlinked id 6 dead))
       (cases_Bool (is_live old id))
 
@@ -73,28 +81,37 @@ module _ (scopes : List Scope) (old new : State) (gains : GainsSteps old new) wh
         rests = ⊎_elim inl (λ e. inr (ap why_in same.note ∙ e)) r.rests;
       }
 
-  step_again : (id : ℕ) → id < next_id old → is_live new id ≡ true → ((is_live old id ≡ true) → IsReducedStep (side_at old id) scopes old id) → IsReducedStep (side_at new id) scopes new id
+  step_again : (id : ℕ) → id < next_id old → is_live new id ≡ true
+      → ((is_live old id ≡ true) → IsReducedStep (side_at old id) scopes old id)
+      → IsReducedStep (side_at new id) scopes new id
   step_again id given live step =
       let was : is_live old id ≡ true = sym (gains.grows.given id given) ∙ live in
       let same : side_at old id ≡ side_at new id = ap side_in (sym (gains.grows.others id was).note) in
-      subst (λ q. IsReducedStep q scopes new id) same (reduced_stays (side_at old id) scopes old new id gains.grows (step was))
+      subst (λ q. IsReducedStep q scopes new id) same
+      (reduced_stays (side_at old id) scopes old new id gains.grows (step was))
 
 -- what isn't attached isn't then
-detached_gained : (old new : State) → GainsSteps old new → (id : ℕ) → IsUnattached (arena_of old) id → IsUnattached (arena_of new) id
+detached_gained : (old new : State) → GainsSteps old new → (id : ℕ) → IsUnattached (arena_of old) id
+    → IsUnattached (arena_of new) id
 detached_gained old new gains id none =
     ⊎_elim
     (λ live. mark_live [] old new gains id live ∙ none)
     (λ dead. gains.unlinked id 6 dead)
     (cases_Bool (is_live old id))
 
-module _ (scopes : List Scope) (s new : SearchState) (gains : GainsSteps s.derivation new.derivation) (watched : new.watched ≡ s.watched) where
+module _ (scopes : List Scope) (s new : SearchState) (gains : GainsSteps s.derivation new.derivation)
+    (watched : new.watched ≡ s.watched) where
   pub watched_gained : AreWatched scopes s → AreWatched scopes new
   watched_gained h = record {
     marked = marked_gained scopes s.derivation new.derivation gains h.marked;
-    sides = λ side id a. reduced_stays side scopes s.derivation new.derivation id gains.grows (h.sides side id (attached_before scopes s.derivation new.derivation gains h.sides side id a));
-    listed = λ side id a. rw watched (h.listed side id (attached_before scopes s.derivation new.derivation gains h.sides side id a));
-    given = λ id i. let low : id < next_id s.derivation = h.given id (subst (λ ws. Contains ws id) watched i) in let more = gains.grows.longer in omega arith;
-    steps = λ id i live. let j = subst (λ ws. Contains ws id) watched i in step_again scopes s.derivation new.derivation gains id (h.given id j) live (h.steps id j);
+    sides = λ side id a. reduced_stays side scopes s.derivation new.derivation id gains.grows
+        (h.sides side id (attached_before scopes s.derivation new.derivation gains h.sides side id a));
+    listed = λ side id a. rw watched (h.listed side id
+        (attached_before scopes s.derivation new.derivation gains h.sides side id a));
+    given = λ id i. let low : id < next_id s.derivation = h.given id (subst (λ ws. Contains ws id) watched i) in
+        let more = gains.grows.longer in omega arith;
+    steps = λ id i live. let j = subst (λ ws. Contains ws id) watched i in
+        step_again scopes s.derivation new.derivation gains id (h.given id j) live (h.steps id j);
     clauses =
         λ c i.
         let r = h.clauses c (subst (λ cs. Contains cs c) gains.clauses i) in
@@ -102,9 +119,12 @@ module _ (scopes : List Scope) (s new : SearchState) (gains : GainsSteps s.deriv
   }
 
   pub attached_gained : AreWatched scopes s → AreAttached s → AreAttached new
-  attached_gained h attached id i = let r = attached id (subst (λ ws. Contains ws id) watched i) in (r.0, attached_stays scopes s.derivation new.derivation gains h.sides r.0 id r.1)
+  attached_gained h attached id i = let r = attached id (subst (λ ws. Contains ws id) watched i) in
+      (r.0, attached_stays scopes s.derivation new.derivation gains h.sides r.0 id r.1)
 
-  pub intact_gained : HoldingLaws → AgreeingLaws → IsIntact scopes s → IsLegalFor scopes new.derivation → new.clauses ≡ s.clauses → new.cubes ≡ s.cubes → new.signs ≡ s.signs → new.trail.room ≡ s.trail.room → IsTrailFor scopes new.trail → literals_on new.trail.placed ≡ literals_on s.trail.placed → IsIntact scopes new
+  pub intact_gained : HoldingLaws → AgreeingLaws → IsIntact scopes s → IsLegalFor scopes new.derivation
+      → new.clauses ≡ s.clauses → new.cubes ≡ s.cubes → new.signs ≡ s.signs → new.trail.room ≡ s.trail.room
+      → IsTrailFor scopes new.trail → literals_on new.trail.placed ≡ literals_on s.trail.placed → IsIntact scopes new
   intact_gained holding agreeing intact legal clauses cubes signs room trail literals =
       let watch = same_watch s new clauses cubes in
       record {
@@ -113,31 +133,50 @@ module _ (scopes : List Scope) (s new : SearchState) (gains : GainsSteps s.deriv
         legal = legal;
         watched = watched_gained intact.watched;
         watching = record {
-          holds = λ side. subst (λ (w : WatchState). Holds side scopes w (rows_of new)) (sym (watch side)) (holding.agrees side scopes (watch_of side s) (rows_of s) (rows_of new) (agrees_gained scopes s.derivation new.derivation gains intact.watched.sides agreeing side) (intact.watching.holds side));
-          front = λ side. subst (λ (w : WatchState). IsFront (looked w) (literals_on new.trail.placed)) (sym (watch side)) (rw literals (intact.watching.front side));
-          room = λ side. subst (λ (w : WatchState). new.trail.room ≤ w.room) (sym (watch side)) (rw room (intact.watching.room side));
+          holds = λ side. subst (λ (w : WatchState). Holds side scopes w (rows_of new)) (sym (watch side))
+              (holding.agrees side scopes (watch_of side s) (rows_of s) (rows_of new)
+              (agrees_gained scopes s.derivation new.derivation gains intact.watched.sides agreeing side)
+              (intact.watching.holds side));
+          front = λ side. subst (λ (w : WatchState). IsFront (looked w) (literals_on new.trail.placed))
+              (sym (watch side)) (rw literals (intact.watching.front side));
+          room = λ side. subst (λ (w : WatchState). new.trail.room ≤ w.room) (sym (watch side))
+              (rw room (intact.watching.room side));
         };
         room = record { trail = rw room intact.room.trail; signs = rw signs intact.room.signs };
       }
 
-pub searching_gained : (scopes : List Scope) (s new : SearchState) → HoldingLaws → AgreeingLaws → IsSearching scopes s → GainsSteps s.derivation new.derivation → IsLegalFor scopes new.derivation → new.watched ≡ s.watched → new.clauses ≡ s.clauses → new.cubes ≡ s.cubes → new.signs ≡ s.signs → new.trail ≡ s.trail → IsSearching scopes new
+pub searching_gained : (scopes : List Scope) (s new : SearchState) → HoldingLaws → AgreeingLaws → IsSearching scopes s
+    → GainsSteps s.derivation new.derivation → IsLegalFor scopes new.derivation → new.watched ≡ s.watched
+    → new.clauses ≡ s.clauses → new.cubes ≡ s.cubes → new.signs ≡ s.signs → new.trail ≡ s.trail → IsSearching scopes new
 searching_gained scopes s new holding agreeing searching gains legal watched clauses cubes signs trail = record {
   paused = record {
-    intact = intact_gained scopes s new gains watched holding agreeing searching.paused.intact legal clauses cubes signs (ap (λ (t : TrailState). t.room) trail) (rw trail searching.paused.intact.trail) (ap (λ (t : TrailState). literals_on t.placed) trail);
+    intact = intact_gained scopes s new gains watched holding agreeing searching.paused.intact legal clauses cubes
+        signs (ap (λ (t : TrailState). t.room) trail) (rw trail searching.paused.intact.trail)
+        (ap (λ (t : TrailState). literals_on t.placed) trail);
     attached = attached_gained scopes s new gains watched searching.paused.intact.watched searching.paused.attached;
   };
-  reasons = λ side. rw trail (reasons_stay side scopes s.derivation new.derivation s.trail gains.grows (searching.reasons side));
+  reasons = λ side. rw trail (reasons_stay side scopes s.derivation new.derivation s.trail gains.grows
+      (searching.reasons side));
 }
 
-attached_if_gained : (scopes : List Scope) (s new : SearchState) (joined : Bool) → GainsSteps s.derivation new.derivation → new.watched ≡ s.watched → AreWatched scopes s → AreAttachedIf joined s → AreAttachedIf joined new
+attached_if_gained : (scopes : List Scope) (s new : SearchState) (joined : Bool)
+    → GainsSteps s.derivation new.derivation → new.watched ≡ s.watched → AreWatched scopes s → AreAttachedIf joined s
+    → AreAttachedIf joined new
 attached_if_gained scopes s new true gains watched is attached = attached_gained scopes s new gains watched is attached
-attached_if_gained scopes s new false gains watched is detached = λ id. detached_gained s.derivation new.derivation gains id (detached id)
+attached_if_gained scopes s new false gains watched is detached =
+    λ id. detached_gained s.derivation new.derivation gains id (detached id)
 
-pub resting_gained : (scopes : List Scope) (s new : SearchState) → HoldingLaws → AgreeingLaws → IsResting scopes s → GainsSteps s.derivation new.derivation → IsLegalFor scopes new.derivation → new.watched ≡ s.watched → new.clauses ≡ s.clauses → new.cubes ≡ s.cubes → new.signs ≡ s.signs → new.trail ≡ s.trail → new.joined ≡ s.joined → IsResting scopes new
+pub resting_gained : (scopes : List Scope) (s new : SearchState) → HoldingLaws → AgreeingLaws → IsResting scopes s
+    → GainsSteps s.derivation new.derivation → IsLegalFor scopes new.derivation → new.watched ≡ s.watched
+    → new.clauses ≡ s.clauses → new.cubes ≡ s.cubes → new.signs ≡ s.signs → new.trail ≡ s.trail
+    → new.joined ≡ s.joined → IsResting scopes new
 resting_gained scopes s new holding agreeing resting gains legal watched clauses cubes signs trail joined = record {
   rest = rw trail resting.rest;
-  intact = intact_gained scopes s new gains watched holding agreeing resting.intact legal clauses cubes signs (ap (λ (t : TrailState). t.room) trail) (rw trail resting.intact.trail) (ap (λ (t : TrailState). literals_on t.placed) trail);
-  attached = subst (λ b. AreAttachedIf b new) (sym joined) (attached_if_gained scopes s new s.joined gains watched resting.intact.watched resting.attached);
+  intact = intact_gained scopes s new gains watched holding agreeing resting.intact legal clauses cubes signs
+      (ap (λ (t : TrailState). t.room) trail) (rw trail resting.intact.trail)
+      (ap (λ (t : TrailState). literals_on t.placed) trail);
+  attached = subst (λ b. AreAttachedIf b new) (sym joined)
+      (attached_if_gained scopes s new s.joined gains watched resting.intact.watched resting.attached);
 }
 
 -- reasons that are made clean keep assumptions and levels
@@ -148,7 +187,8 @@ kinds_cause (p ∷ trail) x =
     let q : Placed = record { literal = p.literal; cause = kind_of p.cause } in
     ⊎_elim
     (λ t. cause_here q (kinds_on trail) x t ∙ sym (ap (option_map kind_of) (cause_here p trail x t)))
-    (λ f. cause_past q (kinds_on trail) x f ∙ (kinds_cause trail x ∙ sym (ap (option_map kind_of) (cause_past p trail x f))))
+    (λ f. cause_past q (kinds_on trail) x f
+    ∙ (kinds_cause trail x ∙ sym (ap (option_map kind_of) (cause_past p trail x f))))
     (cases_Bool (nat_eq p.literal.variable x))
 
 assumed_kind : (o : Option Cause) → option_map kind_of o ≡ Some Assumed → o ≡ Some Assumed
@@ -157,12 +197,16 @@ assumed_kind (Some Assumed) e = refl
 assumed_kind (Some Decided) e = absurd (let f : Some Decided ≡ Some Assumed = e in cc)
 assumed_kind (Some (Propagated id)) e = absurd (let f : Some (Propagated 0) ≡ Some Assumed = e in cc)
 
-assumed_alike : (a b : Trail) (x : ℕ) → kinds_on b ≡ kinds_on a → cause_on a x ≡ Some Assumed → cause_on b x ≡ Some Assumed
-assumed_alike a b x kinds e = assumed_kind (cause_on b x) (sym (kinds_cause b x) ∙ (ap (λ (t : Trail). cause_on t x) kinds ∙ (kinds_cause a x ∙ ap (option_map kind_of) e)))
+assumed_alike : (a b : Trail) (x : ℕ) → kinds_on b ≡ kinds_on a → cause_on a x ≡ Some Assumed
+    → cause_on b x ≡ Some Assumed
+assumed_alike a b x kinds e =
+    assumed_kind (cause_on b x) (sym (kinds_cause b x)
+    ∙ (ap (λ (t : Trail). cause_on t x) kinds ∙ (kinds_cause a x ∙ ap (option_map kind_of) e)))
 
 pub assumptions_marked : (a b : TrailState) (m : ℕ) → MarksMore a b m → KeepsAssumptions a b
 assumptions_marked a b m marks assumptions h =
-    let same : (x : ℕ) → value_on b.placed x ≡ value_on a.placed x = λ x. ap (λ ls. assumed_value ls x) (same_placed a b m marks) in
+    let same : (x : ℕ) → value_on b.placed x ≡ value_on a.placed x =
+    λ x. ap (λ ls. assumed_value ls x) (same_placed a b m marks) in
     record {
       entries = λ x e. h.entries x (assumed_alike b.placed a.placed x (sym marks.kinds) e);
       stand = λ x v e. let r = h.stand x v e in (same x ∙ r.0, assumed_alike a.placed b.placed x marks.kinds r.1);
@@ -176,27 +220,38 @@ decided_kind (Propagated id) = refl
 level_kinds : (before : ℕ) (trail : Trail) → last_level_from before (kinds_on trail) ≡ last_level_from before trail
 level_kinds before [] = refl
 level_kinds before (p ∷ trail) =
-    let same : level_after before (record { literal = p.literal; cause = kind_of p.cause }) ≡ level_after before p = ap (λ b. cond b (suc before) before) (decided_kind p.cause) in
+    let same : level_after before (record { literal = p.literal; cause = kind_of p.cause }) ≡ level_after before p =
+    ap (λ b. cond b (suc before) before) (decided_kind p.cause) in
     ap (λ n. last_level_from n (kinds_on trail)) same ∙ level_kinds (level_after before p) trail
 
 pub level_marked : (a b : TrailState) (m : ℕ) → MarksMore a b m → last_level b.placed ≡ last_level a.placed
 level_marked a b m marks = sym (level_kinds 0 b.placed) ∙ (ap last_level marks.kinds ∙ level_kinds 0 a.placed)
 
 -- a row was analysed, or its analysis stopped
-pub searching_analysed : (scopes : List Scope) (s new : SearchState) (made : ℕ) → HoldingLaws → AgreeingLaws → IsSearching scopes s → GainsSteps s.derivation new.derivation → IsLegalFor scopes new.derivation → new.watched ≡ s.watched → new.clauses ≡ s.clauses → new.cubes ≡ s.cubes → new.signs ≡ s.signs → IsTrailFor scopes new.trail → MarksMore s.trail new.trail made → KeepsReasons scopes s.derivation new.derivation s.trail new.trail → IsSearching scopes new
-searching_analysed scopes s new made holding agreeing searching gains legal watched clauses cubes signs trail marks reasons = record {
-  paused = record {
-    intact = intact_gained scopes s new gains watched holding agreeing searching.paused.intact legal clauses cubes signs marks.room trail (same_placed s.trail new.trail made marks);
-    attached = attached_gained scopes s new gains watched searching.paused.intact.watched searching.paused.attached;
-  };
-  reasons = λ side. reasons side (searching.reasons side);
-}
+pub searching_analysed : (scopes : List Scope) (s new : SearchState) (made : ℕ) → HoldingLaws → AgreeingLaws
+    → IsSearching scopes s → GainsSteps s.derivation new.derivation → IsLegalFor scopes new.derivation
+    → new.watched ≡ s.watched → new.clauses ≡ s.clauses → new.cubes ≡ s.cubes → new.signs ≡ s.signs
+    → IsTrailFor scopes new.trail → MarksMore s.trail new.trail made
+    → KeepsReasons scopes s.derivation new.derivation s.trail new.trail → IsSearching scopes new
+searching_analysed scopes s new made holding agreeing searching gains legal watched clauses cubes signs trail marks
+    reasons = record {
+      paused = record {
+        intact = intact_gained scopes s new gains watched holding agreeing searching.paused.intact legal clauses cubes
+            signs marks.room trail (same_placed s.trail new.trail made marks);
+        attached = attached_gained scopes s new gains watched searching.paused.intact.watched searching.paused.attached;
+      };
+      reasons = λ side. reasons side (searching.reasons side);
+    }
 
-module _ (scopes : List Scope) (s new : SearchState) (before now : Counter) (within : now.spent ≤ now.budget) (searching : IsSearching scopes s) (goes_on : (made : ℕ) → MarksMore s.trail new.trail made → IsSearching scopes new) where
+module _ (scopes : List Scope) (s new : SearchState) (before now : Counter) (within : now.spent ≤ now.budget)
+    (searching : IsSearching scopes s) (goes_on : (made : ℕ) → MarksMore s.trail new.trail made
+    → IsSearching scopes new) where
   short : length s.trail.placed ≤ size_of scopes
   short = trail_length scopes s.trail.placed searching.paused.intact.trail.ordered
 
-  pub analyses : clauses_of new.derivation ≡ clauses_of s.derivation → CleansReasons scopes s.derivation new.derivation s.trail new.trail before now (2 * length s.trail.placed) → Analyses scopes s new before now
+  pub analyses : clauses_of new.derivation ≡ clauses_of s.derivation
+      → CleansReasons scopes s.derivation new.derivation s.trail new.trail before now (2 * length s.trail.placed)
+      → Analyses scopes s new before now
   analyses clauses cleans =
       let is = cleans.counted in
       let budget : now.budget ≡ before.budget = ap (λ (c : Counter). c.budget) is in
@@ -209,10 +264,13 @@ module _ (scopes : List Scope) (s new : SearchState) (before now : Counter) (wit
         assigned = cleans.marks.assigned;
         budget = budget;
         rises = omega arith;
-        owed = λ start. counted_owed (size_of scopes) start cleans.made cleans.taken s.trail new.trail before now searching.paused.intact.trail.marked short cleans.marks cleans.few is (omega arith);
+        owed = λ start. counted_owed (size_of scopes) start cleans.made cleans.taken s.trail new.trail before now
+            searching.paused.intact.trail.marked short cleans.marks cleans.few is (omega arith);
       }
 
-  pub halts_analysis : clauses_of new.derivation ≡ clauses_of s.derivation → StopsCleaning scopes s.derivation new.derivation s.trail new.trail before now (marks_left s.trail * length s.trail.placed + 2 * length s.trail.placed) → Halts scopes 0 s new before now
+  pub halts_analysis : clauses_of new.derivation ≡ clauses_of s.derivation
+      → StopsCleaning scopes s.derivation new.derivation s.trail new.trail before now
+      (marks_left s.trail * length s.trail.placed + 2 * length s.trail.placed) → Halts scopes 0 s new before now
   halts_analysis clauses stops =
       let is = stops.counted in
       let spent : now.spent ≡ before.spent + stops.taken = ap (λ (c : Counter). c.spent) is in
@@ -221,10 +279,14 @@ module _ (scopes : List Scope) (s new : SearchState) (before now : Counter) (wit
         clauses = clauses;
         budget = ap (λ (c : Counter). c.budget) is;
         rises = omega arith;
-        bounded = λ start. bounded_more (size_of scopes) start stops.taken s.trail new.trail before now short stops.few stops.marks.assigned is;
+        bounded = λ start. bounded_more (size_of scopes) start stops.taken s.trail new.trail before now short
+            stops.few stops.marks.assigned is;
       }
 
-  pub due_analysis : (side : Quant) (row made : ℕ) → IsReducedStep side scopes s.derivation row → IsBadRow side scopes (value_on s.trail.placed) (row_of s.derivation row) → NeedsResolution side scopes s.trail.placed (row_of s.derivation row) → MarksMore s.trail new.trail made → WasDue scopes s new
+  pub due_analysis : (side : Quant) (row made : ℕ) → IsReducedStep side scopes s.derivation row
+      → IsBadRow side scopes (value_on s.trail.placed) (row_of s.derivation row)
+      → NeedsResolution side scopes s.trail.placed (row_of s.derivation row) → MarksMore s.trail new.trail made
+      → WasDue scopes s new
   due_analysis side row made step is_bad needs marks = record {
     at = s;
     searching = searching;

@@ -20,18 +20,21 @@ use Rattle.search.proofs.Marks.{live_same, reasons_same, step_live, steps_then}
 abbrev pub relisted : SearchState → List ℕ → Bool → SearchState
 relisted s ids joined = record s { watched = ids; joined = joined }
 
-same_watch : (s : SearchState) (ids : List ℕ) (joined : Bool) (side : Quant) → watch_of side (relisted s ids joined) ≡ watch_of side s
+same_watch : (s : SearchState) (ids : List ℕ) (joined : Bool) (side : Quant)
+    → watch_of side (relisted s ids joined) ≡ watch_of side s
 same_watch s ids joined Exists = refl
 same_watch s ids joined Forall = refl
 
-pub intact_relisted : (scopes : List Scope) (s : SearchState) (ids : List ℕ) (joined : Bool) → IsIntact scopes s → AreWatched scopes (relisted s ids joined) → IsIntact scopes (relisted s ids joined)
+pub intact_relisted : (scopes : List Scope) (s : SearchState) (ids : List ℕ) (joined : Bool) → IsIntact scopes s
+    → AreWatched scopes (relisted s ids joined) → IsIntact scopes (relisted s ids joined)
 intact_relisted scopes s ids joined intact watched = record {
   trail = intact.trail;
   has_rows = intact.has_rows;
   legal = intact.legal;
   watched = watched;
   watching = record {
-    holds = λ side. subst (λ (w : WatchState). Holds side scopes w (rows_of s)) (sym (same_watch s ids joined side)) (intact.watching.holds side);
+    holds = λ side. subst (λ (w : WatchState). Holds side scopes w (rows_of s)) (sym (same_watch s ids joined side))
+        (intact.watching.holds side);
     front = λ side. rw (same_watch s ids joined side) (intact.watching.front side);
     room = λ side. rw (same_watch s ids joined side) (intact.watching.room side);
   };
@@ -39,10 +42,20 @@ intact_relisted scopes s ids joined intact watched = record {
 }
 
 -- with another flag
-pub intact_flagged : (scopes : List Scope) (s : SearchState) (joined : Bool) → IsIntact scopes s → IsIntact scopes (record s { joined = joined })
+pub intact_flagged : (scopes : List Scope) (s : SearchState) (joined : Bool) → IsIntact scopes s
+    → IsIntact scopes (record s { joined = joined })
 intact_flagged scopes s joined intact =
     let h = intact.watched in
-    intact_relisted scopes s s.watched joined intact (record { marked = h.marked; sides = h.sides; listed = h.listed; given = h.given; steps = h.steps; clauses = h.clauses })
+    intact_relisted scopes s s.watched joined intact
+    (record {
+      marked = h.marked;
+      sides = h.sides;
+      listed = h.listed;
+      given = h.given;
+      steps = h.steps;
+      clauses =
+          h.clauses;
+    })
 
 -- one more row
 module _ (scopes : List Scope) (s : SearchState) (ids : List ℕ) (id : ℕ) (more : ids ≡ s.watched ++ id ∷ []) where
@@ -56,21 +69,27 @@ module _ (scopes : List Scope) (s : SearchState) (ids : List ℕ) (id : ℕ) (mo
   was_still i at = subst (λ ws. Contains ws i) (sym more) (Contains-append_left s.watched (id ∷ []) i at)
 
   pub is_listed : Contains ids id
-  is_listed = subst (λ ws. Contains ws id) (sym more) (Contains-append_right s.watched (id ∷ []) id (contains_head id []))
+  is_listed = subst (λ ws. Contains ws id) (sym more)
+      (Contains-append_right s.watched (id ∷ []) id (contains_head id []))
 
-  pub intact_more : IsReducedStep (side_at s.derivation id) scopes s.derivation id → IsIntact scopes s → IsIntact scopes (record s { watched = ids })
+  pub intact_more : IsReducedStep (side_at s.derivation id) scopes s.derivation id → IsIntact scopes s
+      → IsIntact scopes (record s { watched = ids })
   intact_more step intact =
       let h = intact.watched in
       intact_relisted scopes s ids s.joined intact (record {
         marked = h.marked;
         sides = h.sides;
         listed = λ side i a. was_still i (h.listed side i a);
-        given = λ i at. ⊎_elim (λ was. h.given i was) (λ e. subst (λ j. j < length s.derivation.notes) e (live_below s.derivation.notes id (step_live _ step.step))) (was_or_is i at);
-        steps = λ i at live. ⊎_elim (λ was. h.steps i was live) (λ e. subst (λ j. IsReducedStep (side_at s.derivation j) scopes s.derivation j) e step) (was_or_is i at);
+        given = λ i at. ⊎_elim (λ was. h.given i was)
+            (λ e. subst (λ j. j < length s.derivation.notes) e
+            (live_below s.derivation.notes id (step_live _ step.step))) (was_or_is i at);
+        steps = λ i at live. ⊎_elim (λ was. h.steps i was live)
+            (λ e. subst (λ j. IsReducedStep (side_at s.derivation j) scopes s.derivation j) e step) (was_or_is i at);
         clauses = λ c at. let r = h.clauses c at in (r.0, was_still r.0 r.1, r.2);
       })
 
-  pub keeps_more : (new : SearchState) → IsSearching scopes s → Joins scopes (record s { watched = ids }) new id → Keeps scopes s new
+  pub keeps_more : (new : SearchState) → IsSearching scopes s → Joins scopes (record s { watched = ids }) new id
+      → Keeps scopes s new
   keeps_more new searching joins = record {
     searching = record {
       paused = record {
@@ -82,19 +101,22 @@ module _ (scopes : List Scope) (s : SearchState) (ids : List ℕ) (id : ℕ) (mo
             (λ e. subst (λ j. (side : Quant) × IsAttached new side j) e joins.here)
             (was_or_is i (subst (λ ws. Contains ws i) joins.watched at));
       };
-      reasons = λ side. rw joins.trail (reasons_same s.derivation new.derivation joins.steps side scopes s.trail (searching.reasons side));
+      reasons = λ side. rw joins.trail (reasons_same s.derivation new.derivation joins.steps side scopes s.trail
+          (searching.reasons side));
     };
     steps = joins.steps;
     trail = joins.trail;
   }
 
 -- those of live steps alone
-module _ (scopes : List Scope) (s : SearchState) (ids : List ℕ) (left : ids ≡ filter (λ id. is_live s.derivation id) s.watched) where
+module _ (scopes : List Scope) (s : SearchState) (ids : List ℕ)
+    (left : ids ≡ filter (λ id. is_live s.derivation id) s.watched) where
   pub was_before : (id : ℕ) → Contains ids id → Contains s.watched id × IsTrue (is_live s.derivation id)
   was_before id at = filter_at (λ i. is_live s.derivation i) s.watched id (subst (λ ws. Contains ws id) left at)
 
   live_still : (id : ℕ) → Contains s.watched id → IsTrue (is_live s.derivation id) → Contains ids id
-  live_still id at live = subst (λ ws. Contains ws id) (sym left) (filter_from (λ i. is_live s.derivation i) s.watched id at live)
+  live_still id at live =
+      subst (λ ws. Contains ws id) (sym left) (filter_from (λ i. is_live s.derivation i) s.watched id at live)
 
   pub intact_left : IsIntact scopes s → IsIntact scopes (record s { watched = ids })
   intact_left intact =
@@ -109,7 +131,8 @@ module _ (scopes : List Scope) (s : SearchState) (ids : List ℕ) (left : ids �
       })
 
 -- an element by its place
-pub each_by_place : (ids : List ℕ) (P : ℕ → Type 0) → ((j : ℕ) → j < length ids → P (get_or ids j 0)) → (id : ℕ) → Contains ids id → P id
+pub each_by_place : (ids : List ℕ) (P : ℕ → Type 0) → ((j : ℕ) → j < length ids → P (get_or ids j 0)) → (id : ℕ)
+    → Contains ids id → P id
 each_by_place ids P all id i = subst P (get_or_default ids i.0 0 id i.1 ∙ i.2) (all i.0 i.1)
 
 -- one row after the other: some were attached, or detached, and nothing else changed
@@ -121,7 +144,8 @@ pub record GoesOver (scopes : List Scope) (start s : SearchState) : Type 0 where
   pub live : (id : ℕ) → Contains s.watched id → IsTrue (is_live s.derivation id)
 
 -- where it begins
-pub over_none : (scopes : List Scope) (s : SearchState) → IsIntact scopes s → ((id : ℕ) → Contains s.watched id → IsTrue (is_live s.derivation id)) → GoesOver scopes s s
+pub over_none : (scopes : List Scope) (s : SearchState) → IsIntact scopes s
+    → ((id : ℕ) → Contains s.watched id → IsTrue (is_live s.derivation id)) → GoesOver scopes s s
 over_none scopes s intact live = record {
   intact = intact;
   steps = record { notes = refl; has_rows = intact.has_rows; literals = λ id. refl; clauses = refl };
@@ -131,13 +155,15 @@ over_none scopes s intact live = record {
 }
 
 module _ (scopes : List Scope) (start s new : SearchState) (over : GoesOver scopes start s) where
-  over_more : IsIntact scopes new → SameSteps s.derivation new.derivation → new.trail ≡ s.trail → new.watched ≡ s.watched → GoesOver scopes start new
+  over_more : IsIntact scopes new → SameSteps s.derivation new.derivation → new.trail ≡ s.trail
+      → new.watched ≡ s.watched → GoesOver scopes start new
   over_more intact steps trail watched = record {
     intact = intact;
     steps = steps_then start.derivation s.derivation new.derivation over.steps steps;
     trail = trail ∙ over.trail;
     watched = watched ∙ over.watched;
-    live = λ id at. live_same s.derivation new.derivation steps id ∙ over.live id (subst (λ ids. Contains ids id) watched at);
+    live = λ id at. live_same s.derivation new.derivation steps id
+        ∙ over.live id (subst (λ ids. Contains ids id) watched at);
   }
 
   pub over_joins : (id : ℕ) → Joins scopes s new id → GoesOver scopes start new
@@ -158,48 +184,64 @@ pub record HasParted (scopes : List Scope) (start s : SearchState) (k : ℕ) : T
 
 -- what holds below a number holds below the next one
 below_next : (P : ℕ → Type 0) (k : ℕ) → ((j : ℕ) → j < k → P j) → P k → (j : ℕ) → j < k + 1 → P j
-below_next P k below here j h = ⊎_elim (λ (less : j < k). below j less) (λ (least : k ≤ j). let e : k ≡ j = omega arith in subst P e here) (cases_lt j k)
+below_next P k below here j h =
+    ⊎_elim (λ (less : j < k). below j less) (λ (least : k ≤ j). let e : k ≡ j = omega arith in subst P e here)
+    (cases_lt j k)
 
-pub joined_none : (scopes : List Scope) (s : SearchState) → IsIntact scopes s → ((id : ℕ) → Contains s.watched id → IsTrue (is_live s.derivation id)) → HasJoined scopes s s 0
-joined_none scopes s intact live = record { over = over_none scopes s intact live; attached = λ j h. absurd (omega arith) }
+pub joined_none : (scopes : List Scope) (s : SearchState) → IsIntact scopes s
+    → ((id : ℕ) → Contains s.watched id → IsTrue (is_live s.derivation id)) → HasJoined scopes s s 0
+joined_none scopes s intact live =
+    record { over = over_none scopes s intact live; attached = λ j h. absurd (omega arith) }
 
-pub joined_more : (scopes : List Scope) (start s new : SearchState) (k : ℕ) → HasJoined scopes start s k → Joins scopes s new (get_or s.watched k 0) → HasJoined scopes start new (k + 1)
+pub joined_more : (scopes : List Scope) (start s new : SearchState) (k : ℕ) → HasJoined scopes start s k
+    → Joins scopes s new (get_or s.watched k 0) → HasJoined scopes start new (k + 1)
 joined_more scopes start s new k has joins = record {
   over = over_joins scopes start s new has.over (get_or s.watched k 0) joins;
   attached =
       subst (λ ids. (j : ℕ) → j < k + 1 → (side : Quant) × IsAttached new side (get_or ids j 0)) (sym joins.watched)
-      (below_next (λ j. (side : Quant) × IsAttached new side (get_or s.watched j 0)) k (λ j h. let a = has.attached j h in (a.0, joins.stays a.0 (get_or s.watched j 0) a.1)) joins.here);
+      (below_next (λ j. (side : Quant) × IsAttached new side (get_or s.watched j 0)) k
+      (λ j h. let a = has.attached j h in (a.0, joins.stays a.0 (get_or s.watched j 0) a.1)) joins.here);
 }
 
-pub parted_none : (scopes : List Scope) (s : SearchState) → IsIntact scopes s → ((id : ℕ) → Contains s.watched id → IsTrue (is_live s.derivation id)) → HasParted scopes s s 0
+pub parted_none : (scopes : List Scope) (s : SearchState) → IsIntact scopes s
+    → ((id : ℕ) → Contains s.watched id → IsTrue (is_live s.derivation id)) → HasParted scopes s s 0
 parted_none scopes s intact live = record { over = over_none scopes s intact live; gone = λ j h. absurd (omega arith) }
 
-pub parted_more : (scopes : List Scope) (start s new : SearchState) (k : ℕ) → HasParted scopes start s k → Parts scopes s new (get_or s.watched k 0) → HasParted scopes start new (k + 1)
+pub parted_more : (scopes : List Scope) (start s new : SearchState) (k : ℕ) → HasParted scopes start s k
+    → Parts scopes s new (get_or s.watched k 0) → HasParted scopes start new (k + 1)
 parted_more scopes start s new k has parts = record {
   over = over_parts scopes start s new has.over (get_or s.watched k 0) parts;
   gone =
       subst (λ ids. (j : ℕ) → j < k + 1 → (side : Quant) → IsAttached new side (get_or ids j 0) → ⊥) (sym parts.watched)
-      (below_next (λ j. (side : Quant) → IsAttached new side (get_or s.watched j 0) → ⊥) k (λ j h side a. has.gone j h side (parts.stays side (get_or s.watched j 0) a)) parts.gone);
+      (below_next (λ j. (side : Quant) → IsAttached new side (get_or s.watched j 0) → ⊥) k
+      (λ j h side a. has.gone j h side (parts.stays side (get_or s.watched j 0) a)) parts.gone);
 }
 
 -- at the end all are attached
-pub joined_all : (scopes : List Scope) (start s : SearchState) (joined : Bool) (k : ℕ) → HasJoined scopes start s k → length start.watched ≤ k → IsPaused scopes (record s { joined = joined })
+pub joined_all : (scopes : List Scope) (start s : SearchState) (joined : Bool) (k : ℕ) → HasJoined scopes start s k
+    → length start.watched ≤ k → IsPaused scopes (record s { joined = joined })
 joined_all scopes start s joined k has past = record {
   intact = intact_flagged scopes s joined has.over.intact;
-  attached = each_by_place s.watched (λ id. (side : Quant) × IsAttached s side id) (λ j h. has.attached j (let e = ap length has.over.watched in omega arith));
+  attached = each_by_place s.watched (λ id. (side : Quant) × IsAttached s side id)
+      (λ j h. has.attached j (let e = ap length has.over.watched in omega arith));
 }
 
 -- or none
-pub parted_all : (scopes : List Scope) (start s : SearchState) (k : ℕ) → HasParted scopes start s k → length start.watched ≤ k → AreDetached s
+pub parted_all : (scopes : List Scope) (start s : SearchState) (k : ℕ) → HasParted scopes start s k
+    → length start.watched ≤ k → AreDetached s
 parted_all scopes start s k has past id =
     ⊎_elim (λ none. none)
-    (λ a. absurd (each_by_place s.watched (λ i. (side : Quant) → IsAttached s side i → ⊥) (λ j h. has.gone j (let e = ap length has.over.watched in omega arith)) id (has.over.intact.watched.listed a.0 id a.1) a.0 a.1))
+    (λ a. absurd (each_by_place s.watched (λ i. (side : Quant) → IsAttached s side i → ⊥)
+    (λ j h. has.gone j (let e = ap length has.over.watched in omega arith)) id
+    (has.over.intact.watched.listed a.0 id a.1) a.0 a.1))
     (has.over.intact.watched.marked id)
 
 -- at rest
 
-pub attached_live : (scopes : List Scope) (s : SearchState) → IsIntact scopes s → AreAttached s → (id : ℕ) → Contains s.watched id → IsTrue (is_live s.derivation id)
-attached_live scopes s intact attached id at = let a = attached id at in step_live _ (intact.watched.sides a.0 id a.1).step
+pub attached_live : (scopes : List Scope) (s : SearchState) → IsIntact scopes s → AreAttached s → (id : ℕ)
+    → Contains s.watched id → IsTrue (is_live s.derivation id)
+attached_live scopes s intact attached id at = let a = attached id at in
+    step_live _ (intact.watched.sides a.0 id a.1).step
 
 pub resting_attached : (scopes : List Scope) (s : SearchState) → IsResting scopes s → s.joined ≡ true → AreAttached s
 resting_attached scopes s resting joined = subst (λ b. AreAttachedIf b s) joined resting.attached
@@ -207,7 +249,8 @@ resting_attached scopes s resting joined = subst (λ b. AreAttachedIf b s) joine
 pub resting_detached : (scopes : List Scope) (s : SearchState) → IsResting scopes s → s.joined ≡ false → AreDetached s
 resting_detached scopes s resting joined = subst (λ b. AreAttachedIf b s) joined resting.attached
 
-pub parted_rest : (scopes : List Scope) (start s : SearchState) (k : ℕ) → IsAtRest start.trail → HasParted scopes start s k → length start.watched ≤ k → IsResting scopes (record s { joined = false })
+pub parted_rest : (scopes : List Scope) (start s : SearchState) (k : ℕ) → IsAtRest start.trail
+    → HasParted scopes start s k → length start.watched ≤ k → IsResting scopes (record s { joined = false })
 parted_rest scopes start s k rest has past = record {
   rest = subst IsAtRest (sym has.over.trail) rest;
   intact = intact_flagged scopes s false has.over.intact;

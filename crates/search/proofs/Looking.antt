@@ -37,7 +37,8 @@ pub record LooksAt (pivot : Quant) (scopes : List Scope) (old new : SearchState)
   pub room : (watch_of pivot new).room ≡ (watch_of pivot old).room
   pub marks : KeepsMarks (rows_of old) (rows_of new)
 
-module _ (laws : HoldingLaws) (pivot : Quant) (scopes : List Scope) (old new : SearchState) (looks : LooksAt pivot scopes old new) (searching : IsSearching scopes old) where
+module _ (laws : HoldingLaws) (pivot : Quant) (scopes : List Scope) (old new : SearchState)
+    (looks : LooksAt pivot scopes old new) (searching : IsSearching scopes old) where
   same_attached : (side : Quant) (id : ℕ) → is_attached side (rows_of new) id ≡ is_attached side (rows_of old) id
   same_attached side id = same_mark side (rows_of old) (rows_of new) id (looks.marks id)
 
@@ -71,7 +72,9 @@ module _ (laws : HoldingLaws) (pivot : Quant) (scopes : List Scope) (old new : S
             let a = searching.paused.attached id (subst (λ ids. Contains ids id) looks.watched i) in
             (a.0, same_attached a.0 id ∙ a.1);
       };
-      reasons = λ side. subst (HaveReasons side scopes new.derivation) (sym looks.trail) (reasons_same old.derivation new.derivation looks.touches.steps side scopes old.trail (searching.reasons side));
+      reasons = λ side. subst (HaveReasons side scopes new.derivation) (sym looks.trail)
+          (reasons_same old.derivation new.derivation looks.touches.steps side scopes old.trail
+          (searching.reasons side));
     };
     steps = looks.touches.steps;
     trail = looks.trail;
@@ -79,15 +82,24 @@ module _ (laws : HoldingLaws) (pivot : Quant) (scopes : List Scope) (old new : S
   }
 
 -- a watch that was quiet is so after a look at another one
-pub quiet_stays : (pivot : Quant) (scopes : List Scope) (old new : SearchState) → Looks scopes old new → AreQuiet pivot scopes (value_on old.trail.placed) (rows_of old) → AreQuiet pivot scopes (value_on new.trail.placed) (rows_of new)
+pub quiet_stays : (pivot : Quant) (scopes : List Scope) (old new : SearchState) → Looks scopes old new
+    → AreQuiet pivot scopes (value_on old.trail.placed) (rows_of old)
+    → AreQuiet pivot scopes (value_on new.trail.placed) (rows_of new)
 quiet_stays pivot scopes old new looks quiet =
-    let values : value_on new.trail.placed ≡ value_on old.trail.placed = ap (λ (t : TrailState). value_on t.placed) looks.trail in
-    let attached : (id : ℕ) → is_attached pivot (rows_of new) id ≡ is_attached pivot (rows_of old) id = λ id. same_mark pivot (rows_of old) (rows_of new) id (looks.marks id) in
+    let values : value_on new.trail.placed ≡ value_on old.trail.placed =
+    ap (λ (t : TrailState). value_on t.placed) looks.trail in
+    let attached : (id : ℕ) → is_attached pivot (rows_of new) id ≡ is_attached pivot (rows_of old) id =
+    λ id. same_mark pivot (rows_of old) (rows_of new) id (looks.marks id) in
     record {
       none_bad =
           λ id a is_bad.
-          quiet.none_bad id (sym (attached id) ∙ a) (subst (IsBadRow pivot scopes (value_on old.trail.placed)) (looks.steps.literals id) (subst (λ (v : Values). IsBadRow pivot scopes v (row_of new.derivation id)) values is_bad));
+          quiet.none_bad id (sym (attached id) ∙ a)
+          (subst (IsBadRow pivot scopes (value_on old.trail.placed)) (looks.steps.literals id)
+          (subst (λ (v : Values). IsBadRow pivot scopes v (row_of new.derivation id)) values is_bad));
       none_unit =
           λ id l a is_unit.
-          quiet.none_unit id l (sym (attached id) ∙ a) (subst (λ (row : Row). IsUnitIn pivot scopes (value_on old.trail.placed) row l) (looks.steps.literals id) (subst (λ (v : Values). IsUnitIn pivot scopes v (row_of new.derivation id) l) values is_unit));
+          quiet.none_unit id l (sym (attached id) ∙ a)
+          (subst (λ (row : Row). IsUnitIn pivot scopes (value_on old.trail.placed) row l)
+          (looks.steps.literals id) (subst (λ (v : Values). IsUnitIn pivot scopes v (row_of new.derivation id) l)
+          values is_unit));
     }

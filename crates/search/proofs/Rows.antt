@@ -56,9 +56,11 @@ module _ (old taken new : State) (rows left : Arena) (takes : TakesBack old take
   touches pivot agrees = record {
     steps = steps_taken;
     legal = λ scopes was_legal. takes.legal old scopes same_notes same_rows was_legal;
-    agrees = subst (λ a. AgreesElsewhere pivot (arena_of old) a) (sym is) (subst (λ a. AgreesElsewhere pivot a left) (sym was) agrees);
+    agrees = subst (λ a. AgreesElsewhere pivot (arena_of old) a) (sym is)
+        (subst (λ a. AgreesElsewhere pivot a left) (sym was) agrees);
   }
 
 -- rows of the watch of another side than that which is asked
-pub next_elsewhere : AgreeingLaws → (pivot : Quant) (old new : Arena) → KeepsRows pivot old new → AgreesElsewhere pivot old new
+pub next_elsewhere : AgreeingLaws → (pivot : Quant) (old new : Arena) → KeepsRows pivot old new
+    → AgreesElsewhere pivot old new
 next_elsewhere laws pivot old new keeps other apart = laws.next_of_other other pivot old new (λ e. apart (sym e)) keeps

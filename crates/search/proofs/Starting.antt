@@ -33,8 +33,11 @@ distinct [] h = h
 distinct (x ∷ xs) h = (apart x xs h.0, distinct xs h.1)
 
 -- there is room for the assumptions
-pub assumed_room : (scopes : List Scope) (room : ℕ) (lits : List Literal) → AreOuter scopes lits → ((x : ℕ) → Contains (all_variables scopes) x → x ≤ room) → (k : ℕ) (d : Literal) → k < length lits → (get_or lits k d).variable ≤ room
-assumed_room scopes room lits outer fits k d h = let l = get_or lits k d in fits l.variable (level_in_prefix scopes l.variable 1 (outer l (Contains-get_or lits k d h)))
+pub assumed_room : (scopes : List Scope) (room : ℕ) (lits : List Literal) → AreOuter scopes lits
+    → ((x : ℕ) → Contains (all_variables scopes) x → x ≤ room) → (k : ℕ) (d : Literal) → k < length lits
+    → (get_or lits k d).variable ≤ room
+assumed_room scopes room lits outer fits k d h = let l = get_or lits k d in
+    fits l.variable (level_in_prefix scopes l.variable 1 (outer l (Contains-get_or lits k d h)))
 
 -- assumptions have no reasons
 assumed_cause : (lits : List Literal) (x : ℕ) (c : Cause) → cause_on (map assumed lits) x ≡ Some c → c ≡ Assumed
@@ -45,16 +48,30 @@ assumed_cause (l ∷ ls) x c e =
     (λ f. assumed_cause ls x c (sym (cause_past (assumed l) (map assumed ls) x f) ∙ e))
     (cases_Bool (nat_eq l.variable x))
 
-assumed_reasons : (side : Quant) (scopes : List Scope) (d : State) (t : TrailState) (lits : List Literal) → t.placed ≡ map assumed lits → HaveReasons side scopes d t
-assumed_reasons side scopes d t lits is l id pivot bad e = absurd (let g : Propagated id ≡ Assumed = assumed_cause lits l.variable (Propagated id) (subst (λ (p : Trail). cause_on p l.variable ≡ Some (Propagated id)) is e) in cc)
+assumed_reasons : (side : Quant) (scopes : List Scope) (d : State) (t : TrailState) (lits : List Literal)
+    → t.placed ≡ map assumed lits → HaveReasons side scopes d t
+assumed_reasons side scopes d t lits is l id pivot bad e =
+    absurd (let g : Propagated id ≡ Assumed =
+    assumed_cause lits l.variable (Propagated id)
+    (subst (λ (p : Trail). cause_on p l.variable ≡ Some (Propagated id)) is e) in cc)
 
 -- a watch that looked at nothing looked at a front of every trail
-front_none : (s : SearchState) (t : TrailState) (side : Quant) → LookingLaws → s.trail.placed ≡ [] → IsFront (looked (watch_of side s)) (literals_on s.trail.placed) → IsFront (looked (watch_of side s)) (literals_on t.placed)
-front_none s t side laws empty h = laws.grows (watch_of side s) [] (literals_on t.placed) (subst (λ (p : Trail). IsFront (looked (watch_of side s)) (literals_on p)) empty h)
+front_none : (s : SearchState) (t : TrailState) (side : Quant) → LookingLaws → s.trail.placed ≡ []
+    → IsFront (looked (watch_of side s)) (literals_on s.trail.placed)
+    → IsFront (looked (watch_of side s)) (literals_on t.placed)
+front_none s t side laws empty h =
+    laws.grows (watch_of side s) [] (literals_on t.placed)
+    (subst (λ (p : Trail). IsFront (looked (watch_of side s)) (literals_on p)) empty h)
 
-module _ (scopes : List Scope) (s new : SearchState) (laws : LookingLaws) (changes : TrailChanges s new) (paused : IsPaused scopes s) (empty : s.trail.placed ≡ []) (trail : IsTrailFor scopes new.trail) where
+module _ (scopes : List Scope) (s new : SearchState) (laws : LookingLaws) (changes : TrailChanges s new)
+    (paused : IsPaused scopes s) (empty : s.trail.placed ≡ []) (trail : IsTrailFor scopes new.trail) where
   pub starts_paused : IsPaused scopes new
-  starts_paused = paused_trail scopes s new changes paused trail (λ side. front_none s new.trail side laws empty (paused.intact.watching.front side))
+  starts_paused = paused_trail scopes s new changes paused trail
+      (λ side. front_none s new.trail side laws empty (paused.intact.watching.front side))
 
   pub starts : (lits : List Literal) → new.trail.placed ≡ map assumed lits → IsSearching scopes new
-  starts lits is = record { paused = starts_paused; reasons = λ side. assumed_reasons side scopes new.derivation new.trail lits is }
+  starts lits is = record {
+    paused = starts_paused;
+    reasons =
+        λ side. assumed_reasons side scopes new.derivation new.trail lits is;
+  }

@@ -26,12 +26,14 @@ use Rattle.search.specs.Moves.{Advances}
 use Rattle.search.proofs.Counting.{counted_push}
 
 -- the watches of two searches
-pub same_watch : (s new : SearchState) → new.clauses ≡ s.clauses → new.cubes ≡ s.cubes → (side : Quant) → watch_of side new ≡ watch_of side s
+pub same_watch : (s new : SearchState) → new.clauses ≡ s.clauses → new.cubes ≡ s.cubes → (side : Quant)
+    → watch_of side new ≡ watch_of side s
 same_watch s new clauses cubes Exists = clauses
 same_watch s new clauses cubes Forall = cubes
 
 -- the same rows to watch
-pub same_watched : (scopes : List Scope) (s new : SearchState) → new.derivation ≡ s.derivation → new.watched ≡ s.watched → AreWatched scopes s → AreWatched scopes new
+pub same_watched : (scopes : List Scope) (s new : SearchState) → new.derivation ≡ s.derivation
+    → new.watched ≡ s.watched → AreWatched scopes s → AreWatched scopes new
 same_watched scopes s new derivation watched h = record {
   marked = rw derivation h.marked;
   sides = rw derivation h.sides;
@@ -50,7 +52,8 @@ pub record TrailChanges (s new : SearchState) : Type 0 where
   pub watched : new.watched ≡ s.watched
   pub room : new.trail.room ≡ s.trail.room
 
-pub changes_of : (v s : SearchState) (t : TrailState) → v ≡ s → t.room ≡ v.trail.room → TrailChanges s (record v { trail = t })
+pub changes_of : (v s : SearchState) (t : TrailState) → v ≡ s → t.room ≡ v.trail.room
+    → TrailChanges s (record v { trail = t })
 changes_of v s t e room = record {
   derivation = ap (λ (x : SearchState). x.derivation) e;
   clauses = ap (λ (x : SearchState). x.clauses) e;
@@ -61,7 +64,8 @@ changes_of v s t e room = record {
 }
 
 module _ (scopes : List Scope) (s new : SearchState) (changes : TrailChanges s new) where
-  pub intact_trail : IsIntact scopes s → IsTrailFor scopes new.trail → ((side : Quant) → IsFront (looked (watch_of side s)) (literals_on new.trail.placed)) → IsIntact scopes new
+  pub intact_trail : IsIntact scopes s → IsTrailFor scopes new.trail
+      → ((side : Quant) → IsFront (looked (watch_of side s)) (literals_on new.trail.placed)) → IsIntact scopes new
   intact_trail intact trail front =
       let watch = same_watch s new changes.clauses changes.cubes in
       record {
@@ -70,15 +74,23 @@ module _ (scopes : List Scope) (s new : SearchState) (changes : TrailChanges s n
         legal = rw changes.derivation intact.legal;
         watched = same_watched scopes s new changes.derivation changes.watched intact.watched;
         watching = record {
-          holds = λ side. subst (λ (d : State). Holds side scopes (watch_of side new) (rows_of (record s { derivation = d }))) (sym changes.derivation) (rw (watch side) (intact.watching.holds side));
+          holds = λ side. subst (λ (d : State). Holds side scopes (watch_of side new)
+              (rows_of (record s { derivation = d }))) (sym changes.derivation)
+              (rw (watch side) (intact.watching.holds side));
           front = λ side. rw (watch side) (front side);
           room = λ side. rw (watch side, changes.room) (intact.watching.room side);
         };
         room = record { trail = rw changes.room intact.room.trail; signs = rw changes.signs intact.room.signs };
       }
 
-  pub paused_trail : IsPaused scopes s → IsTrailFor scopes new.trail → ((side : Quant) → IsFront (looked (watch_of side s)) (literals_on new.trail.placed)) → IsPaused scopes new
-  paused_trail paused trail front = record { intact = intact_trail paused.intact trail front; attached = rw (changes.derivation, changes.watched) paused.attached }
+  pub paused_trail : IsPaused scopes s → IsTrailFor scopes new.trail
+      → ((side : Quant) → IsFront (looked (watch_of side s)) (literals_on new.trail.placed)) → IsPaused scopes new
+  paused_trail paused trail front =
+      record {
+        intact = intact_trail paused.intact trail front;
+        attached =
+            rw (changes.derivation, changes.watched) paused.attached;
+      }
 
 -- the literal that a unit row makes good
 
@@ -104,14 +116,22 @@ none_open None h = refl
 none_open (Some b) h = absurd (false≢true h)
 
 -- a reason of it
-pub reason_asked : (side pivot : Quant) (scopes : List Scope) (s : SearchState) (kept : Literal) (row id : ℕ) → IsReducedStep side scopes s.derivation row → IsUnitIn side scopes (value_on s.trail.placed) (row_of s.derivation row) kept → Propagated row ≡ Propagated id → is_pivot pivot scopes (good_literal side kept) ≡ true → HasReason pivot scopes s.derivation s.trail.placed (good_literal side kept) id
+pub reason_asked : (side pivot : Quant) (scopes : List Scope) (s : SearchState) (kept : Literal) (row id : ℕ)
+    → IsReducedStep side scopes s.derivation row
+    → IsUnitIn side scopes (value_on s.trail.placed) (row_of s.derivation row) kept → Propagated row ≡ Propagated id
+    → is_pivot pivot scopes (good_literal side kept) ≡ true
+    → HasReason pivot scopes s.derivation s.trail.placed (good_literal side kept) id
 reason_asked side pivot scopes s kept row id step unit e of_pivot =
     let over = asked_over side kept in
-    let here : quantifier_of scopes kept.variable ≡ Some side = same_true (quantifier_of scopes kept.variable) side unit.pivot_type in
-    let there : quantifier_of scopes (good_literal side kept).variable ≡ Some pivot = same_true (quantifier_of scopes (good_literal side kept).variable) pivot of_pivot in
-    let one : side ≡ pivot = (let g : Some side ≡ Some pivot = sym here ∙ (ap (quantifier_of scopes) (sym over) ∙ there) in cc) in
+    let here : quantifier_of scopes kept.variable ≡ Some side =
+    same_true (quantifier_of scopes kept.variable) side unit.pivot_type in
+    let there : quantifier_of scopes (good_literal side kept).variable ≡ Some pivot =
+    same_true (quantifier_of scopes (good_literal side kept).variable) pivot of_pivot in
+    let one : side ≡ pivot =
+    (let g : Some side ≡ Some pivot = sym here ∙ (ap (quantifier_of scopes) (sym over) ∙ there) in cc) in
     let same_id : row ≡ id = cc in
-    subst (λ p. HasReason p scopes s.derivation s.trail.placed (good_literal side kept) id) one (subst (λ i. HasReason side scopes s.derivation s.trail.placed (good_literal side kept) i) same_id (record {
+    subst (λ p. HasReason p scopes s.derivation s.trail.placed (good_literal side kept) id) one
+    (subst (λ i. HasReason side scopes s.derivation s.trail.placed (good_literal side kept) i) same_id (record {
       kept = kept;
       over = sym over;
       good = asked_good side kept;
@@ -120,19 +140,33 @@ reason_asked side pivot scopes s kept row id step unit e of_pivot =
     }))
 
 -- a literal was assigned
-pub advances : (scopes : List Scope) (s new : SearchState) (value : Literal) (cause : Cause) (before : Counter) → LookingLaws → IsSearching scopes s → TrailChanges s new → new.trail ≡ with_literal scopes s.trail value cause → IsTrailFor scopes new.trail → value_on s.trail.placed value.variable ≡ None → cause ≢ Assumed → ((pivot : Quant) (id : ℕ) → cause ≡ Propagated id → is_pivot pivot scopes value ≡ true → HasReason pivot scopes s.derivation s.trail.placed value id) → before.spent ≤ before.budget → before.spent ≢ before.budget → (s.trail.assigned ≤ before.spent → new.trail.assigned ≡ s.trail.assigned + 1) → Advances scopes 0 s new before (after before 1)
+pub advances : (scopes : List Scope) (s new : SearchState) (value : Literal) (cause : Cause) (before : Counter)
+    → LookingLaws → IsSearching scopes s → TrailChanges s new → new.trail ≡ with_literal scopes s.trail value cause
+    → IsTrailFor scopes new.trail → value_on s.trail.placed value.variable ≡ None → cause ≢ Assumed
+    → ((pivot : Quant) (id : ℕ) → cause ≡ Propagated id → is_pivot pivot scopes value ≡ true
+    → HasReason pivot scopes s.derivation s.trail.placed value id) → before.spent ≤ before.budget
+    → before.spent ≢ before.budget → (s.trail.assigned ≤ before.spent → new.trail.assigned ≡ s.trail.assigned + 1)
+    → Advances scopes 0 s new before (after before 1)
 advances scopes s new value cause before laws searching changes is trail fresh other reason within room rises =
     let intact = searching.paused.intact in
-    let front : (side : Quant) → IsFront (looked (watch_of side s)) (literals_on new.trail.placed) = λ side. subst (λ (t : TrailState). IsFront (looked (watch_of side s)) (literals_on t.placed)) (sym is) (laws.assigned (watch_of side s) scopes s.trail value cause (intact.watching.front side)) in
+    let front : (side : Quant) → IsFront (looked (watch_of side s)) (literals_on new.trail.placed) =
+    λ side. subst (λ (t : TrailState). IsFront (looked (watch_of side s)) (literals_on t.placed)) (sym is)
+    (laws.assigned (watch_of side s) scopes s.trail value cause (intact.watching.front side)) in
     record {
       searching = record {
         paused = paused_trail scopes s new changes searching.paused trail front;
-        reasons = λ side. subst (λ (t : TrailState). HaveReasons side scopes new.derivation t) (sym is) (subst (λ (d : State). HaveReasons side scopes d (with_literal scopes s.trail value cause)) (sym changes.derivation) (assigned_have side scopes s.derivation s.trail value cause intact.trail.marked fresh (reason side) (searching.reasons side)));
+        reasons = λ side. subst (λ (t : TrailState). HaveReasons side scopes new.derivation t) (sym is)
+            (subst (λ (d : State). HaveReasons side scopes d (with_literal scopes s.trail value cause))
+            (sym changes.derivation) (assigned_have side scopes s.derivation s.trail value cause intact.trail.marked
+            fresh (reason side) (searching.reasons side)));
       };
       clauses = ap clauses_of changes.derivation;
-      assumed = λ assumptions h. subst (λ (t : TrailState). AreTheAssumptions t.placed assumptions) (sym is) (push s.trail.placed assumptions (record { literal = value; cause = cause }) other h);
+      assumed = λ assumptions h. subst (λ (t : TrailState). AreTheAssumptions t.placed assumptions) (sym is)
+          (push s.trail.placed assumptions (record { literal = value; cause = cause }) other h);
       allowed = ap (λ (t : TrailState). t.allowed) is;
       budget = refl;
       rises = omega arith;
-      counted = λ start. counted_push (size_of scopes) start s.trail new.trail before intact.trail.marked (ap (λ (t : TrailState). t.marks) is) (ap (λ (t : TrailState). length t.placed) is ∙ length_push s.trail.placed (record { literal = value; cause = cause })) within room rises;
+      counted = λ start. counted_push (size_of scopes) start s.trail new.trail before intact.trail.marked
+          (ap (λ (t : TrailState). t.marks) is) (ap (λ (t : TrailState). length t.placed) is
+          ∙ length_push s.trail.placed (record { literal = value; cause = cause })) within room rises;
     }

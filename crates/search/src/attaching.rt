@@ -1,6 +1,5 @@
 //! Rows that are attached to the watches, and detached.
-ghost use Rattle.std.specs.Prelude.{◌≡◌, ◌≤◌, ◌<◌, ◌⊎◌, ℕ, IsTrue, IfOk, OnOk, OnErr, Contains, length, slice_index, true, false, filter, List};
-ghost use Rattle.prefix.specs.declared.quant.Quant.{Quant as Q};
+ghost use Rattle.std.specs.Prelude.{◌≡◌, ◌<◌, ℕ, IsTrue, Contains, length, slice_index, true, false, filter};
 ghost use Rattle.derive.specs.State.{has_rows, is_live, side_at};
 ghost use Rattle.watch.specs.Links.{is_attached};
 ghost use Rattle.clean.specs.Reasons.{IsReducedStep};

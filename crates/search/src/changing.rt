@@ -1,5 +1,5 @@
 //! Changes of the formula, between solves.
-ghost use Rattle.std.specs.Prelude.{◌≡◌, ◌++◌, ◌∷◌, [], ◌==◌, false, not, filter, OnOk, OnErr};
+ghost use Rattle.std.specs.Prelude.{◌≡◌, ◌==◌, false, not, filter, OnOk, OnErr};
 ghost use Rattle.calculus.specs.Rows.{IsRow};
 ghost use Rattle.derive.specs.State.{OpenClause, clauses_of};
 ghost use Rattle.search.specs.State.{IsResting};
@@ -8,8 +8,8 @@ ghost use Rattle.search.specs.Moves.{SameSteps};
 ghost use Rattle.search.specs.Changing.{AddsClause, IsRoomy, RestingGrows, StaysResting};
 
 use crate::search::Search;
-use calculus::{prefix_laws, reductions_stay};
-use derive::{Derivation, StepId, clauses_are_listed, growth_laws, prefixes_may_grow};
+use calculus::reductions_stay;
+use derive::{Derivation, clauses_are_listed, growth_laws, prefixes_may_grow};
 use prefix::{Lit, Prefix, Var};
 use steps::NoMemory;
 use watch::{agreeing_laws, holding_laws};

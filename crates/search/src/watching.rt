@@ -1,6 +1,5 @@
 //! Calls of a watch on the rows of a derivation.
-ghost use Rattle.std.specs.Prelude.{◌≡◌, ◌≤◌, ◌⊎◌, ℕ, IsTrue, None, Some, List};
-ghost use Rattle.prefix.specs.Scopes.{Scope};
+ghost use Rattle.std.specs.Prelude.{◌≡◌, ◌≤◌, ◌⊎◌, IsTrue, Some};
 ghost use Rattle.rows.specs.Arena.{literals_at, is_live as is_stored};
 ghost use Rattle.calculus.specs.Search.{literals_on, value_on};
 ghost use Rattle.derive.specs.State.{arena_of, has_rows, is_live, row_of};

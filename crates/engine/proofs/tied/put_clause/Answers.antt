@@ -11,7 +11,9 @@ returns-then-open_clauses-count-clause-tied c =
     let old = c.args.frames.now.formula in
     let new = c.add_clause.new.self.formula in
     let is = ap (λ (f : FramesState). f.formula) c.in_ok-add_clause.ensures.ok in
-    let same : length (clauses_in new.frames) ≡ length (clauses_in old.frames) = ap length (sym c.open_clauses.ensures.value) ∙ c.if-open_clauses-count.true ∙ ap length c.open_clauses-count.ensures.value in
+    let same : length (clauses_in new.frames) ≡ length (clauses_in old.frames) =
+    ap length (sym c.open_clauses.ensures.value) ∙ c.if-open_clauses-count.true
+    ∙ ap length c.open_clauses-count.ensures.value in
     left_tied old new c.args.lits.now c.args.search.now c.requires is same
 
 pub put_last-requires-clause-some : goal.put_last-requires-clause-some
@@ -20,7 +22,8 @@ put_last-requires-clause-some c =
     let new = c.add_clause.new.self.formula in
     let is = ap (λ (f : FramesState). f.formula) c.in_ok-add_clause.ensures.ok in
     some_put old new c.args.lits.now c.args.search.now c.requires is
-    (λ e. c.if-open_clauses-count.false (ap length c.open_clauses.ensures.value ∙ e ∙ ap length (sym c.open_clauses-count.ensures.value)))
+    (λ e. c.if-open_clauses-count.false (ap length c.open_clauses.ensures.value ∙ e
+    ∙ ap length (sym c.open_clauses-count.ensures.value)))
 
 pub returns-clause-tied : goal.returns-clause-tied
 returns-clause-tied c =
@@ -28,9 +31,11 @@ returns-clause-tied c =
     let new = c.add_clause.new.self.formula in
     let is = ap (λ (f : FramesState). f.formula) c.in_ok-add_clause.ensures.ok in
     let apart : (length (clauses_in new.frames) ≡ length (clauses_in old.frames)) → ⊥
-    = λ e. c.if-open_clauses-count.false (ap length c.open_clauses.ensures.value ∙ e ∙ ap length (sym c.open_clauses-count.ensures.value)) in
+    = λ e. c.if-open_clauses-count.false (ap length c.open_clauses.ensures.value ∙ e
+    ∙ ap length (sym c.open_clauses-count.ensures.value)) in
     let s = c.put_last.new.search in
     let row = as_row c.args.lits.now in
     let rows = put_rows old new c.args.lits.now c.args.search.now c.requires is apart in
-    let adds = on_ok_at c.put_last.result (AddsClause (depth new.frames) row (clauses_of c.args.search.now.derivation) (clauses_of s.derivation)) c.if-is_err.ensures.negation (c.put_last.ensures.ok (clauses_in old.frames) row rows) in
+    let adds = on_ok_at c.put_last.result (AddsClause (depth new.frames) row (clauses_of c.args.search.now.derivation)
+    (clauses_of s.derivation)) c.if-is_err.ensures.negation (c.put_last.ensures.ok (clauses_in old.frames) row rows) in
     put_tied old new c.args.lits.now c.args.search.now c.requires is s apart c.put_last.ensures.resting adds

@@ -11,7 +11,8 @@ invariant_of-self c =
     let e = c.in_err-put_clause.ensures in
     record {
       tied = c.put_clause.ensures.tied;
-      held = rw e.err (held_kept c.self.inside.search.derivation c.put_clause.new.search.derivation e.same c.self.inside.frames.formula c.self.inside.assumed.items c.self.inside.verdict c.self.invariant.held);
+      held = rw e.err (held_kept c.self.inside.search.derivation c.put_clause.new.search.derivation e.same
+          c.self.inside.frames.formula c.self.inside.assumed.items c.self.inside.verdict c.self.invariant.held);
       cubes = λ none. c.put_clause.ensures.cubes (c.self.invariant.cubes none);
     }
 
@@ -20,12 +21,16 @@ returns-in_err-put_clause-clause-err c =
     let h = err_from_is_err_and c.from_residual.result c.from_residual.ensures.1 in
     let e = c.in_err-put_clause.ensures in
     rw h.1
-    (ap₂ (λ (f : OpenFormula) (v : Option VerdictState). record { formula = f; verdict = v; counts = c.self.inside.counts })
-    e.err (verdict_kept c.self.inside.search.derivation c.put_clause.new.search.derivation e.same c.self.inside.assumed.items c.self.inside.verdict) ∙ c.self.view_is)
+    (ap₂ (λ (f : OpenFormula) (v : Option VerdictState).
+    record { formula = f; verdict = v; counts = c.self.inside.counts })
+    e.err (verdict_kept c.self.inside.search.derivation c.put_clause.new.search.derivation e.same
+    c.self.inside.assumed.items c.self.inside.verdict) ∙ c.self.view_is)
 
 pub invariant_of-self-2 : goal.invariant_of-self-2
 invariant_of-self-2 c = record {
   tied = c.forget_outcome.ensures.tied;
   held = tt;
-  cubes = λ none. c.forget_outcome.ensures.cubes (c.put_clause.ensures.cubes (c.self.invariant.cubes (ap (λ (n : Counts). n.solves) (sym c.with_clause-self-inside.ensures) ∙ none)));
+  cubes = λ none. c.forget_outcome.ensures.cubes
+      (c.put_clause.ensures.cubes (c.self.invariant.cubes
+      (ap (λ (n : Counts). n.solves) (sym c.with_clause-self-inside.ensures) ∙ none)));
 }

@@ -11,9 +11,13 @@ forget_outcome-requires c =
     let accepts = accepted_pop _ c.pop.result c.in_ok-pop.field-0 c.in_ok-pop.was c.pop.ensures.refused in
     let old = c.self.inside.search in
     let new = c.drop_top.new.search in
-    let resting = subst (λ (f : FramesState). IsResting f.formula.scopes new) c.in_ok-pop.ensures.ok c.drop_top.ensures.resting in
-    let clauses = c.drop_top.ensures.clauses ∙ ap (λ (top : ℕ). filter (λ (d : OpenClause). not (d.frame == top)) (clauses_of old.derivation)) c.depth-top.ensures in
-    rw c.in_ok-pop.ensures.ok (frame_popped c.self.inside.frames.formula old new c.self.invariant.tied accepts resting clauses)
+    let resting = subst (λ (f : FramesState). IsResting f.formula.scopes new) c.in_ok-pop.ensures.ok
+    c.drop_top.ensures.resting in
+    let clauses = c.drop_top.ensures.clauses
+    ∙ ap (λ (top : ℕ). filter (λ (d : OpenClause). not (d.frame == top)) (clauses_of old.derivation))
+    c.depth-top.ensures in
+    rw c.in_ok-pop.ensures.ok (frame_popped c.self.inside.frames.formula old new c.self.invariant.tied accepts resting
+    clauses)
 
 pub invariant_of-self-2 : goal.invariant_of-self-2
 invariant_of-self-2 c = record {

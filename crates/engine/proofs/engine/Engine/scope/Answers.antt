@@ -4,4 +4,5 @@ use Rattle.engine.proofs.engine.Engine.scope.Goals as goal
 pub forget_outcome-requires : goal.forget_outcome-requires
 forget_outcome-requires c =
     let accepts = accepted _ c.scope.result c.in_ok-scope.field-0 c.in_ok-scope.was c.scope.ensures.refused in
-    rw c.in_ok-scope.ensures.ok (scope_added c.self.inside.frames.formula c.self.inside.search c.args.quant c.args.at c.self.invariant.tied accepts c.prefixes_grow.ensures c.resting_grows.ensures)
+    rw c.in_ok-scope.ensures.ok (scope_added c.self.inside.frames.formula c.self.inside.search c.args.quant c.args.at
+    c.self.invariant.tied accepts c.prefixes_grow.ensures c.resting_grows.ensures)

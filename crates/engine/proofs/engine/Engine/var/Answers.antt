@@ -8,14 +8,18 @@ forget_outcome-requires c =
     let accepts = accepted _ c.var.result c.in_ok-var.field-0 c.in_ok-var.was c.var.ensures.refused in
     let same = variable_is _ c.variable_for.result c.in_ok-v.v c.args.var c.in_ok-v.was c.variable_for.ensures in
     let new = c.reserve.new.self in
-    let tied = reserved c.self.inside.frames.formula c.self.inside.search new c.reserve.ensures.resting c.reserve.ensures.derivation c.self.invariant.tied in
+    let tied = reserved c.self.inside.frames.formula c.self.inside.search new c.reserve.ensures.resting
+    c.reserve.ensures.derivation c.self.invariant.tied in
     let roomy = on_ok_at c.reserve.result (IsRoomy c.in_ok-v.v new) c.if-is_err.ensures.negation c.reserve.ensures.ok in
     let room = subst (λ (v : ℕ). IsRoomy v new) same roomy in
-    rw c.in_ok-var.ensures.ok (variable_added c.self.inside.frames.formula new c.args.var c.args.scope tied room accepts c.prefixes_grow.ensures c.resting_grows.ensures)
+    rw c.in_ok-var.ensures.ok (variable_added c.self.inside.frames.formula new c.args.var c.args.scope tied room
+    accepts c.prefixes_grow.ensures c.resting_grows.ensures)
 
 pub invariant_of-self-2 : goal.invariant_of-self-2
 invariant_of-self-2 c = record {
   tied = c.forget_outcome.ensures.tied;
   held = tt;
-  cubes = λ none. c.forget_outcome.ensures.cubes (cubes_kept c.self.inside.search c.reserve.new.self c.reserve.ensures.watched c.reserve.ensures.derivation (c.self.invariant.cubes none));
+  cubes = λ none. c.forget_outcome.ensures.cubes
+      (cubes_kept c.self.inside.search c.reserve.new.self c.reserve.ensures.watched c.reserve.ensures.derivation
+      (c.self.invariant.cubes none));
 }

@@ -10,48 +10,80 @@ use Rattle.search.proofs.Learning.{analyses, due_analysis, halts_analysis, on_er
 use Rattle.search.proofs.search.Search.analysed.Goals as goal
 
 pub lesson_of-lesson-requires-clause-reasons : goal.lesson_of-lesson-requires-clause-reasons
-lesson_of-lesson-requires-clause-reasons c = subst (λ (s : SearchState). HaveReasons c.args.side c.args.prefix.now s.derivation s.trail) (sym c.self.view_is) (c.requires.searching.reasons c.args.side)
+lesson_of-lesson-requires-clause-reasons c =
+    subst (λ (s : SearchState). HaveReasons c.args.side c.args.prefix.now s.derivation s.trail) (sym c.self.view_is)
+    (c.requires.searching.reasons c.args.side)
 
 abbrev old : (c : goal.After-budget-budget) → SearchState
-old c = record { derivation = c.self.inside.derivation; trail = c.self.inside.trail; clauses = c.self.inside.clauses; cubes = c.self.inside.cubes; signs = c.self.inside.decider; watched = c.self.inside.watched.items; joined = c.self.inside.joined }
+old c = record {
+  derivation = c.self.inside.derivation;
+  trail = c.self.inside.trail;
+  clauses =
+      c.self.inside.clauses;
+  cubes = c.self.inside.cubes;
+  signs = c.self.inside.decider;
+  watched =
+      c.self.inside.watched.items;
+  joined = c.self.inside.joined;
+}
 
 abbrev new : (c : goal.After-budget-budget) → SearchState
-new c = record { derivation = c.lesson_of-lesson.new.derivation; trail = c.lesson_of-lesson.new.trail; clauses = c.self.inside.clauses; cubes = c.self.inside.cubes; signs = c.decay.new.self; watched = c.self.inside.watched.items; joined = c.self.inside.joined }
+new c = record {
+  derivation = c.lesson_of-lesson.new.derivation;
+  trail = c.lesson_of-lesson.new.trail;
+  clauses =
+      c.self.inside.clauses;
+  cubes = c.self.inside.cubes;
+  signs = c.decay.new.self;
+  watched =
+      c.self.inside.watched.items;
+  joined = c.self.inside.joined;
+}
 
 searching_old : (c : goal.After-budget-budget) → IsSearching c.args.prefix.now (old c)
 searching_old c = subst (IsSearching c.args.prefix.now) (sym c.self.view_is) c.requires.searching
 
-searching_new : (c : goal.After-budget-budget) (made : ℕ) → MarksMore (old c).trail (new c).trail made → IsSearching c.args.prefix.now (new c)
+searching_new : (c : goal.After-budget-budget) (made : ℕ) → MarksMore (old c).trail (new c).trail made
+    → IsSearching c.args.prefix.now (new c)
 searching_new c made marks =
     let e = c.lesson_of-lesson.ensures in
-    searching_analysed c.args.prefix.now (old c) (new c) made c.holding_laws.ensures c.agreeing_laws.ensures (searching_old c) e.gains e.legal refl refl refl (c.decay.ensures ∙ c.bump.ensures) e.trail marks e.reasons
+    searching_analysed c.args.prefix.now (old c) (new c) made c.holding_laws.ensures c.agreeing_laws.ensures
+    (searching_old c) e.gains e.legal refl refl refl (c.decay.ensures ∙ c.bump.ensures) e.trail marks e.reasons
 
 pub returns-clause-ok : goal.returns-clause-ok
 returns-clause-ok c =
     let e = c.lesson_of-lesson.ensures in
-    subst (λ (s : SearchState). OnOk c.lesson_of-lesson.result (Analyses c.args.prefix.now s (new c) c.args.steps.now c.lesson_of-lesson.new.steps)) c.self.view_is
+    subst (λ (s : SearchState). OnOk c.lesson_of-lesson.result
+    (Analyses c.args.prefix.now s (new c) c.args.steps.now c.lesson_of-lesson.new.steps)) c.self.view_is
     (on_ok c.lesson_of-lesson.result
-    (analyses c.args.prefix.now (old c) (new c) c.args.steps.now c.lesson_of-lesson.new.steps c.budget-budget.ensures.within (searching_old c) (searching_new c)
+    (analyses c.args.prefix.now (old c) (new c) c.args.steps.now c.lesson_of-lesson.new.steps
+    c.budget-budget.ensures.within (searching_old c) (searching_new c)
     e.gains.clauses)
     e.counted)
 
 pub returns-clause-err : goal.returns-clause-err
 returns-clause-err c =
     let e = c.lesson_of-lesson.ensures in
-    subst (λ (s : SearchState). OnErr c.lesson_of-lesson.result (Halts c.args.prefix.now 0 s (new c) c.args.steps.now c.lesson_of-lesson.new.steps)) c.self.view_is
+    subst (λ (s : SearchState). OnErr c.lesson_of-lesson.result
+    (Halts c.args.prefix.now 0 s (new c) c.args.steps.now c.lesson_of-lesson.new.steps)) c.self.view_is
     (on_err c.lesson_of-lesson.result
-    (halts_analysis c.args.prefix.now (old c) (new c) c.args.steps.now c.lesson_of-lesson.new.steps c.budget-budget.ensures.within (searching_old c) (searching_new c)
+    (halts_analysis c.args.prefix.now (old c)
+    (new c) c.args.steps.now c.lesson_of-lesson.new.steps c.budget-budget.ensures.within (searching_old c)
+    (searching_new c)
     e.gains.clauses)
     e.err)
 
 pub returns-clause-due : goal.returns-clause-due
 returns-clause-due c = λ is.
     let e = c.lesson_of-lesson.ensures in
-    let step = subst (λ (s : SearchState). IsReducedStep c.args.side c.args.prefix.now s.derivation c.args.row) (sym c.self.view_is) c.requires.row in
-    let is_bad = subst (λ (s : SearchState). IsBadRow c.args.side c.args.prefix.now (value_on s.trail.placed) (row_of s.derivation c.args.row)) (sym c.self.view_is) c.requires.bad in
+    let step = subst (λ (s : SearchState). IsReducedStep c.args.side c.args.prefix.now s.derivation c.args.row)
+    (sym c.self.view_is) c.requires.row in
+    let is_bad = subst (λ (s : SearchState). IsBadRow c.args.side c.args.prefix.now (value_on s.trail.placed)
+    (row_of s.derivation c.args.row)) (sym c.self.view_is) c.requires.bad in
     subst (λ (s : SearchState). WasDue c.args.prefix.now s (new c)) c.self.view_is
     (on_err_with c.lesson_of-lesson.result spent is
     (λ stops needs.
-    due_analysis c.args.prefix.now (old c) (new c) c.args.steps.now c.lesson_of-lesson.new.steps c.budget-budget.ensures.within (searching_old c) (searching_new c)
+    due_analysis c.args.prefix.now (old c) (new c) c.args.steps.now c.lesson_of-lesson.new.steps
+    c.budget-budget.ensures.within (searching_old c) (searching_new c)
     c.args.side c.args.row stops.made step is_bad needs stops.marks)
     e.err e.due)

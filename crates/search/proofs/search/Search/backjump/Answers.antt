@@ -7,6 +7,19 @@ use Rattle.search.proofs.search.Search.backjump.Goals as goal
 
 pub returns-in_err-propagate-clause-due : goal.returns-in_err-propagate-clause-due
 returns-in_err-propagate-clause-due c = λ is.
-    let same = ap (λ (signs : Memory). record { derivation = c.self.inside.derivation; trail = c.self.inside.trail; clauses = c.self.inside.clauses; cubes = c.self.inside.cubes; signs = signs; watched = c.self.inside.watched.items; joined = c.self.inside.joined }) c.bump.ensures ∙ c.self.view_is in
-    let undoes = subst (λ (s : SearchState). Undoes c.args.prefix.now c.args.level s c.undo.new.self) same c.undo.ensures in
-    due_unit c.args.prefix.now c.args.level c.args.self.now c.undo.new.self c.keep.new.self c.propagate.new.self c.args.side c.args.row c.args.lit undoes c.keep.ensures c.requires.row c.requires.unit.unit c.in_err-propagate.ensures.same
+    let same = ap (λ (signs : Memory). record {
+      derivation = c.self.inside.derivation;
+      trail = c.self.inside.trail;
+      clauses = c.self.inside.clauses;
+      cubes =
+          c.self.inside.cubes;
+      signs = signs;
+      watched = c.self.inside.watched.items;
+      joined = c.self.inside.joined;
+    })
+    c.bump.ensures ∙ c.self.view_is in
+    let undoes = subst (λ (s : SearchState). Undoes c.args.prefix.now c.args.level s c.undo.new.self) same
+    c.undo.ensures in
+    due_unit c.args.prefix.now c.args.level c.args.self.now c.undo.new.self c.keep.new.self c.propagate.new.self
+    c.args.side c.args.row c.args.lit undoes c.keep.ensures c.requires.row c.requires.unit.unit
+    c.in_err-propagate.ensures.same

@@ -7,19 +7,32 @@ use Rattle.search.proofs.Joining.{parts}
 use Rattle.search.proofs.search.Search.detach.Goals as goal
 
 pub detach_from-requires-clause-threaded : goal.detach_from-requires-clause-threaded
-detach_from-requires-clause-threaded c = ((subst (IsIntact c.args.prefix.now) (sym c.self.view_is) c.requires.intact).watching.holds Exists).board
+detach_from-requires-clause-threaded c =
+    ((subst (IsIntact c.args.prefix.now) (sym c.self.view_is) c.requires.intact).watching.holds Exists).board
 
 pub returns-in-Exists : goal.returns-in-Exists
 returns-in-Exists c =
     let old = the_view c.self.inside in
-    let new : SearchState = record { derivation = c.detach_from.new.derivation; trail = c.self.inside.trail; clauses = c.detach_from.new.watch; cubes = c.self.inside.cubes; signs = c.self.inside.decider; watched = c.self.inside.watched.items; joined = c.self.inside.joined } in
+    let new : SearchState =
+    record {
+      derivation = c.detach_from.new.derivation;
+      trail = c.self.inside.trail;
+      clauses =
+          c.detach_from.new.watch;
+      cubes = c.self.inside.cubes;
+      signs = c.self.inside.decider;
+      watched =
+          c.self.inside.watched.items;
+      joined = c.self.inside.joined;
+    } in
     subst (λ (s : SearchState). Parts c.args.prefix.now s new c.args.id) c.self.view_is (
     parts c.holding_laws.ensures Exists c.args.prefix.now old new (record {
       trail = refl;
       signs = refl;
       watched = refl;
       joined = refl;
-      others = λ other apart. elim other as (λ o. (Exists ≢ o) → watch_of o new ≡ watch_of o old) [ Exists ↦ λ e. absurd (e refl) | Forall ↦ λ e. refl ] apart;
+      others = λ other apart. elim other as (λ o. (Exists ≢ o) → watch_of o new ≡ watch_of o old)
+          [ Exists ↦ λ e. absurd (e refl) | Forall ↦ λ e. refl ] apart;
       touches = c.detach_from.ensures.touches;
       looked = c.detach_from.ensures.looked;
     })
@@ -31,19 +44,32 @@ returns-in-Exists c =
     )
 
 pub detach_from-requires-in-Forall-clause-threaded : goal.detach_from-requires-in-Forall-clause-threaded
-detach_from-requires-in-Forall-clause-threaded c = ((subst (IsIntact c.args.prefix.now) (sym c.self.view_is) c.requires.intact).watching.holds Forall).board
+detach_from-requires-in-Forall-clause-threaded c =
+    ((subst (IsIntact c.args.prefix.now) (sym c.self.view_is) c.requires.intact).watching.holds Forall).board
 
 pub returns-in-Forall : goal.returns-in-Forall
 returns-in-Forall c =
     let old = the_view c.self.inside in
-    let new : SearchState = record { derivation = c.detach_from-in-Forall.new.derivation; trail = c.self.inside.trail; clauses = c.self.inside.clauses; cubes = c.detach_from-in-Forall.new.watch; signs = c.self.inside.decider; watched = c.self.inside.watched.items; joined = c.self.inside.joined } in
+    let new : SearchState =
+    record {
+      derivation = c.detach_from-in-Forall.new.derivation;
+      trail = c.self.inside.trail;
+      clauses =
+          c.self.inside.clauses;
+      cubes = c.detach_from-in-Forall.new.watch;
+      signs = c.self.inside.decider;
+      watched =
+          c.self.inside.watched.items;
+      joined = c.self.inside.joined;
+    } in
     subst (λ (s : SearchState). Parts c.args.prefix.now s new c.args.id) c.self.view_is (
     parts c.holding_laws.ensures Forall c.args.prefix.now old new (record {
       trail = refl;
       signs = refl;
       watched = refl;
       joined = refl;
-      others = λ other apart. elim other as (λ o. (Forall ≢ o) → watch_of o new ≡ watch_of o old) [ Forall ↦ λ e. absurd (e refl) | Exists ↦ λ e. refl ] apart;
+      others = λ other apart. elim other as (λ o. (Forall ≢ o) → watch_of o new ≡ watch_of o old)
+          [ Forall ↦ λ e. absurd (e refl) | Exists ↦ λ e. refl ] apart;
       touches = c.detach_from-in-Forall.ensures.touches;
       looked = c.detach_from-in-Forall.ensures.looked;
     })

@@ -14,10 +14,15 @@ returns-clause-resting c =
     let scopes = c.args.prefix.now in
     let resting = subst (IsResting scopes) (sym c.self.view_is) c.requires in
     resting_left scopes s d finishes c.drop_finish.ensures.drops
-    (λ k at. (subst (λ (cs : List OpenClause). Contains cs k) c.drop_finish.ensures.clauses at, λ id r. step_unfinished s.derivation d c.drop_finish.ensures.exactly id r.step))
+    (λ k at. (
+      subst (λ (cs : List OpenClause). Contains cs k) c.drop_finish.ensures.clauses at,
+      λ id r.
+          step_unfinished s.derivation d c.drop_finish.ensures.exactly id r.step,
+    ))
     c.holding_laws.ensures c.agreeing_laws.ensures resting
     (c.drop_finish.ensures.legal scopes resting.intact.legal)
-    (λ side id a. step_unfinished s.derivation d c.drop_finish.ensures.exactly id (resting.intact.watched.sides side id a).step)
+    (λ side id a. step_unfinished s.derivation d c.drop_finish.ensures.exactly id
+    (resting.intact.watched.sides side id a).step)
 
 pub returns-clause-cubes : goal.returns-clause-cubes
 returns-clause-cubes c = λ none.

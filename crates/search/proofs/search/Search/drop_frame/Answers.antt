@@ -14,9 +14,11 @@ returns-clause-resting c =
     let d = c.drop_frame.new.self in
     let scopes = c.args.prefix.now in
     let resting = subst (IsResting scopes) (sym c.self.view_is) c.detach_all.ensures.resting in
-    let none = resting_detached scopes s resting (ap (λ (t : SearchState). t.joined) c.self.view_is ∙ c.detach_all.ensures.joined) in
+    let none = resting_detached scopes s resting
+    (ap (λ (t : SearchState). t.joined) c.self.view_is ∙ c.detach_all.ensures.joined) in
     resting_left scopes s d (has_tag c.args.frame) c.drop_frame.ensures.drops
-    (clauses_in_frames scopes s.derivation d c.args.frame c.clauses_are_listed.ensures c.drop_frame.ensures.drops c.drop_frame.ensures.clauses)
+    (clauses_in_frames scopes s.derivation d c.args.frame c.clauses_are_listed.ensures c.drop_frame.ensures.drops
+    c.drop_frame.ensures.clauses)
     c.holding_laws.ensures c.agreeing_laws.ensures resting
     (c.drop_frame.ensures.legal scopes resting.intact.legal)
     (λ side id a. absurd (false≢true (sym (not_attached side (rows_of s) id (none id)) ∙ a)))

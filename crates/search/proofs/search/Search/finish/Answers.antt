@@ -12,12 +12,17 @@ use Rattle.search.proofs.search.Search.finish.Goals as goal
 pub returns-clause-outcome : goal.returns-clause-outcome
 returns-clause-outcome c =
     if_ok c.finish.result
-    (λ id removes. is_outcome c.args.prefix.now c.args.matrix.now c.args.assumptions.now c.self.inside.derivation c.finish.new.self c.args.end.side c.args.end.row id c.steps_are_listed.ensures c.same_clauses_serve.ensures c.end_rows_give_proofs.ensures c.proofs_decide.ensures c.finishes_end_proofs.ensures c.scopes-valid.ensures.valid
-    (subst (λ (s : SearchState). IsLegalFor c.args.prefix.now s.derivation) (sym c.self.view_is) c.requires.resting.intact.legal)
+    (λ id removes. is_outcome c.args.prefix.now c.args.matrix.now c.args.assumptions.now c.self.inside.derivation
+    c.finish.new.self c.args.end.side c.args.end.row id c.steps_are_listed.ensures c.same_clauses_serve.ensures
+    c.end_rows_give_proofs.ensures c.proofs_decide.ensures c.finishes_end_proofs.ensures c.scopes-valid.ensures.valid
+    (subst (λ (s : SearchState). IsLegalFor c.args.prefix.now s.derivation)
+    (sym c.self.view_is) c.requires.resting.intact.legal)
     (subst (λ (s : SearchState). IsMatrix s.derivation c.args.matrix.now) (sym c.self.view_is) c.requires.matrix)
     c.requires.outer
-    (subst (λ (s : SearchState). IsReducedStep c.args.end.side c.args.prefix.now s.derivation c.args.end.row) (sym c.self.view_is) c.requires.row)
-    (subst (λ (s : SearchState). IsEndRow c.args.end.side c.args.prefix.now c.args.assumptions.now (row_of s.derivation c.args.end.row)) (sym c.self.view_is) c.requires.end)
+    (subst (λ (s : SearchState). IsReducedStep c.args.end.side c.args.prefix.now s.derivation c.args.end.row)
+    (sym c.self.view_is) c.requires.row)
+    (subst (λ (s : SearchState). IsEndRow c.args.end.side c.args.prefix.now c.args.assumptions.now
+    (row_of s.derivation c.args.end.row)) (sym c.self.view_is) c.requires.end)
     removes)
     c.finish.ensures.ok
 
@@ -27,7 +32,9 @@ returns-clause-resting c =
     let resting = subst (IsResting c.args.prefix.now) (sym c.self.view_is) c.requires.resting in
     either_way c.finish.result
     (on_ok_with c.finish.result
-    (λ gains legal. resting_gained c.args.prefix.now s (record s { derivation = c.finish.new.self }) c.holding_laws.ensures c.agreeing_laws.ensures resting gains (legal c.args.prefix.now resting.intact.legal) refl refl refl refl refl refl)
+    (λ gains legal. resting_gained c.args.prefix.now s
+    (record s { derivation = c.finish.new.self }) c.holding_laws.ensures c.agreeing_laws.ensures resting gains
+    (legal c.args.prefix.now resting.intact.legal) refl refl refl refl refl refl)
     c.finish.ensures.gains c.finish.ensures.legal)
     c.finish.ensures.err
     (λ now. now)

@@ -12,9 +12,12 @@ more c =
     let old = c.reserve.new.self in
     let held = old.ok.0 in
     let room : vec_len old < vec_capacity old = omega arith in
-    c.push.ensures.items ∙ (cond-true (is_ok c.push.result) (old.items ++ c.in_ok-id.id ∷ []) old.items (c.push.ensures.succeeds room) ∙ ap (λ (ids : List ℕ). ids ++ c.in_ok-id.id ∷ []) c.reserve.ensures.items)
+    c.push.ensures.items ∙ (cond-true (is_ok c.push.result) (old.items ++ c.in_ok-id.id ∷ []) old.items
+    (c.push.ensures.succeeds room) ∙ ap (λ (ids : List ℕ). ids ++ c.in_ok-id.id ∷ []) c.reserve.ensures.items)
 
-inputs : (c : goal.After-push) → Inputs c.args.prefix.now c.self.inside.derivation c.input_clause.new.self c.in_ok-id.field-0-0 c.in_ok-id.id c.args.frame c.args.lits.now
+inputs : (c : goal.After-push)
+    → Inputs c.args.prefix.now c.self.inside.derivation c.input_clause.new.self c.in_ok-id.field-0-0 c.in_ok-id.id
+    c.args.frame c.args.lits.now
 inputs c = record {
   inputs = c.in_ok-id.ensures.ok;
   reduction = c.in_ok-id.ensures.reduction;
@@ -29,7 +32,8 @@ returns-clause-resting c =
     let s = the_view c.self.inside in
     let scopes = c.args.prefix.now in
     let resting = subst (IsResting scopes) (sym c.self.view_is) c.requires.resting in
-    resting_input c.growth_laws.ensures scopes s c.input_clause.new.self c.in_ok-id.field-0-0 c.in_ok-id.id c.args.frame c.args.lits.now (inputs c) c.push.new.self.items (more c) resting.intact.watched
+    resting_input c.growth_laws.ensures scopes s c.input_clause.new.self c.in_ok-id.field-0-0 c.in_ok-id.id
+    c.args.frame c.args.lits.now (inputs c) c.push.new.self.items (more c) resting.intact.watched
     c.holding_laws.ensures c.agreeing_laws.ensures resting
     (ap (λ (t : SearchState). t.joined) c.self.view_is ∙ c.requires.joined)
     c.input_clause.ensures.rows
@@ -40,5 +44,6 @@ returns-clause-cubes c = λ none.
     let s = the_view c.self.inside in
     let scopes = c.args.prefix.now in
     let resting = subst (IsResting scopes) (sym c.self.view_is) c.requires.resting in
-    no_cubes_input c.growth_laws.ensures scopes s c.input_clause.new.self c.in_ok-id.field-0-0 c.in_ok-id.id c.args.frame c.args.lits.now (inputs c) c.push.new.self.items (more c) resting.intact.watched
+    no_cubes_input c.growth_laws.ensures scopes s c.input_clause.new.self c.in_ok-id.field-0-0 c.in_ok-id.id
+    c.args.frame c.args.lits.now (inputs c) c.push.new.self.items (more c) resting.intact.watched
     (subst HasNoCubes (sym c.self.view_is) none)

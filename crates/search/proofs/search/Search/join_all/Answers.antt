@@ -8,11 +8,13 @@ pub loop-k-init : goal.loop-k-init
 loop-k-init c =
     let s = the_view c.self.inside in
     let ids = c.forget_dropped.new.watched.items in
-    joined_none c.args.prefix.now _ (intact_left c.args.prefix.now s ids c.forget_dropped.ensures (subst (IsIntact c.args.prefix.now) (sym c.self.view_is) c.requires))
+    joined_none c.args.prefix.now _ (intact_left c.args.prefix.now s ids c.forget_dropped.ensures
+    (subst (IsIntact c.args.prefix.now) (sym c.self.view_is) c.requires))
     (λ id at. (was_before c.args.prefix.now s ids c.forget_dropped.ensures id at).1)
 
 pub loop-k-preserved : goal.loop-k-preserved
-loop-k-preserved c = joined_more c.args.prefix.now _ c.loop-k.self c.attach_at.new.self c.loop-k.k c.loop-k.invariant c.attach_at.ensures
+loop-k-preserved c = joined_more c.args.prefix.now _ c.loop-k.self c.attach_at.new.self c.loop-k.k c.loop-k.invariant
+    c.attach_at.ensures
 
 pub returns-clause-paused : goal.returns-clause-paused
 returns-clause-paused c =
@@ -27,4 +29,5 @@ returns-clause-part c = λ id at.
     let s = the_view c.self.inside in
     let ids = c.forget_dropped.new.watched.items in
     let here : Contains ids id = subst (λ (ws : List ℕ). Contains ws id) c.loop-k.invariant.over.watched at in
-    subst (λ (t : SearchState). Contains t.watched id) c.self.view_is (was_before c.args.prefix.now s ids c.forget_dropped.ensures id here).0
+    subst (λ (t : SearchState). Contains t.watched id) c.self.view_is
+    (was_before c.args.prefix.now s ids c.forget_dropped.ensures id here).0

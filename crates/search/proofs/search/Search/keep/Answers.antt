@@ -12,7 +12,8 @@ attach-requires-clause-intact c =
     let s = the_view c.self.inside in
     let is : s ≡ c.args.self.now = c.self.view_is ∙ c.has.ensures.same in
     intact_more c.args.prefix.now s c.push.new.self.items c.args.row c.in_ok-push.ensures.items
-    (subst (λ (t : SearchState). IsReducedStep (side_at t.derivation c.args.row) c.args.prefix.now t.derivation c.args.row) (sym is) c.requires.reduced)
+    (subst (λ (t : SearchState). IsReducedStep
+    (side_at t.derivation c.args.row) c.args.prefix.now t.derivation c.args.row) (sym is) c.requires.reduced)
     (subst (IsSearching c.args.prefix.now) (sym is) c.requires.searching).paused.intact
 
 pub returns : goal.returns

@@ -8,15 +8,21 @@ use Rattle.search.proofs.search.Search.learn.Goals as goal
 
 pub returns-in_err-backjump-in-Learn-clause-due : goal.returns-in_err-backjump-in-Learn-clause-due
 returns-in_err-backjump-in-Learn-clause-due c = λ is.
-    let p = err_from_is_err_and c.from_residual-in_err-backjump-in-Learn.result c.from_residual-in_err-backjump-in-Learn.ensures.1 in
+    let p = err_from_is_err_and c.from_residual-in_err-backjump-in-Learn.result
+    c.from_residual-in_err-backjump-in-Learn.ensures.1 in
     let same : c.in_err-backjump-in-Learn.field-0.0 ≡ spent = (let g = sym p.1 ∙ is in cc) in
-    due_later c.args.prefix.now c.args.self.now c.analysed.new.self c.backjump.new.self c.args.steps.now c.analysed.new.steps c.backjump.new.steps c.in_ok-row.ensures.ok (c.in_err-backjump-in-Learn.ensures.due (ap Err same))
+    due_later c.args.prefix.now c.args.self.now c.analysed.new.self c.backjump.new.self c.args.steps.now
+    c.analysed.new.steps c.backjump.new.steps c.in_ok-row.ensures.ok
+    (c.in_err-backjump-in-Learn.ensures.due (ap Err same))
 
 pub returns-in-End-clause-end : goal.returns-in-End-clause-end
 returns-in-End-clause-end c =
-    let lesson = subst (λ (l : Lesson). IsLesson c.args.side c.args.prefix.now c.analysed.new.self.trail.placed c.analysed.new.self.derivation l) c.in-End.is c.in_ok-row.ensures.lesson in
-    ends_analysed c.args.prefix.now c.args.self.now c.analysed.new.self c.args.steps.now c.analysed.new.steps c.args.side c.in-End.row c.in_ok-row.ensures.ok lesson.0 lesson.1
+    let lesson = subst (λ (l : Lesson). IsLesson c.args.side c.args.prefix.now c.analysed.new.self.trail.placed
+    c.analysed.new.self.derivation l) c.in-End.is c.in_ok-row.ensures.lesson in
+    ends_analysed c.args.prefix.now c.args.self.now c.analysed.new.self c.args.steps.now c.analysed.new.steps
+    c.args.side c.in-End.row c.in_ok-row.ensures.ok lesson.0 lesson.1
 
 pub returns-in_ok-backjump-in-Learn-clause-go : goal.returns-in_ok-backjump-in-Learn-clause-go
 returns-in_ok-backjump-in-Learn-clause-go c = λ is.
-    advances_later c.args.prefix.now c.args.self.now c.analysed.new.self c.backjump.new.self c.args.steps.now c.analysed.new.steps c.backjump.new.steps c.in_ok-row.ensures.ok c.in_ok-backjump-in-Learn.ensures.ok
+    advances_later c.args.prefix.now c.args.self.now c.analysed.new.self c.backjump.new.self c.args.steps.now
+    c.analysed.new.steps c.backjump.new.steps c.in_ok-row.ensures.ok c.in_ok-backjump-in-Learn.ensures.ok

@@ -11,7 +11,8 @@ returns-clause-resting c = resting_new c.holding_laws.ensures _ (record {
   legal = c.new.ensures.legal [];
   trail = c.new-2.ensures.value;
   kept = c.new-2.ensures.kept;
-  watches = λ side. elim side as (λ p. watch_of p _ ≡ new_watch) [ Exists ↦ c.new-3.ensures | Forall ↦ c.new-4.ensures ];
+  watches = λ side. elim side as (λ p. watch_of p _ ≡ new_watch)
+      [ Exists ↦ c.new-3.ensures | Forall ↦ c.new-4.ensures ];
   watched = c.new-6.ensures.items;
   joined = refl;
 })

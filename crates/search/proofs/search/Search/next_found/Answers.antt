@@ -9,6 +9,7 @@ pub returns-in-Quiet-next_cube-clause-found : goal.returns-in-Quiet-next_cube-cl
 returns-in-Quiet-next_cube-clause-found c side =
     let new = c.next_cube.new.self in
     elim side as (λ p. AreQuiet p c.args.prefix.now (value_on new.trail.placed) (rows_of new)) [
-      | Exists ↦ quiet_stays Exists c.args.prefix.now c.next_clause.new.self new c.in-Quiet-next_cube.ensures.looks c.in-Quiet.ensures.event
+      | Exists ↦ quiet_stays Exists c.args.prefix.now c.next_clause.new.self new c.in-Quiet-next_cube.ensures.looks
+          c.in-Quiet.ensures.event
       | Forall ↦ c.in-Quiet-next_cube.ensures.event
     ]

@@ -16,5 +16,7 @@ returns-in_default-clause-due c = λ is.
 pub returns-in_err-decide-clause-due : goal.returns-in_err-decide-clause-due
 returns-in_err-decide-clause-due c = λ is.
     due_decision c.args.prefix.now c.args.self.now c.decide.new.self c.in-Some.lit.variable c.requires.searching
-    (subst (λ (s : SearchState). IsDecision c.args.prefix.now s.trail.placed c.in-Some.lit.variable) c.self.view_is c.in-Some.ensures.decision)
-    (ap (λ (s : SearchState). s.trail.assigned) c.in_err-decide.ensures.same ∙ ap (λ (s : SearchState). s.trail.assigned) c.self.view_is)
+    (subst (λ (s : SearchState). IsDecision c.args.prefix.now s.trail.placed c.in-Some.lit.variable) c.self.view_is
+    c.in-Some.ensures.decision)
+    (ap (λ (s : SearchState). s.trail.assigned) c.in_err-decide.ensures.same
+    ∙ ap (λ (s : SearchState). s.trail.assigned) c.self.view_is)

@@ -13,15 +13,20 @@ use Rattle.search.proofs.search.Search.run.Goals as goal
 
 pub turns-smaller : goal.turns-smaller
 turns-smaller c =
-    let adv : Advances c.args.prefix.now 0 c.turns.self c.turn.new.self c.turns.steps c.turn.new.steps = c.in_ok-end.ensures.go (ap Ok c.in_default.is) in
-    let more : c.turns.self.trail.assigned < c.turn.new.self.trail.assigned = (adv.counted c.args.steps.now.spent c.turns.invariant.counted).1 in
-    let few : c.turn.new.self.trail.assigned + 1 < assignment_limit 0 (size_of c.args.prefix.now) = assigned_few c.args.prefix.now c.turn.new.self.trail adv.searching.paused.intact.trail in
-    let goes : assignment_limit 0 (size_of c.args.prefix.now) - c.turn.new.self.trail.assigned < assignment_limit 0 (size_of c.args.prefix.now) - c.turns.self.trail.assigned = omega arith in
+    let adv : Advances c.args.prefix.now 0 c.turns.self c.turn.new.self c.turns.steps c.turn.new.steps =
+    c.in_ok-end.ensures.go (ap Ok c.in_default.is) in
+    let more : c.turns.self.trail.assigned < c.turn.new.self.trail.assigned =
+    (adv.counted c.args.steps.now.spent c.turns.invariant.counted).1 in
+    let few : c.turn.new.self.trail.assigned + 1 < assignment_limit 0 (size_of c.args.prefix.now) =
+    assigned_few c.args.prefix.now c.turn.new.self.trail adv.searching.paused.intact.trail in
+    let goes : assignment_limit 0 (size_of c.args.prefix.now) - c.turn.new.self.trail.assigned < assignment_limit 0
+    (size_of c.args.prefix.now) - c.turns.self.trail.assigned = omega arith in
     goes
 
 pub turns-preserved : goal.turns-preserved
 turns-preserved c =
-    let adv : Advances c.args.prefix.now 0 c.turns.self c.turn.new.self c.turns.steps c.turn.new.steps = c.in_ok-end.ensures.go (ap Ok c.in_default.is) in
+    let adv : Advances c.args.prefix.now 0 c.turns.self c.turn.new.self c.turns.steps c.turn.new.steps =
+    c.in_ok-end.ensures.go (ap Ok c.in_default.is) in
     let i = c.turns.invariant in
     let one = i.rises in
     let two = adv.rises in
@@ -33,13 +38,15 @@ turns-preserved c =
       clauses = adv.clauses ∙ i.clauses;
       budget = adv.budget ∙ i.budget;
       rises = omega arith;
-      forced = λ none refuted. c.in_ok-end.ensures.forced c.args.steps.now.spent (i.forced none refuted) (ap Ok c.in_default.is);
+      forced = λ none refuted. c.in_ok-end.ensures.forced c.args.steps.now.spent (i.forced none refuted)
+          (ap Ok c.in_default.is);
       matrix = matrix_moves c.turns.self.derivation c.turn.new.self.derivation c.args.matrix.now adv.clauses i.matrix;
     }
 
 pub returns-in_err-assume-clause-refuted : goal.returns-in_err-assume-clause-refuted
 returns-in_err-assume-clause-refuted c = λ none refuted is.
-    let few = assumptions_few c.args.prefix.now c.args.assumptions.now c.requires.outer (distinct (variables_in c.args.assumptions.now) c.requires.ascending) in
+    let few = assumptions_few c.args.prefix.now c.args.assumptions.now c.requires.outer
+    (distinct (variables_in c.args.assumptions.now) c.requires.ascending) in
     let due = c.in_err-assume.ensures.due in
     omega arith
 
@@ -53,4 +60,5 @@ returns-in_err-end-clause-due c = λ is.
     let p = err_from_is_err_and c.from_residual-in_err-end.result c.from_residual-in_err-end.ensures.1 in
     let same : p.0 ≡ spent = (let g = sym p.1 ∙ is in cc) in
     let i = c.turns.invariant in
-    due_at_stop c.args.prefix.now c.args.self.now.derivation c.turns.self c.turn.new.self c.args.assumptions.now c.args.steps.now i.clauses i.assumed (c.in_err-end.ensures.due (ap Err (sym p.2 ∙ same)))
+    due_at_stop c.args.prefix.now c.args.self.now.derivation c.turns.self c.turn.new.self c.args.assumptions.now
+    c.args.steps.now i.clauses i.assumed (c.in_err-end.ensures.due (ap Err (sym p.2 ∙ same)))

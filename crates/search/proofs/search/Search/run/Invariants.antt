@@ -18,7 +18,8 @@ invariant-turns l = record {
   clauses : clauses_of l.self.derivation ≡ clauses_of l.fn.self.derivation;
   budget : l.steps.budget ≡ l.fn.steps.budget;
   rises : l.fn.steps.spent ≤ l.steps.spent;
-  forced : NoCubeAttached l.fn.self → IsRefuted l.prefix l.matrix l.assumptions → IsRefuting l.prefix l.matrix l.fn.steps.spent l.self l.steps;
+  forced : NoCubeAttached l.fn.self → IsRefuted l.prefix l.matrix l.assumptions
+      → IsRefuting l.prefix l.matrix l.fn.steps.spent l.self l.steps;
   matrix : IsMatrix l.self.derivation l.matrix;
 }
 

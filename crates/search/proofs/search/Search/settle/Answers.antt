@@ -8,5 +8,14 @@ pub returns-clause-resting : goal.returns-clause-resting
 returns-clause-resting c =
     let is = c.clear.ensures.cleared in
     rests c.args.prefix.now c.args.self.now _ c.holding_laws.ensures c.looking_laws.ensures c.requires.paused refl
-    (cut_changes _ c.args.self.now c.clear.new.self 0 c.undone.new.self c.undone-2.new.self c.undoing.new.self c.self.view_is (ap (λ (t : TrailState). t.room) is) c.undone.ensures c.undone-2.ensures (ap length c.undoing.ensures ∙ saved_length (drop 0 (literals_on c.self.inside.trail.placed)) c.self.inside.decider) true)
-    (record { empty = ap (λ (t : TrailState). t.placed) is; allowed = ap (λ (t : TrailState). t.allowed) is; begun = ap (λ (t : TrailState). t.assigned) is; kept = c.clear.ensures.kept })
+    (cut_changes _ c.args.self.now c.clear.new.self 0 c.undone.new.self c.undone-2.new.self c.undoing.new.self
+    c.self.view_is (ap (λ (t : TrailState). t.room) is) c.undone.ensures c.undone-2.ensures
+    (ap length c.undoing.ensures
+    ∙ saved_length (drop 0 (literals_on c.self.inside.trail.placed)) c.self.inside.decider) true)
+    (record {
+      empty = ap (λ (t : TrailState). t.placed) is;
+      allowed = ap (λ (t : TrailState). t.allowed) is;
+      begun =
+          ap (λ (t : TrailState). t.assigned) is;
+      kept = c.clear.ensures.kept;
+    })

@@ -14,59 +14,83 @@ returns-in_err-propagate-in-Unit-clause-due c = λ is.
     let e = c.in-Unit.ensures in
     let between = c.next_found.new.self in
     due_between c.args.prefix.now c.args.self.now between c.propagate.new.self e.looks.steps.clauses e.looks.trail
-    (due_now c.args.prefix.now between c.propagate.new.self c.in-Unit.side c.in-Unit.row c.in-Unit.lit e.looks.searching (e.looks.searching.paused.intact.watched.sides c.in-Unit.side c.in-Unit.row e.found.0) e.found.1 c.in_err-propagate-in-Unit.ensures.same)
+    (due_now c.args.prefix.now between c.propagate.new.self c.in-Unit.side c.in-Unit.row c.in-Unit.lit
+    e.looks.searching (e.looks.searching.paused.intact.watched.sides c.in-Unit.side c.in-Unit.row e.found.0) e.found.1
+    c.in_err-propagate-in-Unit.ensures.same)
 
 pub returns-in_err-propagate-in-Unit-clause-refuted : goal.returns-in_err-propagate-in-Unit-clause-refuted
 returns-in_err-propagate-in-Unit-clause-refuted c = λ start refuting is.
     let e = c.in-Unit.ensures in
     let between = c.next_found.new.self in
     let same = c.in_err-propagate-in-Unit.ensures.uncounted in
-    let now = refuting_looked c.args.prefix.now c.args.matrix.now start c.args.self.now between c.args.steps.now e.looks refuting in
+    let now = refuting_looked c.args.prefix.now c.args.matrix.now start c.args.self.now between c.args.steps.now
+    e.looks refuting in
     let step = e.looks.searching.paused.intact.watched.sides c.in-Unit.side c.in-Unit.row e.found.0 in
-    let row = step_row c.args.prefix.now between.derivation c.in-Unit.row e.looks.searching.paused.intact.legal step.step in
-    rw same (few_assignment c.args.prefix.now start between c.args.steps.now c.in-Unit.side (row_of between.derivation c.in-Unit.row) c.in-Unit.lit e.looks.searching (row.over_prefix c.in-Unit.lit e.found.1.stands) e.found.1 now.forced
+    let row = step_row c.args.prefix.now between.derivation c.in-Unit.row e.looks.searching.paused.intact.legal
+    step.step in
+    rw same (few_assignment c.args.prefix.now start between c.args.steps.now c.in-Unit.side
+    (row_of between.derivation c.in-Unit.row) c.in-Unit.lit e.looks.searching
+    (row.over_prefix c.in-Unit.lit e.found.1.stands) e.found.1 now.forced
     (subst (λ (n : Counter). n.spent ≡ n.budget) same c.in_err-propagate-in-Unit.ensures.spent))
 
 pub quiet-requires-clause-matrix : goal.quiet-requires-clause-matrix
-quiet-requires-clause-matrix c = matrix_moves c.args.self.now.derivation c.next_found.new.self.derivation c.args.matrix.now c.next_found.ensures.looks.steps.clauses c.requires.matrix
+quiet-requires-clause-matrix c =
+    matrix_moves c.args.self.now.derivation c.next_found.new.self.derivation c.args.matrix.now
+    c.next_found.ensures.looks.steps.clauses c.requires.matrix
 
 pub returns-in_ok-propagate-in-Unit-clause-forced : goal.returns-in_ok-propagate-in-Unit-clause-forced
 returns-in_ok-propagate-in-Unit-clause-forced c = λ start refuting is.
     let e = c.in-Unit.ensures in
     let between = c.next_found.new.self in
-    let now = refuting_looked c.args.prefix.now c.args.matrix.now start c.args.self.now between c.args.steps.now e.looks refuting in
-    refuting_push c.args.prefix.now c.args.matrix.now start between c.propagate.new.self c.in-Unit.side c.in-Unit.row c.in-Unit.lit c.args.steps.now c.propagate.new.steps now e.found.0 e.found.1 c.in_ok-propagate-in-Unit.ensures.ok.assumed c.in_ok-propagate-in-Unit.ensures.pushes
+    let now = refuting_looked c.args.prefix.now c.args.matrix.now start c.args.self.now between c.args.steps.now
+    e.looks refuting in
+    refuting_push c.args.prefix.now c.args.matrix.now start between c.propagate.new.self c.in-Unit.side c.in-Unit.row
+    c.in-Unit.lit c.args.steps.now c.propagate.new.steps now e.found.0 e.found.1
+    c.in_ok-propagate-in-Unit.ensures.ok.assumed c.in_ok-propagate-in-Unit.ensures.pushes
 
 pub returns-in-Bad-clause-due : goal.returns-in-Bad-clause-due
 returns-in-Bad-clause-due c = λ is.
-    due_between c.args.prefix.now c.args.self.now c.next_found.new.self c.learn.new.self c.next_found.ensures.looks.steps.clauses c.next_found.ensures.looks.trail (c.learn.ensures.due is)
+    due_between c.args.prefix.now c.args.self.now c.next_found.new.self c.learn.new.self
+    c.next_found.ensures.looks.steps.clauses c.next_found.ensures.looks.trail (c.learn.ensures.due is)
 
 pub returns-in-Bad-clause-forced : goal.returns-in-Bad-clause-forced
 returns-in-Bad-clause-forced c = λ start refuting is.
-    let now = refuting_looked c.args.prefix.now c.args.matrix.now start c.args.self.now c.next_found.new.self c.args.steps.now c.next_found.ensures.looks refuting in
-    absurd (c.learn.ensures.ends (forced_level c.args.prefix.now start c.next_found.new.self c.args.steps.now now.forced) is)
+    let now = refuting_looked c.args.prefix.now c.args.matrix.now start c.args.self.now c.next_found.new.self
+    c.args.steps.now c.next_found.ensures.looks refuting in
+    absurd (c.learn.ensures.ends (forced_level c.args.prefix.now start c.next_found.new.self c.args.steps.now
+    now.forced) is)
 
 pub returns-in-Bad-clause-refuted : goal.returns-in-Bad-clause-refuted
 returns-in-Bad-clause-refuted c = λ start refuting is.
-    let now = refuting_looked c.args.prefix.now c.args.matrix.now start c.args.self.now c.next_found.new.self c.args.steps.now c.next_found.ensures.looks refuting in
-    let few = few_analysis c.args.prefix.now start c.next_found.new.self c.args.steps.now c.next_found.ensures.looks.searching now.forced (c.learn.ensures.few (forced_level c.args.prefix.now start c.next_found.new.self c.args.steps.now now.forced) is) in
+    let now = refuting_looked c.args.prefix.now c.args.matrix.now start c.args.self.now c.next_found.new.self
+    c.args.steps.now c.next_found.ensures.looks refuting in
+    let few = few_analysis c.args.prefix.now start c.next_found.new.self c.args.steps.now
+    c.next_found.ensures.looks.searching now.forced
+    (c.learn.ensures.few (forced_level c.args.prefix.now start c.next_found.new.self c.args.steps.now now.forced) is) in
     let halts = on_err_at c.learn.result spent is (λ h. h) c.learn.ensures.err in
     rw halts.budget few
 
 pub returns-in-Quiet-clause-due : goal.returns-in-Quiet-clause-due
 returns-in-Quiet-clause-due c = λ is.
-    due_between c.args.prefix.now c.args.self.now c.next_found.new.self c.quiet.new.self c.next_found.ensures.looks.steps.clauses c.next_found.ensures.looks.trail (c.quiet.ensures.due is)
+    due_between c.args.prefix.now c.args.self.now c.next_found.new.self c.quiet.new.self
+    c.next_found.ensures.looks.steps.clauses c.next_found.ensures.looks.trail (c.quiet.ensures.due is)
 
 pub returns-in-Quiet-clause-forced : goal.returns-in-Quiet-clause-forced
 returns-in-Quiet-clause-forced c = λ start refuting is.
     let e = c.in-Quiet.ensures in
     let between = c.next_found.new.self in
-    let now = refuting_looked c.args.prefix.now c.args.matrix.now start c.args.self.now between c.args.steps.now e.looks refuting in
-    absurd (never_quiet c.args.prefix.now c.args.matrix.now start between c.args.steps.now e.looks.searching.paused (matrix_moves c.args.self.now.derivation between.derivation c.args.matrix.now e.looks.steps.clauses c.requires.matrix) now (e.found Exists))
+    let now = refuting_looked c.args.prefix.now c.args.matrix.now start c.args.self.now between c.args.steps.now
+    e.looks refuting in
+    absurd (never_quiet c.args.prefix.now c.args.matrix.now start between c.args.steps.now e.looks.searching.paused
+    (matrix_moves c.args.self.now.derivation between.derivation c.args.matrix.now e.looks.steps.clauses
+    c.requires.matrix) now (e.found Exists))
 
 pub returns-in-Quiet-clause-refuted : goal.returns-in-Quiet-clause-refuted
 returns-in-Quiet-clause-refuted c = λ start refuting is.
     let e = c.in-Quiet.ensures in
     let between = c.next_found.new.self in
-    let now = refuting_looked c.args.prefix.now c.args.matrix.now start c.args.self.now between c.args.steps.now e.looks refuting in
-    absurd (never_quiet c.args.prefix.now c.args.matrix.now start between c.args.steps.now e.looks.searching.paused (matrix_moves c.args.self.now.derivation between.derivation c.args.matrix.now e.looks.steps.clauses c.requires.matrix) now (e.found Exists))
+    let now = refuting_looked c.args.prefix.now c.args.matrix.now start c.args.self.now between c.args.steps.now
+    e.looks refuting in
+    absurd (never_quiet c.args.prefix.now c.args.matrix.now start between c.args.steps.now e.looks.searching.paused
+    (matrix_moves c.args.self.now.derivation between.derivation c.args.matrix.now e.looks.steps.clauses
+    c.requires.matrix) now (e.found Exists))

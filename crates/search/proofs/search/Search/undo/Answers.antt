@@ -9,8 +9,14 @@ pub returns : goal.returns
 returns c =
     let s = c.args.self.now in
     let e = c.self.view_is in
-    undoes c.args.prefix.now c.args.level c.len_to-keep.result s _ c.holding_laws.ensures c.looking_laws.ensures c.requires.searching c.requires.below
-    (cut_changes _ s c.undo_to.new.self c.len_to-keep.result c.undone.new.self c.undone-2.new.self c.undoing.new.self e c.undo_to.ensures.room c.undone.ensures c.undone-2.ensures (ap length c.undoing.ensures ∙ saved_length (drop c.len_to-keep.result (literals_on c.self.inside.trail.placed)) c.self.inside.decider) c.self.inside.joined)
+    undoes c.args.prefix.now c.args.level c.len_to-keep.result s _ c.holding_laws.ensures c.looking_laws.ensures
+    c.requires.searching c.requires.below
+    (cut_changes _ s c.undo_to.new.self c.len_to-keep.result c.undone.new.self c.undone-2.new.self c.undoing.new.self
+    e c.undo_to.ensures.room c.undone.ensures c.undone-2.ensures
+    (ap length c.undoing.ensures
+    ∙ saved_length (drop c.len_to-keep.result (literals_on c.self.inside.trail.placed)) c.self.inside.decider)
+    c.self.inside.joined)
     (c.undo_to.ensures.cut ∙ ap (λ (x : SearchState). undone_to c.args.level x.trail) e)
-    (c.undo_to.ensures.kept c.args.prefix.now (rw (ap (λ (x : SearchState). x.trail) e) c.requires.searching.paused.intact.trail))
+    (c.undo_to.ensures.kept c.args.prefix.now
+    (rw (ap (λ (x : SearchState). x.trail) e) c.requires.searching.paused.intact.trail))
     (c.len_to-keep.ensures ∙ ap (λ (x : SearchState). length (cut_trail c.args.level x.trail.placed)) e)

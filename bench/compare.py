@@ -1,0 +1,65 @@
+#!/usr/bin/env python3
+"""Runs qbf, and DepQBF where it is installed, on a folder of formulas, and prints solved formulas and total time a family.
+
+Ends with status 1 where two verdicts differ.
+
+usage: compare.py FOLDER [SECONDS]        QBF=COMMAND in the environment: another command than bin/qbf solve
+"""
+
+import os
+import shutil
+import subprocess
+import sys
+import time
+from collections import defaultdict
+from pathlib import Path
+
+DEPQBF = "depqbf --dep-man=simple --traditional-qcdcl --no-qbce-dynamic --no-pure-literals"
+
+
+def run(command, path, limit):
+    """The verdict, or None, and the seconds that it took."""
+    started = time.monotonic()
+    try:
+        done = subprocess.run([*command, str(path)], capture_output=True, text=True, timeout=limit)
+    except subprocess.TimeoutExpired:
+        return None, limit
+    spent = time.monotonic() - started
+    return {10: True, 20: False}.get(done.returncode), spent
+
+
+def main():
+    folder = Path(sys.argv[1])
+    limit = float(sys.argv[2]) if len(sys.argv) > 2 else 20.0
+    root = Path(__file__).resolve().parent.parent
+    solvers = {"qbf": os.environ.get("QBF", f"{root}/bin/qbf solve").split()}
+    if shutil.which("depqbf"):
+        solvers["depqbf"] = DEPQBF.split()
+    counts = defaultdict(int)
+    solved = defaultdict(int)
+    seconds = defaultdict(float)
+    differ = []
+    for path in sorted(folder.glob("*.qdimacs")):
+        family = path.stem.rsplit("-", 1)[0]
+        counts[family] += 1
+        verdicts = {}
+        for name, command in solvers.items():
+            verdict, spent = run(command, path, limit)
+            seconds[family, name] += spent
+            if verdict is not None:
+                solved[family, name] += 1
+                verdicts[name] = verdict
+        if len(set(verdicts.values())) > 1:
+            differ.append(path.name)
+    print("| Family | Formulas | " + " | ".join(f"{n} solved | {n} seconds" for n in solvers) + " |")
+    print("|---" * (2 + 2 * len(solvers)) + "|")
+    for family, count in counts.items():
+        cells = [f"{solved[family, n]} | {seconds[family, n]:.2f}" for n in solvers]
+        print(f"| {family} | {count} | " + " | ".join(cells) + " |")
+    for name in differ:
+        print(f"verdicts differ: {name}")
+    sys.exit(1 if differ else 0)
+
+
+if __name__ == "__main__":
+    main()

@@ -1,0 +1,270 @@
+//! Small formulas that are drawn, and decided in two ways.
+ghost use Rattle.std.specs.Prelude.{◌<◌};
+
+use super::random::Random;
+use crate::{Engine, SolveStop};
+use prefix::{Lit, LitList, Prefix, Quant, Var};
+use std::alloc::Global;
+use std::mem;
+use std::test::Fail;
+use steps::Steps;
+use truth::{ClauseList, Formula, decide_plain};
+
+// How many variables a formula has, two in each of its three scopes.
+const VARS: u64 = 6;
+
+// The truth that the engine finds with so many steps.
+pub(crate) fn truth_within(engine: &mut Engine, budget: u64) -> Result<bool, Fail> {
+    Ok(engine.solve(&mut Steps::new(budget))?.truth)
+}
+
+// Puts in a scope of the variables from one number to another.
+pub(crate) fn put_scope(
+    engine: &mut Engine,
+    quant: Quant,
+    first: u64,
+    last: u64,
+) -> Result<(), Fail> {
+    engine.scope(quant, None)?;
+    let scope = engine.prefix().scopes() as u64;
+    for var in first..=last {
+        engine.var(var, scope)?;
+    }
+    Ok(())
+}
+
+// Puts in clauses, each with a 0 behind it.
+pub(crate) fn put(alloc: Global, engine: &mut Engine, numbers: &[i64]) -> Result<(), Fail> {
+    let mut row = Vec::new(alloc);
+    for number in numbers {
+        if *number != 0 {
+            row.push(*number)?;
+            continue;
+        }
+        engine.clause(&row)?;
+        row.clear();
+    }
+    Ok(())
+}
+
+// Assumes literals.
+fn assume(engine: &mut Engine, lits: &[i64]) -> Result<(), Fail> {
+    for lit in lits {
+        engine.assume(*lit)?;
+    }
+    Ok(())
+}
+
+// A literal by its number.
+fn literal(number: i64) -> Result<Lit, Fail> {
+    let magnitude = u32::try_from(number.unsigned_abs()).map_err(|_| "range")?;
+    let v = Var::new(magnitude).ok_or("range")?;
+    Ok(Lit::new(v, number > 0))
+}
+
+// Puts clauses, each with a 0 behind it, at the end of a list.
+fn push_clauses(alloc: Global, clauses: &mut ClauseList, numbers: &[i64]) -> Result<(), Fail> {
+    let mut row = Vec::new(alloc);
+    for number in numbers {
+        if *number != 0 {
+            row.push(literal(*number)?)?;
+            continue;
+        }
+        let whole = mem::replace(&mut row, Vec::new(alloc));
+        clauses.push(LitList::from_vec(whole))?;
+    }
+    Ok(())
+}
+
+// Puts a row over the first variables at the end of a list, each of them with either sign or left out.
+fn draw_row(random: &mut Random, row: &mut Vec<i64>, vars: u32) -> Result<(), Fail> {
+    for var in 1..=vars {
+        match random.below(5) {
+            0 => row.push(i64::from(var))?,
+            1 => row.push(-i64::from(var))?,
+            _ => continue,
+        }
+    }
+    Ok(())
+}
+
+// Clauses, each with a 0 behind it, one to so many.
+fn draw_clauses(alloc: Global, random: &mut Random, most: u32) -> Result<Vec<i64>, Fail>
+    requires { 0 < most }
+{
+    let mut numbers = Vec::new(alloc);
+    for _ in 0..=random.below(most) {
+        draw_row(random, &mut numbers, 6)?;
+        numbers.push(0)?;
+    }
+    Ok(numbers)
+}
+
+// The quantifier of the first, the second or the third scope, by the bits of a number.
+fn quant_of(quants: u32, scope: u64) -> Quant {
+    let bit = match scope {
+        1 => quants % 2,
+        2 => quants / 2 % 2,
+        _ => quants / 4 % 2,
+    };
+    if bit == 0 {
+        Quant::Exists
+    } else {
+        Quant::Forall
+    }
+}
+
+// A formula over six variables in three scopes, whose quantifiers are the bits of a number, with the engine that
+// decides it: the clauses of frame 0, those of a frame to be pushed, literals of the first scope to assume, and whether
+// all verdicts were right so far.
+#[derive(Debug, Drop)]
+pub(crate) struct Play {
+    alloc: Global,
+    quants: u32,
+    clauses: Vec<i64>,
+    pushed: Vec<i64>,
+    assumed: Vec<i64>,
+    engine: Engine,
+    right: bool,
+}
+
+impl Play {
+    pub(crate) fn new(alloc: Global, seed: u32) -> Result<Self, Fail> {
+        let mut random = Random::new(seed);
+        let quants = random.below(8);
+        let clauses = draw_clauses(alloc, &mut random, 9)?;
+        let pushed = draw_clauses(alloc, &mut random, 4)?;
+        let mut assumed = Vec::new(alloc);
+        draw_row(&mut random, &mut assumed, 2)?;
+        let engine = engine_of(alloc, quants, &clauses)?;
+        Ok(Self {
+            alloc,
+            quants,
+            clauses,
+            pushed,
+            assumed,
+            engine,
+            right: true,
+        })
+    }
+
+    pub(crate) fn is_right(&self) -> bool {
+        self.right
+    }
+
+    // Verdicts of frame 0, again, under assumptions, with the pushed frame too, under assumptions there, and without
+    // it again.
+    pub(crate) fn go_through_frames(&mut self) -> Result<(), Fail> {
+        self.solve(false, false)?;
+        self.solve(false, false)?;
+        self.solve(false, true)?;
+        self.engine.push()?;
+        put(self.alloc, &mut self.engine, &self.pushed)?;
+        self.solve(true, false)?;
+        self.solve(true, true)?;
+        self.engine.pop()?;
+        self.solve(false, false)
+    }
+
+    // Solves, with the pushed frame where it is, under the assumptions where that is asked for.
+    fn solve(&mut self, is_pushed: bool, is_assuming: bool) -> Result<(), Fail> {
+        let plain = self.plain(is_pushed, is_assuming)?;
+        if is_assuming {
+            assume(&mut self.engine, &self.assumed)?;
+        }
+        let found = truth_within(&mut self.engine, u64::MAX)?;
+        self.right = self.right && found == plain;
+        Ok(())
+    }
+
+    // The verdict of the plain recursion, where assumed literals are clauses over variables that are tried first.
+    fn plain(&self, is_pushed: bool, is_assuming: bool) -> Result<bool, Fail> {
+        let mut clauses = ClauseList::new(self.alloc);
+        push_clauses(self.alloc, &mut clauses, &self.clauses)?;
+        if is_pushed {
+            push_clauses(self.alloc, &mut clauses, &self.pushed)?;
+        }
+        let assumed: &[i64] = if is_assuming { &self.assumed } else { &[] };
+        push_units(self.alloc, &mut clauses, assumed)?;
+        let prefix = prefix_of(self.alloc, self.quants, assumed)?;
+        plain_truth(self.alloc, prefix, clauses)
+    }
+
+    // A solve with so few steps is right, or spends them all and tells so, which it never does where they are enough;
+    // the next one is right.
+    pub(crate) fn stop_at(&mut self, budget: u64, enough: u64) -> Result<(), Fail> {
+        let plain = self.plain(false, false)?;
+        let mut steps = Steps::new(budget);
+        let kept = match self.engine.solve(&mut steps) {
+            Ok(verdict) => verdict.truth == plain,
+            Err(SolveStop::Spent(stopped)) => {
+                stopped.budget() == budget
+                    && stopped.vars() == VARS as usize
+                    && steps.spent() == budget
+                    && budget < enough
+            }
+            Err(SolveStop::NoMemory) => false,
+        };
+        self.right = self.right && kept;
+        self.solve(false, false)
+    }
+}
+
+// An engine with three scopes of two variables, and these clauses.
+fn engine_of(alloc: Global, quants: u32, clauses: &[i64]) -> Result<Engine, Fail> {
+    let mut engine = Engine::new(alloc)?;
+    for scope in 1..=3 {
+        put_scope(
+            &mut engine,
+            quant_of(quants, scope),
+            2 * scope - 1,
+            2 * scope,
+        )?;
+    }
+    put(alloc, &mut engine, clauses)?;
+    Ok(engine)
+}
+
+// Puts clauses of one literal each at the end of a list.
+fn push_units(alloc: Global, clauses: &mut ClauseList, lits: &[i64]) -> Result<(), Fail> {
+    for lit in lits {
+        let mut row = Vec::new(alloc);
+        row.push(literal(*lit)?)?;
+        clauses.push(LitList::from_vec(row))?;
+    }
+    Ok(())
+}
+
+// The prefix, with assumed variables in an existential scope of their own before all others.
+fn prefix_of(alloc: Global, quants: u32, assumed: &[i64]) -> Result<Prefix, Fail> {
+    let mut prefix = Prefix::new(alloc);
+    prefix.add_scope(Quant::Exists, None)?;
+    for scope in 1..=3 {
+        prefix.add_scope(quant_of(quants, scope), None)?;
+    }
+    for var in 1..=VARS {
+        let scope = if is_over(assumed, var) {
+            1
+        } else {
+            var.div_ceil(2) + 1
+        };
+        prefix.add_var(var, scope)?;
+    }
+    Ok(prefix)
+}
+
+// Whether one of these literals is over a variable.
+fn is_over(lits: &[i64], var: u64) -> bool {
+    lits.iter().any(|lit| lit.unsigned_abs() == var)
+}
+
+// The verdict of the plain recursion.
+fn plain_truth(alloc: Global, prefix: Prefix, clauses: ClauseList) -> Result<bool, Fail> {
+    let formula = Formula {
+        prefix,
+        clauses,
+        declared_vars: 0,
+        declared_clauses: 0,
+    };
+    Ok(decide_plain(alloc, &formula, &mut Steps::new(u64::MAX))?)
+}
