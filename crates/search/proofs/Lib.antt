@@ -15,3 +15,4 @@ pub mod Rows
 pub mod Starting
 pub mod Turning
 pub mod Undoing
+pub mod Working

@@ -5,3 +5,4 @@ pub mod Moves
 pub mod State
 pub mod Stops
 pub mod Watching
+pub mod Worked

@@ -9,7 +9,9 @@ mod search;
 mod solving;
 mod turns;
 mod watching;
+mod worked;
 
 pub use changing::resting_grows;
 pub use outcome::{Outcome, SolveStop};
 pub use search::Search;
+pub use worked::{worked_counts, worked_finds};

@@ -79,7 +79,8 @@ returns-clause-resting c = λ scopes resting.
       holds = c.reserve.ensures.holds _;
       looked = c.reserve.ensures.looked;
       room = λ h. let r =
-          ap (λ (t : TrailState). t.room) c.in_ok-reserve-4.ensures.ok in let e = c.in_ok-reserve.ensures.ok in omega arith;
+          ap (λ (t : TrailState). t.room) c.in_ok-reserve-4.ensures.ok in let e = c.in_ok-reserve.ensures.ok in
+          omega arith;
     })
     (record {
       holds = c.reserve-2.ensures.holds _;

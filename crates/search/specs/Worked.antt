@@ -1,0 +1,149 @@
+-- Worked values: how steps are counted, when a solve stops, what is found and due, and what is kept, with rows of both
+-- sides.
+use Rattle.std.specs.Prelude.{◌≡◌, ℕ, true, List, [], ◌∷◌, Option, Some, None, length, replicate, ◌++◌}
+use Rattle.prefix.specs.declared.quant.Quant.{Quant}
+use Rattle.prefix.specs.declared.quant.Quant.TheVariants.{Exists, Forall}
+use Rattle.prefix.specs.Sides.{opposite}
+use Rattle.steps.specs.Counter.{Counter}
+use Rattle.calculus.specs.Derivations.Why.{Given}
+use Rattle.calculus.specs.Search.{Trail}
+use Rattle.calculus.specs.Search.Cause.{Assumed, Decided, Propagated}
+use Rattle.calculus.specs.Worked.{plus}
+use Rattle.calculus.specs.WorkedSearch.{alternating, bad, three}
+use Rattle.trail.specs.State.{Account, TrailState}
+use Rattle.trail.specs.declared.allowed.Allowed.TheVariants.{Anything}
+use Rattle.derive.specs.State.{State}
+use Rattle.watch.specs.Links.{mark_of}
+use Rattle.watch.specs.State.{new_watch}
+use Rattle.search.specs.declared.outcome.Found.TheVariants.{Unit as IsUnit, Bad, Quiet}
+use Rattle.search.specs.declared.outcome.SolveStop.TheVariants.{Spent}
+use Rattle.search.specs.Changing.{AddsClause, IsRoomy}
+use Rattle.search.specs.Counting.{IsBounded, IsCounted, size_of}
+use Rattle.search.specs.Forcing.{HasNoCubes, IsForced}
+use Rattle.search.specs.Moves.{IsDue, IsFound, IsMatrix}
+use Rattle.search.specs.State.{AreMarked, AreDetached, IsAtRest, SearchState, rows_of}
+use Rattle.search.specs.Stops.{IsQuickStop, IsSpent}
+
+-- the links of a row that is attached to the watch of a side, and of one that is attached to none
+abbrev pub attached_to : Quant → List (Option ℕ)
+attached_to side = replicate 6 None ++ Some (mark_of side) ∷ None ∷ []
+
+abbrev pub detached : List (Option ℕ)
+detached = replicate 8 None
+
+-- the row 1 2 3 of a side, as the step 0, with these links
+abbrev pub three_of : Quant → List (Option ℕ) → State
+three_of pivot links = record {
+  notes = Some (record { side = pivot; why = Given; tag = 0 }) ∷ [];
+  rows = Some (Some (record { literals = three; links = links }) ∷ []);
+}
+
+-- a trail of these literals, each of which was assigned once
+abbrev pub trail_of : Trail → TrailState
+trail_of placed = record {
+  placed = placed;
+  depths = [];
+  marks = [];
+  finished = [];
+  assigned = length placed;
+  room = 3;
+  allowed = Anything;
+}
+
+-- a search over the row 1 2 3, with this trail
+abbrev pub search_over : Quant → List (Option ℕ) → Trail → SearchState
+search_over pivot links placed = record {
+  derivation = three_of pivot links;
+  trail = trail_of placed;
+  clauses = new_watch;
+  cubes = new_watch;
+  signs = [];
+  watched = 0 ∷ [];
+  joined = true;
+}
+
+-- 1 and 2 are bad, for which 3 is unit
+abbrev pub two_bad : Quant → Trail
+two_bad pivot =
+    record { literal = bad pivot 1; cause = Assumed } ∷ record { literal = bad pivot 2; cause = Decided } ∷ []
+
+-- 1 and 3 are bad, and so is the row
+abbrev pub all_bad : Quant → Trail
+all_bad pivot =
+    record { literal = bad pivot 1; cause = Assumed } ∷ record { literal = bad pivot 3; cause = Propagated 7 } ∷ []
+
+-- what is found on a trail, and due
+pub record WorkedFinds (pivot : Quant) : Type 0 where
+  -- an attached row that is unit, or bad; not one that isn't attached, nor one of the other side
+  pub unit : IsFound (alternating pivot) (search_over pivot (attached_to pivot) (two_bad pivot))
+      (IsUnit pivot 0 (plus 3))
+  pub bad : IsFound (alternating pivot) (search_over pivot (attached_to pivot) (all_bad pivot)) (Bad pivot 0)
+  pub no_unit : IsFound (alternating pivot) (search_over pivot detached (two_bad pivot)) (IsUnit pivot 0 (plus 3)) → ⊥
+  pub no_bad : IsFound (alternating pivot) (search_over pivot (attached_to (opposite pivot)) (all_bad pivot))
+      (Bad pivot 0) → ⊥
+  -- quiet where nothing is attached; not where the attached row is unit
+  pub quiet : IsFound (alternating pivot) (search_over pivot detached (two_bad pivot)) Quiet
+  pub not_quiet : IsFound (alternating pivot) (search_over pivot (attached_to pivot) (two_bad pivot)) Quiet → ⊥
+  -- a unit literal is due; on an empty trail the first variable is
+  pub unit_due : IsDue (alternating pivot) (search_over pivot detached (two_bad pivot))
+  pub decision_due : IsDue (alternating pivot) (search_over pivot detached [])
+  -- each row is attached to one of the two watches or to none, and link 6 has no other number
+  pub attached : AreMarked (rows_of (search_over pivot (attached_to pivot) []))
+  pub not_attached : AreMarked (rows_of (search_over pivot detached []))
+  pub elsewhere : AreMarked (rows_of (search_over pivot (replicate 6 None ++ Some 2 ∷ None ∷ []) [])) → ⊥
+  pub detached_rows : AreDetached (search_over pivot detached [])
+  pub attached_row : AreDetached (search_over pivot (attached_to pivot) []) → ⊥
+
+-- one assignment of three variables, at which the counter stood at 10 when the search began
+abbrev pub once : Quant → Trail
+once pivot = record { literal = bad pivot 1; cause = Assumed } ∷ []
+
+abbrev pub spent : ℕ → Counter
+spent n = record { spent = n; budget = 100 }
+
+-- what a stop tells after so many assignments
+abbrev pub stopped : ℕ → Account
+stopped assigned = record { budget = 100; vars = 3; assigned = assigned }
+
+pub record WorkedCounts : Type 0 where
+  pub size : size_of (alternating Exists) ≡ 3
+  -- an assignment has paid for one step, and two steps need a slack
+  pub counted : IsCounted 3 0 10 (trail_of (once Exists)) (spent 11)
+  pub too_many : IsCounted 3 0 10 (trail_of (once Exists)) (spent 12) → ⊥
+  pub owed : IsCounted 3 1 10 (trail_of (once Exists)) (spent 12)
+  -- a solve of one assignment stops after at most 31 steps
+  pub bounded : IsBounded 3 10 (trail_of (once Exists)) (spent 41)
+  pub unbounded : IsBounded 3 10 (trail_of (once Exists)) (spent 42) → ⊥
+  -- a refutation by propagation of two variables takes at most ten steps
+  pub quick : IsQuickStop 2 (record { spent = 91; budget = 100 }) (Spent (stopped 0))
+  pub slow : IsQuickStop 2 (record { spent = 90; budget = 100 }) (Spent (stopped 0)) → ⊥
+  -- a literal was to be assumed and no step was left; not while one is left, nor where another number of variables or
+  -- another budget is told, nor where a step was left for each assumption and none was due
+  pub at_once : IsSpent (alternating Exists) (three_of Exists detached) (plus 1 ∷ []) (spent 100) (spent 100)
+      (stopped 0)
+  pub one_left : IsSpent (alternating Exists) (three_of Exists detached) (plus 1 ∷ []) (spent 99) (spent 99) (stopped 0)
+      → ⊥
+  pub other_vars : IsSpent (alternating Exists) (three_of Exists detached) (plus 1 ∷ []) (spent 100) (spent 100)
+      (record { budget = 100; vars = 2; assigned = 0 }) → ⊥
+  pub other_budget : IsSpent (alternating Exists) (three_of Exists detached) (plus 1 ∷ []) (spent 100) (spent 100)
+      (record { budget = 99; vars = 3; assigned = 0 }) → ⊥
+  -- no decision stands, and one step was taken for each literal; not after a decision, nor after a step more
+  pub forced : IsForced (alternating Exists) 10 (search_over Exists detached (once Exists)) (spent 11)
+  pub one_more : IsForced (alternating Exists) 10 (search_over Exists detached (once Exists)) (spent 12) → ⊥
+  pub decided : IsForced (alternating Exists) 10 (search_over Exists detached (two_bad Exists)) (spent 12) → ⊥
+  -- a matrix has each open clause, as often as it likes, and no other; cubes are none
+  pub matrix : IsMatrix (three_of Exists detached) (three ∷ [])
+  pub again : IsMatrix (three_of Exists detached) (three ∷ three ∷ [])
+  pub none_there : IsMatrix (three_of Exists detached) [] → ⊥
+  pub another : IsMatrix (three_of Exists detached) (three ∷ [] ∷ []) → ⊥
+  pub a_cube : IsMatrix (three_of Forall detached) []
+  pub no_cubes : HasNoCubes (search_over Exists detached [])
+  pub cubes : HasNoCubes (search_over Forall detached []) → ⊥
+  -- a clause comes last, with its frame
+  pub added : AddsClause 1 three [] (record { id = 4; frame = 1; row = three } ∷ [])
+  pub other_frame : AddsClause 1 three [] (record { id = 4; frame = 0; row = three } ∷ []) → ⊥
+  -- room for three variables, and none for a sign
+  pub no_signs : IsRoomy 3 (search_over Exists detached []) → ⊥
+  pub no_room : IsRoomy 0 (search_over Exists detached [])
+  -- rest is an empty trail on which nothing was counted
+  pub not_at_rest : IsAtRest (trail_of (once Exists)) → ⊥
