@@ -99,7 +99,7 @@ variable_memory ss v n r low high new first last h =
     by false None false e f g h = h
 
 -- the variable is in no scope where it isn't in the last
-last_none : (ss : List Scope) (q : Quant) (us : List ℕ) (v : ℕ) → level_of ss v ≡ None → is_among v us ≡ false → level_of (ss ++ record { quantifier = q; variables = us } ∷ []) v ≡ None
+pub last_none : (ss : List Scope) (q : Quant) (us : List ℕ) (v : ℕ) → level_of ss v ≡ None → is_among v us ≡ false → level_of (ss ++ record { quantifier = q; variables = us } ∷ []) v ≡ None
 last_none [] q us v h e = ap (λ b. if b then Some 1 else None) e
 last_none (s ∷ ss) q us v h e =
     let parts : (is_among v s.variables ≡ false) × (level_of ss v ≡ None) = level_none_parts s ss v h in
@@ -110,7 +110,7 @@ among_get [] j low = absurd (omega arith)
 among_get (x ∷ xs) zero low = or_left (x == x) (is_among x xs) (eq-eqb x x refl)
 among_get (x ∷ xs) (suc j) low = or_right (x == get_or xs j 0) (is_among (get_or xs j 0) xs) (among_get xs j (omega arith))
 
-taken_new : (vs : List ℕ) (i : ℕ) → i < length vs → AreDistinct vs → is_among (get_or vs i 0) (take i vs) ≡ false
+pub taken_new : (vs : List ℕ) (i : ℕ) → i < length vs → AreDistinct vs → is_among (get_or vs i 0) (take i vs) ≡ false
 taken_new [] i low d = absurd (omega arith)
 taken_new (x ∷ xs) zero low d = refl
 taken_new (x ∷ xs) (suc i) low d =

@@ -16,7 +16,7 @@ use Rattle.qdimacs.proofs.Merged.{merged_declared}
 use Rattle.qdimacs.proofs.Fitting.{front_fits}
 use Rattle.qdimacs.proofs.Ascending.{ascending_same, true_is_not, or_left}
 
-filter_among : (v : ℕ) (p : ℕ → Bool) (xs : List ℕ) → is_among v (filter p xs) ≡ (is_among v xs && p v)
+pub filter_among : (v : ℕ) (p : ℕ → Bool) (xs : List ℕ) → is_among v (filter p xs) ≡ (is_among v xs && p v)
 filter_among v p [] = refl
 filter_among v p (x ∷ xs) = by (p x) (x == v) refl refl (filter_among v p xs)
   where

@@ -71,7 +71,7 @@ put_length : (n : ℕ) (ms : List ℕ) → IsAscending ms → (b : Bool) → is_
 put_length n ms a true e = omega (arith, put_old n ms a e)
 put_length n ms a false e = omega (arith, put_new n ms e)
 
-ascending_short : (xs : List ℕ) → length (ascending xs) ≤ length xs
+pub ascending_short : (xs : List ℕ) → length (ascending xs) ≤ length xs
 ascending_short [] = omega arith
 ascending_short (x ∷ xs) = omega (arith, put_length x (ascending xs) (ascending_is xs) (is_among x (ascending xs)) refl, ascending_short xs)
 

@@ -10,7 +10,7 @@ use Rattle.prefix.specs.Scopes.{is_among}
 use Rattle.qdimacs.specs.declared.sets.Sets.{Sets}
 use Rattle.qdimacs.specs.declared.clauses.Clauses.{Clauses}
 use Rattle.qdimacs.specs.Formula.{QuantSet, merged, declared, same_quant, literals_of, matrix_of, is_tautology, as_row}
-use Rattle.qdimacs.specs.Rules.{Header, max_scopes, variable_rules}
+use Rattle.qdimacs.specs.Rules.{Header, max_literals, max_scopes, variable_rules}
 use Rattle.qdimacs.specs.Kept.{sets_of, AreMarks, last_differs, put_last, variable_rules_kept, code_of, codes_of, with_clause}
 use Rattle.qdimacs.specs.Represents.{KeepsSets, KeepsClauses}
 use Rattle.qdimacs.proofs.Lists.{all_more, distinct_more}
@@ -101,11 +101,11 @@ set_begun_kept vars kept sets q k = record {
 }
 
 -- one more literal
-pub literal_more : (vars count : ℕ) (old new : Clauses) (clauses : List (List ℤ)) (ls : List ℤ) (n : ℤ) → 0 < nat_abs n → nat_abs n ≤ vars
+pub literal_more : (vars count : ℕ) (old new : Clauses) (clauses : List (List ℤ)) (ls : List ℤ) (n : ℤ) → 0 < nat_abs n → nat_abs n ≤ vars → old.amount < max_literals
     → new.begun.items ≡ old.begun.items ++ code_of n ∷ [] → new.amount ≡ old.amount + 1 → new.marks.items ≡ set old.marks.items (nat_abs n) true
     → new.rows.items ≡ old.rows.items → new.ended ≡ old.ended
     → KeepsClauses vars count old clauses ls → KeepsClauses vars count new clauses (ls ++ n ∷ [])
-literal_more vars count old new clauses ls n some low begun amount marks rows ended k =
+literal_more vars count old new clauses ls n some low room begun amount marks rows ended k =
     let longer : literals_of clauses ++ (ls ++ n ∷ []) ≡ (literals_of clauses ++ ls) ++ n ∷ [] = sym (append_assoc (literals_of clauses) ls (n ∷ [])) in
     record {
       fewer = k.fewer;
@@ -113,6 +113,7 @@ literal_more vars count old new clauses ls n some low begun amount marks rows en
       ended = ended ∙ k.ended;
       begun = begun ∙ ap (λ r. r ++ code_of n ∷ []) k.begun ∙ sym (map-append code_of ls (n ∷ []));
       low = all_more (λ n. (0 < nat_abs n) × (nat_abs n ≤ vars)) ls n k.low (some, low);
+      enough = omega (arith, amount, room);
       amount = amount ∙ ap (λ a. a + 1) k.amount ∙ sym (ap length longer ∙ length-append (literals_of clauses ++ ls) (n ∷ []));
       marks = rw (marks, longer, map-append nat_abs (literals_of clauses ++ ls) (n ∷ [])) (marks_more old.marks.items (map nat_abs (literals_of clauses ++ ls)) (nat_abs n) (omega (arith, k.marked, low)) k.marks);
       positive = ap (is_among 0) (ap (map nat_abs) longer ∙ map-append nat_abs (literals_of clauses ++ ls) (n ∷ [])) ∙ zero_not (map nat_abs (literals_of clauses ++ ls)) (nat_abs n) some k.positive;
@@ -151,6 +152,7 @@ clause_ended vars count old new clauses ls low rows begun ended amount marks k =
       ended = ended ∙ ap (λ e. e + 1) k.ended ∙ sym (length-append clauses (ls ∷ []));
       begun = begun;
       low = tt;
+      enough = omega (arith, amount, k.enough);
       amount = amount ∙ k.amount ∙ ap length (sym same);
       marks = rw (marks, same) k.marks;
       positive = rw same k.positive;

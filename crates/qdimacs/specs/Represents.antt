@@ -12,7 +12,7 @@ use Rattle.qdimacs.specs.declared.reader.Stage.{Stage}
 use Rattle.qdimacs.specs.declared.reader.Stage.TheVariants.{Nothing, Problem, Format, Vars, Headed, Between, InSet, InClause}
 use Rattle.qdimacs.specs.declared.refusal.ReadRefusal.{ReadRefusal}
 use Rattle.qdimacs.specs.Formula.{QuantSet, merged, declared, literals_of, matrix_of}
-use Rattle.qdimacs.specs.Rules.{Outcome, Header, Front, nothing, in_header, headed, between, in_set, in_clause, first_of, word_rules, end_rules, header_limits, literal_rules, variable_rules, unless_zero, is_zero, max_vars, max_clauses, max_scopes}
+use Rattle.qdimacs.specs.Rules.{Outcome, Header, Front, nothing, in_header, headed, between, in_set, in_clause, first_of, word_rules, end_rules, header_limits, literal_rules, variable_rules, unless_zero, is_zero, max_vars, max_clauses, max_literals, max_scopes}
 use Rattle.qdimacs.specs.Run.{natural_of, extended, clause_after}
 use Rattle.qdimacs.specs.Step.{Is, Closes}
 use Rattle.qdimacs.specs.Kept.{sets_of, AreMarks, codes_of}
@@ -48,6 +48,7 @@ pub record KeepsClauses (vars count : ℕ) (kept : Clauses) (clauses : List (Lis
   pub begun : kept.begun.items ≡ codes_of ls
   pub low : AllByRecursion (λ n. (0 < nat_abs n) × (nat_abs n ≤ vars)) ls
   pub amount : kept.amount ≡ length (literals_of clauses ++ ls)
+  pub enough : kept.amount ≤ max_literals
   pub marks : AreMarks kept.marks.items (map nat_abs (literals_of clauses ++ ls))
   pub positive : is_among 0 (map nat_abs (literals_of clauses ++ ls)) ≡ false
   pub marked : length kept.marks.items ≡ vars + 1

@@ -1,11 +1,12 @@
 //! Reading a whole text.
-ghost use Rattle.std.specs.Prelude.{◌≡◌, List, ℕ, Some, [], OnOk, IsOk, IfSome, IsErrOf, false, option_map};
+ghost use Rattle.std.specs.Prelude.{◌≡◌, List, ℕ, Some, [], IfOk, OnOk, IsOk, IfSome, IsErrOf, false, option_map};
 ghost use Rattle.lexer.specs.declared.token.Comments.TheVariants.{Dimacs};
 ghost use Rattle.lexer.specs.Words.{items};
 ghost use Rattle.lexer.specs.State.{upcoming};
 ghost use Rattle.ports.specs.Causes.{IsCounted};
 ghost use Rattle.qdimacs.specs.Rules.{nothing};
 ghost use Rattle.qdimacs.specs.Answers.{IsAnswer};
+ghost use Rattle.qdimacs.specs.Formed.{IsFormed};
 ghost use Rattle.qdimacs.specs.Step.{refusal_for};
 ghost use Rattle.qdimacs.specs.Represents.{Represents};
 
@@ -38,6 +39,7 @@ fn read_words<D: Desk>(
     requires front { Represents reader.old nothing }
     requires failed { lexer.old.failed ≡ false }
     ensures outcome { IfSome (D.left desk.old) (λ text. IsAnswer result text) }
+    ensures formed { IfOk result IsFormed }
     ensures read { OnOk result (IfSome (D.left desk.old) (λ _. D.left desk.new ≡ Some [])) }
     ensures cause { IsCounted (IsErrOf result ReadRefusal.ReadFault) (IsOk result) (D.faults desk.old)
         (D.faults desk.new) }
@@ -62,6 +64,8 @@ fn read_words<D: Desk>(
 pub fn read_formula<D: Desk>(alloc: Global, desk: &mut D) -> Result<Formula, ReadRefusal>
     // The formula, or the first refusal, of the text, where the desk tells what it holds.
     ensures outcome { IfSome (D.left desk.old) (λ text. IsAnswer result text) }
+    // What is true of every formula, also where the desk tells nothing.
+    ensures formed { IfOk result IsFormed }
     // A text that is a formula is read to its end.
     ensures read { OnOk result (IfSome (D.left desk.old) (λ _. D.left desk.new ≡ Some [])) }
     // It gives up only where the desk failed, so never where it flows.

@@ -5,6 +5,7 @@ ghost use Rattle.prefix.specs.Scopes.{is_among, AreDistinct};
 ghost use Rattle.qdimacs.specs.Rules.{nothing, is_text as is_text_word, is_natural, quant_of as quant_of_word, first_of, inside_rules};
 ghost use Rattle.qdimacs.specs.Run.{natural_of as natural_of_word};
 ghost use Rattle.qdimacs.specs.Step.{Is};
+ghost use Rattle.qdimacs.specs.Formed.{IsFormed};
 ghost use Rattle.qdimacs.specs.Represents.{Steps, Represents, Passes, Closing, TakesNumber, TakesVariable, IsMarked, Stood, IsFresh};
 
 use crate::clauses::Clauses;
@@ -267,7 +268,8 @@ impl Reader {
     // The formula, where the text ends on this line.
     pub(crate) fn close(&mut self, line: u32) -> Result<Formula, ReadRefusal>
         requires { Stood self.old }
-        ensures { Closing result self.old line }
+        ensures closing { Closing result self.old line }
+        ensures formed { IfOk result IsFormed }
     {
         match self.stage {
             Stage::Nothing => Err(refused(NO_HEADER, line)),
@@ -286,7 +288,8 @@ impl Reader {
         requires stage { self.old.stage ≡ Stage.Between }
         requires marked { IsMarked self.old }
         requires stood { Stood self.old }
-        ensures { Closing result self.old line }
+        ensures closing { Closing result self.old line }
+        ensures formed { IfOk result IsFormed }
     {
         if self.clauses.ended < self.count {
             return Err(refused(TOO_FEW_CLAUSES, line));

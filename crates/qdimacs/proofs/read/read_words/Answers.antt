@@ -20,7 +20,7 @@ returns-in-Ok-None-clause-outcome g c =
     let ends : Ends c.next.new.self.line (upcoming c.loop-token.lexer (left c.loop-token.desk)) (upcoming c.next.new.self (left c.next.new.desk)) = rw c.in-Ok-None.field-0-is at c.in-Ok-None.ensures.items in
     let front = c.loop-token.invariant.front in
     closed (left c.args.desk.now) (upcoming c.loop-token.lexer (left c.loop-token.desk)) (upcoming c.next.new.self (left c.next.new.desk)) front c.next.new.self.line c.close.result c.loop-token.invariant.items ends
-    (subst (λ n. Closes c.close.result (first_of (end_rules front n))) c.line.ensures (c.close.ensures front c.loop-token.invariant.represents))
+    (subst (λ n. Closes c.close.result (first_of (end_rules front n))) c.line.ensures (c.close.ensures.closing front c.loop-token.invariant.represents))
 
 pub returns-in-Err-clause-outcome : goal.returns-in-Err-clause-outcome
 returns-in-Err-clause-outcome g c =

@@ -49,6 +49,7 @@ returns c = λ sets clauses ls k low.
           count_few = k.count_few;
           of_sets = k.of_sets;
           of_clauses = literal_more r.vars r.count r.clauses c.push.new.self clauses ls c.args.n positive (literal_low r.vars r.clauses.amount c.args.n c.args.line kept).0
+              (literal_low r.vars r.clauses.amount c.args.n c.args.line kept).1
               (e.begun ∙ ap (λ m. r.clauses.begun.items ++ code_of m ∷ []) z) e.amount (e.marks ∙ ap (λ m. set r.clauses.marks.items (nat_abs m) true) z) e.rows e.ended k.of_clauses;
         },
       ),
