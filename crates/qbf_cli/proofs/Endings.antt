@@ -1,11 +1,10 @@
 -- Endings by their exit status.
-use Rattle.std.proofs.Common.{◌≡◌, ◌≢◌, ◌⊎◌, inl, inr, ℕ, zero, suc, ◌<◌, Bool, true, false, List, [], ◌∷◌, Option, None, Some, Contains, refl, sym, ap, subst, ⊎_elim, arith, ◌∙◌}
-use Rattle.std.specs.Prelude.{IfSome, nat_lt, option_map, if◌then◌else◌}
-use Rattle.std.proofs.lemmas.Bool.Decides.{nat_tests}
+use Rattle.std.proofs.Common.{◌≡◌, ◌≢◌, ◌⊎◌, inl, inr, ℕ, zero, suc, true, false, List, [], ◌∷◌, Option, None, Some, Contains, refl, sym, ap, subst, ⊎_elim, arith, ◌∙◌}
+use Rattle.std.specs.Prelude.{IfSome, option_map}
 use Rattle.std.specs.Io.KnownBytes.{Keeps}
 use Rattle.truth.specs.declared.formula.Formula.{Formula}
-use Rattle.truth.specs.Truth.{truth, plain_steps}
-use Rattle.truth.proofs.PlainSteps.{plain_steps_limit}
+use Rattle.truth.specs.Truth.{truth}
+use Rattle.trail.specs.State.{Account}
 use Rattle.qdimacs.specs.Reads.{Reads}
 use Rattle.qdimacs.specs.Rules.{refused, limit}
 use Rattle.command.specs.Forms.{Asks, AsksSolve, HasNoForm}
@@ -13,21 +12,21 @@ use Rattle.command.specs.declared.command.Command.{Command}
 use Rattle.command.specs.declared.command.Command.TheVariants.{Solve}
 use Rattle.session.specs.declared.answer.Answer.{Answer}
 use Rattle.session.specs.declared.answer.Answer.TheVariants.{Sat, Unsat, Unknown}
-use Rattle.session.specs.Solve.{answer_status, answer_to, HasAnswer, HasWritten, OfAnswer, Solves}
+use Rattle.session.specs.Solve.{answer_status, HasAnswer, HasWritten, IsAnswerTo, IsShort, OfAnswer, Solves}
 use Rattle.session.specs.declared.ending.Ending.{Ending}
 use Rattle.session.specs.declared.ending.Ending.TheVariants.{Done, Refused, Limit, ReadFault, WriteFault, NoMemory}
 use Rattle.qbf_cli.specs.declared.ending.RunEnding.{RunEnding}
 use Rattle.qbf_cli.specs.declared.ending.RunEnding.TheVariants.{Worked, Usage}
-use Rattle.qbf_cli.specs.Run.{Asked, Carried, HasTruth, IsBeyond, IsErrorLine, IsLimited, IsOutput, IsRefused, IsSolved, IsSolvedBy, IsVerdict, fixed_line, input_name, line_of, status_of}
+use Rattle.qbf_cli.specs.Run.{Asked, Carried, HasTruth, IsBeyond, IsErrorLine, IsLimited, IsOutput, IsRefused, IsSolved, IsSlow, IsSolvedBy, IsVerdict, fixed_line, input_name, line_of, status_of}
 
 -- an answer has one of three statuses
-answered : {A : Type 0} (s : ℕ) → HasAnswer s → s ≢ 10 → s ≢ 20 → s ≢ 0 → A
+pub answered : {A : Type 0} (s : ℕ) → HasAnswer s → s ≢ 10 → s ≢ 20 → s ≢ 0 → A
 answered s (Sat, e) a b c = absurd (a e)
 answered s (Unsat, e) a b c = absurd (b e)
 answered s (Unknown, e) a b c = absurd (c e)
 
 -- so it has no other
-not_answer : {A : Type 0} (s n : ℕ) → HasAnswer s → s ≡ n → n ≢ 10 → n ≢ 20 → n ≢ 0 → A
+pub not_answer : {A : Type 0} (s n : ℕ) → HasAnswer s → s ≡ n → n ≢ 10 → n ≢ 20 → n ≢ 0 → A
 not_answer s n h is a b c = answered n (subst HasAnswer is h) a b c
 
 some_map : (known : Option (List ℕ)) (P Q : List ℕ → Type 0) → ((text : List ℕ) → P text → Q text) → IfSome known P → IfSome known Q
@@ -35,29 +34,20 @@ some_map None P Q f h = tt
 some_map (Some text) P Q f h = f text h
 
 -- what the statuses of answers say of a formula
-is_true : (budget : ℕ) (f : Formula) (a : Answer) → a ≡ answer_to budget f → 10 ≡ answer_status a → truth f.prefix f.clauses ≡ true
-is_true budget f a e at = by (nat_lt budget (plain_steps f.prefix f.clauses)) (truth f.prefix f.clauses) (at ∙ ap answer_status e)
-  where
-    by : (t b : Bool) → 10 ≡ answer_status (if t then Unknown else if b then Sat else Unsat) → b ≡ true
-    by true b h = absurd (omega (arith, h))
-    by false true h = refl
-    by false false h = absurd (omega (arith, h))
+is_true : (budget : ℕ) (f : Formula) (a : Answer) → IsAnswerTo budget f a → 10 ≡ answer_status a → truth f.prefix f.clauses ≡ true
+is_true budget f Sat e at = e
+is_true budget f Unsat e at = absurd (omega (arith, at))
+is_true budget f Unknown e at = absurd (omega (arith, at))
 
-is_false : (budget : ℕ) (f : Formula) (a : Answer) → a ≡ answer_to budget f → 20 ≡ answer_status a → truth f.prefix f.clauses ≡ false
-is_false budget f a e at = by (nat_lt budget (plain_steps f.prefix f.clauses)) (truth f.prefix f.clauses) (at ∙ ap answer_status e)
-  where
-    by : (t b : Bool) → 20 ≡ answer_status (if t then Unknown else if b then Sat else Unsat) → b ≡ false
-    by true b h = absurd (omega (arith, h))
-    by false true h = absurd (omega (arith, h))
-    by false false h = refl
+is_false : (budget : ℕ) (f : Formula) (a : Answer) → IsAnswerTo budget f a → 20 ≡ answer_status a → truth f.prefix f.clauses ≡ false
+is_false budget f Sat e at = absurd (omega (arith, at))
+is_false budget f Unsat e at = e
+is_false budget f Unknown e at = absurd (omega (arith, at))
 
-is_beyond : (budget : ℕ) (f : Formula) (a : Answer) → a ≡ answer_to budget f → 0 ≡ answer_status a → budget < plain_steps f.prefix f.clauses
-is_beyond budget f a e at = by (nat_lt budget (plain_steps f.prefix f.clauses)) (truth f.prefix f.clauses) refl (at ∙ ap answer_status e)
-  where
-    by : (t b : Bool) → nat_lt budget (plain_steps f.prefix f.clauses) ≡ t → 0 ≡ answer_status (if t then Unknown else if b then Sat else Unsat) → budget < plain_steps f.prefix f.clauses
-    by true b t h = grind (arith, nat_tests, t)
-    by false true t h = absurd (omega (arith, h))
-    by false false t h = absurd (omega (arith, h))
+is_short : (budget : ℕ) (f : Formula) (a : Answer) → IsAnswerTo budget f a → 0 ≡ answer_status a → IsShort budget f
+is_short budget f Sat e at = absurd (omega (arith, at))
+is_short budget f Unsat e at = absurd (omega (arith, at))
+is_short budget f Unknown e at = e
 
 true_of : (budget s : ℕ) → s ≡ 10 → (text : List ℕ) → OfAnswer s (Solves budget text) → HasTruth text true
 true_of budget s is text (a, at, (f, reads, e)) = (f, reads, is_true budget f a e (sym is ∙ at))
@@ -66,9 +56,10 @@ false_of : (budget s : ℕ) → s ≡ 20 → (text : List ℕ) → OfAnswer s (S
 false_of budget s is text (a, at, (f, reads, e)) = (f, reads, is_false budget f a e (sym is ∙ at))
 
 beyond_of : (budget s : ℕ) → s ≡ 0 → (text : List ℕ) → OfAnswer s (Solves budget text) → IsBeyond budget text
-beyond_of budget s is text (a, at, (f, reads, e)) =
-    let low : budget < plain_steps f.prefix f.clauses = is_beyond budget f a e (sym is ∙ at) in
-    (f, reads, low, omega (arith, low, plain_steps_limit f.prefix f.clauses))
+beyond_of budget s is text (a, at, (f, reads, e)) = (f, reads, (is_short budget f a e (sym is ∙ at)).limit)
+
+slow_of : (budget s : ℕ) → s ≡ 0 → (text : List ℕ) → OfAnswer s (Solves budget text) → IsSlow budget text
+slow_of budget s is text (a, at, (f, reads, e)) = (f, reads, (is_short budget f a e (sym is ∙ at)).propagation)
 
 abbrev pub Content : Type 0
 Content = List ℕ → Option (List ℕ)
@@ -79,6 +70,7 @@ other_verdict words content n a b c two six seven none = record {
   sat = λ h. absurd (a h);
   unsat = λ h. absurd (b h);
   unknown = λ h. absurd (c h);
+  slow = λ h. absurd (c h);
   solved = λ h. answered n h a b c;
   refused = two;
   limit = six;
@@ -117,18 +109,19 @@ quiet words content old new n a b c d kept = record { line = λ h. answered n h 
 five_quiet : (words : List (List ℕ)) (content : Content) (old new : Option (List ℕ)) → Keeps old new → IsOutput words content old new 5
 five_quiet words content old new kept = quiet words content old new 5 (λ e. omega (arith, e)) (λ e. omega (arith, e)) (λ e. omega (arith, e)) (λ e. omega (arith, e)) kept
 
-module _ (words : List (List ℕ)) (content : Content) (left old new : Option (List ℕ)) (budget : ℕ) (name : Option (List ℕ)) (asks : AsksSolve words budget name) (some_form : HasNoForm words → ⊥) where
+module _ (words : List (List ℕ)) (content : Content) (left old new : Option (List ℕ)) (stops : List Account × List Account) (budget : ℕ) (name : Option (List ℕ)) (asks : AsksSolve words budget name) (some_form : HasNoForm words → ⊥) where
   -- what is so of the text is so of the input that was asked for
   asked : (P : ℕ → List ℕ → Type 0) → IfSome (content (input_name name)) (P budget) → Asked words content P
   asked P h = record { budget = budget; name = name; asks = asks; holds = h }
 
-  verdict_of : (f : Ending) → IsSolved budget (content (input_name name)) left old new f → IsVerdict words content (status_of (Worked f))
+  verdict_of : (f : Ending) → IsSolved budget (content (input_name name)) left (old, new) stops f → IsVerdict words content (status_of (Worked f))
   verdict_of (Done s) so =
       let a : HasAnswer s = so.status s refl in
       record {
         sat = λ h. asked (λ n text. HasTruth text true) (some_map _ _ _ (true_of budget s h) so.ending);
         unsat = λ h. asked (λ n text. HasTruth text false) (some_map _ _ _ (false_of budget s h) so.ending);
         unknown = λ h. asked IsBeyond (some_map _ _ _ (beyond_of budget s h) so.ending);
+        slow = λ h. asked IsSlow (some_map _ _ _ (slow_of budget s h) so.ending);
         solved = λ _. asked (λ n text. OfAnswer s (Solves n text)) so.ending;
         refused = λ h. not_answer s 2 a h (λ e. omega (arith, e)) (λ e. omega (arith, e)) (λ e. omega (arith, e));
         limit = λ h. not_answer s 6 a h (λ e. omega (arith, e)) (λ e. omega (arith, e)) (λ e. omega (arith, e));
@@ -141,7 +134,7 @@ module _ (words : List (List ℕ)) (content : Content) (left old new : Option (L
   verdict_of WriteFault so = other_verdict words content 4 (λ e. omega (arith, e)) (λ e. omega (arith, e)) (λ e. omega (arith, e)) (λ e. absurd (omega (arith, e))) (λ e. absurd (omega (arith, e))) (λ e. absurd (omega (arith, e))) (λ none. absurd (some_form none))
   verdict_of NoMemory so = other_verdict words content 5 (λ e. omega (arith, e)) (λ e. omega (arith, e)) (λ e. omega (arith, e)) (λ e. absurd (omega (arith, e))) (λ e. absurd (omega (arith, e))) (λ e. absurd (omega (arith, e))) (λ none. absurd (some_form none))
 
-  output_of : (f : Ending) → IsSolved budget (content (input_name name)) left old new f → IsOutput words content old new (status_of (Worked f))
+  output_of : (f : Ending) → IsSolved budget (content (input_name name)) left (old, new) stops f → IsOutput words content old new (status_of (Worked f))
   output_of (Done s) so =
       let a : HasAnswer s = so.status s refl in
       record {
@@ -161,7 +154,7 @@ module _ (words : List (List ℕ)) (content : Content) (left old new : Option (L
         nothing = λ h. four_is_none h;
       }
 
-  error_of : (f : Ending) → IsSolved budget (content (input_name name)) left old new f → IsErrorLine words content (status_of (Worked f)) (line_of (Worked f))
+  error_of : (f : Ending) → IsSolved budget (content (input_name name)) left (old, new) stops f → IsErrorLine words content (status_of (Worked f)) (line_of (Worked f))
   error_of (Done s) so =
       let a : HasAnswer s = so.status s refl in
       record {
@@ -180,7 +173,7 @@ module _ (words : List (List ℕ)) (content : Content) (left old new : Option (L
   error_of WriteFault so = plain_line words content 4 _ (λ e. omega (arith, e)) (λ e. omega (arith, e)) refl
   error_of NoMemory so = plain_line words content 5 _ (λ e. omega (arith, e)) (λ e. omega (arith, e)) refl
 
-  read_of : (f : Ending) → IsSolved budget (content (input_name name)) left old new f → HasAnswer (status_of (Worked f)) → Asked words content (λ n text. left ≡ Some [])
+  read_of : (f : Ending) → IsSolved budget (content (input_name name)) left (old, new) stops f → HasAnswer (status_of (Worked f)) → Asked words content (λ n text. left ≡ Some [])
   read_of (Done s) so h = asked (λ n text. left ≡ Some []) (so.read tt)
   read_of (Refused number at) so h = answered 2 h (λ e. omega (arith, e)) (λ e. omega (arith, e)) (λ e. omega (arith, e))
   read_of (Limit quantity at) so h = answered 6 h (λ e. omega (arith, e)) (λ e. omega (arith, e)) (λ e. omega (arith, e))
@@ -188,7 +181,7 @@ module _ (words : List (List ℕ)) (content : Content) (left old new : Option (L
   read_of WriteFault so h = answered 4 h (λ e. omega (arith, e)) (λ e. omega (arith, e)) (λ e. omega (arith, e))
   read_of NoMemory so h = answered 5 h (λ e. omega (arith, e)) (λ e. omega (arith, e)) (λ e. omega (arith, e))
 
-  status_of_solved : (f : Ending) → IsSolved budget (content (input_name name)) left old new f → Contains (10 ∷ 20 ∷ 0 ∷ 2 ∷ 3 ∷ 4 ∷ 5 ∷ 6 ∷ 7 ∷ []) (status_of (Worked f))
+  status_of_solved : (f : Ending) → IsSolved budget (content (input_name name)) left (old, new) stops f → Contains (10 ∷ 20 ∷ 0 ∷ 2 ∷ 3 ∷ 4 ∷ 5 ∷ 6 ∷ 7 ∷ []) (status_of (Worked f))
   status_of_solved (Done s) so = one_of s (so.status s refl)
     where
       one_of : (s : ℕ) → HasAnswer s → Contains (10 ∷ 20 ∷ 0 ∷ 2 ∷ 3 ∷ 4 ∷ 5 ∷ 6 ∷ 7 ∷ []) s
@@ -202,45 +195,45 @@ module _ (words : List (List ℕ)) (content : Content) (left old new : Option (L
   status_of_solved (Limit quantity line) so = (7, omega arith, refl)
 
 -- want of memory before the work began
-module _ (words : List (List ℕ)) (content : Content) (left old new : Option (List ℕ)) where
+module _ (words : List (List ℕ)) (content : Content) (left old new : Option (List ℕ)) (stops : List Account × List Account) where
   verdict_of_five : IsVerdict words content 5
   verdict_of_five = other_verdict words content 5 (λ e. omega (arith, e)) (λ e. omega (arith, e)) (λ e. omega (arith, e)) (λ e. absurd (omega (arith, e))) (λ e. absurd (omega (arith, e))) (λ e. absurd (omega (arith, e))) (λ _. (0, omega arith, refl))
 
   -- what is known of a run says what the status does
-  pub verdict : (e : RunEnding) → Carried words content left old new e → IsVerdict words content (status_of e)
+  pub verdict : (e : RunEnding) → Carried words content left (old, new) stops e → IsVerdict words content (status_of e)
   verdict (Usage text) c = other_verdict words content 7 (λ e. omega (arith, e)) (λ e. omega (arith, e)) (λ e. omega (arith, e)) (λ e. absurd (omega (arith, e))) (λ e. absurd (omega (arith, e))) (λ _. c.0) (λ _. (1, omega arith, refl))
   verdict (Worked f) c = ⊎_elim (λ h. subst (λ g. IsVerdict words content (status_of (Worked g))) (sym h.0) verdict_of_five) (λ h. by h.0 h.1 h.2) c
     where
-      by : (d : Command) → Asks words d → IsSolvedBy d content left old new f → IsVerdict words content (status_of (Worked f))
-      by (Solve budget name) asks so = verdict_of words content left old new budget (option_map (λ s. s.now) name) asks (λ none. none (Solve budget name) asks) f so
+      by : (d : Command) → Asks words d → IsSolvedBy d content left (old, new) stops f → IsVerdict words content (status_of (Worked f))
+      by (Solve budget name) asks so = verdict_of words content left old new stops budget (option_map (λ s. s.now) name) asks (λ none. none (Solve budget name) asks) f so
 
-  pub output : (e : RunEnding) → Carried words content left old new e → IsOutput words content old new (status_of e)
+  pub output : (e : RunEnding) → Carried words content left (old, new) stops e → IsOutput words content old new (status_of e)
   output (Usage text) c = quiet words content old new 7 (λ e. omega (arith, e)) (λ e. omega (arith, e)) (λ e. omega (arith, e)) (λ e. omega (arith, e)) c.1
   output (Worked f) c = ⊎_elim (λ h. subst (λ g. IsOutput words content old new (status_of (Worked g))) (sym h.0) (five_quiet words content old new h.1)) (λ h. by h.0 h.1 h.2) c
     where
-      by : (d : Command) → Asks words d → IsSolvedBy d content left old new f → IsOutput words content old new (status_of (Worked f))
-      by (Solve budget name) asks so = output_of words content left old new budget (option_map (λ s. s.now) name) asks (λ none. none (Solve budget name) asks) f so
+      by : (d : Command) → Asks words d → IsSolvedBy d content left (old, new) stops f → IsOutput words content old new (status_of (Worked f))
+      by (Solve budget name) asks so = output_of words content left old new stops budget (option_map (λ s. s.now) name) asks (λ none. none (Solve budget name) asks) f so
 
-  error_line : (e : RunEnding) → Carried words content left old new e → IsErrorLine words content (status_of e) (line_of e)
+  error_line : (e : RunEnding) → Carried words content left (old, new) stops e → IsErrorLine words content (status_of e) (line_of e)
   error_line (Usage text) c = record { refused = λ h. absurd (omega (arith, h)); limit = λ h. absurd (omega (arith, h)); other = λ _ _ n. absurd (n refl) }
   error_line (Worked f) c = ⊎_elim (λ h. subst (λ g. IsErrorLine words content (status_of (Worked g)) (line_of (Worked g))) (sym h.0) (plain_line words content 5 (line_of (Worked NoMemory)) (λ e. omega (arith, e)) (λ e. omega (arith, e)) refl)) (λ h. by h.0 h.1 h.2) c
     where
-      by : (d : Command) → Asks words d → IsSolvedBy d content left old new f → IsErrorLine words content (status_of (Worked f)) (line_of (Worked f))
-      by (Solve budget name) asks so = error_of words content left old new budget (option_map (λ s. s.now) name) asks (λ none. none (Solve budget name) asks) f so
+      by : (d : Command) → Asks words d → IsSolvedBy d content left (old, new) stops f → IsErrorLine words content (status_of (Worked f)) (line_of (Worked f))
+      by (Solve budget name) asks so = error_of words content left old new stops budget (option_map (λ s. s.now) name) asks (λ none. none (Solve budget name) asks) f so
 
-  pub error_at : (e : RunEnding) → Carried words content left old new e → (s : ℕ) → s ≡ status_of e → IsErrorLine words content s (line_of e)
+  pub error_at : (e : RunEnding) → Carried words content left (old, new) stops e → (s : ℕ) → s ≡ status_of e → IsErrorLine words content s (line_of e)
   error_at e c s is = subst (λ n. IsErrorLine words content n (line_of e)) (sym is) (error_line e c)
 
-  pub whole_input : (e : RunEnding) → Carried words content left old new e → HasAnswer (status_of e) → Asked words content (λ n text. left ≡ Some [])
+  pub whole_input : (e : RunEnding) → Carried words content left (old, new) stops e → HasAnswer (status_of e) → Asked words content (λ n text. left ≡ Some [])
   whole_input (Usage text) c a = answered 7 a (λ e. omega (arith, e)) (λ e. omega (arith, e)) (λ e. omega (arith, e))
   whole_input (Worked f) c a = ⊎_elim (λ h. not_answer (status_of (Worked f)) 5 a (ap (λ g. status_of (Worked g)) h.0) (λ e. omega (arith, e)) (λ e. omega (arith, e)) (λ e. omega (arith, e))) (λ h. by h.0 h.1 h.2) c
     where
-      by : (d : Command) → Asks words d → IsSolvedBy d content left old new f → Asked words content (λ n text. left ≡ Some [])
-      by (Solve budget name) asks so = read_of words content left old new budget (option_map (λ s. s.now) name) asks (λ none. none (Solve budget name) asks) f so a
+      by : (d : Command) → Asks words d → IsSolvedBy d content left (old, new) stops f → Asked words content (λ n text. left ≡ Some [])
+      by (Solve budget name) asks so = read_of words content left old new stops budget (option_map (λ s. s.now) name) asks (λ none. none (Solve budget name) asks) f so a
 
-  pub statuses : (e : RunEnding) → Carried words content left old new e → Contains (10 ∷ 20 ∷ 0 ∷ 2 ∷ 3 ∷ 4 ∷ 5 ∷ 6 ∷ 7 ∷ []) (status_of e)
+  pub statuses : (e : RunEnding) → Carried words content left (old, new) stops e → Contains (10 ∷ 20 ∷ 0 ∷ 2 ∷ 3 ∷ 4 ∷ 5 ∷ 6 ∷ 7 ∷ []) (status_of e)
   statuses (Usage text) c = (8, omega arith, refl)
   statuses (Worked f) c = ⊎_elim (λ h. subst (λ g. Contains (10 ∷ 20 ∷ 0 ∷ 2 ∷ 3 ∷ 4 ∷ 5 ∷ 6 ∷ 7 ∷ []) (status_of (Worked g))) (sym h.0) (6, omega arith, refl)) (λ h. by h.0 h.1 h.2) c
     where
-      by : (d : Command) → Asks words d → IsSolvedBy d content left old new f → Contains (10 ∷ 20 ∷ 0 ∷ 2 ∷ 3 ∷ 4 ∷ 5 ∷ 6 ∷ 7 ∷ []) (status_of (Worked f))
-      by (Solve budget name) asks so = status_of_solved words content left old new budget (option_map (λ s. s.now) name) asks (λ none. none (Solve budget name) asks) f so
+      by : (d : Command) → Asks words d → IsSolvedBy d content left (old, new) stops f → Contains (10 ∷ 20 ∷ 0 ∷ 2 ∷ 3 ∷ 4 ∷ 5 ∷ 6 ∷ 7 ∷ []) (status_of (Worked f))
+      by (Solve budget name) asks so = status_of_solved words content left old new stops budget (option_map (λ s. s.now) name) asks (λ none. none (Solve budget name) asks) f so

@@ -1,3 +1,3 @@
 pub mod Run
+pub mod Told
 pub mod Words
-pub mod Worked

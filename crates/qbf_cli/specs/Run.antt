@@ -1,5 +1,5 @@
 -- What a run of the program answers and writes.
-use Rattle.std.specs.Prelude.{◌≡◌, ◌≢◌, ℕ, ◌<◌, Bool, true, false, ◌==◌, if◌then◌else◌, ◌⊎◌, List, [], ◌∷◌, ◌++◌, length, Contains, codes, Option, None, Some, IfSome, option_map, string_bytes}
+use Rattle.std.specs.Prelude.{◌≡◌, ◌≢◌, ℕ, ◌+◌, ◌*◌, ◌<◌, Bool, true, false, ◌==◌, if◌then◌else◌, ◌⊎◌, List, [], ◌∷◌, ◌++◌, Contains, codes, Option, None, Some, IfSome, option_map, string_bytes}
 use Rattle.std.specs.Fmt.{decimal}
 use Rattle.command.specs.Forms.{Asks, AsksSolve, HasNoForm}
 use Rattle.command.specs.declared.command.Command.{Command}
@@ -7,13 +7,16 @@ use Rattle.command.specs.declared.command.Command.TheVariants.{Solve}
 use Rattle.std.specs.Io.KnownBytes.{Appends, Keeps}
 use Rattle.ports.specs.Bytes.{AppendsFront}
 use Rattle.ports.specs.Causes.{Rose}
+use Rattle.calculus.specs.Search.{IsRefuted}
+use Rattle.trail.specs.State.{Account}
+use Rattle.search.specs.Counting.{size_of}
+use Rattle.session.specs.Stops.{HasStops}
 use Rattle.session.specs.Solve.{answer_line, HasAnswer, HasWritten, IsDone, IsEnding, OfAnswer, RoomForAnswer, Solves}
 use Rattle.session.specs.declared.answer.Answer.{Answer}
 use Rattle.session.specs.declared.ending.Ending.{Ending}
 use Rattle.steps.specs.Counter.{step_limit}
-use Rattle.prefix.specs.Scopes.{all_variables}
 use Rattle.truth.specs.declared.formula.Formula.{Formula}
-use Rattle.truth.specs.Truth.{truth, plain_steps}
+use Rattle.truth.specs.Truth.{truth}
 use Rattle.qdimacs.specs.Rules.{parsed, refused, limit}
 use Rattle.qdimacs.specs.Reads.{Reads}
 use Rattle.qdimacs.specs.declared.refusal.Quantity.{Quantity}
@@ -26,11 +29,15 @@ use Rattle.qbf_cli.specs.declared.ending.RunEnding.TheVariants.{Worked, Usage}
 abbrev pub HasTruth : List ℕ → Bool → Type 0
 HasTruth text value = (f : Formula) × Reads text (parsed f) × (truth f.prefix f.clauses ≡ value)
 
--- The text is a formula for which the plain recursion tries more values than the budget allows. So the budget is
--- below the step limit of its variables.
+-- The text is a formula, and the budget is below the step limit of its variables.
 abbrev pub IsBeyond : ℕ → List ℕ → Type 0
-IsBeyond budget text = (f : Formula) × Reads text (parsed f) × (budget < plain_steps f.prefix f.clauses)
-    × (budget < step_limit (length (all_variables f.prefix)))
+IsBeyond budget text = (f : Formula) × Reads text (parsed f) × (budget < step_limit (size_of f.prefix))
+
+-- The text is a formula, and where propagation alone refutes its clauses, the budget is below n * (n + 3), for n
+-- variables.
+abbrev pub IsSlow : ℕ → List ℕ → Type 0
+IsSlow budget text = (f : Formula) × Reads text (parsed f)
+    × (IsRefuted f.prefix f.clauses [] → budget < size_of f.prefix * (size_of f.prefix + 3))
 
 -- The text is malformed.
 abbrev pub IsRefused : List ℕ → Type 0
@@ -53,12 +60,13 @@ pub record Asked (words : List (List ℕ)) (content : List ℕ → Option (List 
   pub asks : AsksSolve words budget name
   pub holds : IfSome (content (input_name name)) (P budget)
 
--- What the status says of the words and the input: a true formula, a false one, one for which the budget is below
--- what the plain recursion tries, a malformed text, one beyond a limit, or words that ask for no command.
+-- What the status says of the words and the input: a true formula, a false one, one for which the budget may be too
+-- low, a malformed text, one beyond a limit, or words that ask for no command.
 pub record IsVerdict (words : List (List ℕ)) (content : List ℕ → Option (List ℕ)) (status : ℕ) : Type 0 where
   pub sat : status ≡ 10 → Asked words content (λ budget text. HasTruth text true)
   pub unsat : status ≡ 20 → Asked words content (λ budget text. HasTruth text false)
   pub unknown : status ≡ 0 → Asked words content IsBeyond
+  pub slow : status ≡ 0 → Asked words content IsSlow
   pub solved : HasAnswer status → Asked words content (λ budget text. OfAnswer status (Solves budget text))
   pub refused : status ≡ 2 → Asked words content (λ budget text. IsRefused text)
   pub limit : status ≡ 6 → Asked words content (λ budget text. IsLimited text)
@@ -155,25 +163,30 @@ pub record IsErrorOutput (words : List (List ℕ)) (content : List ℕ → Optio
   pub front : AppendsFront old new line
   pub whole : ¬ Rose faults.0 faults.1 → Appends old new line
 
--- what is known of the work on an input that holds this text
-pub record IsSolved (budget : ℕ) (known left old new : Option (List ℕ)) (e : Ending) : Type 0 where
+-- What is known of the work on an input that holds this text. `output` is what stood on the output and stands on it,
+-- `told` the list of stopped searches before and after.
+pub record IsSolved (budget : ℕ) (known left : Option (List ℕ)) (output : Option (List ℕ) × Option (List ℕ))
+    (told : List Account × List Account) (e : Ending) : Type 0 where
   pub ending : IfSome known (λ text. IsEnding budget text e)
   pub status : (s : ℕ) → e ≡ Done s → HasAnswer s
   pub read : IsDone e → IfSome known (λ text. left ≡ Some [])
-  pub written : HasWritten budget known old new e
+  pub written : HasWritten budget known output.0 output.1 e
+  pub stops : HasStops budget known output told e
 
 -- what is known of the work on the input of a command
-abbrev pub IsSolvedBy : Command → (content : List ℕ → Option (List ℕ)) (left old new : Option (List ℕ)) → Ending
-    → Type 0
-IsSolvedBy (Solve budget name) content left old new e =
-    IsSolved budget (content (input_name (option_map (λ s. s.now) name))) left old new e
+abbrev pub IsSolvedBy : Command → (content : List ℕ → Option (List ℕ)) (left : Option (List ℕ))
+    (output : Option (List ℕ) × Option (List ℕ)) (told : List Account × List Account) → Ending → Type 0
+IsSolvedBy (Solve budget name) content left output told e =
+    IsSolved budget (content (input_name (option_map (λ s. s.now) name))) left output told e
 
 -- what is known of a run by its ending
-abbrev pub Carried : (words : List (List ℕ)) (content : List ℕ → Option (List ℕ)) (left old new : Option (List ℕ))
-    → RunEnding → Type 0
-Carried words content left old new (Usage text) = HasNoForm words × Keeps old new
-Carried words content left old new (Worked e) =
-    ((e ≡ NoMemory) × Keeps old new) ⊎ ((c : Command) × Asks words c × IsSolvedBy c content left old new e)
+abbrev pub Carried : (words : List (List ℕ)) (content : List ℕ → Option (List ℕ)) (left : Option (List ℕ))
+    (output : Option (List ℕ) × Option (List ℕ)) (told : List Account × List Account) → RunEnding → Type 0
+Carried words content left output told (Usage text) =
+    HasNoForm words × Keeps output.0 output.1 × (told.1 ≡ told.0)
+Carried words content left output told (Worked e) =
+    ((e ≡ NoMemory) × Keeps output.0 output.1 × (told.1 ≡ told.0))
+    ⊎ ((c : Command) × Asks words c × IsSolvedBy c content left output told e)
 
 -- the answer is written
 abbrev pub IsAnswered : RunEnding → Type 0

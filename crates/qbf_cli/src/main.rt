@@ -18,7 +18,15 @@ fn main(rt: HostRuntime) -> ExitCode {
     let status = match words::words_of(rt.alloc(), given(&rt)) {
         Ok(words) => {
             let mut desk = HostDesk::new(rt);
-            run::run(rt.alloc(), &words, &mut desk, &mut out, &mut err)
+            let mut stops = Vec::new(rt.alloc());
+            run::run(
+                rt.alloc(),
+                &words,
+                &mut desk,
+                &mut out,
+                &mut err,
+                &mut stops,
+            )
         }
         Err(ending) => run::report(&mut err, &ending),
     };

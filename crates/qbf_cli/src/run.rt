@@ -5,16 +5,19 @@ ghost use Rattle.ports.specs.Bytes.{AllFlushed, AppendsFront};
 ghost use Rattle.ports.specs.Causes.{IsCounted, Rose};
 ghost use Rattle.session.specs.Solve.{HasAnswer, IsDone, RoomForAnswer};
 ghost use Rattle.qbf_cli.specs.Run.{Asked, Carried, IsAnswered, IsErrorOutput, IsOutput, IsSolved, IsVerdict, RoomForOutput, SteadyForInput, input_name as name_of_input, line_of, status_of};
+ghost use Rattle.qbf_cli.specs.Told.{IsToldOfRun};
 
 use super::ending::RunEnding;
 use command::{Command, Refused, read_command};
 use ports::{Desk, Sink};
 use session::{Ending, Job, run_file};
 use std::alloc::Global;
+use trail::Stopped;
 
 /// Carries out the command that the words ask for, the program's name first: `solve [--budget N] [NAME]` decides the
-/// formula of the file NAME, or of standard input, with at most N steps, and writes `SAT`, `UNSAT` or `UNKNOWN` to
-/// `out`. What else happens is said on `err`.
+/// formula of the file NAME, or of standard input, by search with at most N steps, and writes `SAT`, `UNSAT` or
+/// `UNKNOWN` to `out`. What else happens is said on `err`. With `UNKNOWN` what the search that stopped tells is put into
+/// `stops`.
 ///
 /// Answers the exit status: 10 for a true formula, 20 for a false one, and 0 where the budget was spent; 2 where the
 /// input is malformed and 6 where it goes beyond a limit, each with its line; 3 for a read fault; 4 for a write fault
@@ -26,7 +29,9 @@ pub fn run<D: Desk, O: Sink, E: Sink>(
     desk: &mut D,
     out: &mut O,
     err: &mut E,
+    stops: &mut Vec<Stopped>,
 ) -> u8
+    requires { stops.old.items ≡ [] }
     // each status, and what it says of the words and the input
     ensures statuses { Contains (10 ∷ 20 ∷ 0 ∷ 2 ∷ 3 ∷ 4 ∷ 5 ∷ 6 ∷ 7 ∷ []) result }
     ensures verdict { IsVerdict (map string_bytes words.now) (D.content desk.old) result }
@@ -46,11 +51,15 @@ pub fn run<D: Desk, O: Sink, E: Sink>(
         (O.written out.new) result }
     ensures flushed { HasAnswer result → AllFlushed (O.written out.new) (O.flushed out.old) (O.flushed out.new) }
 
+    // what is told of the search that stopped: an entry with UNKNOWN, and else nothing
+    ensures stops { IsToldOfRun (map string_bytes words.now) (D.content desk.old) (O.written out.old, O.written out.new)
+        stops.new.items result }
+
     // what stands on the error output
     ensures error { IsErrorOutput (map string_bytes words.now) (D.content desk.old) (E.faults err.old, E.faults err.new)
         (E.written err.old) (E.written err.new) result }
 {
-    let ending = ending_of(alloc, words, desk, out);
+    let ending = ending_of(alloc, words, desk, out, stops);
     report(err, &ending)
 }
 
@@ -71,9 +80,10 @@ fn ending_of<D: Desk, O: Sink>(
     words: &[String],
     desk: &mut D,
     out: &mut O,
+    stops: &mut Vec<Stopped>,
 ) -> RunEnding
     ensures carried { Carried (map string_bytes words.now) (D.content desk.old) (D.left desk.new)
-        (O.written out.old) (O.written out.new) result }
+        (O.written out.old, O.written out.new) (stops.old.items, stops.new.items) result }
     ensures read_fault { IsCounted (result ≡ RunEnding.Worked Ending.ReadFault) (IsAnswered result)
         (D.faults desk.old) (D.faults desk.new) }
     ensures write_fault { IsCounted (result ≡ RunEnding.Worked Ending.WriteFault) (IsAnswered result)
@@ -86,7 +96,7 @@ fn ending_of<D: Desk, O: Sink>(
 {
     match read_command(alloc, words) {
         Ok(Command::Solve { budget, name }) => {
-            RunEnding::Worked(solve(alloc, budget, name, desk, out))
+            RunEnding::Worked(solve(alloc, budget, name, desk, out, stops))
         }
         Err(Refused::Usage(text)) => RunEnding::Usage(text),
         Err(Refused::NoMemory) => RunEnding::Worked(Ending::NoMemory),
@@ -100,9 +110,10 @@ fn solve<D: Desk, O: Sink>(
     name: Option<&str>,
     desk: &mut D,
     out: &mut O,
+    stops: &mut Vec<Stopped>,
 ) -> Ending
     ensures solved { IsSolved budget (D.content desk.old (name_of_input (option_map (λ s. s.now) name.entry)))
-        (D.left desk.new) (O.written out.old) (O.written out.new) result }
+        (D.left desk.new) (O.written out.old, O.written out.new) (stops.old.items, stops.new.items) result }
     ensures read_fault { IsCounted (result ≡ Ending.ReadFault) (IsDone result) (D.faults desk.old) (D.faults desk.new) }
     ensures write_fault { IsCounted (result ≡ Ending.WriteFault) (IsDone result) (O.faults out.old) (O.faults out.new) }
     ensures steady { D.steady desk.old (name_of_input (option_map (λ s. s.now) name.entry))
@@ -114,7 +125,7 @@ fn solve<D: Desk, O: Sink>(
     if desk.choose(input_name(name)).is_err() {
         return Ending::ReadFault;
     }
-    run_file(alloc, Job::Solve, budget, desk, out)
+    run_file(alloc, Job::Solve, budget, desk, out, stops)
 }
 
 // The name of the input: without one it is standard input.

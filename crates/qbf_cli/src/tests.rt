@@ -38,16 +38,33 @@ fn ends(
     out_text: &str,
     err_text: &str,
 ) -> Result<bool, Fail> {
+    ends_with(alloc, &["qbf", "solve"], text, status, out_text, err_text)
+}
+
+// The same with these words.
+fn ends_with(
+    alloc: Global,
+    given: &[&str],
+    text: &[u8],
+    status: u8,
+    out_text: &str,
+    err_text: &str,
+) -> Result<bool, Fail> {
     let mut desk = desk(alloc, text, 7, Vec::new(alloc))?;
     let mut out = MemorySink::new(alloc, 64, 3, Vec::new(alloc))?;
     let mut err = MemorySink::new(alloc, 64, 3, Vec::new(alloc))?;
+    let mut stops = Vec::new(alloc);
     let answer = run(
         alloc,
-        &words(alloc, &["qbf", "solve"])?,
+        &words(alloc, given)?,
         &mut desk,
         &mut out,
         &mut err,
+        &mut stops,
     );
+    if stops.is_empty() == (out_text == "UNKNOWN\n") {
+        return Ok(false);
+    }
     let is_written = out.bytes() == out_text.as_bytes() && out.flushed() == out_text.as_bytes();
     Ok(answer == status && is_written && err.bytes() == err_text.as_bytes())
 }
@@ -81,6 +98,49 @@ fn formulas_are_decided(rt: HostRuntime) -> Result<(), Fail> {
         };
         assert!(rt; ends(alloc, text.as_bytes(), status, line, "")?, "{text:?}");
     }
+    Ok(())
+}
+
+// Forty existential variables in front, each clause of two neighbours; then 41 universal, and four clauses over 42 and
+// 43 that no values satisfy. Search without lessons would try the values of the forty again and again.
+fn refuted_behind_forty(alloc: Global) -> Result<String, Fail> {
+    let mut text = String::from_str(alloc, "p cnf 43 43\ne")?;
+    for v in 1..41 {
+        write!(text, " {v}")?;
+    }
+    text.push_str(" 0\na 41 0\ne 42 43 0\n")?;
+    for v in 1..40 {
+        let next = v + 1;
+        writeln!(text, "{v} {next} 0")?;
+    }
+    text.push_str("42 43 0\n42 -43 0\n-42 43 0\n-42 -43 0\n")?;
+    Ok(text)
+}
+
+// Forty universal variables, and clauses that 41 and 42 satisfy whatever these are. Search without cubes would try all
+// values of the forty.
+fn satisfied_behind_forty(alloc: Global) -> Result<String, Fail> {
+    let mut text = String::from_str(alloc, "p cnf 42 81\na")?;
+    for v in 1..41 {
+        write!(text, " {v}")?;
+    }
+    text.push_str(" 0\ne 41 42 0\n")?;
+    for v in 1..41 {
+        writeln!(text, "{v} 41 42 0")?;
+        writeln!(text, "-{v} 41 42 0")?;
+    }
+    text.push_str("-41 -42 0\n")?;
+    Ok(text)
+}
+
+#[test]
+fn lessons_settle_forty_variables_within_a_thousand_steps(rt: HostRuntime) -> Result<(), Fail> {
+    let alloc = rt.alloc();
+    let within = ["qbf", "solve", "--budget", "1000"];
+    let refuted = refuted_behind_forty(alloc)?;
+    assert!(rt; ends_with(alloc, &within, refuted.as_bytes(), 20, "UNSAT\n", "")?);
+    let satisfied = satisfied_behind_forty(alloc)?;
+    assert!(rt; ends_with(alloc, &within, satisfied.as_bytes(), 10, "SAT\n", "")?);
     Ok(())
 }
 
@@ -175,7 +235,11 @@ fn a_failing_output_ends_with_a_front_of_the_answer(rt: HostRuntime) -> Result<(
         let mut desk = desk(alloc, DIFFERS.as_bytes(), 100, Vec::new(alloc))?;
         let mut out = MemorySink::new(alloc, 64, 1, vec![in alloc; failing]?)?;
         let mut err = MemorySink::new(alloc, 64, 64, Vec::new(alloc))?;
-        assert_eq!(rt; run(alloc, &solve, &mut desk, &mut out, &mut err), 4);
+        let mut stops = Vec::new(alloc);
+        assert_eq!(rt;
+            run(alloc, &solve, &mut desk, &mut out, &mut err, &mut stops),
+            4
+        );
         let want: &[u8] = match failing {
             1 => b"",
             2 => b"S",
@@ -198,8 +262,9 @@ fn a_failing_input_ends_with_nothing_written(rt: HostRuntime) -> Result<(), Fail
         let mut desk = desk(alloc, DIFFERS.as_bytes(), 1, vec![in alloc; failing]?)?;
         let mut out = MemorySink::new(alloc, 64, 64, Vec::new(alloc))?;
         let mut err = MemorySink::new(alloc, 64, 64, Vec::new(alloc))?;
+        let mut stops = Vec::new(alloc);
         assert_eq!(rt;
-            run(alloc, &solve, &mut desk, &mut out, &mut err),
+            run(alloc, &solve, &mut desk, &mut out, &mut err, &mut stops),
             3,
             "{failing}"
         );
@@ -217,14 +282,18 @@ fn a_failing_error_output_changes_no_status(rt: HostRuntime) -> Result<(), Fail>
         let mut desk = desk(alloc, b"p cnf 1 2\n1 0\n", 100, Vec::new(alloc))?;
         let mut out = MemorySink::new(alloc, 64, 64, Vec::new(alloc))?;
         let mut err = MemorySink::new(alloc, 64, 1, vec![in alloc; failing]?)?;
-        assert_eq!(rt; run(alloc, &solve, &mut desk, &mut out, &mut err), 2);
+        let mut stops = Vec::new(alloc);
+        assert_eq!(rt;
+            run(alloc, &solve, &mut desk, &mut out, &mut err, &mut stops),
+            2
+        );
         assert!(rt; b"qbf: line 3: refused 16\n".starts_with(err.bytes()));
     }
     Ok(())
 }
 
 // The status, the output and whether the error output got something, of `qbf` with these words on a desk that keeps a
-// formula of one step as standard input, and another one under the name `f`.
+// formula of one variable as standard input, and another one under the name `f`.
 fn runs(alloc: Global, others: &[&str]) -> Result<(u8, String, bool), Fail> {
     let mut inputs = Vec::new(alloc);
     inputs.push(Input {
@@ -238,7 +307,15 @@ fn runs(alloc: Global, others: &[&str]) -> Result<(u8, String, bool), Fail> {
     let mut desk = MemoryDesk::new(inputs, 7, Vec::new(alloc));
     let mut out = MemorySink::new(alloc, 64, 64, Vec::new(alloc))?;
     let mut err = MemorySink::new(alloc, 4096, 64, Vec::new(alloc))?;
-    let status = run(alloc, &words(alloc, others)?, &mut desk, &mut out, &mut err);
+    let mut stops = Vec::new(alloc);
+    let status = run(
+        alloc,
+        &words(alloc, others)?,
+        &mut desk,
+        &mut out,
+        &mut err,
+        &mut stops,
+    );
     let written = String::from_utf8_lossy(alloc, out.bytes())?;
     Ok((status, written, err.bytes().is_empty()))
 }
@@ -251,11 +328,9 @@ fn words_choose_the_input_and_the_budget(rt: HostRuntime) -> Result<(), Fail> {
         (&["qbf", "solve", "f"], 20, "UNSAT\n"),
         (&["qbf", "solve", "--budget", "0"], 0, "UNKNOWN\n"),
         (&["qbf", "solve", "--budget=0"], 0, "UNKNOWN\n"),
-        (&["qbf", "solve", "--budget", "1"], 0, "UNKNOWN\n"),
-        (&["qbf", "solve", "--budget", "2"], 10, "SAT\n"),
         (&["qbf", "solve", "--budget", "32"], 10, "SAT\n"),
-        (&["qbf", "solve", "--budget", "1", "f"], 20, "UNSAT\n"),
-        (&["qbf", "solve", "f", "--budget=0"], 0, "UNKNOWN\n"),
+        (&["qbf", "solve", "--budget", "32", "f"], 20, "UNSAT\n"),
+        (&["qbf", "solve", "f", "--budget=32"], 20, "UNSAT\n"),
         (
             &["qbf", "solve", "--budget", "18446744073709551615"],
             10,

@@ -1,9 +1,12 @@
 -- What the answer to a text is, and what is written.
-use Rattle.std.specs.Prelude.{◌≡◌, ℕ, nat_lt, if◌then◌else◌, List, codes, Option, IfSome, length}
+use Rattle.std.specs.Prelude.{◌≡◌, ℕ, ◌+◌, ◌*◌, ◌<◌, true, false, List, [], codes, Option, IfSome, length}
 use Rattle.std.specs.Io.KnownBytes.{Appends, Keeps}
 use Rattle.ports.specs.Bytes.{AppendsFront}
 use Rattle.truth.specs.declared.formula.Formula.{Formula}
-use Rattle.truth.specs.Truth.{truth, plain_steps}
+use Rattle.truth.specs.Truth.{truth}
+use Rattle.steps.specs.Counter.{step_limit}
+use Rattle.calculus.specs.Search.{IsRefuted}
+use Rattle.search.specs.Counting.{size_of}
 use Rattle.qdimacs.specs.Rules.{parsed, refused, limit}
 use Rattle.qdimacs.specs.Reads.{Reads}
 use Rattle.session.specs.declared.answer.Answer.{Answer}
@@ -11,17 +14,21 @@ use Rattle.session.specs.declared.answer.Answer.TheVariants.{Sat, Unsat, Unknown
 use Rattle.session.specs.declared.ending.Ending.{Ending}
 use Rattle.session.specs.declared.ending.Ending.TheVariants.{Done, Refused, Limit, ReadFault, WriteFault, NoMemory}
 
--- The answer to a formula: unknown where the budget is below the number of values that the plain recursion tries, and
--- else whether it is true.
-abbrev pub answer_to : ℕ → Formula → Answer
-answer_to budget f =
-    if nat_lt budget (plain_steps f.prefix f.clauses) then Unknown
-    else if truth f.prefix f.clauses then Sat
-    else Unsat
+-- A budget is short for a formula of n variables: below their step limit, and where propagation alone refutes the
+-- clauses below n * (n + 3).
+pub record IsShort (budget : ℕ) (f : Formula) : Type 0 where
+  pub limit : budget < step_limit (size_of f.prefix)
+  pub propagation : IsRefuted f.prefix f.clauses [] → budget < size_of f.prefix * (size_of f.prefix + 3)
+
+-- An answer to a formula: that it is true, that it is false, or unknown, for which the budget must be short.
+abbrev pub IsAnswerTo : ℕ → Formula → Answer → Type 0
+IsAnswerTo budget f Sat = truth f.prefix f.clauses ≡ true
+IsAnswerTo budget f Unsat = truth f.prefix f.clauses ≡ false
+IsAnswerTo budget f Unknown = IsShort budget f
 
 -- The text is a formula with this answer.
 abbrev pub Solves : ℕ → List ℕ → Answer → Type 0
-Solves budget text answer = (f : Formula) × Reads text (parsed f) × (answer ≡ answer_to budget f)
+Solves budget text answer = (f : Formula) × Reads text (parsed f) × IsAnswerTo budget f answer
 
 -- The exit status of an answer.
 abbrev pub answer_status : Answer → ℕ

@@ -19,42 +19,68 @@ fn desk_with(alloc: Global, text: &str) -> Result<MemoryDesk, Fail> {
     Ok(desk)
 }
 
+// For each value of 1 there is one of 2 that differs from it.
+const DIFFERS: &str = "p cnf 2 2\na 1 0\ne 2 0\n1 2 0\n-1 -2 0\n";
+
 #[test]
 fn files_end_as_their_texts_say(rt: HostRuntime) -> Result<(), Fail> {
     let alloc = rt.alloc();
-    let differs = "p cnf 2 2\na 1 0\ne 2 0\n1 2 0\n-1 -2 0\n";
+    let of_rule_12 = Ending::Refused {
+        number: 12,
+        line: 2,
+    };
+    let of_variables = Ending::Limit {
+        quantity: Quantity::Variables,
+        line: 1,
+    };
     for (text, budget, ending, line) in [
-        (differs, 1000, Ending::Done(10), "SAT\n"),
-        // The plain recursion tries 1 false, 2 false and true, then 1 true and 2 false.
-        (differs, 5, Ending::Done(10), "SAT\n"),
-        (differs, 4, Ending::Done(0), "UNKNOWN\n"),
+        (DIFFERS, 1000, Ending::Done(10), "SAT\n"),
+        // The step limit of two variables.
+        (DIFFERS, 96, Ending::Done(10), "SAT\n"),
+        (
+            "p cnf 2 2\ne 1 0\na 2 0\n1 2 0\n-1 -2 0\n",
+            96,
+            Ending::Done(20),
+            "UNSAT\n",
+        ),
         ("p cnf 1 1\n0\n", 0, Ending::Done(20), "UNSAT\n"),
+        // Four units, refuted by propagation: below 4 * (4 + 3) steps.
         (
-            "p cnf 1 1\n2 0\n",
-            9,
-            Ending::Refused {
-                number: 12,
-                line: 2,
-            },
-            "",
+            "p cnf 4 5\n1 0\n-1 2 0\n-2 3 0\n-3 4 0\n-4 0\n",
+            28,
+            Ending::Done(20),
+            "UNSAT\n",
         ),
-        (
-            "p cnf 1048577 0\n",
-            9,
-            Ending::Limit {
-                quantity: Quantity::Variables,
-                line: 1,
-            },
-            "",
-        ),
+        ("p cnf 1 1\n2 0\n", 9, of_rule_12, ""),
+        ("p cnf 1048577 0\n", 9, of_variables, ""),
     ] {
         let mut desk = desk_with(alloc, text)?;
         let mut sink = MemorySink::new(alloc, 64, 3, Vec::new(alloc))?;
-        let answer = run_file(alloc, Job::Solve, budget, &mut desk, &mut sink);
+        let mut stops = Vec::new(alloc);
+        let answer = run_file(alloc, Job::Solve, budget, &mut desk, &mut sink, &mut stops);
         assert_eq!(rt; answer, ending, "{text:?}");
         assert_eq!(rt; sink.bytes(), line.as_bytes());
         assert_eq!(rt; sink.flushed(), line.as_bytes());
+        assert!(rt; stops.is_empty());
     }
+    Ok(())
+}
+
+#[test]
+fn each_search_that_stopped_is_told(rt: HostRuntime) -> Result<(), Fail> {
+    let alloc = rt.alloc();
+    let mut stops = Vec::new(alloc);
+    // The first step is due, and then the second.
+    for budget in 0..2 {
+        let mut desk = desk_with(alloc, DIFFERS)?;
+        let mut sink = MemorySink::new(alloc, 64, 3, Vec::new(alloc))?;
+        let answer = run_file(alloc, Job::Solve, budget, &mut desk, &mut sink, &mut stops);
+        assert_eq!(rt; answer, Ending::Done(0));
+        assert_eq!(rt; sink.bytes(), b"UNKNOWN\n".as_slice());
+        assert!(rt; matches!(stops.last(), Some(stopped) if stopped.budget() == budget));
+    }
+    assert_eq!(rt; stops.len(), 2);
+    assert!(rt; stops.iter().all(|stopped| stopped.vars() == 2));
     Ok(())
 }
 
@@ -63,7 +89,8 @@ fn a_failing_flush_is_a_write_fault(rt: HostRuntime) -> Result<(), Fail> {
     let alloc = rt.alloc();
     let mut desk = desk_with(alloc, "p cnf 0 0\n")?;
     let mut sink = MemorySink::new(alloc, 64, 9, vec![in alloc; 2]?)?;
-    let answer = run_file(alloc, Job::Solve, 9, &mut desk, &mut sink);
+    let mut stops = Vec::new(alloc);
+    let answer = run_file(alloc, Job::Solve, 9, &mut desk, &mut sink, &mut stops);
     assert_eq!(rt; answer, Ending::WriteFault);
     assert_eq!(rt; sink.bytes(), b"SAT\n".as_slice());
     assert_eq!(rt; sink.flushed(), b"".as_slice());

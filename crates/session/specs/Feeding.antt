@@ -1,0 +1,19 @@
+-- An engine that holds one formula.
+use Rattle.std.specs.Prelude.{◌≡◌, List, [], ◌∷◌}
+use Rattle.prefix.specs.Literal.{Literal}
+use Rattle.prefix.specs.Scopes.{Scope}
+use Rattle.frames.specs.State.{OpenFormula}
+use Rattle.engine.specs.State.{EngineState}
+
+-- these scopes and clauses, the clauses in frame 0, with no other frame and no assumption
+abbrev pub formula_with : List Scope → List (List Literal) → OpenFormula
+formula_with scopes clauses = record {
+  scopes = scopes;
+  frames = record { clauses = clauses } ∷ [];
+  assumptions = [];
+}
+
+-- The engine holds these scopes and clauses, and has not decided any formula.
+pub record HoldsFormula (scopes : List Scope) (clauses : List (List Literal)) (e : EngineState) : Type 0 where
+  pub formula : e.formula ≡ formula_with scopes clauses
+  pub unsolved : e.counts.solves ≡ 0

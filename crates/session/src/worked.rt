@@ -1,0 +1,7 @@
+//! Worked values of the definitions, each proved.
+ghost use Rattle.session.specs.Worked.{WorkedAnswers};
+
+/// Answers to formulas of both truths, and what is told of searches that stopped.
+pub fn worked_answers()
+    ensures { WorkedAnswers }
+{}
