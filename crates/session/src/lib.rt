@@ -1,7 +1,7 @@
 //! Files of formulas, decided.
 //!
-//! A formula is read, fed to an engine and solved. `specs/Solve` says what the answer to a text is, and what is told of
-//! a search that stopped.
+//! A formula is read, fed to an engine and solved. `specs/Solve` says what the answer to a text is, and `specs/Stops` what
+//! is told of a search that stopped.
 #![tactic(auto)]
 
 mod answer;

@@ -25,11 +25,11 @@ const DIFFERS: &str = "p cnf 2 2\na 1 0\ne 2 0\n1 2 0\n-1 -2 0\n";
 #[test]
 fn files_end_as_their_texts_say(rt: HostRuntime) -> Result<(), Fail> {
     let alloc = rt.alloc();
-    let of_rule_12 = Ending::Refused {
+    let undeclared = Ending::Refused {
         number: 12,
         line: 2,
     };
-    let of_variables = Ending::Limit {
+    let too_many = Ending::Limit {
         quantity: Quantity::Variables,
         line: 1,
     };
@@ -51,8 +51,8 @@ fn files_end_as_their_texts_say(rt: HostRuntime) -> Result<(), Fail> {
             Ending::Done(20),
             "UNSAT\n",
         ),
-        ("p cnf 1 1\n2 0\n", 9, of_rule_12, ""),
-        ("p cnf 1048577 0\n", 9, of_variables, ""),
+        ("p cnf 1 1\n2 0\n", 9, undeclared, ""),
+        ("p cnf 1048577 0\n", 9, too_many, ""),
     ] {
         let mut desk = desk_with(alloc, text)?;
         let mut sink = MemorySink::new(alloc, 64, 3, Vec::new(alloc))?;
