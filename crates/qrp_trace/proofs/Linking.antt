@@ -20,12 +20,12 @@ use Rattle.calculus.specs.Verdicts.{IsProof, finish_of, finish_steps, finished, 
 use Rattle.calculus.specs.VerdictTheorems.{EndRowsGiveProofs}
 use Rattle.calculus.proofs.Lists.{all_at, all_from, contains_cons, contains_nil, contains_head, contains_tail, filter_all, filter_at, filter_from, filter_same}
 use Rattle.calculus.proofs.StepLemmas.{of_side_derivation, row_at_step}
-use Rattle.derive.specs.State.{IsLegalFor, Note, State, is_finish, is_live, is_step, may_be_antecedent, next_id, note_at, open_clauses, row_of, side_at, step_at, steps_of, why_at}
+use Rattle.derive.specs.State.{IsLegalFor, Note, State, is_finish, is_live, is_step, may_be_antecedent, next_id, note_at, open_clauses, row_of, side_at, step_at, steps_of, why_at, why_in}
 use Rattle.derive.specs.Antecedents.{IsAntecedentIn}
 use Rattle.derive.specs.Theorems.{StepsAreListed}
 use Rattle.derive.proofs.Ids.{listed_push}
 use Rattle.qrp_trace.specs.declared.listing.Line.{Line}
-use Rattle.qrp_trace.specs.Cores.{IsFinishAt, core_ids, core_rows, in_core_order, inference_from, inferences_of, is_given, is_needed, kept_at, line_at, lines_at, number_in, numbered_by, reason_by, row_numbered, steps_below}
+use Rattle.qrp_trace.specs.Cores.{IsFinishAt, core_ids, core_rows, end_row_in, in_core_order, inference_from, inferences_of, is_given, is_needed, kept_at, line_at, lines_at, number_in, numbered_by, proof_at, reason_by, row_numbered, step_under, steps_below}
 use Rattle.qrp_trace.specs.Gathering.{AreNeeded}
 use Rattle.qrp_trace.proofs.Told.{rests_from}
 use Rattle.qrp_trace.proofs.Ordering.{below_at, below_from, below_push, core_closed, kept_from}
@@ -511,13 +511,24 @@ in_order_last xs f other =
     ∙ ap (λ l. filter o xs ++ l) (cond-true (o f) (f ∷ []) [] (ap not other)) in
     ap₂ (λ (a b : List Step). a ++ b) first second ∙ sym (append_assoc (filter g xs) (filter o xs) (f ∷ []))
 
+-- the end row of a step that is no finish is its own
+end_row_of_step : (note : Option Note) (id : ℕ) → may_be_antecedent note ≡ true → end_row_in (why_in note) id ≡ id
+end_row_of_step None id step = refl
+end_row_of_step (Some note) id step = by note.why refl
+  where
+    by : (why : Why) → note.why ≡ why → end_row_in note.why id ≡ id
+    by Given same = ap (λ w. end_row_in w id) same
+    by (ReducedFrom a) same = ap (λ w. end_row_in w id) same
+    by (ResolvedFrom a b x) same = ap (λ w. end_row_in w id) same
+    by (FinishedFrom a) same = absurd (cc)
+
 -- the proof
 
 module _ (d : State) (end : ℕ) (table : List Bool) (are : AreNeeded d end table) (fits : end < next_id d)
     (live : is_live d end ≡ true) (scopes : List Scope) (assumptions : List Literal) (legal : IsLegalFor scopes d)
     (finish : IsFinishAt scopes assumptions d end) where
   abbrev under : ℕ → Step
-  under id = record { id = id; side = side_at d id; row = row_of d id; why = why_at d id }
+  under id = step_under d id
 
   closed_ids : (id on : ℕ) → Contains (core_ids d end) id → RestsOn (why_at d id) on → Contains (core_ids d end) on
   closed_ids = (core_closed d end table are).closed
@@ -671,19 +682,35 @@ module _ (d : State) (end : ℕ) (table : List Bool) (are : AreNeeded d end tabl
         side_of None = Exists
         side_of (Some m) = m.side
 
+  -- in both cases
+  side_before : side_at d finish.before ≡ side_at d end
+  side_before = ⊎_elim (λ same. ap (side_at d) (sym same)) (λ r. side_left r.0 r.1) finish.stands
+
+  abbrev proof_before : List Inference
+  proof_before = proof_of (steps_of d) (under finish.before) assumptions
+
+  before_is : proof_before ≡ inferences_of (lines_at d (core_ids d end))
+  before_is = ⊎_elim
+      (λ same. ap (λ id. proof_of (steps_of d) (under id) assumptions) (sym same) ∙ whole same)
+      (λ r. left r.0 r.1)
+      finish.stands
+
+  end_row_is : end_row_in (why_at d end) end ≡ finish.before
+  end_row_is = ⊎_elim
+      (λ same. end_row_of_step (note_at d end) end (subst (λ id. is_step d id ≡ true) (sym same) finish.step) ∙ same)
+      (λ r. ap (λ w. end_row_in w end) r.0)
+      finish.stands
+
+  pub core_lists : inferences_of (lines_at d (core_ids d end)) ≡ proof_at d assumptions end
+  core_lists = sym (ap (λ id. proof_of (steps_of d) (under id) assumptions) end_row_is ∙ before_is)
+
   pub core_proves : EndRowsGiveProofs → StepsAreListed
       → IsProof (side_at d end) scopes (open_clauses d) assumptions (inferences_of (lines_at d (core_ids d end)))
   core_proves gives listed =
       let proof = (gives.step scopes (open_clauses d) assumptions (steps_of d) (under finish.before) legal
       (listed.listed d finish.before finish.step) finish.end_row).proof in
-      ⊎_elim
-      (λ same. subst (IsProof (side_at d end) scopes (open_clauses d) assumptions) (whole same)
-      (subst (λ id. IsProof (side_at d id) scopes (open_clauses d) assumptions
-      (proof_of (steps_of d) (under id) assumptions)) (sym same) proof))
-      (λ r. subst (λ q. IsProof q scopes (open_clauses d) assumptions (inferences_of (lines_at d (core_ids d end))))
-      (side_left r.0 r.1) (subst (IsProof (side_at d finish.before) scopes (open_clauses d) assumptions)
-      (left r.0 r.1) proof))
-      finish.stands
+      subst (λ q. IsProof q scopes (open_clauses d) assumptions (inferences_of (lines_at d (core_ids d end))))
+      side_before (subst (IsProof (side_at d finish.before) scopes (open_clauses d) assumptions) before_is proof)
 
 pub other_twice : (q : Quant) → opposite (opposite q) ≡ q
 other_twice Exists = refl

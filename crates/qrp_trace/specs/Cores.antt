@@ -9,8 +9,8 @@ use Rattle.calculus.specs.Rows.{Row}
 use Rattle.calculus.specs.Derivations.{Inference, Reason, Step, Why, core_of, needed}
 use Rattle.calculus.specs.Derivations.Reason.{Input as ByInput, One as ByOne, Two as ByTwo}
 use Rattle.calculus.specs.Derivations.Why.{Given, ReducedFrom, ResolvedFrom, FinishedFrom}
-use Rattle.calculus.specs.Verdicts.{IsEndRow, IsProof, finished}
-use Rattle.derive.specs.State.{Note, State, is_step, note_at, row_of, side_at, why_at}
+use Rattle.calculus.specs.Verdicts.{IsEndRow, IsProof, finished, proof_of}
+use Rattle.derive.specs.State.{Note, State, is_step, note_at, row_of, side_at, steps_of, why_at}
 use Rattle.qrp_trace.specs.declared.listing.Line.{Line}
 use Rattle.qrp_trace.specs.declared.listing.CoreStep.{CoreStep}
 use Rattle.qrp_trace.specs.declared.listing.CoreStep.TheVariants.{Input, One, Two}
@@ -137,3 +137,18 @@ pub record IsFinishAt (scopes : List Scope) (assumptions : List Literal) (d : St
   pub end_row : IsEndRow (side_at d before) scopes assumptions (row_of d before)
   pub finish : row_of d end ≡ finished assumptions (row_of d before)
   pub stands : (end ≡ before) ⊎ ((why_at d end ≡ FinishedFrom before) × (row_of d end ≢ row_of d before))
+
+-- the step of the end row: the one that a finish rests on, and else the end's own
+abbrev pub end_row_in : Why → ℕ → ℕ
+end_row_in Given end = end
+end_row_in (ReducedFrom a) end = end
+end_row_in (ResolvedFrom a b x) end = end
+end_row_in (FinishedFrom a) end = a
+
+-- the step under an id, as the calculus has it
+abbrev pub step_under : State → ℕ → Step
+step_under d id = record { id = id; side = side_at d id; row = row_of d id; why = why_at d id }
+
+-- the proof of a verdict that ends in the step under an id
+abbrev pub proof_at : State → List Literal → ℕ → List Inference
+proof_at d assumptions end = proof_of (steps_of d) (step_under d (end_row_in (why_at d end) end)) assumptions

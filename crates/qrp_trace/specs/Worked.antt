@@ -4,12 +4,13 @@ use Rattle.prefix.specs.declared.quant.Quant.TheVariants.{Exists, Forall}
 use Rattle.rows.specs.Arena.{StoredRow, new_row}
 use Rattle.calculus.specs.Rows.{Row}
 use Rattle.calculus.specs.Derivations.{Why}
+use Rattle.calculus.specs.Derivations.Reason.{Input as ByInput, One as ByOne}
 use Rattle.calculus.specs.Derivations.Why.{Given, ReducedFrom, ResolvedFrom, FinishedFrom}
 use Rattle.calculus.specs.Worked.{existential, existential_first, minus, plus, refutation}
 use Rattle.derive.specs.State.{Note, State}
 use Rattle.qrp_trace.specs.declared.listing.Line.{Line}
 use Rattle.qrp_trace.specs.declared.listing.CoreStep.TheVariants.{Input, One, Two}
-use Rattle.qrp_trace.specs.Cores.{IsNumbered, core_ids, inferences_of, lines_at}
+use Rattle.qrp_trace.specs.Cores.{IsNumbered, core_ids, inferences_of, lines_at, proof_at}
 use Rattle.qrp_trace.specs.Texts.{qrp_text}
 
 -- what is kept of a clause of frame 0
@@ -49,6 +50,12 @@ pub record WorkedCores : Type 0 where
       ∷ record { lits = plus 1 ∷ []; step = One 1 } ∷ []
   pub input : core_ids derived 2 ≡ 2 ∷ []
   pub inferences : inferences_of refuted ≡ refutation
+  -- the proofs of the empty clause, of the clause 1 2 where both are assumed, and of its finish where 1 alone is
+  pub proof : proof_at derived [] 6 ≡ refutation
+  pub whole_proof : proof_at derived (minus 1 ∷ minus 2 ∷ []) 0
+      ≡ record { row = plus 1 ∷ plus 2 ∷ []; reason = ByInput } ∷ []
+  pub finish_proof : proof_at derived (minus 1 ∷ []) 7 ≡ record { row = plus 1 ∷ plus 2 ∷ []; reason = ByInput }
+      ∷ record { row = plus 1 ∷ []; reason = ByOne (plus 1 ∷ plus 2 ∷ []) } ∷ []
 
 -- the clause 1 twice, of which the resolvent names the first alone; by rows each of them would be used
 abbrev pub twice : List Line

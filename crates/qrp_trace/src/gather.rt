@@ -5,7 +5,7 @@ ghost use Rattle.prefix.specs.Scopes.{Scope};
 ghost use Rattle.prefix.specs.Sides.{opposite};
 ghost use Rattle.calculus.specs.Derivations.{RestsOn};
 ghost use Rattle.derive.specs.State.{IsLegalFor, has_rows, is_live, open_clauses, side_at, why_at};
-ghost use Rattle.qrp_trace.specs.Cores.{IsFinishAt, IsNumbered, IsProofOf, core_ids, line_at, lines_at, number_in, numbered_by};
+ghost use Rattle.qrp_trace.specs.Cores.{IsFinishAt, IsNumbered, IsProofOf, core_ids, inferences_of, line_at, lines_at, number_in, numbered_by, proof_at};
 ghost use Rattle.qrp_trace.specs.Gathering.{AreCoreIds};
 
 use crate::listing::{Core, CoreStep, Line, other_quant};
@@ -20,7 +20,7 @@ use steps::NoMemory;
 
 /// The core of a live step: the steps that it rests on, at once or through others, and itself, the inputs first and
 /// else as they came, numbered from 1. Where it is the finish of an end row of a legal derivation, the core is a proof
-/// of the verdict under the assumptions.
+/// of the verdict under the assumptions: the one that the calculus gives for the end row.
 ///
 /// It takes time in proportion to the ids from the oldest step of the core to the end, and to the core's literals.
 /// Fails for want of memory alone.
@@ -33,6 +33,9 @@ pub fn core(alloc: Global, derivation: &Derivation, end: StepId) -> Result<Core,
     ensures proof { IfOk result (λ c. (scopes : List Scope) (assumptions : List Literal) →
         IsLegalFor scopes derivation.now → IsFinishAt scopes assumptions derivation.now end →
         IsProofOf c scopes assumptions (open_clauses derivation.now)) }
+    ensures list { IfOk result (λ c. (scopes : List Scope) (assumptions : List Literal) →
+        IsLegalFor scopes derivation.now → IsFinishAt scopes assumptions derivation.now end →
+        inferences_of c.lines ≡ proof_at derivation.now assumptions end) }
 {
     let marks = needed_for(alloc, derivation, end)?;
     let ids = ids_in_order(alloc, derivation, end, &marks)?;

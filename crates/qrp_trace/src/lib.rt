@@ -19,7 +19,7 @@ mod worked;
 pub use gather::core;
 pub use laws::finishes_end_proofs;
 pub use listing::{Core, CoreStep};
-pub use text::write_trace;
+pub use text::{write_literals, write_trace};
 pub use worked::{worked_cores, worked_numbers, worked_texts};
 
 #[cfg(test)]

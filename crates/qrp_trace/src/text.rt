@@ -144,12 +144,14 @@ fn put_step<S: Sink>(core: &Core, i: usize, sink: &mut S) -> Result<(), Failed>
     ensures { Writes S.written S.flushed S.faults S.has_room sink.old sink.new (step_line core.now.lines i) result }
 {
     put_number(i, sink)?;
-    put_literals(core.lits(i), sink)?;
+    write_literals(core.lits(i), sink)?;
     put_words(&words::antecedents(core.step(i)), sink)
 }
 
-// Writes literals, each with a blank.
-fn put_literals<S: Sink>(lits: &[Lit], sink: &mut S) -> Result<(), Failed>
+/// Writes literals by their numbers, each with a blank behind it. This takes no memory.
+///
+/// Fails only where the sink does, with a front of the text written.
+pub fn write_literals<S: Sink>(lits: &[Lit], sink: &mut S) -> Result<(), Failed>
     ensures { Writes S.written S.flushed S.faults S.has_room sink.old sink.new
         (flat_map literal_word lits.now) result }
 {

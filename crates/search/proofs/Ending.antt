@@ -61,7 +61,7 @@ few_limit n assigned spent few h = few_below n (2 ^ (n + 1)) assigned spent few 
 pub due_first : (scopes : List Scope) (old new : State) (assumptions : List Literal) (before : Counter) (assigned : ℕ)
     → clauses_of new ≡ clauses_of old → WasSpentWhenDue scopes new assumptions before assigned
     → WasSpentWhenDue scopes old assumptions before assigned
-due_first scopes old new assumptions before assigned same (assuming few) = assuming few
+due_first scopes old new assumptions before assigned same (assuming few count) = assuming few count
 due_first scopes old new assumptions before assigned same (searching at is clauses assumed count due) =
     searching at is (clauses ∙ same) assumed count due
 

@@ -2,6 +2,7 @@ pub mod Counting
 pub mod Covering
 pub mod Dropping
 pub mod Ending
+pub mod Finishing
 pub mod Following
 pub mod Forcing
 pub mod Growing
@@ -16,3 +17,4 @@ pub mod Starting
 pub mod Turning
 pub mod Undoing
 pub mod Working
+pub mod WorkingStops

@@ -7,7 +7,6 @@ use Rattle.prefix.specs.declared.quant.Quant.TheVariants.{Exists, Forall}
 use Rattle.calculus.proofs.WorkingSearch.{units}
 use Rattle.clean.proofs.Working.{blocked_stays}
 use Rattle.search.specs.Moves.IsDue.{unit as unit_is_due, decision as decision_is_due}
-use Rattle.search.specs.Stops.WasSpentWhenDue.{assuming}
 use Rattle.prefix.specs.Sides.{bad_of, opposite}
 use Rattle.derive.specs.State.{OpenClause, side_at}
 use Rattle.calculus.proofs.Lists.{contains_cons, contains_nil}
@@ -18,8 +17,9 @@ use Rattle.calculus.specs.WorkedSearch.{alternating, bad, three}
 use Rattle.decide.specs.Decision.{IsDecision}
 use Rattle.rows.specs.Arena.{link_at}
 use Rattle.watch.specs.Links.{is_attached}
+use Rattle.search.specs.Finishes.{IsFinishId}
 use Rattle.search.specs.State.{AreMarked, rows_of}
-use Rattle.search.specs.Worked.{WorkedCounts, WorkedFinds, all_bad, attached_to, detached, once, search_over, three_of, two_bad}
+use Rattle.search.specs.Worked.{WorkedCounts, WorkedFinds, WorkedFinishes, all_bad, attached_to, detached, once, search_over, three_of, two_bad}
 
 -- the row has no mark of the other side
 not_theirs : (q : Quant) → is_attached q (rows_of (search_over q (attached_to (opposite q)) (all_bad q))) 0 ≡ false
@@ -104,15 +104,6 @@ too_many l = absurd (omega arith)
 too_long : 32 < 32 → ⊥
 too_long l = absurd (omega arith)
 
-too_slow : 10 < 10 → ⊥
-too_slow l = absurd (omega arith)
-
-not_spent : ◌≡◌ {A = ℕ} 99 100 → ⊥
-not_spent e = absurd (omega arith)
-
-not_two : ◌≡◌ {A = ℕ} 2 3 → ⊥
-not_two e = absurd (omega arith)
-
 not_counted : ◌≡◌ {A = ℕ} 12 11 → ⊥
 not_counted e = absurd (omega arith)
 
@@ -170,19 +161,6 @@ counts = record {
   };
   bounded = record { later = omega arith; few = omega arith };
   unbounded = λ b. too_long b.few;
-  quick = omega arith;
-  slow = too_slow;
-  at_once = record {
-    spent = refl;
-    budget = refl;
-    vars = refl;
-    due = assuming (omega arith);
-    few = omega arith;
-    short = omega arith;
-  };
-  one_left = λ s. not_spent s.spent;
-  other_vars = λ s. not_two s.vars;
-  other_budget = λ s. not_spent s.budget;
   forced = record {
     undecided = only (λ p. is_decision p.cause ≡ false) _ refl;
     others = λ x i. inl (assumed_one (1 == x) i);
@@ -207,4 +185,20 @@ counts = record {
   no_signs = λ r. no_signs_of 2 (r.signs 3 (omega arith));
   no_room = record { trail = λ x l. omega arith; signs = λ x l. l };
   not_at_rest = λ r. not_empty r.empty;
+}
+
+-- the row alone is no finish, nor is what comes after it
+no_finishes : (q : Quant) (id : ℕ) → IsFinishId (three_of q detached) id → ⊥
+no_finishes q zero e = false≢true e
+no_finishes q (suc id) e = false≢true e
+
+pub finishes : (pivot : Quant) → WorkedFinishes pivot
+finishes pivot = record {
+  finish = refl;
+  row = λ e. false≢true e;
+  next = λ e. false≢true e;
+  none_there = no_finishes pivot;
+  one_there = λ none. none 1 refl;
+  goes = λ id e. absurd (no_finishes pivot id e);
+  comes = λ gains. no_finishes pivot 1 (gains 1 refl);
 }

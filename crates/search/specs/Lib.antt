@@ -1,5 +1,6 @@
 pub mod Changing
 pub mod Counting
+pub mod Finishes
 pub mod Forcing
 pub mod Moves
 pub mod State

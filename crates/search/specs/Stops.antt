@@ -21,7 +21,8 @@ use Rattle.search.specs.declared.outcome.SolveStop.TheVariants.{Spent, NoMemory}
 -- left at first; or one was due in a search of these clauses under these assumptions, after this many assignments.
 pub data WasSpentWhenDue (scopes : List Scope) (d : State) (assumptions : List Literal) (before : Counter)
     (assigned : ℕ) : Type 0 where
-  assuming : left before < length assumptions → WasSpentWhenDue scopes d assumptions before assigned
+  assuming : left before < length assumptions → assigned ≡ left before
+      → WasSpentWhenDue scopes d assumptions before assigned
   searching : (at : SearchState) → IsSearching scopes at → clauses_of at.derivation ≡ clauses_of d
       → AreTheAssumptions at.trail.placed assumptions → assigned ≡ at.trail.assigned → IsDue scopes at
       → WasSpentWhenDue scopes d assumptions before assigned

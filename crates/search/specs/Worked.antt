@@ -1,24 +1,26 @@
--- Worked values: how steps are counted, when a solve stops, what is found and due, and what is kept, with rows of both
--- sides.
+-- Worked values: how steps are counted, when a solve stops, what is found and due, what is kept, and which finishes are
+-- live, with rows of both sides.
 use Rattle.std.specs.Prelude.{◌≡◌, ℕ, true, List, [], ◌∷◌, Option, Some, None, length, replicate, ◌++◌}
 use Rattle.prefix.specs.declared.quant.Quant.{Quant}
 use Rattle.prefix.specs.declared.quant.Quant.TheVariants.{Exists, Forall}
+use Rattle.prefix.specs.Scopes.{Scope}
 use Rattle.prefix.specs.Sides.{opposite}
 use Rattle.steps.specs.Counter.{Counter}
-use Rattle.calculus.specs.Derivations.Why.{Given}
+use Rattle.calculus.specs.Derivations.Why.{FinishedFrom, Given}
 use Rattle.calculus.specs.Search.{Trail}
 use Rattle.calculus.specs.Search.Cause.{Assumed, Decided, Propagated}
-use Rattle.calculus.specs.Worked.{plus}
+use Rattle.calculus.specs.Worked.{existential, plus}
 use Rattle.calculus.specs.WorkedSearch.{alternating, bad, three}
 use Rattle.trail.specs.State.{Account, TrailState}
 use Rattle.trail.specs.declared.allowed.Allowed.TheVariants.{Anything}
-use Rattle.derive.specs.State.{State}
+use Rattle.derive.specs.State.{State, with_step}
 use Rattle.watch.specs.Links.{mark_of}
 use Rattle.watch.specs.State.{new_watch}
 use Rattle.search.specs.declared.outcome.Found.TheVariants.{Unit as IsUnit, Bad, Quiet}
 use Rattle.search.specs.declared.outcome.SolveStop.TheVariants.{Spent}
 use Rattle.search.specs.Changing.{AddsClause, IsRoomy}
 use Rattle.search.specs.Counting.{IsBounded, IsCounted, size_of}
+use Rattle.search.specs.Finishes.{GainsNoFinish, HasNoFinish, IsFinishId}
 use Rattle.search.specs.Forcing.{HasNoCubes, IsForced}
 use Rattle.search.specs.Moves.{IsDue, IsFound, IsMatrix}
 use Rattle.search.specs.State.{AreMarked, AreDetached, IsAtRest, SearchState, rows_of}
@@ -37,6 +39,11 @@ three_of pivot links = record {
   notes = Some (record { side = pivot; why = Given; tag = 0 }) ∷ [];
   rows = Some (Some (record { literals = three; links = links }) ∷ []);
 }
+
+-- the row 1 2 3 of a side, with its finish as the step 1
+abbrev pub finished_three : Quant → State
+finished_three pivot =
+    with_step (three_of pivot detached) (record { side = pivot; why = FinishedFrom 0; tag = 0 }) []
 
 -- a trail of these literals, each of which was assigned once
 abbrev pub trail_of : Trail → TrailState
@@ -101,9 +108,17 @@ once pivot = record { literal = bad pivot 1; cause = Assumed } ∷ []
 abbrev pub spent : ℕ → Counter
 spent n = record { spent = n; budget = 100 }
 
--- what a stop tells after so many assignments
-abbrev pub stopped : ℕ → Account
-stopped assigned = record { budget = 100; vars = 3; assigned = assigned }
+-- what a stop tells of so many variables, after so many assignments
+abbrev pub stopped : ℕ → ℕ → Account
+stopped vars assigned = record { budget = 100; vars = vars; assigned = assigned }
+
+-- a derivation of no steps
+abbrev pub no_steps : State
+no_steps = record { notes = []; rows = Some [] }
+
+-- e 1
+abbrev pub alone : List Scope
+alone = existential (1 ∷ []) ∷ []
 
 pub record WorkedCounts : Type 0 where
   pub size : size_of (alternating Exists) ≡ 3
@@ -114,19 +129,6 @@ pub record WorkedCounts : Type 0 where
   -- a solve of one assignment stops after at most 31 steps
   pub bounded : IsBounded 3 10 (trail_of (once Exists)) (spent 41)
   pub unbounded : IsBounded 3 10 (trail_of (once Exists)) (spent 42) → ⊥
-  -- a refutation by propagation of two variables takes at most ten steps
-  pub quick : IsQuickStop 2 (record { spent = 91; budget = 100 }) (Spent (stopped 0))
-  pub slow : IsQuickStop 2 (record { spent = 90; budget = 100 }) (Spent (stopped 0)) → ⊥
-  -- a literal was to be assumed and no step was left; not while one is left, nor where another number of variables or
-  -- another budget is told, nor where a step was left for each assumption and none was due
-  pub at_once : IsSpent (alternating Exists) (three_of Exists detached) (plus 1 ∷ []) (spent 100) (spent 100)
-      (stopped 0)
-  pub one_left : IsSpent (alternating Exists) (three_of Exists detached) (plus 1 ∷ []) (spent 99) (spent 99) (stopped 0)
-      → ⊥
-  pub other_vars : IsSpent (alternating Exists) (three_of Exists detached) (plus 1 ∷ []) (spent 100) (spent 100)
-      (record { budget = 100; vars = 2; assigned = 0 }) → ⊥
-  pub other_budget : IsSpent (alternating Exists) (three_of Exists detached) (plus 1 ∷ []) (spent 100) (spent 100)
-      (record { budget = 99; vars = 3; assigned = 0 }) → ⊥
   -- no decision stands, and one step was taken for each literal; not after a decision, nor after a step more
   pub forced : IsForced (alternating Exists) 10 (search_over Exists detached (once Exists)) (spent 11)
   pub one_more : IsForced (alternating Exists) 10 (search_over Exists detached (once Exists)) (spent 12) → ⊥
@@ -147,3 +149,34 @@ pub record WorkedCounts : Type 0 where
   pub no_room : IsRoomy 0 (search_over Exists detached [])
   -- rest is an empty trail on which nothing was counted
   pub not_at_rest : IsAtRest (trail_of (once Exists)) → ⊥
+
+-- finishes that are live
+pub record WorkedFinishes (pivot : Quant) : Type 0 where
+  -- the finish of a row, not the row itself, nor what comes next
+  pub finish : IsFinishId (finished_three pivot) 1
+  pub row : IsFinishId (finished_three pivot) 0 → ⊥
+  pub next : IsFinishId (finished_three pivot) 2 → ⊥
+  -- none beside a row alone; not where its finish is
+  pub none_there : HasNoFinish (three_of pivot detached)
+  pub one_there : HasNoFinish (finished_three pivot) → ⊥
+  -- no new one where the finish goes; not where it comes
+  pub goes : GainsNoFinish (finished_three pivot) (three_of pivot detached)
+  pub comes : GainsNoFinish (three_of pivot detached) (finished_three pivot) → ⊥
+
+-- when a solve may stop
+pub record WorkedStops : Type 0 where
+  -- a refutation by propagation of two variables takes at most ten steps
+  pub quick : IsQuickStop 2 (record { spent = 91; budget = 100 }) (Spent (stopped 3 0))
+  pub slow : IsQuickStop 2 (record { spent = 90; budget = 100 }) (Spent (stopped 3 0)) → ⊥
+  -- a literal was to be assumed and no step was left, or two were and one was left
+  pub at_once : IsSpent (alternating Exists) no_steps (plus 1 ∷ []) (spent 100) (spent 100) (stopped 3 0)
+  pub one_of_two : IsSpent (existential (1 ∷ 2 ∷ []) ∷ []) no_steps (plus 1 ∷ plus 2 ∷ []) (spent 99) (spent 100)
+      (stopped 2 1)
+  -- not while one is left, nor where another number of variables, another budget or another number of assignments is
+  -- told, nor where a step was left for each assumption and none was due
+  pub one_left : IsSpent (alternating Exists) no_steps (plus 1 ∷ []) (spent 99) (spent 99) (stopped 3 0) → ⊥
+  pub other_vars : IsSpent (alternating Exists) no_steps (plus 1 ∷ []) (spent 100) (spent 100) (stopped 2 0) → ⊥
+  pub other_budget : IsSpent (alternating Exists) no_steps (plus 1 ∷ []) (spent 100) (spent 100)
+      (record { budget = 99; vars = 3; assigned = 0 }) → ⊥
+  pub other_count : IsSpent alone no_steps (plus 1 ∷ []) (spent 100) (spent 100) (stopped 1 1) → ⊥
+  pub none_due : IsSpent alone no_steps (plus 1 ∷ []) (spent 99) (spent 100) (stopped 1 1) → ⊥

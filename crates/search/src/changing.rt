@@ -1,8 +1,10 @@
 //! Changes of the formula, between solves.
-ghost use Rattle.std.specs.Prelude.{◌≡◌, ◌==◌, false, not, filter, OnOk, OnErr};
+ghost use Rattle.std.specs.Prelude.{◌≡◌, ◌==◌, ℕ, IsTrue, false, not, filter, OnOk, OnErr};
 ghost use Rattle.calculus.specs.Rows.{IsRow};
-ghost use Rattle.derive.specs.State.{OpenClause, clauses_of};
+ghost use Rattle.derive.specs.Dropping.{unless_finish};
+ghost use Rattle.derive.specs.State.{OpenClause, SameStep, clauses_of, is_live, note_at};
 ghost use Rattle.search.specs.State.{IsResting};
+ghost use Rattle.search.specs.Finishes.{GainsNoFinish, HasNoFinish};
 ghost use Rattle.search.specs.Forcing.{HasNoCubes};
 ghost use Rattle.search.specs.Moves.{SameSteps};
 ghost use Rattle.search.specs.Changing.{AddsClause, IsRoomy, RestingGrows, StaysResting};
@@ -29,6 +31,7 @@ impl Search {
         ensures resting { StaysResting self.old self.new }
         ensures derivation { self.new.derivation ≡ self.old.derivation }
         ensures watched { self.new.watched ≡ self.old.watched }
+        ensures finishes { GainsNoFinish self.old.derivation self.new.derivation }
     {
         let vars = v.number() as usize;
         self.clauses.reserve(vars)?;
@@ -53,6 +56,7 @@ impl Search {
         ensures err { OnErr result (SameSteps self.old.derivation self.new.derivation) }
         ensures resting { IsResting prefix.now self.new }
         ensures cubes { HasNoCubes self.old → HasNoCubes self.new }
+        ensures finishes { GainsNoFinish self.old.derivation self.new.derivation }
     {
         self.watched.reserve(1)?;
         self.detach_all(prefix);
@@ -69,6 +73,7 @@ impl Search {
         ensures err { OnErr result (SameSteps self.old.derivation self.new.derivation) }
         ensures resting { IsResting prefix.now self.new }
         ensures cubes { HasNoCubes self.old → HasNoCubes self.new }
+        ensures finishes { GainsNoFinish self.old.derivation self.new.derivation }
     {
         holding_laws();
         agreeing_laws();
@@ -86,6 +91,7 @@ impl Search {
             (clauses_of self.old.derivation) }
         ensures resting { IsResting prefix.now self.new }
         ensures cubes { HasNoCubes self.old → HasNoCubes self.new }
+        ensures finishes { GainsNoFinish self.old.derivation self.new.derivation }
     {
         self.detach_all(prefix);
         holding_laws();
@@ -94,9 +100,13 @@ impl Search {
         self.derivation.drop_frame(frame);
     }
 
-    /// Drops the finish of the last outcome. This takes no memory.
+    /// Drops the finish of the last outcome, and no other step. This takes no memory.
     pub fn drop_finish(&mut self, prefix: &Prefix)
         requires { IsResting prefix.now self.old }
+        ensures exactly { (id : ℕ) → note_at self.new.derivation id ≡ unless_finish (note_at self.old.derivation id) }
+        ensures others { (id : ℕ) → IsTrue (is_live self.new.derivation id) →
+            SameStep self.old.derivation self.new.derivation id }
+        ensures finishes { HasNoFinish self.new.derivation }
         ensures resting { IsResting prefix.now self.new }
         ensures clauses { clauses_of self.new.derivation ≡ clauses_of self.old.derivation }
         ensures cubes { HasNoCubes self.old → HasNoCubes self.new }

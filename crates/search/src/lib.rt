@@ -14,4 +14,4 @@ mod worked;
 pub use changing::resting_grows;
 pub use outcome::{Outcome, SolveStop};
 pub use search::Search;
-pub use worked::{worked_counts, worked_finds};
+pub use worked::{worked_counts, worked_finds, worked_finishes, worked_stops};

@@ -1,6 +1,7 @@
 //! A search.
 ghost use Rattle.std.specs.Prelude.{◌≡◌, []};
 ghost use Rattle.derive.specs.State.{clauses_of};
+ghost use Rattle.search.specs.Finishes.{HasNoFinish};
 ghost use Rattle.search.specs.State.{IsResting};
 
 use decide::Decider;
@@ -51,6 +52,7 @@ impl Search {
         ensures resting { IsResting [] result }
         ensures clauses { clauses_of result.derivation ≡ [] }
         ensures watched { result.watched ≡ [] }
+        ensures finishes { HasNoFinish result.derivation }
     {
         holding_laws();
         Self {

@@ -1,5 +1,5 @@
 //! A solve, from rest to rest.
-ghost use Rattle.std.specs.Prelude.{◌≡◌, ◌+◌, ◌*◌, ◌<◌, ◌≤◌, IfOk, IfErr, OnOk, OnErr, Err, length};
+ghost use Rattle.std.specs.Prelude.{◌≡◌, ℕ, ◌+◌, ◌*◌, ◌<◌, ◌≤◌, IfOk, IfErr, OnOk, OnErr, Err, length};
 ghost use Rattle.prefix.specs.Scopes.{IsAscending};
 ghost use Rattle.prefix.specs.declared.quant.Quant.{Quant as Q};
 ghost use Rattle.steps.specs.Counter.{left};
@@ -13,6 +13,7 @@ ghost use Rattle.derive.specs.State.{clauses_of, row_of};
 ghost use Rattle.clean.specs.Reasons.{IsReducedStep};
 ghost use Rattle.search.specs.State.{IsAtRest, IsPaused, IsResting, IsSearching};
 ghost use Rattle.search.specs.Counting.{IsBounded, IsCounted, size_of};
+ghost use Rattle.search.specs.Finishes.{HasNoFinish, IsFinishId};
 ghost use Rattle.search.specs.Forcing.{HasNoCubes, IsForced, NoCubeAttached};
 ghost use Rattle.search.specs.Moves.{IsMatrix};
 ghost use Rattle.search.specs.Stops.{IsOutcome, IsQuickStop, IsStop, WasSpentWhenDue};
@@ -30,6 +31,7 @@ use watch::{agreeing_laws, holding_laws, looking_laws};
 impl Search {
     /// Decides the formula of the prefix and the clauses of the matrix, which are the open clauses, under assumptions
     /// of the first scope, by search with learned clauses and cubes (QCDCL). What it learns stays for the next call.
+    /// The finish of the last outcome goes: after a call no finish is live but that of its own outcome.
     ///
     /// Spent comes only where a step is due and the budget is spent, which with as many steps left as suffice for the
     /// variables is never so. After it and after want of memory the search is at rest, with the same open clauses.
@@ -50,6 +52,8 @@ impl Search {
             IfErr result (IsQuickStop (size_of prefix.now) steps.old) }
         ensures resting { IsResting prefix.now self.new }
         ensures clauses { clauses_of self.new.derivation ≡ clauses_of self.old.derivation }
+        ensures finishes { IfOk result (λ o. (id : ℕ) → IsFinishId self.new.derivation id → id ≡ o.end) }
+        ensures unfinished { OnErr result (HasNoFinish self.new.derivation) }
         ensures budget { steps.new.budget ≡ steps.old.budget }
         ensures rises { steps.old.spent ≤ steps.new.spent }
     {
@@ -59,6 +63,7 @@ impl Search {
             Err(Stop::Spent) => Err(SolveStop::Spent(self.stop(prefix, steps))),
             Err(Stop::NoMemory) => {
                 self.settle(prefix);
+                self.drop_finish(prefix);
                 Err(SolveStop::NoMemory)
             }
         }
@@ -119,6 +124,7 @@ impl Search {
             OnOk result (IsForced prefix.now steps.old.spent self.new steps.new) }
         ensures bounded { OnErr result (IsBounded (size_of prefix.now) steps.old.spent self.new.trail steps.new) }
         ensures due { OnErr result (left steps.old < length assumptions.now) }
+        ensures assigned { OnErr result (self.new.trail.assigned ≡ left steps.old) }
         ensures spent { OnErr result (steps.new.spent ≡ steps.new.budget) }
         ensures budget { steps.new.budget ≡ steps.old.budget }
         ensures rises { steps.old.spent ≤ steps.new.spent }
@@ -129,7 +135,7 @@ impl Search {
         Ok(())
     }
 
-    // Ends with an end row: the trail is emptied, and the row's finish comes in.
+    // Ends with an end row: the trail is emptied, and the row's finish comes in, for that of the last outcome.
     fn conclude(
         &mut self,
         prefix: &Prefix,
@@ -147,8 +153,11 @@ impl Search {
         ensures err { OnErr result (result ≡ Err SolveStop.NoMemory) }
         ensures resting { IsResting prefix.now self.new }
         ensures clauses { clauses_of self.new.derivation ≡ clauses_of self.old.derivation }
+        ensures finishes { IfOk result (λ o. (id : ℕ) → IsFinishId self.new.derivation id → id ≡ o.end) }
+        ensures unfinished { OnErr result (HasNoFinish self.new.derivation) }
     {
         self.settle(prefix);
+        self.drop_finish(prefix);
         let id = self.finish(prefix, matrix, end, assumptions)?;
         Ok(Outcome {
             loser: end.side,
@@ -156,7 +165,7 @@ impl Search {
         })
     }
 
-    // Puts in the finish of an end row.
+    // Puts in the finish of an end row, where there is no other one.
     fn finish(
         &mut self,
         prefix: &Prefix,
@@ -165,6 +174,7 @@ impl Search {
         assumptions: &[Lit],
     ) -> Result<StepId, NoMemory>
         requires resting { IsResting prefix.now self.old }
+        requires unfinished { HasNoFinish self.old.derivation }
         requires matrix { IsMatrix self.old.derivation matrix.now }
         requires outer { AreOuter prefix.now assumptions.now }
         requires ascending { IsAscending (variables_in assumptions.now) }
@@ -174,6 +184,8 @@ impl Search {
             (record { loser = end.side; end = id })) }
         ensures resting { IsResting prefix.now self.new }
         ensures clauses { clauses_of self.new.derivation ≡ clauses_of self.old.derivation }
+        ensures finishes { IfOk result (λ end. (id : ℕ) → IsFinishId self.new.derivation id → id ≡ end) }
+        ensures unfinished { OnErr result (HasNoFinish self.new.derivation) }
     {
         let _valid = prefix.scopes();
         steps_are_listed();
@@ -201,12 +213,14 @@ impl Search {
         self.joined = true;
     }
 
-    // Empties the trail where the budget is spent; what is watched stays attached.
+    // Ends where the budget is spent: the trail is emptied, and the finish of the last outcome goes; what is watched
+    // stays attached.
     fn stop(&mut self, prefix: &Prefix, steps: &Steps) -> Stopped
         requires paused { IsPaused prefix.now self.old }
         requires spent { steps.now.spent ≡ steps.now.budget }
         ensures resting { IsResting prefix.now self.new }
-        ensures derivation { self.new.derivation ≡ self.old.derivation }
+        ensures clauses { clauses_of self.new.derivation ≡ clauses_of self.old.derivation }
+        ensures unfinished { HasNoFinish self.new.derivation }
         ensures stopped { result ≡ account_of prefix.now self.old.trail steps.now.budget }
     {
         holding_laws();
@@ -216,6 +230,7 @@ impl Search {
         self.clauses.undone(0);
         self.cubes.undone(0);
         self.joined = true;
+        self.drop_finish(prefix);
         stopped
     }
 }

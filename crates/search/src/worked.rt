@@ -1,13 +1,23 @@
 //! Worked values of the definitions, each proved.
 ghost use Rattle.prefix.specs.declared.quant.Quant.{Quant};
-ghost use Rattle.search.specs.Worked.{WorkedCounts, WorkedFinds};
+ghost use Rattle.search.specs.Worked.{WorkedCounts, WorkedFinds, WorkedFinishes, WorkedStops};
 
 /// What is found and due, for rows of either side.
 pub fn worked_finds()
     ensures { (pivot : Quant) → WorkedFinds pivot }
 {}
 
-/// Counted steps, stops, matrices and room.
+/// Counted steps, matrices and room.
 pub fn worked_counts()
     ensures { WorkedCounts }
+{}
+
+/// Which finishes are live, for steps of either side.
+pub fn worked_finishes()
+    ensures { (pivot : Quant) → WorkedFinishes pivot }
+{}
+
+/// When a solve may stop.
+pub fn worked_stops()
+    ensures { WorkedStops }
 {}

@@ -3,7 +3,7 @@ use Rattle.prefix.specs.Sides.{opposite}
 use Rattle.derive.specs.State.{next_id, side_at}
 use Rattle.qrp_trace.specs.Cores.{core_ids, lines_at}
 use Rattle.qrp_trace.proofs.Used.{core_numbered}
-use Rattle.qrp_trace.proofs.Linking.{core_proves, live_below, other_twice}
+use Rattle.qrp_trace.proofs.Linking.{core_lists, core_proves, live_below, other_twice}
 use Rattle.qrp_trace.proofs.gather.core.Goals as goal
 
 pub numbers_of-requires : goal.numbers_of-requires
@@ -40,3 +40,13 @@ returns-clause-proof c scopes assumptions legal finish =
     let winner : opposite c.other_quant.result ≡ side_at d end = ap opposite c.other_quant.ensures
     ∙ other_twice c.side.result ∙ c.side.ensures in
     rw (c.new.ensures, winner, lines) proof
+
+pub returns-clause-list : goal.returns-clause-list
+returns-clause-list c scopes assumptions legal finish =
+    let d = c.args.derivation.now in
+    let end = c.args.end in
+    let ids : c.deref-3.result.now ≡ core_ids d end = c.deref-3.ensures.value ∙ c.in_ok-ids.ensures.value in
+    let lines : c.in_ok-lines.lines.items ≡ lines_at d (core_ids d end) = c.in_ok-lines.ensures ∙ ap (lines_at d) ids in
+    let list = core_lists d end c.deref.result.now (rw c.deref.ensures.value c.in_ok-marks.ensures)
+    (live_below d end c.requires.live) c.requires.live scopes assumptions legal finish in
+    rw (c.new.ensures, lines) list

@@ -15,20 +15,20 @@ returns-in_err-put_number g c =
     ++ (codes "0 " ++ (flat_map number_word (antecedents_of (step_numbered c.args.core.now.lines c.args.i))
     ++ codes "0\n"))) c.in_err-put_number.ensures)
 
-pub returns-in_err-put_literals : goal.returns-in_err-put_literals
-returns-in_err-put_literals g c =
+pub returns-in_err-write_literals : goal.returns-in_err-write_literals
+returns-in_err-write_literals g c =
     writes_err g.S.Sink.written g.S.Sink.flushed g.S.Sink.faults g.S.Sink.has_room _
-    c.from_residual-in_err-put_literals.result c.args.sink.now c.put_literals.new.sink _
-    c.from_residual-in_err-put_literals.ensures.1
+    c.from_residual-in_err-write_literals.result c.args.sink.now c.write_literals.new.sink _
+    c.from_residual-in_err-write_literals.ensures.1
     (part_then g.S.Sink.written g.S.Sink.flushed g.S.Sink.faults g.S.Sink.has_room c.args.sink.now
-    c.put_number.new.sink c.put_literals.new.sink (number_word c.args.i)
+    c.put_number.new.sink c.write_literals.new.sink (number_word c.args.i)
     ((flat_map literal_word (row_numbered (core_rows c.args.core.now.lines) c.args.i))
     ++ (codes "0 " ++ (flat_map number_word (antecedents_of (step_numbered c.args.core.now.lines c.args.i))
     ++ codes "0\n"))) c.in_ok-put_number.ensures
     (part_more g.S.Sink.written g.S.Sink.flushed g.S.Sink.faults g.S.Sink.has_room c.put_number.new.sink
-    c.put_literals.new.sink (flat_map literal_word (row_numbered (core_rows c.args.core.now.lines) c.args.i))
+    c.write_literals.new.sink (flat_map literal_word (row_numbered (core_rows c.args.core.now.lines) c.args.i))
     (codes "0 " ++ (flat_map number_word (antecedents_of (step_numbered c.args.core.now.lines c.args.i))
-    ++ codes "0\n")) (rw c.lits.ensures at c.in_err-put_literals.ensures)))
+    ++ codes "0\n")) (rw c.lits.ensures at c.in_err-write_literals.ensures)))
 
 pub returns : goal.returns
 returns g c =
@@ -38,9 +38,9 @@ returns g c =
     ++ (codes "0 " ++ (flat_map number_word (antecedents_of (step_numbered c.args.core.now.lines c.args.i))
     ++ codes "0\n"))) c.in_ok-put_number.ensures
     (writes_then g.S.Sink.written g.S.Sink.flushed g.S.Sink.faults g.S.Sink.has_room c.put_words.result
-    c.put_number.new.sink c.put_literals.new.sink c.put_words.new.sink
+    c.put_number.new.sink c.write_literals.new.sink c.put_words.new.sink
     (flat_map literal_word (row_numbered (core_rows c.args.core.now.lines) c.args.i))
     (codes "0 " ++ (flat_map number_word (antecedents_of (step_numbered c.args.core.now.lines c.args.i))
     ++ codes "0\n"))
-    (rw c.lits.ensures at c.in_ok-put_literals.ensures)
+    (rw c.lits.ensures at c.in_ok-write_literals.ensures)
     (rw (c.antecedents.ensures, c.step.ensures.value) at c.put_words.ensures))

@@ -2,11 +2,13 @@ use Rattle.std.proofs.Common.{refl, sym, subst}
 use Rattle.derive.specs.State.{State, IsLegalFor, row_of}
 use Rattle.calculus.specs.Verdicts.{IsEndRow}
 use Rattle.clean.specs.Reasons.{IsReducedStep}
+use Rattle.search.specs.Finishes.{HasNoFinish}
 use Rattle.search.specs.Moves.{IsMatrix}
 use Rattle.search.specs.State.{IsResting, SearchState}
 use Rattle.search.specs.contracts.search.Search.{the_view}
 use Rattle.search.proofs.Ending.{is_outcome}
-use Rattle.search.proofs.Learning.{either_way, if_ok, on_ok_with, resting_gained}
+use Rattle.search.proofs.Finishing.{one_finish}
+use Rattle.search.proofs.Learning.{either_way, if_ok, on_err, on_ok_with, resting_gained}
 use Rattle.search.proofs.search.Search.finish.Goals as goal
 
 pub returns-clause-outcome : goal.returns-clause-outcome
@@ -39,3 +41,15 @@ returns-clause-resting c =
     c.finish.ensures.err
     (λ now. now)
     (λ same. subst (λ (d : State). IsResting c.args.prefix.now (record s { derivation = d })) (sym same) resting)
+
+pub returns-clause-finishes : goal.returns-clause-finishes
+returns-clause-finishes c =
+    let none = subst (λ (s : SearchState). HasNoFinish s.derivation) (sym c.self.view_is) c.requires.unfinished in
+    if_ok c.finish.result
+    (λ id removes. one_finish c.self.inside.derivation c.finish.new.self id c.args.end.row _ _ removes none)
+    c.finish.ensures.ok
+
+pub returns-clause-unfinished : goal.returns-clause-unfinished
+returns-clause-unfinished c =
+    let none = subst (λ (s : SearchState). HasNoFinish s.derivation) (sym c.self.view_is) c.requires.unfinished in
+    on_err c.finish.result (λ same. subst HasNoFinish (sym same) none) c.finish.ensures.err

@@ -3,6 +3,8 @@ use Rattle.std.proofs.lemmas.Bool.{cond-true}
 use Rattle.search.specs.Forcing.{HasNoCubes}
 use Rattle.search.specs.State.{IsResting, SearchState}
 use Rattle.search.specs.contracts.search.Search.{the_view}
+use Rattle.search.specs.Finishes.{GainsNoFinish}
+use Rattle.search.proofs.Finishing.{finishes_input}
 use Rattle.search.proofs.Inputs.{Inputs, no_cubes_input, resting_input}
 use Rattle.search.proofs.search.Search.input.Goals as goal
 
@@ -47,3 +49,9 @@ returns-clause-cubes c = λ none.
     no_cubes_input c.growth_laws.ensures scopes s c.input_clause.new.self c.in_ok-id.field-0-0 c.in_ok-id.id
     c.args.frame c.args.lits.now (inputs c) c.push.new.self.items (more c) resting.intact.watched
     (subst HasNoCubes (sym c.self.view_is) none)
+
+pub returns-clause-finishes : goal.returns-clause-finishes
+returns-clause-finishes c =
+    subst (λ (s : SearchState). GainsNoFinish s.derivation c.input_clause.new.self) c.self.view_is
+    (finishes_input c.args.prefix.now c.self.inside.derivation c.input_clause.new.self c.in_ok-id.field-0-0
+    c.in_ok-id.id c.args.frame c.args.lits.now c.in_ok-id.ensures.ok)

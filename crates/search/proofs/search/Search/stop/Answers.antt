@@ -4,8 +4,8 @@ use Rattle.trail.specs.State.{TrailState}
 use Rattle.search.proofs.Undoing.{cut_changes, saved_length, rests}
 use Rattle.search.proofs.search.Search.stop.Goals as goal
 
-pub returns-clause-resting : goal.returns-clause-resting
-returns-clause-resting c =
+pub drop_finish-requires : goal.drop_finish-requires
+drop_finish-requires c =
     let is = c.stop-stopped.ensures.cleared in
     rests c.args.prefix.now c.args.self.now _ c.holding_laws.ensures c.looking_laws.ensures c.requires.paused refl
     (cut_changes _ c.args.self.now c.stop-stopped.new.self 0 c.undone.new.self c.undone-2.new.self c.undoing.new.self

@@ -2,7 +2,7 @@ use Rattle.std.proofs.Common.{◌≡◌, ◌≤◌, ◌+◌, ◌++◌, suc, take
 use Rattle.std.specs.List.{flat_map}
 use Rattle.qrp_trace.proofs.Pieces.{flat_more, flat_split, nothing, part_more, part_then, whole_then, writes_err}
 use Rattle.qrp_trace.specs.Texts.{literal_word}
-use Rattle.qrp_trace.proofs.text.put_literals.Goals as goal
+use Rattle.qrp_trace.proofs.text.write_literals.Goals as goal
 
 pub loop-lit-init : goal.loop-lit-init
 loop-lit-init g c = nothing g.S.Sink.written g.S.Sink.flushed g.S.Sink.faults g.S.Sink.has_room c.args.sink.now

@@ -1,0 +1,116 @@
+-- The worked values of stops.
+use Rattle.std.proofs.Common.{◌≡◌, ℕ, ◌<◌, ◌==◌, true, [], ◌∷◌, Some, is_none, refl, sym, ap, subst, ◌∙◌, ⊎_elim, arith}
+use Rattle.std.proofs.lemmas.Bool.{cases_Bool, eqb-true, false≢true}
+use Rattle.prefix.specs.declared.quant.Quant.{Quant}
+use Rattle.prefix.specs.Literal.{Literal}
+use Rattle.prefix.specs.Sides.{is_pivot}
+use Rattle.calculus.proofs.Lists.{contains_cons, contains_nil}
+use Rattle.calculus.specs.Rows.{Row, depth_of}
+use Rattle.calculus.specs.Search.{AreTheAssumptions, Trail, cause_on, value_on}
+use Rattle.calculus.specs.Search.Cause.{Assumed, Propagated}
+use Rattle.calculus.specs.Worked.{plus}
+use Rattle.clean.specs.Blockers.{IsBlocked}
+use Rattle.analyse.specs.Lessons.{IsUnlearned}
+use Rattle.search.specs.Moves.{IsDue}
+use Rattle.search.specs.Moves.IsDue.{unit, bad, decision}
+use Rattle.search.specs.State.{SearchState}
+use Rattle.search.specs.Stops.{WasSpentWhenDue}
+use Rattle.search.specs.Stops.WasSpentWhenDue.{assuming, searching}
+use Rattle.search.specs.Worked.{WorkedStops, alone, no_steps, spent}
+
+too_slow : 10 < 10 → ⊥
+too_slow l = absurd (omega arith)
+
+not_spent : ◌≡◌ {A = ℕ} 99 100 → ⊥
+not_spent e = absurd (omega arith)
+
+not_two : ◌≡◌ {A = ℕ} 2 3 → ⊥
+not_two e = absurd (omega arith)
+
+not_less : 1 < 1 → ⊥
+not_less l = absurd (omega arith)
+
+one_not_none : ◌≡◌ {A = ℕ} 1 0 → ⊥
+one_not_none e = absurd (omega arith)
+
+-- where the only variable is assumed, no step is due
+
+only_one : (side : Quant) (l : Literal) → is_pivot side alone l ≡ true → l.variable ≡ 1
+only_one side l is =
+    ⊎_elim
+    (λ t. sym (eqb-true 1 l.variable t))
+    (λ f. absurd (false≢true (rw f at is)))
+    (cases_Bool (1 == l.variable))
+
+not_deeper : (x : ℕ) → depth_of alone x < 1 → ⊥
+not_deeper x l =
+    ⊎_elim
+    (λ t. not_less (rw t at l))
+    (λ f. absurd (let m = rw f at l in omega arith))
+    (cases_Bool (1 == x))
+
+module _ (placed : Trail) (assumed : AreTheAssumptions placed (plus 1 ∷ [])) where
+  has_value : value_on placed 1 ≡ Some true
+  has_value = (assumed.stand 1 true refl).0
+
+  not_open : (x : ℕ) → x ≡ 1 → is_none (value_on placed x) ≡ true → ⊥
+  not_open x one open_yet = false≢true (sym (ap is_none (ap (value_on placed) one ∙ has_value)) ∙ open_yet)
+
+  not_blocked : (side : Quant) (row : Row) → IsBlocked side alone placed row → ⊥
+  not_blocked side row is =
+      let one = only_one side is.blocker is.blocks.pivot_type in
+      not_deeper is.blocked.variable
+      (subst (λ x. depth_of alone is.blocked.variable < depth_of alone x) one is.blocks.later)
+
+  not_unlearned : (side : Quant) (row : Row) → IsUnlearned side alone placed row → ⊥
+  not_unlearned side row is =
+      let one = only_one side is.literal is.last.pivot_type in
+      let g : Some Assumed ≡ Some (Propagated is.propagated.0) = sym (ap (cause_on placed) one
+      ∙ (assumed.stand 1 true refl).1) ∙ is.propagated.1 in
+      cc
+
+nothing_due : (at : SearchState) → AreTheAssumptions at.trail.placed (plus 1 ∷ []) → IsDue alone at → ⊥
+nothing_due at assumed (unit side id l step is) =
+    not_open at.trail.placed assumed l.variable (only_one side l is.pivot_type) is.open_yet
+nothing_due at assumed (bad side id step is needs) =
+    ⊎_elim (not_blocked at.trail.placed assumed side _) (not_unlearned at.trail.placed assumed side _) needs
+nothing_due at assumed (decision x is) =
+    ⊎_elim
+    (λ one. not_open at.trail.placed assumed x (sym one) (ap is_none is.unassigned))
+    (λ none. contains_nil x none)
+    (contains_cons 1 [] x is.known)
+
+none_left : WasSpentWhenDue alone no_steps (plus 1 ∷ []) (spent 99) 1 → ⊥
+none_left (assuming few count) = not_less few
+none_left (searching at is clauses assumed count due) = nothing_due at assumed due
+
+none_assigned : WasSpentWhenDue alone no_steps (plus 1 ∷ []) (spent 100) 1 → ⊥
+none_assigned (assuming few count) = one_not_none count
+none_assigned (searching at is clauses assumed count due) = nothing_due at assumed due
+
+pub stops : WorkedStops
+stops = record {
+  quick = omega arith;
+  slow = too_slow;
+  at_once = record {
+    spent = refl;
+    budget = refl;
+    vars = refl;
+    due = assuming (omega arith) refl;
+    few = omega arith;
+    short = omega arith;
+  };
+  one_of_two = record {
+    spent = refl;
+    budget = refl;
+    vars = refl;
+    due = assuming (omega arith) refl;
+    few = omega arith;
+    short = omega arith;
+  };
+  one_left = λ s. not_spent s.spent;
+  other_vars = λ s. not_two s.vars;
+  other_budget = λ s. not_spent s.budget;
+  other_count = λ s. none_assigned s.due;
+  none_due = λ s. none_left s.due;
+}
