@@ -1,5 +1,5 @@
 -- Where a reader of scripts stands, and what it answers.
-use Rattle.std.specs.Prelude.{◌≡◌, ℕ, Bool, true, false, List, [], ◌∷◌, Option, Some, None, Result, Ok, Err, option_map, IfSome}
+use Rattle.std.specs.Prelude.{◌≡◌, ℕ, ◌+◌, Bool, true, false, List, [], ◌∷◌, Option, Some, None, Result, Ok, Err, option_map, IfSome, is_some}
 use Rattle.std.specs.Io.KnownBytes.{IsAtEnd}
 use Rattle.lexer.specs.State.{State as LexerState, upcoming as upcoming_words}
 use Rattle.lexer.specs.Words.{Item as LexerItem, word, bad_byte, number_range, too_long, the_end}
@@ -70,6 +70,10 @@ is_fault (Some (BadByte line)) = true
 is_fault (Some (NumberRange line)) = true
 is_fault (Some (TooLong line)) = true
 
+-- A desk that told what it has left goes on telling, unless what was seen behind the line is no word, nor the end.
+abbrev pub GoesOn : Option Item → Option (List ℕ) → Option (List ℕ) → Type 0
+GoesOn ahead before after = is_fault ahead ≡ false → IfSome before (λ _. is_some after ≡ true)
+
 -- The refusal is this item, which is no word, nor the end.
 abbrev pub IsFault : ReadRefusal → Item → Type 0
 IsFault e (BadByte line) = e ≡ Refused 7 line
@@ -84,6 +88,15 @@ is_word (BadByte line) = false
 is_word (NumberRange line) = false
 is_word (TooLong line) = false
 is_word (End line) = false
+
+-- How many more words may come, where so many bytes may still be read. Behind what is no word none comes.
+abbrev pub most_to_come : Option Item → ℕ → ℕ
+most_to_come None room = room + 1
+most_to_come (Some (Word t)) room = room + 1
+most_to_come (Some (BadByte line)) room = 0
+most_to_come (Some (NumberRange line)) room = 0
+most_to_come (Some (TooLong line)) room = 0
+most_to_come (Some (End line)) room = 0
 
 -- The lexer may be asked where nothing that ends its words has been seen.
 abbrev pub IsReady : Option Item → Bool → Type 0

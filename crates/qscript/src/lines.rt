@@ -4,7 +4,7 @@ ghost use Rattle.lexer.specs.State.{Stays};
 ghost use Rattle.ports.specs.Causes.{Rose};
 ghost use Rattle.qscript.specs.Lines.{is_header_line};
 ghost use Rattle.qscript.specs.Run.{between, within, is_header};
-ghost use Rattle.qscript.specs.State.{script_ahead, is_end, is_fault, IsReady, EndsWith, IsRefusal, Leaves, IsDone, IsFirst, Answers};
+ghost use Rattle.qscript.specs.State.{script_ahead, is_end, is_fault, IsReady, EndsWith, IsRefusal, Leaves, IsDone, IsFirst, Answers, GoesOn, most_to_come};
 
 use crate::command::Command;
 use crate::draft::{Draft, Line};
@@ -29,7 +29,9 @@ fn rest_of_line<D: Desk>(
         (script_ahead (within line draft) words.old.ahead words.old.lexer (D.left desk.old))) }
     ensures header { IfOk result (λ l. is_header_line l ≡ is_header draft) }
     ensures ready { OnOk result (IsReady words.new.ahead words.new.lexer.failed) }
+    ensures fewer { OnOk result (most_to_come words.new.ahead words.new.lexer.room ≤ words.old.lexer.room) }
     ensures end { OnOk result (EndsWith words.new.ahead (D.left desk.new)) }
+    ensures telling { OnOk result (GoesOn words.new.ahead (D.left desk.old) (D.left desk.new)) }
     ensures later { D.faults desk.old ≤ D.faults desk.new }
     ensures rose { IsErrOf result ReadRefusal.ReadFault → Rose (D.faults desk.old) (D.faults desk.new) }
     ensures kept { OnOk result (is_fault words.new.ahead ≡ false → D.faults desk.new ≡ D.faults desk.old) }
@@ -63,6 +65,8 @@ fn first_of_line<D: Desk>(
     ensures header { IfOk result (λ found. IfSome found (λ b. is_header b.0 ≡ not headed)) }
     ensures word { IfOk result (λ found. IfSome found (λ _. (words.new.ahead ≡ None) × (words.new.lexer.failed ≡ false)
         × (D.faults desk.new ≡ D.faults desk.old))) }
+    ensures fewer { IfOk result (λ found. IfSome found (λ _. words.new.lexer.room
+        < most_to_come words.old.ahead words.old.lexer.room)) }
     ensures done { IfOk result (λ found. IfNone found (IsDone
         (script_ahead (between headed) words.old.ahead words.old.lexer (D.left desk.old))
         (script_ahead (between headed) words.new.ahead words.new.lexer (D.left desk.new)))) }
@@ -72,6 +76,7 @@ fn first_of_line<D: Desk>(
     ensures refusal { IfErr result (λ e. IsRefusal e
         (script_ahead (between headed) words.old.ahead words.old.lexer (D.left desk.old))) }
     ensures unstopped { OnOk result (is_fault words.old.ahead ≡ false) }
+    ensures telling { OnOk result (GoesOn words.new.ahead (D.left desk.old) (D.left desk.new)) }
     ensures later { D.faults desk.old ≤ D.faults desk.new }
     ensures rose { IsErrOf result ReadRefusal.ReadFault → Rose (D.faults desk.old) (D.faults desk.new) }
     ensures flows { D.flows desk.old → ¬ IsErrOf result ReadRefusal.ReadFault × D.flows desk.new }
@@ -101,8 +106,11 @@ fn header<D: Desk>(alloc: Global, words: &mut Words, desk: &mut D) -> Result<(),
     ensures refusal { IfErr result (λ e. IsRefusal e
         (script_ahead (between false) words.old.ahead words.old.lexer (D.left desk.old))) }
     ensures ready { OnOk result (IsReady words.new.ahead words.new.lexer.failed) }
+    ensures fewer { OnOk result (most_to_come words.new.ahead words.new.lexer.room
+        < most_to_come words.old.ahead words.old.lexer.room) }
     ensures end { OnOk result (EndsWith words.new.ahead (D.left desk.new)) }
     ensures unstopped { OnOk result (is_fault words.old.ahead ≡ false) }
+    ensures telling { OnOk result (GoesOn words.new.ahead (D.left desk.old) (D.left desk.new)) }
     ensures later { D.faults desk.old ≤ D.faults desk.new }
     ensures rose { IsErrOf result ReadRefusal.ReadFault → Rose (D.faults desk.old) (D.faults desk.new) }
     ensures kept { OnOk result (is_fault words.new.ahead ≡ false → D.faults desk.new ≡ D.faults desk.old) }
@@ -132,8 +140,11 @@ pub(crate) fn command<D: Desk>(
     ensures ready { OnOk result (IsReady words.new.ahead words.new.lexer.failed) }
     ensures end { OnOk result (EndsWith words.old.ahead (D.left desk.old) →
         EndsWith words.new.ahead (D.left desk.new)) }
+    ensures fewer { IfOk result (λ c. IfSome c (λ _. most_to_come words.new.ahead words.new.lexer.room
+        < most_to_come words.old.ahead words.old.lexer.room)) }
     ensures done { IfOk result (λ c. IfNone c (is_end words.new.ahead ≡ true)) }
     ensures unstopped { OnOk result (is_fault words.old.ahead ≡ false) }
+    ensures telling { OnOk result (GoesOn words.new.ahead (D.left desk.old) (D.left desk.new)) }
     ensures later { D.faults desk.old ≤ D.faults desk.new }
     ensures rose { IsErrOf result ReadRefusal.ReadFault → Rose (D.faults desk.old) (D.faults desk.new) }
     ensures kept { OnOk result (is_fault words.new.ahead ≡ false → D.faults desk.new ≡ D.faults desk.old) }
@@ -162,8 +173,11 @@ pub(crate) fn first_command<D: Desk>(
         (script_ahead (between true) words.new.ahead words.new.lexer (D.left desk.new)) }
     ensures ready { OnOk result (IsReady words.new.ahead words.new.lexer.failed) }
     ensures end { OnOk result (EndsWith words.new.ahead (D.left desk.new)) }
+    ensures fewer { IfOk result (λ c. IfSome c (λ _. most_to_come words.new.ahead words.new.lexer.room
+        < most_to_come words.old.ahead words.old.lexer.room)) }
     ensures done { IfOk result (λ c. IfNone c (is_end words.new.ahead ≡ true)) }
     ensures unstopped { OnOk result (is_fault words.old.ahead ≡ false) }
+    ensures telling { OnOk result (GoesOn words.new.ahead (D.left desk.old) (D.left desk.new)) }
     ensures later { D.faults desk.old ≤ D.faults desk.new }
     ensures rose { IsErrOf result ReadRefusal.ReadFault → Rose (D.faults desk.old) (D.faults desk.new) }
     ensures kept { OnOk result (is_fault words.new.ahead ≡ false → D.faults desk.new ≡ D.faults desk.old) }

@@ -1,10 +1,10 @@
 //! The reader of scripts.
-ghost use Rattle.std.specs.Prelude.{◌≡◌, ℕ, ◌≤◌, ◌^◌, Bool, true, false, List, [], Option, Some, None, IfOk, IfNone, IfSome, OnOk, IsOk, IsErrOf, is_err};
+ghost use Rattle.std.specs.Prelude.{◌≡◌, ℕ, ◌<◌, ◌≤◌, ◌^◌, Bool, true, false, List, [], Option, Some, None, IfOk, IfNone, IfSome, OnOk, IsOk, IsErrOf, is_err};
 ghost use Rattle.ports.specs.Causes.{IsCounted};
 ghost use Rattle.qscript.specs.declared.command.Command.{Command as AnyCommand};
 ghost use Rattle.qscript.specs.Reads.{Ending, ReadsScript};
 ghost use Rattle.qscript.specs.Run.{between};
-ghost use Rattle.qscript.specs.State.{upcoming, script_ahead, is_end, is_fault, IsReady, EndsWith, Answers};
+ghost use Rattle.qscript.specs.State.{upcoming, script_ahead, is_end, is_fault, IsReady, EndsWith, Answers, GoesOn, most_to_come};
 
 use crate::command::Command;
 use crate::lines::{command, first_command};
@@ -80,10 +80,14 @@ impl ScriptReader {
         // The commands to come and the ending, where the desk tells its bytes, are this one and then those to come
         // after it.
         ensures script { Answers result (upcoming self.old (D.left desk.old)) (upcoming self.new (D.left desk.new)) }
+        // Each command leaves fewer words to come.
+        ensures fewer { IfOk result (λ c. IfSome c (λ _. most_to_come self.new.ahead self.new.lexer.room
+            < most_to_come self.old.ahead self.old.lexer.room)) }
         // At the end the desk has nothing left.
         ensures done { IfOk result (λ c. IfNone c (is_end self.new.ahead ≡ true)) }
         ensures end { OnOk result (EndsWith self.old.ahead (D.left desk.old) →
             EndsWith self.new.ahead (D.left desk.new)) }
+        ensures telling { OnOk result (GoesOn self.new.ahead (D.left desk.old) (D.left desk.new)) }
         // It gives up only where the desk failed, so never where it flows. Where what was read behind the line is no
         // word, nor the end, the next call is refused.
         ensures cause { IsCounted (IsErrOf result ReadRefusal.ReadFault)

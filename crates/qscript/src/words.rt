@@ -6,7 +6,7 @@ ghost use Rattle.ports.specs.Causes.{HasCause, Rose};
 ghost use Rattle.qdimacs.specs.declared.refusal.Quantity.TheVariants.{Bytes};
 ghost use Rattle.qscript.specs.Reads.{is_on};
 ghost use Rattle.qscript.specs.Run.{Front};
-ghost use Rattle.qscript.specs.State.{item_of, in_front, script_at, script_ahead, is_end, is_fault, is_word, IsFault, IsReady, EndsWith};
+ghost use Rattle.qscript.specs.State.{item_of, in_front, script_at, script_ahead, is_end, is_fault, is_word, IsFault, IsReady, EndsWith, GoesOn, most_to_come};
 
 use lexer::{LexRefusal, Lexer, Token};
 use ports::Desk;
@@ -92,6 +92,9 @@ impl Words {
         ensures held { IfOk result (λ item. is_fault self.old.ahead ≡ true → is_fault (Some item) ≡ true) }
         ensures less { IfOk result (λ item. self.old.ahead ≡ None → is_word item ≡ true →
             self.new.lexer.room < self.old.lexer.room) }
+        ensures fewer { IfOk result (λ item. is_word item ≡ true →
+            self.new.lexer.room < most_to_come self.old.ahead self.old.lexer.room) }
+        ensures telling { IfOk result (λ item. GoesOn (Some item) (D.left desk.old) (D.left desk.new)) }
         ensures err { IfErr result (λ e. e ≡ ReadRefusal.ReadFault) }
         ensures later { D.faults desk.old ≤ D.faults desk.new }
         ensures rose { OnErr result (Rose (D.faults desk.old) (D.faults desk.new)) }

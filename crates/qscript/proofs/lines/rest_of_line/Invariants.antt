@@ -1,4 +1,5 @@
-use Rattle.std.proofs.Common.{◌≡◌, ℕ, false, List, None}
+use Rattle.std.proofs.Common.{◌≡◌, ◌≤◌, ℕ, true, false, List, None}
+use Rattle.std.specs.Prelude.{IfSome, is_some}
 use Rattle.lexer.specs.State.{Stays}
 use Rattle.qscript.specs.Run.{within, is_header}
 use Rattle.qscript.specs.State.{script_ahead}
@@ -12,6 +13,8 @@ invariant-loop-draft g l =
       ahead : l.words.ahead ≡ None;
       ready : l.words.lexer.failed ≡ false;
       header : is_header l.draft ≡ is_header l.fn.draft;
+      telling : IfSome (g.D.Desk.left l.fn.desk) (λ _. is_some (g.D.Desk.left l.desk) ≡ true);
+      fewer : l.words.lexer.room ≤ l.fn.words.lexer.room;
       kept : g.D.Desk.faults l.desk ≡ g.D.Desk.faults l.fn.desk;
       flows : g.D.Desk.flows l.fn.desk → g.D.Desk.flows l.desk;
       content : (n : List ℕ) → g.D.Desk.content l.desk n ≡ g.D.Desk.content l.fn.desk n;
