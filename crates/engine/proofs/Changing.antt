@@ -15,22 +15,24 @@ use Rattle.prefix.proofs.ScopeLemmas.{all_variables-insert, is_among-all_variabl
 use Rattle.calculus.specs.Derivations.{Extends, Inference, Step}
 use Rattle.calculus.specs.DerivationTheorems.{PrefixesGrow}
 use Rattle.calculus.specs.Rows.{Row}
-use Rattle.calculus.specs.Verdicts.{IsEndRow, finished, proof_of}
+use Rattle.calculus.specs.Verdicts.{IsEndRow, finished, proof_of, relevant_of}
 use Rattle.calculus.proofs.Lists.{among_at, among_from}
 use Rattle.clauses.specs.Clause.{as_row, is_tautology}
-use Rattle.derive.specs.State.{Note, Notes, OpenClause, State, clauses_of, is_live, may_be_antecedent, note_at, note_in, row_of, side_at, side_in, step_at, step_from, steps_of, why_at, why_in}
+use Rattle.derive.specs.State.{Note, Notes, OpenClause, State, clauses_of, is_finish, is_live, may_be_antecedent, note_at, note_in, row_of, side_at, side_in, step_at, step_from, steps_of, why_at, why_in}
 use Rattle.frames.specs.declared.refusal.FrameRefusal.{FrameRefusal}
 use Rattle.frames.specs.declared.refusal.FrameRefusal.TheVariants.{AssumptionsHeld, NoFrame, NoMemory}
 use Rattle.frames.specs.State.{Frame, OpenFormula, clauses_in, depth, popped, pushed, with_row}
 use Rattle.frames.specs.Commands.{AddClause, AddScope, AddVariable, Pop, Push, first_of, formula_after, is_empty, prefix_refusals, refusal_of, with_clause}
-use Rattle.qrp_trace.specs.Cores.{IsFinishAt}
+use Rattle.qrp_trace.specs.Cores.{IsFinishAt, end_row_in, proof_at, step_under}
 use Rattle.search.specs.Changing.{AddsClause, IsRoomy, RestingGrows, StaysResting}
+use Rattle.search.specs.Finishes.{GainsNoFinish}
 use Rattle.search.specs.Forcing.{HasNoCubes}
 use Rattle.search.specs.Moves.{SameSteps}
 use Rattle.search.specs.State.{HasRoom, IsResting, SearchState}
+use Rattle.engine.specs.declared.verdict.Held.{Held}
 use Rattle.engine.specs.declared.verdict.Verdict.{Verdict}
-use Rattle.engine.specs.Kept.{AreTied, IsHeld, framed_in}
-use Rattle.engine.specs.Verdicts.{end_row_in, proof_at, step_under, told}
+use Rattle.engine.specs.Kept.{AreTied, HasFinishesOf, IsFound, IsHeld, framed_in}
+use Rattle.engine.specs.Verdicts.{told}
 use Rattle.engine.proofs.Framing.{added_clauses, framed_pushed, popped_clauses, rows_with_row, some_with_row}
 
 -- refusals
@@ -129,6 +131,23 @@ variable_added f s var scope tied roomy accepts prefixes grows =
     })
     grows
 
+-- assumptions
+
+pub without_assumptions : (f : OpenFormula) (s : SearchState) → AreTied f s → AreTied (record f { assumptions = [] }) s
+without_assumptions f s tied = record {
+  resting = tied.resting;
+  frames = tied.frames;
+  clauses = tied.clauses;
+}
+
+pub found_without : (f : OpenFormula) (d : State) (assumptions : List Literal) (v : Verdict)
+    → IsFound f d assumptions v → IsFound (record f { assumptions = [] }) d assumptions v
+found_without f d assumptions v found = record {
+  outer = found.outer;
+  ascending = found.ascending;
+  outcome = found.outcome;
+}
+
 -- frames
 
 pub frame_pushed : (f : OpenFormula) (s : SearchState) → AreTied f s → AreTied (formula_after f Push) s
@@ -170,6 +189,12 @@ row_added f old new row tied resting adds = record {
   clauses = added_clauses old.derivation new.derivation f.frames row tied.frames tied.clauses adds;
 }
 
+-- where no new finish comes
+
+pub finishes_stay : (d e : State) (v : Option Held) → GainsNoFinish d e → HasFinishesOf v d → HasFinishesOf v e
+finishes_stay d e None gains has = λ id is. has id (gains id is)
+finishes_stay d e (Some held) gains has = λ id is. has id (gains id is)
+
 -- the same steps tell the same
 
 module _ (d e : State) (same : SameSteps d e) where
@@ -194,16 +219,20 @@ module _ (d e : State) (same : SameSteps d e) where
       ∙ under_kept (end_row_in (why_at d end) end) in
       ap₂ (λ (steps : List Step) (s : Step). proof_of steps s assumptions) steps_kept step
 
-  pub told_kept : (assumptions : List Literal) (v : Verdict) → told e assumptions v ≡ told d assumptions v
-  told_kept assumptions v =
-      ap₂ (λ (proof : List Inference) (row : Row).
-      record { truth = v.truth; assumptions = assumptions; proof = proof; end = v.end; row = row })
-      (proof_kept assumptions v.end) (same.literals v.end)
+  told_kept : (held : Held) → told e held ≡ told d held
+  told_kept held =
+      ap₂ (λ (proof : List Inference) (row : Row). record {
+        truth = held.verdict.truth;
+        assumptions = held.assumed;
+        proof = proof;
+        end = held.verdict.end;
+        row = row;
+      })
+      (proof_kept held.assumed held.verdict.end) (same.literals held.verdict.end)
 
-  pub verdict_kept : (assumptions : List Literal) (v : Option Verdict)
-      → option_map (told e assumptions) v ≡ option_map (told d assumptions) v
-  verdict_kept assumptions None = refl
-  verdict_kept assumptions (Some v) = ap Some (told_kept assumptions v)
+  pub verdict_kept : (v : Option Held) → option_map (told e) v ≡ option_map (told d) v
+  verdict_kept None = refl
+  verdict_kept (Some held) = ap Some (told_kept held)
 
   finish_kept : (scopes : List Scope) (assumptions : List Literal) (end : ℕ) → IsFinishAt scopes assumptions d end
       → IsFinishAt scopes assumptions e end
@@ -218,18 +247,28 @@ module _ (d e : State) (same : SameSteps d e) where
         f.stands;
   }
 
-  pub held_kept : (f : OpenFormula) (assumptions : List Literal) (v : Option Verdict)
-      → IfSome v (IsHeld f d assumptions) → IfSome v (IsHeld f e assumptions)
-  held_kept f assumptions None held = tt
-  held_kept f assumptions (Some v) held = record {
-    outer = held.outer;
+  found_kept : (f : OpenFormula) (assumptions : List Literal) (v : Verdict) → IsFound f d assumptions v
+      → IsFound f e assumptions v
+  found_kept f assumptions v found = record {
+    outer = found.outer;
+    ascending = found.ascending;
     outcome = record {
-      truth = held.outcome.truth;
-      live = subst (λ note. IsTrue (is_some note)) (sym (note_kept v.end)) held.outcome.live;
-      of_side = ap side_in (note_kept v.end) ∙ held.outcome.of_side;
-      finish = finish_kept f.scopes assumptions v.end held.outcome.finish;
+      truth = found.outcome.truth;
+      live = subst (λ note. IsTrue (is_some note)) (sym (note_kept v.end)) found.outcome.live;
+      of_side = ap side_in (note_kept v.end) ∙ found.outcome.of_side;
+      finish = finish_kept f.scopes assumptions v.end found.outcome.finish;
     };
   }
+
+  pub held_kept : (f : OpenFormula) (v : Option Held) → IfSome v (IsHeld f d) → IfSome v (IsHeld f e)
+  held_kept f None held = tt
+  held_kept f (Some v) held = record {
+    found = found_kept f v.assumed v.verdict held.found;
+    relevant = held.relevant ∙ ap (relevant_of v.assumed) (sym (same.literals v.verdict.end));
+  }
+
+  pub finishes_kept : (v : Option Held) → HasFinishesOf v d → HasFinishesOf v e
+  finishes_kept v has = finishes_stay d e v (λ id. subst (λ note. IsTrue (is_finish (why_in note))) (note_kept id)) has
 
 pub cubes_kept : (old new : SearchState) → new.watched ≡ old.watched → new.derivation ≡ old.derivation
     → HasNoCubes old → HasNoCubes new

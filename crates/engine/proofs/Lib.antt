@@ -1,3 +1,7 @@
+pub mod Asking
+pub mod Certifying
 pub mod Changing
 pub mod Framing
+pub mod Looking
 pub mod Telling
+pub mod FirstScope

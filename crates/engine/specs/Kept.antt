@@ -1,15 +1,18 @@
 -- How an engine is kept: frames and a search that belong together.
-use Rattle.std.specs.Prelude.{◌≡◌, ℕ, ◌+◌, ◌≤◌, List, [], ◌∷◌, ◌++◌, length, map, Option, IfSome}
+use Rattle.std.specs.Prelude.{◌≡◌, ℕ, ◌+◌, ◌≤◌, List, [], ◌∷◌, ◌++◌, length, map, Option, Some, None, IfSome}
 use Rattle.prefix.specs.Literal.{Literal}
-use Rattle.calculus.specs.Rows.{Row}
-use Rattle.calculus.specs.Verdicts.{AreOuter}
-use Rattle.derive.specs.State.{OpenClause, State, clauses_of}
+use Rattle.prefix.specs.Scopes.{IsAscending}
+use Rattle.calculus.specs.Rows.{Row, variables_in}
+use Rattle.calculus.specs.Verdicts.{AreOuter, relevant_of}
+use Rattle.derive.specs.State.{OpenClause, State, clauses_of, row_of}
 use Rattle.frames.specs.State.{Frame, OpenFormula, clauses_in}
 use Rattle.search.specs.declared.outcome.Outcome.{Outcome}
+use Rattle.search.specs.Finishes.{HasNoFinish, IsFinishId}
 use Rattle.search.specs.Forcing.{HasNoCubes}
 use Rattle.search.specs.State.{IsResting, SearchState}
 use Rattle.search.specs.Stops.{IsOutcome}
 use Rattle.engine.specs.declared.counts.Counts.{Counts}
+use Rattle.engine.specs.declared.verdict.Held.{Held}
 use Rattle.engine.specs.declared.verdict.Verdict.{Verdict}
 use Rattle.engine.specs.Verdicts.{loser_of}
 
@@ -45,14 +48,25 @@ pub record AreTied (formula : OpenFormula) (s : SearchState) : Type 0 where
 abbrev pub outcome_of : Verdict → Outcome
 outcome_of verdict = record { loser = loser_of verdict.truth; end = verdict.end }
 
--- a verdict, if there is one, is an outcome of the formula under these assumptions, which are of the first scope
-pub record IsHeld (formula : OpenFormula) (d : State) (assumptions : List Literal) (verdict : Verdict) : Type 0 where
+-- a verdict is an outcome of the formula under these assumptions, which are of the first scope and ascend by variable
+pub record IsFound (formula : OpenFormula) (d : State) (assumptions : List Literal) (verdict : Verdict) : Type 0 where
   pub outer : AreOuter formula.scopes assumptions
+  pub ascending : IsAscending (variables_in assumptions)
   pub outcome : IsOutcome formula.scopes (clauses_in formula.frames) assumptions d (outcome_of verdict)
 
+-- a verdict is held with the assumptions that it was found under, and with those of them that its end's row mentions
+pub record IsHeld (formula : OpenFormula) (d : State) (held : Held) : Type 0 where
+  pub found : IsFound formula d held.assumed held.verdict
+  pub relevant : held.relevant ≡ relevant_of held.assumed (row_of d held.verdict.end)
+
+-- no finish is live but the end of the verdict that is held, and none where no verdict is
+abbrev pub HasFinishesOf : Option Held → State → Type 0
+HasFinishesOf None d = HasNoFinish d
+HasFinishesOf (Some held) d = (id : ℕ) → IsFinishId d id → id ≡ held.verdict.end
+
 -- what holds of an engine between calls
-pub record IsEngine (formula : OpenFormula) (s : SearchState) (assumed : List Literal) (verdict : Option Verdict)
-    (counts : Counts) : Type 0 where
+pub record IsEngine (formula : OpenFormula) (s : SearchState) (verdict : Option Held) (counts : Counts) : Type 0 where
   pub tied : AreTied formula s
-  pub held : IfSome verdict (IsHeld formula s.derivation assumed)
+  pub held : IfSome verdict (IsHeld formula s.derivation)
+  pub finishes : HasFinishesOf verdict s.derivation
   pub cubes : counts.solves ≡ 0 → HasNoCubes s

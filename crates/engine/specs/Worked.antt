@@ -10,13 +10,14 @@ use Rattle.frames.specs.Commands.{Push}
 use Rattle.frames.specs.Fold.{state_of}
 use Rattle.frames.specs.State.{Frame, OpenFormula, popped}
 use Rattle.frames.specs.Worked.{framed as framed_commands}
+use Rattle.qrp_trace.specs.Cores.{proof_at}
 use Rattle.qrp_trace.specs.Worked.{clause, derived, stored}
 use Rattle.engine.specs.declared.counts.Counts.{Counts}
 use Rattle.engine.specs.declared.verdict.Verdict.{Verdict}
 use Rattle.engine.specs.Counting.{one_more, with_clause, with_solve}
 use Rattle.engine.specs.Kept.{framed, framed_as}
 use Rattle.engine.specs.State.{EngineState, changed}
-use Rattle.engine.specs.Verdicts.{HasProof, proof_at, told}
+use Rattle.engine.specs.Verdicts.{HasProof, told}
 
 abbrev pub some_counts : Counts
 some_counts = record { clauses = 5; solves = 1; budget = 200; vars = 2 }
@@ -47,7 +48,7 @@ finished_proof =
 abbrev pub decided : EngineState
 decided = record {
   formula = (state_of framed_commands).formula;
-  verdict = Some (told derived [] (record { truth = false; end = 6 }));
+  verdict = Some (told derived (record { verdict = record { truth = false; end = 6 }; assumed = []; relevant = [] }));
   counts = some_counts;
 }
 

@@ -11,12 +11,13 @@ ghost use Rattle.engine.specs.State.{new_engine};
 ghost use Rattle.engine.specs.Verdicts.{HasProof, IsStopFor};
 
 use crate::counts::Counts;
+use crate::lookup::keep_mentioned;
 use crate::tied::{decide, forget_outcome};
-use crate::verdict::Verdict;
+use crate::verdict::{Held, Verdict};
 use calculus::{end_rows_give_proofs, proofs_decide};
 use derive::steps_are_listed;
 use frames::Frames;
-use prefix::{Lit, Prefix};
+use prefix::{Lit, LitList, Prefix};
 use search::{Search, SolveStop};
 use std::alloc::Global;
 use std::marker::Model;
@@ -26,11 +27,10 @@ use steps::{NoMemory, Steps};
 /// for the next call.
 #[derive(Debug, Drop)]
 pub struct Engine {
+    pub(crate) alloc: Global,
     pub(crate) frames: Frames,
     pub(crate) search: Search,
-    // The assumptions that the verdict was found under.
-    pub(crate) assumed: Vec<Lit>,
-    pub(crate) verdict: Option<Verdict>,
+    pub(crate) verdict: Option<Held>,
     pub(crate) counts: Counts,
 }
 
@@ -45,11 +45,11 @@ impl Model for Engine {
 
     ghost view = { λ e. record {
       formula = e.frames.formula;
-      verdict = option_map (told e.search.derivation e.assumed.items) e.verdict;
+      verdict = option_map (told e.search.derivation) e.verdict;
       counts = e.counts;
     } };
 
-    ghost invariant = { λ e. IsEngine e.frames.formula e.search e.assumed.items e.verdict e.counts };
+    ghost invariant = { λ e. IsEngine e.frames.formula e.search e.verdict e.counts };
 }
 
 impl Engine {
@@ -58,9 +58,9 @@ impl Engine {
         ensures { result ≡ Ok new_engine }
     {
         Ok(Self {
+            alloc,
             frames: Frames::new(alloc),
             search: Search::new(alloc),
-            assumed: Vec::new(alloc),
             verdict: None,
             counts: Counts::new(),
         })
@@ -102,21 +102,26 @@ impl Engine {
             .with_solve(steps.budget(), self.frames.prefix().len() as u64);
         self.verdict = None;
         forget_outcome(&mut self.search, &self.frames);
-        let assumed = copied(self.frames.assumptions(), *self.assumed.allocator())?;
+        let assumed = copied(self.alloc, self.frames.assumptions())?;
+        let mut relevant = copied(self.alloc, self.frames.assumptions())?;
         let verdict = decide(&mut self.search, &self.frames, steps)?;
         end_rows_give_proofs();
         proofs_decide();
         steps_are_listed();
         let _valid = self.frames.prefix();
+        keep_mentioned(&mut relevant, self.search.derivation().lits(verdict.end));
         self.frames.clear_assumptions();
-        self.assumed = assumed;
-        self.verdict = Some(verdict);
+        self.verdict = Some(Held {
+            verdict,
+            assumed: LitList::from_vec(assumed),
+            relevant: LitList::from_vec(relevant),
+        });
         Ok(verdict)
     }
 }
 
 // A list of these literals.
-fn copied(lits: &[Lit], alloc: Global) -> Result<Vec<Lit>, NoMemory>
+fn copied(alloc: Global, lits: &[Lit]) -> Result<Vec<Lit>, NoMemory>
     ensures { IfOk result (λ list. list.items ≡ lits.now) }
 {
     Ok(Vec::from_slice(alloc, lits)?)

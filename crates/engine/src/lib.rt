@@ -4,22 +4,29 @@
 //! the assumptions, by the search of the crate `search`. A verdict comes with the step of its proof's last row; what is
 //! learned stays for later solves, and goes with the clauses that it rests on.
 //!
-//! `specs/State` says what contracts see of an engine, `specs/Verdicts` what a verdict and a stop are, and `specs/Kept`
-//! how frames and search belong together.
+//! A verdict is asked for the assumptions that matter, for values of the first scope, for its proof and for a circuit
+//! that certifies it.
+//!
+//! `specs/State` says what contracts see of an engine, `specs/Verdicts` what a verdict and a stop are, `specs/Refusals`
+//! and `specs/Asks` what a verdict is asked, and `specs/Kept` how frames and search belong together.
 #![tactic(auto)]
 
+mod asks;
 mod commands;
 mod counts;
 mod engine;
+mod lookup;
+mod refusal;
 mod tied;
 mod variables;
 mod verdict;
 mod worked;
 
 pub use engine::Engine;
+pub use refusal::AskRefusal;
 pub use search::SolveStop;
 pub use verdict::Verdict;
-pub use worked::worked_engines;
+pub use worked::{worked_asks, worked_engines, worked_refusals};
 
 #[cfg(test)]
 mod tests;

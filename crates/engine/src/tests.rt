@@ -1,4 +1,5 @@
 //! Formulas that are decided, under assumptions and frames.
+mod asks;
 mod play;
 mod random;
 

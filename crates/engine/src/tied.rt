@@ -1,5 +1,5 @@
 //! Frames and a search that belong together.
-ghost use Rattle.std.specs.Prelude.{◌≡◌, ◌≤◌, ◌==◌, ◌++◌, ◌∷◌, [], not, filter, length, List, IfOk, IfErr, OnOk, OnErr, IsOkUnless, MatchOption};
+ghost use Rattle.std.specs.Prelude.{◌≡◌, ◌≤◌, ◌==◌, ℕ, ◌++◌, ◌∷◌, [], not, filter, length, List, IfOk, IfErr, OnOk, OnErr, IsOkUnless, MatchOption};
 ghost use Rattle.calculus.specs.Rows.{Row};
 ghost use Rattle.calculus.specs.Search.{IsRefuted};
 ghost use Rattle.derive.specs.State.{OpenClause, clauses_of};
@@ -9,9 +9,10 @@ ghost use Rattle.search.specs.Changing.{AddsClause};
 ghost use Rattle.search.specs.Moves.{SameSteps};
 ghost use Rattle.search.specs.State.{IsResting};
 ghost use Rattle.search.specs.Counting.{size_of};
+ghost use Rattle.search.specs.Finishes.{HasNoFinish, IsFinishId};
 ghost use Rattle.search.specs.Forcing.{HasNoCubes};
 ghost use Rattle.search.specs.Stops.{IsQuickStop};
-ghost use Rattle.engine.specs.Kept.{AreTied, IsHeld};
+ghost use Rattle.engine.specs.Kept.{AreTied, IsFound};
 ghost use Rattle.engine.specs.Verdicts.{IsStopFor};
 
 use crate::verdict::{Verdict, truth_against};
@@ -23,6 +24,7 @@ use steps::{NoMemory, Steps};
 pub(crate) fn forget_outcome(search: &mut Search, frames: &Frames)
     requires { AreTied frames.now.formula search.old }
     ensures tied { AreTied frames.now.formula search.new }
+    ensures finishes { HasNoFinish search.new.derivation }
     ensures cubes { HasNoCubes search.old → HasNoCubes search.new }
 {
     search.drop_finish(frames.prefix());
@@ -36,7 +38,9 @@ pub(crate) fn decide(
 ) -> Result<Verdict, SolveStop>
     requires { AreTied frames.now.formula search.old }
     ensures tied { AreTied frames.now.formula search.new }
-    ensures held { IfOk result (IsHeld frames.now.formula search.new.derivation frames.now.formula.assumptions) }
+    ensures found { IfOk result (IsFound frames.now.formula search.new.derivation frames.now.formula.assumptions) }
+    ensures finishes { IfOk result (λ v. (id : ℕ) → IsFinishId search.new.derivation id → id ≡ v.end) }
+    ensures unfinished { OnErr result (HasNoFinish search.new.derivation) }
     ensures stop { IfErr result (IsStopFor frames.now.formula steps.old steps.new) }
     ensures quick { HasNoCubes search.old → IsRefuted frames.now.formula.scopes (clauses_in frames.now.formula.frames)
         frames.now.formula.assumptions → IfErr result (IsQuickStop (size_of frames.now.formula.scopes) steps.old) }

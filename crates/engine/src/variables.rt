@@ -38,7 +38,7 @@ fn new_variable(prefix: &Prefix, var: u64, scope: u64) -> Result<Var, PrefixRefu
 }
 
 // The variable of a number, where it has one.
-fn variable(number: u64) -> Option<Var>
+pub(crate) fn variable(number: u64) -> Option<Var>
     ensures { SomeIff result ((1 ≤ number) × (number ≤ 1048576)) number }
 {
     if number > Var::MAX as u64 {

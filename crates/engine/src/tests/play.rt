@@ -48,7 +48,7 @@ pub(crate) fn put(alloc: Global, engine: &mut Engine, numbers: &[i64]) -> Result
 }
 
 // Assumes literals.
-fn assume(engine: &mut Engine, lits: &[i64]) -> Result<(), Fail> {
+pub(crate) fn assume(engine: &mut Engine, lits: &[i64]) -> Result<(), Fail> {
     for lit in lits {
         engine.assume(*lit)?;
     }

@@ -1,6 +1,6 @@
 use Rattle.std.proofs.lemmas.Result.{err_from_is_err_and}
 use Rattle.engine.proofs.Framing.{is_matrix}
-use Rattle.engine.proofs.Telling.{stops, holds}
+use Rattle.engine.proofs.Telling.{finds, stops}
 use Rattle.engine.proofs.tied.decide.Goals as goal
 
 pub solve-requires-clause-matrix : goal.solve-requires-clause-matrix
@@ -15,9 +15,10 @@ returns-in_err-outcome-clause-stop c =
     c.in_err-outcome.field-0.0 c.requires
     (rw (← c.prefix.ensures.value, ← c.assumptions.ensures.value) c.in_err-outcome.ensures.stop))
 
-pub returns-clause-held : goal.returns-clause-held
-returns-clause-held c =
-    holds c.args.frames.now.formula c.solve.new.self.derivation c.in_ok-outcome.outcome c.assumptions.ensures.outer
+pub returns-clause-found : goal.returns-clause-found
+returns-clause-found c =
+    finds c.args.frames.now.formula c.solve.new.self.derivation c.in_ok-outcome.outcome c.assumptions.ensures.outer
+    c.assumptions.ensures.ascending
     (rw (← c.prefix.ensures.value, ← c.assumptions.ensures.value, ← c.open_clauses-matrix.ensures.value)
     c.in_ok-outcome.ensures.outcome)
     c.truth_against.result c.truth_against.ensures

@@ -3,7 +3,7 @@ use Rattle.std.proofs.lemmas.Result.{err_from_is_err_and}
 use Rattle.frames.specs.State.{OpenFormula}
 use Rattle.engine.specs.declared.counts.Counts.{Counts}
 use Rattle.engine.specs.State.{VerdictState}
-use Rattle.engine.proofs.Changing.{held_kept, verdict_kept}
+use Rattle.engine.proofs.Changing.{finishes_kept, held_kept, verdict_kept}
 use Rattle.engine.proofs.engine.Engine.clause.Goals as goal
 
 pub invariant_of-self : goal.invariant_of-self
@@ -12,7 +12,9 @@ invariant_of-self c =
     record {
       tied = c.put_clause.ensures.tied;
       held = rw e.err (held_kept c.self.inside.search.derivation c.put_clause.new.search.derivation e.same
-          c.self.inside.frames.formula c.self.inside.assumed.items c.self.inside.verdict c.self.invariant.held);
+          c.self.inside.frames.formula c.self.inside.verdict c.self.invariant.held);
+      finishes = finishes_kept c.self.inside.search.derivation c.put_clause.new.search.derivation e.same
+          c.self.inside.verdict c.self.invariant.finishes;
       cubes = λ none. c.put_clause.ensures.cubes (c.self.invariant.cubes none);
     }
 
@@ -24,12 +26,13 @@ returns-in_err-put_clause-clause-err c =
     (ap₂ (λ (f : OpenFormula) (v : Option VerdictState).
     record { formula = f; verdict = v; counts = c.self.inside.counts })
     e.err (verdict_kept c.self.inside.search.derivation c.put_clause.new.search.derivation e.same
-    c.self.inside.assumed.items c.self.inside.verdict) ∙ c.self.view_is)
+    c.self.inside.verdict) ∙ c.self.view_is)
 
 pub invariant_of-self-2 : goal.invariant_of-self-2
 invariant_of-self-2 c = record {
   tied = c.forget_outcome.ensures.tied;
   held = tt;
+  finishes = c.forget_outcome.ensures.finishes;
   cubes = λ none. c.forget_outcome.ensures.cubes
       (c.put_clause.ensures.cubes (c.self.invariant.cubes
       (ap (λ (n : Counts). n.solves) (sym c.with_clause-self-inside.ensures) ∙ none)));

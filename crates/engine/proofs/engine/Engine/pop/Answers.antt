@@ -23,5 +23,6 @@ pub invariant_of-self-2 : goal.invariant_of-self-2
 invariant_of-self-2 c = record {
   tied = c.forget_outcome.ensures.tied;
   held = tt;
+  finishes = c.forget_outcome.ensures.finishes;
   cubes = λ none. c.forget_outcome.ensures.cubes (c.drop_top.ensures.cubes (c.self.invariant.cubes none));
 }

@@ -6,3 +6,11 @@ forget_outcome-requires c =
     let accepts = accepted _ c.scope.result c.in_ok-scope.field-0 c.in_ok-scope.was c.scope.ensures.refused in
     rw c.in_ok-scope.ensures.ok (scope_added c.self.inside.frames.formula c.self.inside.search c.args.quant c.args.at
     c.self.invariant.tied accepts c.prefixes_grow.ensures c.resting_grows.ensures)
+
+pub invariant_of-self-2 : goal.invariant_of-self-2
+invariant_of-self-2 c = record {
+  tied = c.forget_outcome.ensures.tied;
+  held = tt;
+  finishes = c.forget_outcome.ensures.finishes;
+  cubes = λ none. c.forget_outcome.ensures.cubes (c.self.invariant.cubes none);
+}

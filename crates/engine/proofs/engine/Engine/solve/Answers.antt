@@ -1,10 +1,19 @@
-use Rattle.std.proofs.Common.{◌≡◌, sym, ap, ◌∙◌, subst}
+use Rattle.std.proofs.Common.{◌≡◌, List, sym, ap, ap₂, ◌∙◌, arith, subst}
 use Rattle.std.proofs.lemmas.Result.{err_from_is_err_and}
+use Rattle.prefix.specs.Literal.{Literal}
+use Rattle.prefix.specs.Scopes.{IsAscending}
+use Rattle.calculus.specs.Rows.{Row, variables_in}
 use Rattle.calculus.specs.Search.{IsRefuted}
+use Rattle.calculus.specs.Verdicts.{relevant_of}
+use Rattle.derive.specs.State.{State, row_of}
 use Rattle.frames.specs.State.{clauses_in}
+use Rattle.engine.specs.declared.counts.Counts.{Counts}
+use Rattle.engine.specs.declared.verdict.Held.{Held}
+use Rattle.engine.specs.Kept.{IsFound}
 use Rattle.engine.specs.State.{EngineState}
 use Rattle.engine.proofs.Framing.{same_rows}
-use Rattle.engine.proofs.Telling.{stops, has_proof}
+use Rattle.engine.proofs.Changing.{found_without, without_assumptions}
+use Rattle.engine.proofs.Telling.{end_ascends, has_proof, stops}
 use Rattle.engine.proofs.engine.Engine.solve.Goals as goal
 
 pub returns-in_err-assumed-clause-stop : goal.returns-in_err-assumed-clause-stop
@@ -22,12 +31,56 @@ returns-in_err-verdict-clause-quick c none refuted =
     rw (h.1, h.2, ← c.self.view_is) (c.in_err-verdict.ensures.quick
     (c.forget_outcome.ensures.cubes (c.self.invariant.cubes first)) same)
 
+pub returns-in_err-relevant-clause-stop : goal.returns-in_err-relevant-clause-stop
+returns-in_err-relevant-clause-stop c =
+    let h = err_from_is_err_and c.from_residual-in_err-relevant.result c.from_residual-in_err-relevant.ensures.1 in
+    rw (h.1, h.2, ← c.self.view_is) (stops c.self.inside.frames.formula c.forget_outcome.new.search c.args.steps.now
+    c.args.steps.now _ c.forget_outcome.ensures.tied tt)
+
+pub keep_mentioned-requires : goal.keep_mentioned-requires
+keep_mentioned-requires c =
+    let f = c.self.inside.frames.formula in
+    let d = c.decide.new.search.derivation in
+    let v = c.in_ok-verdict.verdict in
+    let tied = c.decide.ensures.tied in
+    subst (λ (row : Row). IsAscending (variables_in row))
+    (sym (c.lits.ensures ∙ ap (λ (s : State). row_of s v.end) c.derivation.ensures))
+    (end_ascends f d f.assumptions v c.prefix-valid.ensures.valid.distinct (same_rows d f.frames tied.clauses)
+    tied.resting.intact.legal c.in_ok-verdict.ensures.found c.end_rows_give_proofs.ensures c.proofs_decide.ensures
+    c.steps_are_listed.ensures)
+
 pub returns-clause-proof : goal.returns-clause-proof
 returns-clause-proof c =
-    let tied = c.decide.ensures.tied in
-    let formula = c.self.inside.frames.formula in
+    let f = c.self.inside.frames.formula in
     let d = c.decide.new.search.derivation in
-    rw (← c.self.view_is, c.in_ok-assumed.ensures, c.assumptions.ensures.value)
-    (has_proof formula d c.in_ok-verdict.verdict c.prefix-valid.ensures.valid.distinct
-    (same_rows d formula.frames tied.clauses) tied.resting.intact.legal c.in_ok-verdict.ensures.held
-    c.end_rows_give_proofs.ensures c.proofs_decide.ensures c.steps_are_listed.ensures)
+    let v = c.in_ok-verdict.verdict in
+    let tied = c.decide.ensures.tied in
+    let assumed : c.from_vec.result ≡ f.assumptions = c.from_vec.ensures ∙ c.in_ok-assumed.ensures
+    ∙ c.assumptions.ensures.value in
+    let found = subst (λ (a : List Literal). IsFound f d a v) (sym assumed) c.in_ok-verdict.ensures.found in
+    let held : Held = record { verdict = v; assumed = c.from_vec.result; relevant = c.from_vec-2.result } in
+    rw (← c.self.view_is) (has_proof f d held c.prefix-valid.ensures.valid.distinct (same_rows d f.frames tied.clauses)
+    tied.resting.intact.legal found assumed c.end_rows_give_proofs.ensures c.proofs_decide.ensures
+    c.steps_are_listed.ensures)
+
+pub invariant_of-self-2 : goal.invariant_of-self-2
+invariant_of-self-2 c =
+    let f = c.self.inside.frames.formula in
+    let d = c.decide.new.search.derivation in
+    let v = c.in_ok-verdict.verdict in
+    let assumed : c.from_vec.result ≡ f.assumptions = c.from_vec.ensures ∙ c.in_ok-assumed.ensures
+    ∙ c.assumptions.ensures.value in
+    let solves = ap (λ (n : Counts). n.solves) c.with_solve-self-inside.ensures in
+    rw c.clear_assumptions.ensures (record {
+      tied = without_assumptions f c.decide.new.search c.decide.ensures.tied;
+      held = record {
+        found = found_without f d c.from_vec.result v
+            (subst (λ (a : List Literal). IsFound f d a v) (sym assumed) c.in_ok-verdict.ensures.found);
+        relevant = c.from_vec-2.ensures ∙ c.keep_mentioned.ensures
+            ∙ ap₂ (λ (a : List Literal) (row : Row). relevant_of a row)
+            (c.in_ok-relevant.ensures ∙ c.assumptions-2.ensures.value ∙ sym assumed)
+            (c.lits.ensures ∙ ap (λ (s : State). row_of s v.end) c.derivation.ensures);
+      };
+      finishes = c.in_ok-verdict.ensures.finishes;
+      cubes = λ none. absurd (omega (arith, solves, none));
+    })

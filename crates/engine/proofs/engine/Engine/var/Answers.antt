@@ -19,6 +19,7 @@ pub invariant_of-self-2 : goal.invariant_of-self-2
 invariant_of-self-2 c = record {
   tied = c.forget_outcome.ensures.tied;
   held = tt;
+  finishes = c.forget_outcome.ensures.finishes;
   cubes = λ none. c.forget_outcome.ensures.cubes
       (cubes_kept c.self.inside.search c.reserve.new.self c.reserve.ensures.watched c.reserve.ensures.derivation
       (c.self.invariant.cubes none));

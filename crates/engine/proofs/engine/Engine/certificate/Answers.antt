@@ -1,0 +1,71 @@
+use Rattle.std.proofs.Common.{◌≡◌, List, Option, Some, IfSome, option_map, ap, sym, ◌∙◌, subst}
+use Rattle.prefix.specs.Literal.{Literal}
+use Rattle.prefix.specs.Scopes.{Scope}
+use Rattle.calculus.specs.Verdicts.{IsProof}
+use Rattle.frames.specs.State.{clauses_in}
+use Rattle.qrp_trace.specs.Cores.{inferences_of, loser_of}
+use Rattle.engine.specs.Asks.{IsCertificateOf, IsVerdictOf}
+use Rattle.engine.specs.Refusals.{winner_of}
+use Rattle.engine.specs.State.{EngineState, VerdictState}
+use Rattle.engine.specs.Verdicts.{told}
+use Rattle.engine.proofs.Certifying.{IsExtractedFrom, certifies, core_proves}
+use Rattle.engine.proofs.engine.Engine.certificate.Goals as goal
+
+pub extract-requires-clause-proof : goal.extract-requires-clause-proof
+extract-requires-clause-proof c =
+    let f = c.args.self.now.formula in
+    let v = told c.self.inside.search.derivation c.in-Some.held in
+    let core = c.in_ok-core.core in
+    let there : c.args.self.now.verdict ≡ Some v = sym (ap (λ (e : EngineState). e.verdict) c.self.view_is)
+    ∙ ap (option_map (told c.self.inside.search.derivation)) c.in-Some.is in
+    let winner = subst (λ (o : Option VerdictState). IfSome o (λ (w : VerdictState). core.winner ≡ winner_of w.truth))
+    there c.in_ok-core.ensures.winner in
+    let list = subst (λ (o : Option VerdictState). IfSome o (λ (w : VerdictState). inferences_of core.lines ≡ w.proof))
+    there c.in_ok-core.ensures.list in
+    let facts = subst (λ (o : Option VerdictState). IfSome o (IsVerdictOf f)) there c.in_ok-core.ensures.verdict in
+    let scopes : c.prefix.result.now ≡ f.scopes = c.prefix.ensures.value
+    ∙ ap (λ (e : EngineState). e.formula.scopes) c.self.view_is in (
+      clauses_in f.frames,
+      subst (λ (ss : List Scope). IsProof (loser_of core) ss (clauses_in f.frames) c.lits.result.now
+          (inferences_of core.lines)) (sym scopes)
+          (subst (λ (a : List Literal). IsProof (loser_of core) f.scopes (clauses_in f.frames) a
+          (inferences_of core.lines)) (sym c.lits.ensures) (core_proves f v core winner list facts)),
+    )
+
+pub returns-clause-certifies : goal.returns-clause-certifies
+returns-clause-certifies c =
+    let f = c.args.self.now.formula in
+    let v = told c.self.inside.search.derivation c.in-Some.held in
+    let core = c.in_ok-core.core in
+    let s = c.in_ok-extract-in-Some.field-0 in
+    let made = c.in_ok-extract-in-Some.ensures in
+    let there : c.args.self.now.verdict ≡ Some v = sym (ap (λ (e : EngineState). e.verdict) c.self.view_is)
+    ∙ ap (option_map (told c.self.inside.search.derivation)) c.in-Some.is in
+    let winner = subst (λ (o : Option VerdictState). IfSome o (λ (w : VerdictState). core.winner ≡ winner_of w.truth))
+    there c.in_ok-core.ensures.winner in
+    let list = subst (λ (o : Option VerdictState). IfSome o (λ (w : VerdictState). inferences_of core.lines ≡ w.proof))
+    there c.in_ok-core.ensures.list in
+    let facts = subst (λ (o : Option VerdictState). IfSome o (IsVerdictOf f)) there c.in_ok-core.ensures.verdict in
+    let scopes : c.prefix.result.now ≡ f.scopes = c.prefix.ensures.value
+    ∙ ap (λ (e : EngineState). e.formula.scopes) c.self.view_is in
+    let proof = subst (λ (ss : List Scope). IsProof (loser_of core) ss (clauses_in f.frames) c.lits.result.now
+    (inferences_of core.lines)) (sym scopes)
+    (subst (λ (a : List Literal). IsProof (loser_of core) f.scopes (clauses_in f.frames) a
+    (inferences_of core.lines)) (sym c.lits.ensures) (core_proves f v core winner list facts)) in
+    let here : IsExtractedFrom core c.prefix.result.now (clauses_in f.frames) c.lits.result.now s = record {
+      won = made.winner;
+      inputs = made.inputs;
+      outputs = made.outputs;
+      keeps = made.keeps;
+      follows = made.follows;
+      wins = made.wins (clauses_in f.frames) proof;
+      earlier = made.earlier;
+      assumed = made.assumed;
+      size = made.size;
+    } in
+    let extracted = subst (λ (ss : List Scope). IsExtractedFrom core ss (clauses_in f.frames) v.assumptions s) scopes
+    (subst (λ (a : List Literal). IsExtractedFrom core c.prefix.result.now (clauses_in f.frames) a s) c.lits.ensures
+    here) in
+    subst (λ (o : Option VerdictState). IfSome o (λ (w : VerdictState). IsCertificateOf f w s)) (sym there)
+    (certifies f v core winner list facts s extracted c.prefix-valid.ensures.valid.distinct c.plays_exist.ensures
+    c.plays_look_back.ensures)
