@@ -2,8 +2,8 @@ pub mod NumberLemmas
 pub mod Turns
 pub mod WordKinds
 pub mod Spelled
-pub mod SolveWalk
-pub mod SolveReads
+pub mod CommandWalk
+pub mod CommandReads
 pub mod TopWalk
 pub mod FormLemmas
 pub mod AccountLemmas

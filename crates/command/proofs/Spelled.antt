@@ -10,29 +10,35 @@ abbrev pub value_tail : Option Text → Text
 value_tail None = []
 value_tail (Some t) = 61 ∷ t
 
+-- the text is the name with its value behind it
+abbrev IsJoined : Text → Text × Option Text → Type 0
+IsJoined text p = text ≡ p.0 ++ value_tail p.1
+
 abbrev is_equals : ℕ → Bool
 is_equals x = x == 61
 
 -- a cut one place later, in a list that is one longer
-cut_more : (x : ℕ) (xs : Text) (p q : ℕ) (has : Bool) → q ≡ suc p → q + 1 ≡ suc (p + 1) → xs ≡ take p xs ++ value_tail (cond has (Some (drop (p + 1) xs)) None)
-    → x ∷ xs ≡ take q (x ∷ xs) ++ value_tail (cond has (Some (drop (q + 1) (x ∷ xs))) None)
+cut_more : (x : ℕ) (xs : Text) (p q : ℕ) (has : Bool) → q ≡ suc p → q + 1 ≡ suc (p + 1)
+    → IsJoined xs (take p xs, cond has (Some (drop (p + 1) xs)) None)
+    → IsJoined (x ∷ xs) (take q (x ∷ xs), cond has (Some (drop (q + 1) (x ∷ xs))) None)
 cut_more x xs p q has is next same = rw (next, is) (ap (λ t. x ∷ t) same)
 
-split : (text : Text) → text ≡ (name_and_value text).0 ++ value_tail (name_and_value text).1
+split : (text : Text) → IsJoined text (name_and_value text)
 split [] = refl
 split (x ∷ xs) = go (x == 61) refl (split xs)
   where
-    go : (b : Bool) → (x == 61) ≡ b → xs ≡ (name_and_value xs).0 ++ value_tail (name_and_value xs).1 → x ∷ xs ≡ (name_and_value (x ∷ xs)).0 ++ value_tail (name_and_value (x ∷ xs)).1
+    go : (b : Bool) → (x == 61) ≡ b → IsJoined xs (name_and_value xs) → IsJoined (x ∷ xs) (name_and_value (x ∷ xs))
     go true e same = rw e (ap (λ n. n ∷ xs) (eqb-true x 61 e))
     go false e same = rw e (cut_more x xs _ _ (list_any is_equals xs) (omega arith) (omega arith) same)
 
-rest_spelled : (rest name : Text) (v : Option Text) → long_of_rest rest ≡ Some (name, v) → rest ≡ name ++ value_tail v
+rest_spelled : (rest name : Text) (v : Option Text) → long_of_rest rest ≡ Some (name, v) → IsJoined rest (name, v)
 rest_spelled [] name v e = absurd cc
 rest_spelled (x ∷ xs) name v e =
     let is : name_and_value (x ∷ xs) ≡ (name, v) = ap (λ o. unwrap_or o ([], None)) e in
-    subst (λ p. x ∷ xs ≡ p.0 ++ value_tail p.1) is (split (x ∷ xs))
+    subst (IsJoined (x ∷ xs)) is (split (x ∷ xs))
 
-pub long_spelled : (w name : Text) (v : Option Text) → long_of w ≡ Some (name, v) → w ≡ 45 ∷ 45 ∷ (name ++ value_tail v)
+pub long_spelled : (w name : Text) (v : Option Text) → long_of w ≡ Some (name, v)
+    → w ≡ 45 ∷ 45 ∷ (name ++ value_tail v)
 long_spelled [] name v e = absurd cc
 long_spelled (x ∷ []) name v e = go (x == 45) refl
   where
@@ -44,4 +50,6 @@ long_spelled (x ∷ y ∷ rest) name v e = go (x == 45) refl (y == 45) refl
     go : (b : Bool) → (x == 45) ≡ b → (d : Bool) → (y == 45) ≡ d → x ∷ y ∷ rest ≡ 45 ∷ 45 ∷ (name ++ value_tail v)
     go false t d u = let bad = rw t at e in absurd cc
     go true t false u = let bad = rw (t, u) at e in absurd cc
-    go true t true u = let same = rw (t, u) at e in (λ i. eqb-true x 45 t i ∷ eqb-true y 45 u i ∷ rest_spelled rest name v same i)
+    go true t true u =
+        let same = rw (t, u) at e in
+        (λ i. eqb-true x 45 t i ∷ eqb-true y 45 u i ∷ rest_spelled rest name v same i)

@@ -1,29 +1,53 @@
--- What `clap` makes of one word of `solve`.
-use Rattle.std.proofs.Common.{◌≡◌, ◌≢◌, ◌⊎◌, ℕ, false, List, [], ◌∷◌, length, Option, Some, None, chars, slice_get, refl, sym, ap, inl, inr}
+-- What `clap` makes of one word behind the word of a command.
+use Rattle.std.proofs.Common.{◌≡◌, ◌≢◌, ◌⊎◌, ℕ, false, List, [], ◌∷◌, length, Option, Some, None, chars, codes, slice_get, refl, sym, ap, inl, inr}
 use Rattle.std.specs.Str.{bytes_eq}
 use Rattle.clap.specs.Lexer.{long_of, short_of}
 use Rattle.clap.specs.Words.{Row, Rule, Shape, Kinds}
 use Rattle.clap.specs.Kinds.{or_else}
-use Rattle.clap.specs.Walk.{Held, Names, Text, Waiting, Walk, after_flag, long_or_other, plain, plain_word, subcommand_met, word_met}
+use Rattle.clap.specs.Walk.{Held, Names, Text, Waiting, Walk, after_flag, long_or_other, option, plain, plain_word, subcommand_met, word_met}
 use Rattle.clap.specs.Simple.{built_leaf, inherited, marked_built, with_leaf_noted}
 use Rattle.clap.specs.Faults.{flag_word_fault, word_fault}
 use Rattle.clap.proofs.WalkLemmas.{bundle_ends}
 use Rattle.clap.proofs.FaultLemmas.{fault_ends}
-use Rattle.command.specs.Account.{qbf_app, solve_app}
+use Rattle.command.specs.Account.{command_app, qbf_app}
 
--- the command `solve` as it is built
-abbrev pub solve_shape : Shape
-solve_shape = built_leaf (inherited (with_leaf_noted (marked_built qbf_app.top)) solve_app.top)
+-- a command of the program as it is built
+abbrev pub command_shape : Text → Shape
+command_shape word = built_leaf (inherited (with_leaf_noted (marked_built qbf_app.top)) (command_app word).top)
+
+-- the same for all words: what stands behind a word is read alike
+abbrev pub leaf : Shape
+leaf = command_shape []
 
 abbrev pub rules : List Rule
-rules = solve_shape.rules
+rules = leaf.rules
 
-abbrev pub held : List Row → Option (Text × List Text) → Held
+-- ---- the states of the walk
+
+-- what is being read, with the values so far
+abbrev pub Pending : Type 0
+Pending = Option (Text × List Text)
+
+-- `--budget` waits for its value
+abbrev pub for_budget : Waiting
+for_budget = option (codes "budget")
+
+abbrev pub no_budget_yet : Pending
+no_budget_yet = Some (codes "budget", [])
+
+abbrev pub as_budget : Text → Pending
+as_budget t = Some (codes "budget", t ∷ [])
+
+abbrev pub as_name : Text → Pending
+as_name w = Some (codes "name", w ∷ [])
+
+abbrev pub held : List Row → Pending → Held
 held rows pending = record { rows = rows; pending = pending; skip = 0 }
 
 -- the walk between two words, no `--` among those before it
-abbrev pub at : Waiting → List Row → Option (Text × List Text) → ℕ → Walk
-at waiting rows pending position = record { held = held rows pending; waiting = waiting; position = position; is_trailing = false; stopped = None }
+abbrev pub at : Waiting → List Row → Pending → ℕ → Walk
+at waiting rows pending position =
+    record { held = held rows pending; waiting = waiting; position = position; is_trailing = false; stopped = None }
 
 -- ---- kinds that come first
 
@@ -39,24 +63,33 @@ some_right a b some e = some (no_kinds a b e).1
 
 -- ---- a word that is no flag
 
+-- the word has no hyphen, or nothing behind it
+abbrev HasNoShort : Text → Type 0
+HasNoShort w = (short_of w ≡ None)
+    ⊎ ((flags : Text) × (short_of w ≡ Some flags) × (None ≡ slice_get (chars flags) 0))
+
 pub record IsPlainWord (w : Text) : Type 0 where
   pub dashes : bytes_eq w (45 ∷ 45 ∷ []) ≡ false
   pub long : long_of w ≡ None
-  pub short : (short_of w ≡ None) ⊎ ((flags : Text) × (short_of w ≡ Some flags) × (None ≡ slice_get (chars flags) 0))
+  pub short : HasNoShort w
 
-module _ (s : Shape) (names : Names) (waiting : Waiting) (w : Text) (unmet : subcommand_met names waiting w ≡ None) (rows : List Row) (pending : Option (Text × List Text)) where
+module _ (s : Shape) (names : Names) (waiting : Waiting) (w : Text) (unmet : subcommand_met names waiting w ≡ None)
+    (rows : List Row) (pending : Pending) where
   pub plain_fault : IsPlainWord w → word_fault s names false waiting w (held rows pending) ≡ []
   plain_fault p = rw (unmet, p.dashes, p.long) (go p.short)
     where
-      go : (short_of w ≡ None) ⊎ ((flags : Text) × (short_of w ≡ Some flags) × (None ≡ slice_get (chars flags) 0))
-          → flag_word_fault s.rules s.args_override_self None w (held rows pending) ≡ []
+      go : HasNoShort w → flag_word_fault s.rules s.args_override_self None w (held rows pending) ≡ []
       go (inl none) = rw none refl
-      go (inr f) = rw f.1 (sym (fault_ends s.rules s.args_override_self (length f.0) f.0 0 (held rows pending) f.2))
+      go (inr f) =
+          rw f.1 (sym (fault_ends s.rules s.args_override_self (length f.0) f.0 0 (held rows pending) f.2))
 
-  pub plain_met : (position : ℕ) → IsPlainWord w → word_met s.rules names false waiting position w (held rows pending) ≡ plain_word s.rules waiting w (held rows pending)
+  pub plain_met : (position : ℕ) → IsPlainWord w
+      → word_met s.rules names false waiting position w (held rows pending)
+      ≡ plain_word s.rules waiting w (held rows pending)
   plain_met position p = rw (unmet, p.dashes, p.long) (go p.short)
     where
-      go : (short_of w ≡ None) ⊎ ((flags : Text) × (short_of w ≡ Some flags) × (None ≡ slice_get (chars flags) 0))
-          → long_or_other s.rules waiting w None (held rows pending) ≡ plain_word s.rules waiting w (held rows pending)
+      go : HasNoShort w → long_or_other s.rules waiting w None (held rows pending)
+          ≡ plain_word s.rules waiting w (held rows pending)
       go (inl none) = rw none refl
-      go (inr f) = rw f.1 (ap (λ (r : Held × _). after_flag s.rules waiting w r.0 r.1) (sym (bundle_ends s.rules (length f.0) f.0 0 plain (held rows pending) f.2)))
+      go (inr f) = rw f.1 (ap (λ (r : Held × _). after_flag s.rules waiting w r.0 r.1)
+          (sym (bundle_ends s.rules (length f.0) f.0 0 plain (held rows pending) f.2)))

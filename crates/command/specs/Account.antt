@@ -1,5 +1,5 @@
 -- The command line as `clap` is told of it, and `clap`'s account of the words.
-use Rattle.std.specs.Prelude.{◌≡◌, ◌≢◌, ⊤, ◌<◌, ◌^◌, List, Option, Some, None, [], ◌∷◌, Bool, true, codes, drop, option_map, slice_get}
+use Rattle.std.specs.Prelude.{◌≡◌, ◌≢◌, ⊤, ℕ, ◌<◌, ◌^◌, List, Option, Some, None, [], ◌∷◌, Bool, true, codes, drop, fold, slice_get}
 use Rattle.std.specs.Fmt.{decimal}
 use Rattle.std.specs.List.{list_any}
 use Rattle.std.specs.Str.{bytes_eq}
@@ -7,7 +7,7 @@ use Rattle.clap.specs.Words.{App, Row, Rule, Text, fault_of, first_of, new_app, 
 use Rattle.clap.specs.Simple.{on_top}
 use Rattle.clap.specs.declared.builder.ValueParser.TheVariants as parser
 use Rattle.command.specs.declared.command.Command.{Command}
-use Rattle.command.specs.declared.command.Command.TheVariants.{Solve}
+use Rattle.command.specs.Forms.{budget_of, name_of, word_of}
 
 -- `--budget N`, with N of 64 bits, and 2^64 - 1 where it isn't given
 abbrev pub budget_rule : Rule
@@ -22,28 +22,39 @@ budget_rule = record (new_rule (codes "budget")) {
 abbrev pub name_rule : Rule
 name_rule = record (new_rule (codes "name")) { value_names = 1 }
 
--- `solve [--budget N] [NAME]`
-abbrev pub solve_app : App
-solve_app = with_rule (with_rule (new_app (codes "solve")) budget_rule) name_rule
+-- `WORD [--budget N] [NAME]`, for the word of a command
+abbrev pub command_app : Text → App
+command_app word = with_rule (with_rule (new_app word) budget_rule) name_rule
 
--- the program with its commands, one of which is wanted
+-- the words of the commands
+abbrev pub command_words : List Text
+command_words = codes "solve" ∷ codes "script" ∷ []
+
+-- the program without its commands, one of which is wanted
+abbrev pub bare_app : App
+bare_app = on_top (λ s. record s { subcommand_required = true }) (new_app (codes "qbf"))
+
+-- the program
 abbrev pub qbf_app : App
-qbf_app = with_subcommand (on_top (λ s. record s { subcommand_required = true }) (new_app (codes "qbf"))) solve_app.top
+qbf_app = fold (λ app word. with_subcommand app (command_app word).top) bare_app command_words
 
 -- the word doesn't begin with `-`
 abbrev pub HasNoHyphen : Option Text → Type 0
 HasNoHyphen None = ⊤
 HasNoHyphen (Some word) = slice_get word 0 ≢ Some 45
 
--- the values that `clap` found for `solve` are those of the command, and in form
-abbrev pub AreValuesOf : List Row → Command → Type 0
-AreValuesOf rows (Solve budget name) = (budget < 2 ^ 64) × (first_of (codes "budget") rows ≡ Some (decimal budget))
-    × (first_of (codes "name") rows ≡ option_map (λ s. s.now) name) × HasNoHyphen (option_map (λ s. s.now) name)
+-- the values that `clap` found for a command are these, and in form
+abbrev pub AreValues : List Row → ℕ → Option Text → Type 0
+AreValues rows budget name = (budget < 2 ^ 64) × (first_of (codes "budget") rows ≡ Some (decimal budget))
+    × (first_of (codes "name") rows ≡ name) × HasNoHyphen name
 
--- by `clap`'s account no word is at fault, and the subcommand `solve` has the values of the command
+-- the subcommand that `clap` found is the command, with its values
+abbrev pub IsFoundAs : Command → Option (Text × List Row) → Type 0
+IsFoundAs c found = (rows : List Row) × (found ≡ Some (word_of c, rows)) × AreValues rows (budget_of c) (name_of c)
+
+-- by `clap`'s account no word is at fault, and the subcommand is the command
 abbrev pub IsAccountOf : List Text → Command → Type 0
-IsAccountOf words c = (rows : List Row) × (fault_of qbf_app words ≡ [])
-    × (subcommand_of qbf_app words ≡ Some (codes "solve", rows)) × AreValuesOf rows c
+IsAccountOf words c = (fault_of qbf_app words ≡ []) × IsFoundAs c (subcommand_of qbf_app words)
 
 -- a word behind the program's name is `--`
 abbrev pub has_dashes : List Text → Bool

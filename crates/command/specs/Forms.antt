@@ -2,7 +2,7 @@
 use Rattle.std.specs.Prelude.{◌≡◌, ◌≢◌, ◌⊎◌, ⊤, ℕ, ◌<◌, ◌^◌, ◌-◌, List, [], ◌∷◌, ◌++◌, Option, Some, None, codes, option_map, slice_get}
 use Rattle.std.specs.Fmt.{decimal}
 use Rattle.command.specs.declared.command.Command.{Command}
-use Rattle.command.specs.declared.command.Command.TheVariants.{Solve}
+use Rattle.command.specs.declared.command.Command.TheVariants.{Solve, Script}
 use Rattle.command.specs.declared.refused.Refused.{Refused}
 use Rattle.command.specs.declared.refused.Refused.TheVariants.{Usage, NoMemory}
 
@@ -31,14 +31,41 @@ pub record GivesBudgetAndName (words : List Text) (budget : ℕ) (name : Option 
   pub gives_name : GivesName name_words name
   pub either_order : (words ≡ budget_words ++ name_words) ⊎ (words ≡ name_words ++ budget_words)
 
--- behind the program's name, `solve [--budget N] [NAME]`
-abbrev pub AsksSolve : List Text → ℕ → Option Text → Type 0
-AsksSolve words budget name = (program : Text) × (rest : List Text) × (words ≡ program ∷ codes "solve" ∷ rest)
+-- behind the program's name, the word of a command and then `[--budget N] [NAME]`
+abbrev pub AsksWith : Text → List Text → ℕ → Option Text → Type 0
+AsksWith word words budget name = (program : Text) × (rest : List Text) × (words ≡ program ∷ word ∷ rest)
     × GivesBudgetAndName rest budget name
+
+-- `solve [--budget N] [NAME]`
+abbrev pub AsksSolve : List Text → ℕ → Option Text → Type 0
+AsksSolve words budget name = AsksWith (codes "solve") words budget name
+
+-- `script [--budget N] [NAME]`
+abbrev pub AsksScript : List Text → ℕ → Option Text → Type 0
+AsksScript words budget name = AsksWith (codes "script") words budget name
+
+-- the word of the command
+abbrev pub word_of : Command → Text
+word_of (Solve budget name) = codes "solve"
+word_of (Script budget name) = codes "script"
+
+-- the budget of the command
+abbrev pub budget_of : Command → ℕ
+budget_of (Solve budget name) = budget
+budget_of (Script budget name) = budget
+
+-- the text of the name of the command, if it has one
+abbrev pub name_of : Command → Option Text
+name_of (Solve budget name) = option_map (λ s. s.now) name
+name_of (Script budget name) = option_map (λ s. s.now) name
 
 -- the words ask for the command
 abbrev pub Asks : List Text → Command → Type 0
-Asks words (Solve budget name) = AsksSolve words budget (option_map (λ s. s.now) name)
+Asks words c = AsksWith (word_of c) words (budget_of c) (name_of c)
+
+-- the two commands have one word and the same values, their names as texts
+abbrev pub AreAlike : Command → Command → Type 0
+AreAlike c d = (word_of c ≡ word_of d) × (budget_of c ≡ budget_of d) × (name_of c ≡ name_of d)
 
 -- the words ask for no command
 abbrev pub HasNoForm : List Text → Type 0

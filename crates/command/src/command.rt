@@ -1,8 +1,10 @@
 //! What the words ask for.
 
-/// A command, with the values that its words give.
+/// A command, with the values that its words give. Without a name its text is read from standard input.
 #[derive(Clone, Copy, Debug, PartialEq, Eq)]
 pub enum Command<'a> {
-    /// Decide one formula, with at most this many steps. Without a name it is read from standard input.
+    /// Decide one formula, with at most this many steps.
     Solve { budget: u64, name: Option<&'a str> },
+    /// Reply to a script of incremental commands, with at most this many steps in each of its solves.
+    Script { budget: u64, name: Option<&'a str> },
 }

@@ -1,10 +1,10 @@
 //! The command that words ask for.
-ghost use Rattle.std.specs.Prelude.{◌≡◌, ◌↔◌, ℕ, Option, IsTrue, option_map, List, Some, [], ◌∷◌, false, IfOk, IfErr, IfSome, IfNone, map, codes, string_bytes};
+ghost use Rattle.std.specs.Prelude.{◌≡◌, ◌≢◌, ◌↔◌, ℕ, Option, IsTrue, option_map, List, Some, [], ◌∷◌, false, IfOk, IfErr, IfSome, IfNone, map, codes, string_bytes};
 ghost use Rattle.std.specs.List.{list_any};
 ghost use Rattle.std.specs.Str.{bytes_eq};
-ghost use Rattle.clap.specs.Words.{Row, found_of, kind_of, rows_of, subcommand_rows_of};
-ghost use Rattle.command.specs.Account.{AreValuesOf, HasNoHyphen, IsAccountOf, has_dashes};
-ghost use Rattle.command.specs.Forms.{Asks, AsksSolve, Explains, Text};
+ghost use Rattle.clap.specs.Words.{found_of, kind_of, rows_of, subcommand_rows_of};
+ghost use Rattle.command.specs.Account.{AreValues, HasNoHyphen, IsAccountOf, IsFoundAs, has_dashes};
+ghost use Rattle.command.specs.Forms.{AreAlike, Asks, AsksWith, Explains, Text, budget_of, name_of, word_of};
 ghost use Rattle.command.specs.declared.command.Command.{Command as CommandSpec};
 
 use super::command::Command;
@@ -62,15 +62,27 @@ fn out_of_form(alloc: Global, program: &mut clap::Command<'_>) -> Refused {
 // The command of the words' matches, if the words are in form.
 fn command_of<'a>(words: &[String], matches: &ArgMatches<'a>) -> Option<Command<'a>>
     ensures some { IfSome result (λ c. (has_dashes (map string_bytes words.now) ≡ false)
-        × (rows : List Row) × (subcommand_rows_of matches.now ≡ Some (codes "solve", rows)) × AreValuesOf rows c) }
-    ensures none { IfNone result ((c : CommandSpec) (rows : List Row) → has_dashes (map string_bytes words.now) ≡ false
-        → subcommand_rows_of matches.now ≡ Some (codes "solve", rows) → ¬ AreValuesOf rows c) }
+        × IsFoundAs c (subcommand_rows_of matches.now)) }
+    ensures none { IfNone result ((c : CommandSpec) → has_dashes (map string_bytes words.now) ≡ false
+        → ¬ IsFoundAs c (subcommand_rows_of matches.now)) }
 {
     if has_dashes(words) {
         return None;
     }
-    match matches.subcommand()? {
-        ("solve", solve) => solve_of(solve),
+    let (word, found) = matches.subcommand()?;
+    let (budget, name) = values_of(found)?;
+    command_named(word, budget, name)
+}
+
+// The command of this word, if there is one, with these values.
+fn command_named<'a>(word: &str, budget: u64, name: Option<&'a str>) -> Option<Command<'a>>
+    ensures some { IfSome result (λ c. (word_of c ≡ word.now) × (budget_of c ≡ budget)
+        × (name_of c ≡ option_map (λ s. s.now) name.entry)) }
+    ensures none { IfNone result ((c : CommandSpec) → word_of c ≢ word.now) }
+{
+    match word {
+        "solve" => Some(Command::Solve { budget, name }),
+        "script" => Some(Command::Script { budget, name }),
         _ => None,
     }
 }
@@ -92,17 +104,17 @@ fn contains_dashes(words: &[String]) -> bool
     words.iter().any(|word| word.as_str() == "--")
 }
 
-// The command of the matches of `solve`, if its words are in form.
-fn solve_of<'a>(matches: &ArgMatches<'a>) -> Option<Command<'a>>
-    ensures some { IfSome result (AreValuesOf (rows_of (found_of matches.now))) }
-    ensures none { IfNone result ((c : CommandSpec) → ¬ AreValuesOf (rows_of (found_of matches.now)) c) }
+// The values in the matches of a command, if they are in form.
+fn values_of<'a>(found: &ArgMatches<'a>) -> Option<(u64, Option<&'a str>)>
+    ensures some { IfSome result (λ v. AreValues (rows_of (found_of found.now)) v.0 (option_map (λ s. s.now) v.1)) }
+    ensures none { IfNone result ((n : ℕ) (g : Option Text) → ¬ AreValues (rows_of (found_of found.now)) n g) }
 {
-    let budget = number_of(matches.get_str("budget")?)?;
-    let name = matches.get_str("name");
+    let budget = number_of(found.get_str("budget")?)?;
+    let name = found.get_str("name");
     if !has_no_hyphen(name) {
         return None;
     }
-    Some(Command::Solve { budget, name })
+    Some((budget, name))
 }
 
 // Whether a name, if there is one, doesn't begin with `-`.
@@ -117,6 +129,8 @@ fn has_no_hyphen(name: Option<&str>) -> bool
 
 /// A law: words ask for one command at most.
 pub fn words_ask_for_one_command()
-    ensures { (words : List Text) (m n : ℕ) (g h : Option Text)
-        → AsksSolve words m g → AsksSolve words n h → (m ≡ n) × (g ≡ h) }
+    // whatever the words of two commands are
+    ensures values { (words : List Text) (v w : Text) (m n : ℕ) (g h : Option Text)
+        → AsksWith v words m g → AsksWith w words n h → (v ≡ w) × (m ≡ n) × (g ≡ h) }
+    ensures commands { (words : List Text) (c d : CommandSpec) → Asks words c → Asks words d → AreAlike c d }
 {}

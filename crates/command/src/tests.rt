@@ -2,29 +2,26 @@ use crate::{Command, Refused, read_command};
 use std::alloc::Global;
 use std::test::Fail;
 
-fn words(alloc: Global, texts: &[&str]) -> Result<Vec<String>, Fail> {
-    let mut all = Vec::new(alloc);
-    all.push(String::from_str(alloc, "qbf")?)?;
-    for text in texts {
-        all.push(String::from_str(alloc, text)?)?;
-    }
-    Ok(all)
+// What a command line comes to: a command, or a refusal with this part in its text.
+type Want<'a> = Result<Command<'a>, &'a str>;
+
+fn solve(budget: u64, name: Option<&str>) -> Want<'_> {
+    Ok(Command::Solve { budget, name })
 }
 
-// Whether `qbf` with these words behind it decides a formula of this name with this budget.
-fn solves(alloc: Global, texts: &[&str], budget: u64, name: Option<&str>) -> Result<bool, Fail> {
-    let words = words(alloc, texts)?;
-    match read_command(alloc, &words) {
-        Ok(command) => Ok(command == Command::Solve { budget, name }),
-        Err(_) => Ok(false),
-    }
+fn script(budget: u64, name: Option<&str>) -> Want<'_> {
+    Ok(Command::Script { budget, name })
 }
 
-// Whether `qbf` with these words behind it is refused with a text that has this part.
-fn refuses(alloc: Global, texts: &[&str], part: &str) -> Result<bool, Fail> {
-    let words = words(alloc, texts)?;
-    match read_command(alloc, &words) {
-        Err(Refused::Usage(text)) => Ok(
+// Whether the words of the line, with one blank between each two, come to this.
+fn comes_to(alloc: Global, line: &str, want: Want<'_>) -> Result<bool, Fail> {
+    let mut words = Vec::new(alloc);
+    for word in line.split(' ') {
+        words.push(String::from_str(alloc, word)?)?;
+    }
+    match (read_command(alloc, &words), want) {
+        (Ok(command), Ok(wanted)) => Ok(command == wanted),
+        (Err(Refused::Usage(text)), Err(part)) => Ok(
             text.as_str().contains(part) && text.as_str().ends_with('\n'),
         ),
         _ => Ok(false),
@@ -32,110 +29,72 @@ fn refuses(alloc: Global, texts: &[&str], part: &str) -> Result<bool, Fail> {
 }
 
 #[test]
-fn the_forms_are_taken(rt: HostRuntime) -> Result<(), Fail> {
+fn lines_come_to_commands_or_refusals(rt: HostRuntime) -> Result<(), Fail> {
     let alloc = rt.alloc();
     let greatest = u64::MAX;
-    assert!(rt; solves(alloc, &["solve"], greatest, None)?);
-    assert!(rt; solves(alloc, &["solve", "f"], greatest, Some("f"))?);
-    assert!(rt; solves(alloc, &["solve", ""], greatest, Some(""))?);
-    assert!(rt; solves(alloc, &["solve", "solve"], greatest, Some("solve"))?);
-    assert!(rt; solves(alloc, &["solve", "--budget", "0"], 0, None)?);
-    assert!(rt; solves(alloc, &["solve", "--budget=32", "f"], 32, Some("f"))?);
-    assert!(rt; solves(alloc, &["solve", "--budget", "7", "f"], 7, Some("f"))?);
-    assert!(rt; solves(alloc, &["solve", "f", "--budget", "7"], 7, Some("f"))?);
-    assert!(rt; solves(alloc, &["solve", "f", "--budget=7"], 7, Some("f"))?);
-    assert!(rt;
-        solves(
-            alloc,
-            &["solve", "--budget", "18446744073709551615"],
-            greatest,
-            None
-        )?
-    );
-    Ok(())
-}
-
-#[test]
-fn a_faulty_first_word_is_refused(rt: HostRuntime) -> Result<(), Fail> {
-    let alloc = rt.alloc();
-    assert!(rt; read_command(alloc, &[]).is_err());
-    assert!(rt; refuses(alloc, &[], "requires a subcommand")?);
-    assert!(rt; refuses(alloc, &["jump"], "unrecognized subcommand 'jump'")?);
-    assert!(rt; refuses(alloc, &["--budget", "1"], "'--budget'")?);
-    assert!(rt; refuses(alloc, &["--", "solve"], "'solve'")?);
-    Ok(())
-}
-
-#[test]
-fn words_for_help_and_version_are_refused(rt: HostRuntime) -> Result<(), Fail> {
-    let alloc = rt.alloc();
-    for word in ["--help", "-h", "help"] {
-        assert!(rt; refuses(alloc, &[word], "Usage: qbf")?, "{word}");
-    }
-    assert!(rt;
-        refuses(
-            alloc,
-            &["solve", "--help"],
-            "Usage: qbf solve [OPTIONS] [NAME]"
-        )?
-    );
-    assert!(rt; refuses(alloc, &["solve", "-h"], "Usage: qbf solve [OPTIONS] [NAME]")?);
-    assert!(rt; refuses(alloc, &["--version"], "unexpected argument '--version'")?);
-    assert!(rt; refuses(alloc, &["-V"], "unexpected argument '-V'")?);
-    Ok(())
-}
-
-#[test]
-fn a_faulty_budget_is_refused(rt: HostRuntime) -> Result<(), Fail> {
-    let alloc = rt.alloc();
-    for number in [
-        "18446744073709551616",
-        "x",
-        "",
-        "-1",
-        "+5",
-        "007",
-        "1 ",
-        "--",
+    for (line, want) in [
+        ("qbf solve", solve(greatest, None)),
+        ("qbf solve f", solve(greatest, Some("f"))),
+        ("qbf solve ", solve(greatest, Some(""))),
+        ("qbf solve script", solve(greatest, Some("script"))),
+        ("qbf solve --budget 0", solve(0, None)),
+        ("qbf solve --budget=32 f", solve(32, Some("f"))),
+        ("qbf solve --budget 7 f", solve(7, Some("f"))),
+        ("qbf solve f --budget 7", solve(7, Some("f"))),
+        ("qbf solve f --budget=7", solve(7, Some("f"))),
+        (
+            "qbf solve --budget 18446744073709551615",
+            solve(greatest, None),
+        ),
+        ("qbf script", script(greatest, None)),
+        ("qbf script f", script(greatest, Some("f"))),
+        ("qbf script solve", script(greatest, Some("solve"))),
+        ("qbf script --budget=0", script(0, None)),
+        ("qbf script --budget 7 f", script(7, Some("f"))),
+        ("qbf script f --budget=7", script(7, Some("f"))),
+        ("qbf", Err("requires a subcommand")),
+        ("qbf jump", Err("unrecognized subcommand 'jump'")),
+        ("qbf scrip", Err("unrecognized subcommand 'scrip'")),
+        ("qbf --budget 1", Err("'--budget'")),
+        ("qbf -- solve", Err("'solve'")),
+        ("qbf --help", Err("Usage: qbf <COMMAND>")),
+        ("qbf -h", Err("Usage: qbf <COMMAND>")),
+        ("qbf help", Err("Usage: qbf <COMMAND>")),
+        ("qbf solve --help", Err("Usage: qbf solve [OPTIONS] [NAME]")),
+        ("qbf script -h", Err("Usage: qbf script [OPTIONS] [NAME]")),
+        ("qbf --version", Err("unexpected argument '--version'")),
+        ("qbf -V", Err("unexpected argument '-V'")),
+        (
+            "qbf solve --budget 18446744073709551616",
+            Err("invalid value"),
+        ),
+        (
+            "qbf script --budget 18446744073709551616",
+            Err("invalid value"),
+        ),
+        ("qbf solve --budget x", Err("invalid value 'x'")),
+        ("qbf solve --budget ", Err("invalid value ''")),
+        ("qbf solve --budget=", Err("invalid value ''")),
+        ("qbf solve --budget 1\t", Err("invalid value '1\t'")),
+        ("qbf solve --budget -1", Err("unexpected argument '-1'")),
+        ("qbf solve --budget +5", Err("N has no sign")),
+        ("qbf script --budget +5", Err("N has no sign")),
+        ("qbf solve --budget 007", Err("no needless zero")),
+        ("qbf solve --budget --", Err("a value is required")),
+        ("qbf solve --budget", Err("a value is required")),
+        ("qbf solve --budget 1 --budget 2", Err("multiple times")),
+        ("qbf script --budget=1 f --budget=2", Err("multiple times")),
+        ("qbf solve a b", Err("unexpected argument 'b'")),
+        ("qbf script a b", Err("unexpected argument 'b'")),
+        ("qbf solve -x", Err("unexpected argument '-x'")),
+        ("qbf solve --bud 3", Err("unexpected argument '--bud'")),
+        ("qbf solve -", Err("NAME begins with no '-'")),
+        ("qbf script -", Err("NAME begins with no '-'")),
+        ("qbf solve --", Err("'--' is no word")),
+        ("qbf script -- f", Err("'--' is no word")),
     ] {
-        assert!(rt;
-            refuses(alloc, &["solve", "--budget", number], "")?,
-            "{number}"
-        );
+        assert!(rt; comes_to(alloc, line, want)?, "{line}");
     }
-    assert!(rt; refuses(alloc, &["solve", "--budget"], "a value is required")?);
-    assert!(rt; refuses(alloc, &["solve", "--budget="], "invalid value ''")?);
-    assert!(rt;
-        refuses(
-            alloc,
-            &["solve", "--budget", "1", "--budget", "2"],
-            "multiple times"
-        )?
-    );
-    assert!(rt;
-        refuses(
-            alloc,
-            &["solve", "--budget=1", "f", "--budget=2"],
-            "multiple times"
-        )?
-    );
-    Ok(())
-}
-
-#[test]
-fn other_words_are_refused(rt: HostRuntime) -> Result<(), Fail> {
-    let alloc = rt.alloc();
-    assert!(rt; refuses(alloc, &["solve", "a", "b"], "unexpected argument 'b'")?);
-    assert!(rt; refuses(alloc, &["solve", "-x"], "unexpected argument '-x'")?);
-    assert!(rt;
-        refuses(
-            alloc,
-            &["solve", "--bud", "3"],
-            "unexpected argument '--bud'"
-        )?
-    );
-    assert!(rt; refuses(alloc, &["solve", "-"], "NAME begins with no '-'")?);
-    assert!(rt; refuses(alloc, &["solve", "--"], "'--' is no word")?);
-    assert!(rt; refuses(alloc, &["solve", "--", "f"], "'--' is no word")?);
+    assert!(rt; read_command(alloc, &[]).is_err());
     Ok(())
 }

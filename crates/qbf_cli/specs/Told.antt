@@ -1,27 +1,59 @@
--- What a run tells of a search that stopped.
-use Rattle.std.specs.Prelude.{◌≡◌, ℕ, List, [], ◌∷◌, Contains, Option}
+-- What a run writes, and what it tells of searches that stopped.
+use Rattle.std.specs.Prelude.{◌≡◌, ◌≢◌, ◌⊎◌, ℕ, List, [], ◌∷◌, Contains, Option, IfSome}
+use Rattle.std.specs.Io.KnownBytes.{Appends, Keeps}
 use Rattle.ports.specs.Bytes.{AppendsFront}
 use Rattle.trail.specs.State.{Account}
-use Rattle.command.specs.Forms.{AsksSolve}
+use Rattle.command.specs.Forms.{Asks, Text}
+use Rattle.command.specs.declared.command.Command.{Command}
+use Rattle.command.specs.declared.command.Command.TheVariants.{Solve, Script}
+use Rattle.qscript.specs.declared.command.Command.{Command as ScriptCommand}
+use Rattle.qscript.specs.Reads.{Ending as ScriptEnding, ReadsScript}
 use Rattle.session.specs.declared.answer.Answer.{Answer}
-use Rattle.session.specs.Solve.{answer_line, Solves}
+use Rattle.session.specs.Replies.{Leads, Output}
+use Rattle.session.specs.Scripts.{AreFirst}
+use Rattle.session.specs.Solve.{answer_line, HasAnswer, OfAnswer, Solves}
+use Rattle.session.specs.Standing.{Standing, start}
 use Rattle.session.specs.Stops.{AddsEntry, IsStopOn}
-use Rattle.qbf_cli.specs.Run.{Asked, input_name}
+use Rattle.qbf_cli.specs.Asked.{input_of}
 
--- The words ask to solve an input, and a search of the formula that it holds stopped at the budget that they give.
-pub record IsStopOfRun (words : List (List ℕ)) (content : List ℕ → Option (List ℕ)) (stopped : Account) : Type 0 where
-  pub budget : ℕ
-  pub name : Option (List ℕ)
-  pub asks : AsksSolve words budget name
-  pub stop : IsStopOn budget (content (input_name name)) stopped
+-- What a solve leaves on the output: the answer's line, a front of it after a write fault, and else nothing. What it
+-- tells of its search: an entry where UNKNOWN was written; after a write fault that of the answer that a front was
+-- written of, if this is UNKNOWN; and else none. `written` is what stood on the output and stands on it.
+pub record IsSolveOutput (budget : ℕ) (known : Option Text) (written : Option Text × Option Text)
+    (stops : List Account) (status : ℕ) : Type 0 where
+  pub line : HasAnswer status → OfAnswer status (λ answer. Appends written.0 written.1 (answer_line answer))
+  pub front : status ≡ 4 → (answer : Answer) × IfSome known (λ text. Solves budget text answer)
+      × AppendsFront written.0 written.1 (answer_line answer) × AddsEntry (IsStopOn budget known) [] stops answer
+  pub nothing : Contains (2 ∷ 3 ∷ 5 ∷ 6 ∷ []) status → Keeps written.0 written.1
+  pub unknown : status ≡ 0 → (stopped : Account) × (stops ≡ stopped ∷ []) × IsStopOn budget known stopped
+  pub none : Contains (10 ∷ 20 ∷ 2 ∷ 3 ∷ 5 ∷ 6 ∷ []) status → stops ≡ []
 
--- What the list of stopped searches holds after a run: one entry where UNKNOWN was written; after a write fault that of
--- the answer that a front was written of, if this is UNKNOWN; and else none. `written` is what stood on the output and
--- stands on it.
-pub record IsToldOfRun (words : List (List ℕ)) (content : List ℕ → Option (List ℕ))
-    (written : Option (List ℕ) × Option (List ℕ)) (stops : List Account) (status : ℕ) : Type 0 where
-  pub unknown : status ≡ 0 → (stopped : Account) × (stops ≡ stopped ∷ []) × IsStopOfRun words content stopped
-  pub front : status ≡ 4 → (answer : Answer) × Asked words content (λ budget text. Solves budget text answer)
-      × AppendsFront written.0 written.1 (answer_line answer)
-      × AddsEntry (IsStopOfRun words content) [] stops answer
-  pub none : Contains (10 ∷ 20 ∷ 2 ∷ 3 ∷ 5 ∷ 6 ∷ 7 ∷ []) status → stops ≡ []
+-- What a script leaves on the output: allowed replies to commands, all of them, or after a write fault a front of them.
+-- The commands are the first of the text's script, if the text is told, and all of them where it was read to its
+-- ending. What is told of searches is an entry for each UNKNOWN among the replies, in their order.
+pub record IsScriptOutput (budget : ℕ) (known : Option Text) (written : Option Text × Option Text)
+    (stops : List Account) (status : ℕ) : Type 0 where
+  pub commands : List ScriptCommand
+  pub out : Output
+  pub after : Standing
+  pub allowed : Leads budget start commands out after
+  pub first : IfSome known (λ text. AreFirst text commands)
+  pub all : Contains (0 ∷ 2 ∷ 6 ∷ []) status →
+      IfSome known (λ text. (ending : ScriptEnding) × ReadsScript text commands ending)
+  pub front : AppendsFront written.0 written.1 out.text
+  pub whole : status ≢ 4 → Appends written.0 written.1 out.text
+  pub told : stops ≡ out.stops
+
+-- what a command leaves on the output and tells, whose input is this text, where it is told
+abbrev pub IsOutputOf : Command → (known : Option Text) (written : Option Text × Option Text)
+    (stops : List Account) → ℕ → Type 0
+IsOutputOf (Solve budget name) known written stops status = IsSolveOutput budget known written stops status
+IsOutputOf (Script budget name) known written stops status = IsScriptOutput budget known written stops status
+
+-- What a run leaves on the output and tells: what the command does that the words ask for. Nothing, where they ask for
+-- none, or want of memory came before.
+abbrev pub IsOutput : (words : List Text) (content : Text → Option Text) (written : Option Text × Option Text)
+    (stops : List Account) → ℕ → Type 0
+IsOutput words content written stops status =
+    (Contains (5 ∷ 7 ∷ []) status × Keeps written.0 written.1 × (stops ≡ []))
+    ⊎ ((c : Command) × Asks words c × IsOutputOf c (content (input_of c)) written stops status)

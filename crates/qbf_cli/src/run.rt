@@ -3,26 +3,30 @@ ghost use Rattle.std.specs.Prelude.{◌≡◌, ◌≢◌, [], ◌∷◌, map, op
 ghost use Rattle.std.specs.Io.KnownBytes.{Appends};
 ghost use Rattle.ports.specs.Bytes.{AllFlushed, AppendsFront};
 ghost use Rattle.ports.specs.Causes.{IsCounted, Rose};
+ghost use Rattle.session.specs.Scripts.{RoomForReplies};
 ghost use Rattle.session.specs.Solve.{HasAnswer, IsDone, RoomForAnswer};
-ghost use Rattle.qbf_cli.specs.Run.{Asked, Carried, IsAnswered, IsErrorOutput, IsOutput, IsSolved, IsVerdict, RoomForOutput, SteadyForInput, input_name as name_of_input, line_of, status_of};
-ghost use Rattle.qbf_cli.specs.Told.{IsToldOfRun};
+ghost use Rattle.qbf_cli.specs.Asked.{AskedEither, RoomForOutput, SteadyForInput, input_name as name_of_input};
+ghost use Rattle.qbf_cli.specs.Run.{Carried, IsAnswered, IsErrorOutput, IsReplied, IsSolved, IsVerdict, line_of, status_of};
+ghost use Rattle.qbf_cli.specs.Told.{IsOutput};
 
 use super::ending::RunEnding;
 use command::{Command, Refused, read_command};
 use ports::{Desk, Sink};
-use session::{Ending, Job, run_file};
+use qscript::each_script_has_one_reading;
+use session::{Ending, Job, run_file, run_script};
 use std::alloc::Global;
 use trail::Stopped;
 
 /// Carries out the command that the words ask for, the program's name first: `solve [--budget N] [NAME]` decides the
 /// formula of the file NAME, or of standard input, by search with at most N steps, and writes `SAT`, `UNSAT` or
-/// `UNKNOWN` to `out`. What else happens is said on `err`. With `UNKNOWN` what the search that stopped tells is put into
-/// `stops`.
+/// `UNKNOWN` to `out`. `script [--budget N] [NAME]` replies on `out` to the commands of that input, each of its solves
+/// with at most N steps. What else happens is said on `err`. With each `UNKNOWN` what the search that stopped tells is
+/// put into `stops`.
 ///
-/// Answers the exit status: 10 for a true formula, 20 for a false one, and 0 where the budget was spent; 2 where the
-/// input is malformed and 6 where it goes beyond a limit, each with its line; 3 for a read fault; 4 for a write fault
-/// of `out`; 5 for want of memory, which may come at any time; 7 for other words. The first of these events decides.
-/// A failing `err` changes none.
+/// Answers the exit status: 10 for a true formula, 20 for a false one, and 0 where the budget was spent; 0 too where a
+/// script ends well; 2 where the input is malformed and 6 where it goes beyond a limit, each with its line; 3 for a
+/// read fault; 4 for a write fault of `out`; 5 for want of memory, which may come at any time; 7 for other words. The
+/// first of these events decides. A failing `err` changes none.
 pub fn run<D: Desk, O: Sink, E: Sink>(
     alloc: Global,
     words: &[String],
@@ -38,7 +42,8 @@ pub fn run<D: Desk, O: Sink, E: Sink>(
 
     // an answer comes after the whole input was read
     ensures whole_input { HasAnswer result
-        → Asked (map string_bytes words.now) (D.content desk.old) (λ _ _. D.left desk.new ≡ Some []) }
+        → AskedEither (map string_bytes words.now) (D.content desk.old) (λ _ _. D.left desk.new ≡ Some [])
+        (λ _ _. D.left desk.new ≡ Some []) }
 
     // faults come from outside alone, and an answer only where there was none
     ensures read_fault { IsCounted (result ≡ 3) (HasAnswer result) (D.faults desk.old) (D.faults desk.new) }
@@ -46,14 +51,11 @@ pub fn run<D: Desk, O: Sink, E: Sink>(
     ensures steady { SteadyForInput (map string_bytes words.now) (D.steady desk.old) → result ≢ 3 }
     ensures room { RoomForOutput (map string_bytes words.now) (D.content desk.old) (O.has_room out.old) → result ≢ 4 }
 
-    // what stands on the output, and that all of it is flushed where there is an answer
-    ensures output { IsOutput (map string_bytes words.now) (D.content desk.old) (O.written out.old)
-        (O.written out.new) result }
-    ensures flushed { HasAnswer result → AllFlushed (O.written out.new) (O.flushed out.old) (O.flushed out.new) }
-
-    // what is told of the search that stopped: an entry with UNKNOWN, and else nothing
-    ensures stops { IsToldOfRun (map string_bytes words.now) (D.content desk.old) (O.written out.old, O.written out.new)
+    // what stands on the output, with what is told of searches that stopped: an entry for each UNKNOWN; and that all of
+    // it is flushed where there is an answer
+    ensures output { IsOutput (map string_bytes words.now) (D.content desk.old) (O.written out.old, O.written out.new)
         stops.new.items result }
+    ensures flushed { HasAnswer result → AllFlushed (O.written out.new) (O.flushed out.old) (O.flushed out.new) }
 
     // what stands on the error output
     ensures error { IsErrorOutput (map string_bytes words.now) (D.content desk.old) (E.faults err.old, E.faults err.new)
@@ -98,6 +100,9 @@ fn ending_of<D: Desk, O: Sink>(
         Ok(Command::Solve { budget, name }) => {
             RunEnding::Worked(solve(alloc, budget, name, desk, out, stops))
         }
+        Ok(Command::Script { budget, name }) => {
+            RunEnding::Worked(reply(alloc, budget, name, desk, out, stops))
+        }
         Err(Refused::Usage(text)) => RunEnding::Usage(text),
         Err(Refused::NoMemory) => RunEnding::Worked(Ending::NoMemory),
     }
@@ -126,6 +131,36 @@ fn solve<D: Desk, O: Sink>(
         return Ending::ReadFault;
     }
     run_file(alloc, Job::Solve, budget, desk, out, stops)
+}
+
+// Replies to the script of an input.
+fn reply<D: Desk, O: Sink>(
+    alloc: Global,
+    budget: u64,
+    name: Option<&str>,
+    desk: &mut D,
+    out: &mut O,
+    stops: &mut Vec<Stopped>,
+) -> Ending
+    ensures replied { IsReplied budget (D.content desk.old (name_of_input (option_map (λ s. s.now) name.entry)))
+        (D.left desk.new) (O.written out.old, O.written out.new) (stops.old.items, stops.new.items) result }
+    ensures read_fault { IsCounted (result ≡ Ending.ReadFault) (IsDone result) (D.faults desk.old) (D.faults desk.new) }
+    ensures write_fault { IsCounted (result ≡ Ending.WriteFault) (IsDone result) (O.faults out.old) (O.faults out.new) }
+    ensures steady { D.steady desk.old (name_of_input (option_map (λ s. s.now) name.entry))
+        → result ≢ Ending.ReadFault }
+    ensures room { RoomForReplies budget (D.content desk.old (name_of_input (option_map (λ s. s.now) name.entry)))
+        (O.has_room out.old) → result ≢ Ending.WriteFault }
+    ensures flushed { IsDone result → AllFlushed (O.written out.new) (O.flushed out.old) (O.flushed out.new) }
+{
+    each_script_has_one_reading();
+    let input = input_name(name);
+    if desk.choose(input).is_err() {
+        return Ending::ReadFault;
+    }
+    match run_script(alloc, budget, desk, out, stops) {
+        Ending::Done(_) => Ending::Done(0),
+        ending => ending,
+    }
 }
 
 // The name of the input: without one it is standard input.

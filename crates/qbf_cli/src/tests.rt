@@ -1,6 +1,8 @@
 //! Runs of the whole program in memory.
 ghost use Rattle.std.specs.Prelude.{◌<◌};
 
+mod scripts;
+
 use super::run::{report, run};
 use super::words::words_of;
 use ports::{Input, MemoryDesk, MemorySink};
@@ -337,6 +339,8 @@ fn words_choose_the_input_and_the_budget(rt: HostRuntime) -> Result<(), Fail> {
             "SAT\n",
         ),
         (&["qbf", "solve", "g"], 3, ""),
+        (&["qbf", "script", "g"], 3, ""),
+        (&["qbf", "script", "--budget=9", "g"], 3, ""),
         (&["qbf", "solve", ""], 3, ""),
     ] {
         let (found, written, silent) = runs(alloc, others)?;
@@ -371,6 +375,9 @@ fn other_words_are_usage(rt: HostRuntime) -> Result<(), Fail> {
         &["qbf", "solve", "--budget="],
         &["qbf", "solve", "--budget", "18446744073709551616"],
         &["qbf", "solve", "--budget", "1", "--budget", "2"],
+        &["qbf", "script", "f", "g"],
+        &["qbf", "script", "-"],
+        &["qbf", "script", "--budget", "x"],
     ] {
         let (found, written, silent) = runs(alloc, others)?;
         assert_eq!(rt; found, 7, "{others:?}");

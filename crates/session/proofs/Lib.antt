@@ -1,3 +1,10 @@
 mod Answering
 mod Feeding
 mod Numbers
+pub mod Circuits
+pub mod Telling
+pub mod Deciding
+pub mod Accepting
+pub mod Going
+pub mod Scripting
+pub mod Working

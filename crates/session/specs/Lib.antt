@@ -1,5 +1,10 @@
 pub mod Endings
 pub mod Feeding
+pub mod Replies
+pub mod Scripts
 pub mod Solve
+pub mod Standing
+pub mod State
+pub mod Steps
 pub mod Stops
 pub mod Worked

@@ -1,11 +1,19 @@
--- Worked values: answers to two formulas, and what is told of searches that stopped.
-use Rattle.std.specs.Prelude.{true, false, [], ◌∷◌}
+-- Worked values: answers to two formulas, what is told of searches that stopped, and replies to commands.
+use Rattle.std.specs.Prelude.{◌≡◌, pos, negsuc, true, false, [], ◌∷◌, codes, Some, None}
 use Rattle.prefix.specs.declared.quant.Quant.{Quant}
 use Rattle.prefix.specs.declared.quant.Quant.TheVariants.{Exists, Forall}
 use Rattle.truth.specs.declared.formula.Formula.{Formula}
 use Rattle.trail.specs.State.{Account}
+use Rattle.calculus.specs.Derivations.Reason.{Input}
+use Rattle.frames.specs.Commands.{AddClause, AddScope, AddVariable, Assume as AssumeLiteral, Solve as Decide, Verdict}
+use Rattle.frames.specs.Fold.{new_script, state_after, state_of}
+use Rattle.qscript.specs.declared.command.Command.TheVariants.{Assume, Clause, Pop, Solve, Trace, Value}
 use Rattle.session.specs.declared.answer.Answer.TheVariants.{Sat, Unsat, Unknown}
+use Rattle.session.specs.declared.ending.Ending.TheVariants.{Done, Refused}
+use Rattle.session.specs.Replies.{AllowedReplies, Decides, GivesUp, Output, refusal_number, refused_text, relevant_text, says, value_in, value_text}
+use Rattle.session.specs.Scripts.{IsScriptEnding}
 use Rattle.session.specs.Solve.{IsAnswerTo}
+use Rattle.session.specs.Standing.{Standing, start}
 use Rattle.session.specs.Stops.{AddsEntry, IsStopAt}
 
 -- 2 differs from 1, with these quantifiers of 1 and 2 in that order
@@ -38,3 +46,49 @@ pub record WorkedAnswers : Type 0 where
   -- an entry where the answer is unknown alone
   pub entry : AddsEntry (IsStopAt 12 2) [] (at_twelve ∷ []) Unknown
   pub no_entry : AddsEntry (IsStopAt 12 2) [] (at_twelve ∷ []) Unsat → ⊥
+
+-- The formula with the empty clause alone, where it was solved: it is false.
+abbrev pub contradiction : Standing
+contradiction = record {
+  script = state_after new_script (AddClause []);
+  witness = record { proof = record { row = []; reason = Input } ∷ []; values = [] };
+}
+
+-- one existential variable, which is assumed to be false
+abbrev pub negative : Standing
+negative = record {
+  script = state_of (AddScope Exists None ∷ AddVariable 1 1 ∷ AssumeLiteral (negsuc 0) ∷ Decide (Verdict true) ∷ []);
+  witness = record { proof = []; values = record { variable = 1; positive = false } ∷ [] };
+}
+
+-- numbers of refusals, texts, and replies that are allowed and that aren't
+pub record WorkedReplies : Type 0 where
+  pub no_frame : refusal_number start Pop ≡ Some 40
+  pub unknown_variable : refusal_number start (Assume (pos 5)) ≡ Some 41
+  pub no_verdict : refusal_number start (Value 1) ≡ Some 50
+  pub no_trace : refusal_number start Trace ≡ Some 50
+  -- 51 comes before 52
+  pub not_outermost : refusal_number negative (Value 2) ≡ Some 51
+  pub not_winner : refusal_number (record negative {
+    script = record negative.script {
+      verdict = Some (record { truth = false; assumptions = [] });
+    };
+  }) (Value 1) ≡ Some 52
+  pub accepted : refusal_number negative (Value 1) ≡ None
+  pub solved : refusal_number start Solve ≡ None
+  pub refused : refused_text 40 ≡ codes "refused 40\n"
+  pub value : value_text (value_in negative.witness.values 1) ≡ codes "value -1\n"
+  pub none_relevant : relevant_text [] ≡ codes "relevant 0\n"
+  pub one_relevant : relevant_text (record { variable = 1; positive = false } ∷ []) ≡ codes "relevant -1 0\n"
+  -- refused commands, each with its line
+  pub lines : AllowedReplies 0 (Pop ∷ Assume (pos 5) ∷ Value 1 ∷ [])
+      (says (codes "refused 40\nrefused 41\nrefused 50\n"))
+  pub not_silent : AllowedReplies 0 (Pop ∷ []) (says []) → ⊥
+  -- an accepted clause has no reply, and the empty one makes the formula false, whatever the budget
+  pub unsat : AllowedReplies 0 (Clause [] ∷ Solve ∷ []) (says (codes "UNSAT\n"))
+  pub not_sat : (after : Standing) → Decides contradiction (says (codes "SAT\n")) after → ⊥
+  -- with enough steps for its variables a solve doesn't give up
+  pub short : (out : Output) (after : Standing) → GivesUp 8 contradiction out after → ⊥
+  -- an empty script ends well
+  pub empty : IsScriptEnding (codes "p qscript 1\n") (Done 0)
+  pub not_refused : IsScriptEnding (codes "p qscript 1\n") (Refused 30 1) → ⊥

@@ -5,6 +5,7 @@ ghost use Rattle.session.specs.Endings.{ending_for};
 
 use ports::Failed;
 use qdimacs::{Quantity, ReadRefusal};
+use std::alloc::AllocError;
 use steps::NoMemory;
 
 /// What is asked of a file with a formula.
@@ -51,6 +52,14 @@ impl From<Failed> for Ending {
 
     fn from(_e: Failed) -> Self {
         Self::WriteFault
+    }
+}
+
+impl From<AllocError> for Ending {
+    ghost from_gives = { λ _ ending. ending ≡ NoRoom };
+
+    fn from(_e: AllocError) -> Self {
+        Self::NoMemory
     }
 }
 

@@ -42,7 +42,8 @@ pub fn run_file<D: Desk, S: Sink>(
     // Faults come from outside alone, and an answer only where there was none.
     ensures read_fault { IsCounted (result ≡ Ending.ReadFault) (IsDone result) (D.faults desk.old) (D.faults desk.new) }
     ensures flows { D.flows desk.old → (result ≢ Ending.ReadFault) × D.flows desk.new }
-    ensures write_fault { IsCounted (result ≡ Ending.WriteFault) (IsDone result) (S.faults sink.old) (S.faults sink.new) }
+    ensures write_fault { IsCounted (result ≡ Ending.WriteFault) (IsDone result) (S.faults sink.old)
+        (S.faults sink.new) }
     ensures room { RoomForAnswer budget (D.left desk.old) (S.has_room sink.old) → result ≢ Ending.WriteFault }
     // What stands on the output, and that all of it is flushed where there is an answer.
     ensures written { HasWritten budget (D.left desk.old) (S.written sink.old) (S.written sink.new) result }
@@ -74,9 +75,11 @@ fn solve<D: Desk, S: Sink>(
     ensures answer { IfOk result (λ a. IfSome (D.left desk.old) (λ text. Solves budget text a)) }
     ensures ending { IfErr result (λ e. ¬ IsDone e × IfSome (D.left desk.old) (λ text. IsEnding budget text e)) }
     ensures read { OnOk result (IfSome (D.left desk.old) (λ _. D.left desk.new ≡ Some [])) }
-    ensures read_fault { IsCounted (IsErrOf result Ending.ReadFault) (IsOk result) (D.faults desk.old) (D.faults desk.new) }
+    ensures read_fault { IsCounted (IsErrOf result Ending.ReadFault) (IsOk result) (D.faults desk.old)
+        (D.faults desk.new) }
     ensures flows { D.flows desk.old → ¬ IsErrOf result Ending.ReadFault × D.flows desk.new }
-    ensures write_fault { IsCounted (IsErrOf result Ending.WriteFault) (IsOk result) (S.faults sink.old) (S.faults sink.new) }
+    ensures write_fault { IsCounted (IsErrOf result Ending.WriteFault) (IsOk result) (S.faults sink.old)
+        (S.faults sink.new) }
     ensures room { RoomForAnswer budget (D.left desk.old) (S.has_room sink.old) → ¬ IsErrOf result Ending.WriteFault }
     ensures line { IfOk result (λ a. Appends (S.written sink.old) (S.written sink.new) (answer_line a)) }
     ensures front { IfErr result (HasWritten budget (D.left desk.old) (S.written sink.old) (S.written sink.new)) }

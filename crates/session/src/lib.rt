@@ -1,19 +1,27 @@
-//! Files of formulas, decided.
+//! Files of formulas, decided, and scripts of commands, replied to.
 //!
-//! A formula is read, fed to an engine and solved. `specs/Solve` says what the answer to a text is, and `specs/Stops` what
-//! is told of a search that stopped.
+//! A formula is read, fed to an engine and solved. `specs/Solve` says what the answer to a text is, and `specs/Stops`
+//! what is told of a search that stopped. `specs/Replies` says what the commands of a script may reply, `specs/Scripts`
+//! what the work on a script comes to.
 #![tactic(auto)]
 
 mod answer;
 mod ending;
 mod feed;
 mod file;
+mod lines;
+mod reply;
+mod script;
+mod session;
 mod worked;
 
 pub use answer::Answer;
 pub use ending::{Ending, Job};
 pub use file::run_file;
-pub use worked::worked_answers;
+pub use reply::{Reply, SessionStop};
+pub use script::run_script;
+pub use session::Session;
+pub use worked::{worked_answers, worked_replies};
 
 #[cfg(test)]
 mod tests;

@@ -1,9 +1,11 @@
-//! Files that are solved.
+//! Files that are solved, and scripts that are replied to.
 ghost use Rattle.std.specs.Prelude.{◌<◌};
 
-use crate::{Answer, Ending, Job, run_file};
+use crate::{Answer, Ending, Job, Reply, Session, run_file, run_script};
 use ports::{Desk, Input, MemoryDesk, MemorySink};
+use prefix::Quant;
 use qdimacs::Quantity;
+use qscript::Command;
 use std::alloc::Global;
 use std::test::Fail;
 
@@ -107,5 +109,51 @@ fn answers_have_their_status_and_line(rt: HostRuntime) -> Result<(), Fail> {
         assert_eq!(rt; answer.status(), status);
         assert_eq!(rt; answer.line(), line);
     }
+    Ok(())
+}
+
+#[test]
+fn scripts_are_replied_to(rt: HostRuntime) -> Result<(), Fail> {
+    let alloc = rt.alloc();
+    let malformed = Ending::Refused {
+        number: 31,
+        line: 3,
+    };
+    for (text, ending, lines) in [
+        (
+            "p qscript 1\nscope e\nvar 1 1\nclause 1 0\nsolve\nvalue 1\npush\nclause -1 0\nsolve\npop\nsolve\n",
+            Ending::Done(0),
+            "SAT\nvalue 1\nUNSAT\nSAT\n",
+        ),
+        ("p qscript 1\npop\njump\n", malformed, "refused 40\n"),
+    ] {
+        let mut desk = desk_with(alloc, text)?;
+        let mut sink = MemorySink::new(alloc, 64, 3, Vec::new(alloc))?;
+        let mut stops = Vec::new(alloc);
+        let answer = run_script(alloc, 1000, &mut desk, &mut sink, &mut stops);
+        assert_eq!(rt; answer, ending, "{text:?}");
+        assert_eq!(rt; sink.bytes(), lines.as_bytes());
+        assert!(rt; stops.is_empty());
+    }
+    Ok(())
+}
+
+#[test]
+fn commands_are_replied_to_one_by_one(rt: HostRuntime) -> Result<(), Fail> {
+    let alloc = rt.alloc();
+    let mut sink = MemorySink::new(alloc, 64, 3, Vec::new(alloc))?;
+    let mut session = Session::new(alloc, 0)?;
+    let scope = Command::Scope {
+        quant: Quant::Exists,
+        at: None,
+    };
+    let accepted = session.step(&scope, &mut sink);
+    assert!(rt; matches!(accepted, Ok(Reply::Silent)));
+    let refused = session.step(&Command::Pop, &mut sink);
+    assert!(rt; matches!(refused, Ok(Reply::Refused(40))));
+    // No step is due without variables.
+    let solved = session.step(&Command::Solve, &mut sink);
+    assert!(rt; matches!(solved, Ok(Reply::Sat)));
+    assert_eq!(rt; sink.bytes(), b"refused 40\nSAT\n".as_slice());
     Ok(())
 }

@@ -1,7 +1,12 @@
 //! Worked values of the definitions, each proved.
-ghost use Rattle.session.specs.Worked.{WorkedAnswers};
+ghost use Rattle.session.specs.Worked.{WorkedAnswers, WorkedReplies};
 
 /// Answers to formulas of both truths, and what is told of searches that stopped.
 pub fn worked_answers()
     ensures { WorkedAnswers }
+{}
+
+/// Replies to commands, allowed ones and others.
+pub fn worked_replies()
+    ensures { WorkedReplies }
 {}

@@ -2,11 +2,16 @@ use Rattle.std.proofs.Common.{◌≡◌, ◌∙◌, ap, ap₂, codes, true}
 use Rattle.std.proofs.lemmas.Result.{IfOk-weaker}
 use Rattle.clap.specs.Words.{App, app_of, new_app, with_subcommand}
 use Rattle.clap.specs.Simple.{app_of_fields, on_top}
+use Rattle.command.specs.Account.{bare_app}
 use Rattle.command.proofs.form.program.Goals as goal
 
 pub returns : goal.returns
 returns c =
     let new_is : app_of c.about.result ≡ new_app (codes "qbf") = ap app_of_fields c.about.ensures ∙ c.new.ensures.app in
-    let wanted_is : app_of c.subcommand_required.result ≡ on_top (λ s. record s { subcommand_required = true }) (new_app (codes "qbf")) =
-    ap app_of_fields c.subcommand_required.ensures ∙ ap (on_top (λ s. record s { subcommand_required = true })) new_is in
-    IfOk-weaker c.subcommand.result _ _ (λ r h. h.shape c.in_ok-solve.ensures.local ∙ ap₂ with_subcommand wanted_is (ap (λ (a : App). a.top) c.in_ok-solve.ensures.app)) c.subcommand.ensures
+    let bare_is : app_of c.subcommand_required.result ≡ bare_app =
+    ap app_of_fields c.subcommand_required.ensures
+    ∙ ap (on_top (λ s. record s { subcommand_required = true })) new_is in
+    let solve_is = c.in_ok-subcommand.ensures.shape c.in_ok-solve.ensures.local
+    ∙ ap₂ with_subcommand bare_is (ap (λ (a : App). a.top) c.in_ok-solve.ensures.app) in
+    IfOk-weaker c.subcommand-2.result _ _ (λ r h. h.shape c.in_ok-script.ensures.local
+    ∙ ap₂ with_subcommand solve_is (ap (λ (a : App). a.top) c.in_ok-script.ensures.app)) c.subcommand-2.ensures

@@ -1,0 +1,227 @@
+-- What is known of the work on a formula, by its status.
+use Rattle.std.proofs.Common.{◌≡◌, ◌≢◌, inl, ℕ, true, false, List, [], ◌∷◌, Option, None, Some, Contains, refl, sym, subst, arith, ◌∙◌}
+use Rattle.std.specs.Prelude.{IfSome}
+use Rattle.std.specs.Io.KnownBytes.{Keeps}
+use Rattle.truth.specs.declared.formula.Formula.{Formula}
+use Rattle.truth.specs.Truth.{truth}
+use Rattle.trail.specs.State.{Account}
+use Rattle.qdimacs.specs.Reads.{Reads}
+use Rattle.qdimacs.specs.Rules.{refused, limit}
+use Rattle.command.specs.Forms.{AsksSolve, HasNoForm, Text}
+use Rattle.session.specs.declared.answer.Answer.{Answer}
+use Rattle.session.specs.declared.answer.Answer.TheVariants.{Sat, Unsat, Unknown}
+use Rattle.session.specs.Solve.{answer_status, HasAnswer, IsAnswerTo, IsShort, OfAnswer, Solves}
+use Rattle.session.specs.Stops.{AddsEntry, IsStopOn}
+use Rattle.session.specs.declared.ending.Ending.{Ending}
+use Rattle.session.specs.declared.ending.Ending.TheVariants.{Done, Refused, Limit, ReadFault, WriteFault, NoMemory}
+use Rattle.qbf_cli.specs.declared.ending.RunEnding.TheVariants.{Worked}
+use Rattle.qbf_cli.specs.Asked.{Asked, AskedEither, input_name}
+use Rattle.qbf_cli.specs.Run.{HasTruth, IsBeyond, IsErrorLine, IsLimited, IsLimitedScript, IsRefused, IsRefusedScript, IsSlow, IsSolved, IsVerdict, line_of, status_of, fixed_line}
+use Rattle.qbf_cli.specs.Told.{IsSolveOutput}
+use Rattle.qbf_cli.proofs.Statuses.{absent, answer_absent, answers, is_among, is_answer, no_answer}
+
+abbrev pub Content : Type 0
+Content = Text → Option Text
+
+-- what follows from the text, follows where it is told
+pub some_map : (known : Option Text) (P Q : Text → Type 0) → ((text : Text) → P text → Q text) → IfSome known P
+    → IfSome known Q
+some_map None P Q f h = tt
+some_map (Some text) P Q f h = f text h
+
+-- what the statuses of answers say of a formula
+is_true : (budget : ℕ) (f : Formula) (a : Answer) → IsAnswerTo budget f a → 10 ≡ answer_status a
+    → truth f.prefix f.clauses ≡ true
+is_true budget f Sat e at = e
+is_true budget f Unsat e at = absurd (omega (arith, at))
+is_true budget f Unknown e at = absurd (omega (arith, at))
+
+is_false : (budget : ℕ) (f : Formula) (a : Answer) → IsAnswerTo budget f a → 20 ≡ answer_status a
+    → truth f.prefix f.clauses ≡ false
+is_false budget f Sat e at = absurd (omega (arith, at))
+is_false budget f Unsat e at = e
+is_false budget f Unknown e at = absurd (omega (arith, at))
+
+is_short : (budget : ℕ) (f : Formula) (a : Answer) → IsAnswerTo budget f a → 0 ≡ answer_status a → IsShort budget f
+is_short budget f Sat e at = absurd (omega (arith, at))
+is_short budget f Unsat e at = absurd (omega (arith, at))
+is_short budget f Unknown e at = e
+
+true_of : (budget s : ℕ) → s ≡ 10 → (text : Text) → OfAnswer s (Solves budget text) → HasTruth text true
+true_of budget s is text (a, at, (f, reads, e)) = (f, reads, is_true budget f a e (sym is ∙ at))
+
+false_of : (budget s : ℕ) → s ≡ 20 → (text : Text) → OfAnswer s (Solves budget text) → HasTruth text false
+false_of budget s is text (a, at, (f, reads, e)) = (f, reads, is_false budget f a e (sym is ∙ at))
+
+beyond_of : (budget s : ℕ) → s ≡ 0 → (text : Text) → OfAnswer s (Solves budget text) → IsBeyond budget text
+beyond_of budget s is text (a, at, (f, reads, e)) = (f, reads, (is_short budget f a e (sym is ∙ at)).limit)
+
+slow_of : (budget s : ℕ) → s ≡ 0 → (text : Text) → OfAnswer s (Solves budget text) → IsSlow budget text
+slow_of budget s is text (a, at, (f, reads, e)) = (f, reads, (is_short budget f a e (sym is ∙ at)).propagation)
+
+-- a status that no answer has
+pub other_verdict : (words : List Text) (content : Content) (n : ℕ) → is_among answers n ≡ false
+    → (n ≡ 2 → AskedEither words content (λ budget text. IsRefused text) (λ budget text. IsRefusedScript text))
+    → (n ≡ 6 → AskedEither words content (λ budget text. IsLimited text) (λ budget text. IsLimitedScript text))
+    → (n ≡ 7 → HasNoForm words) → (HasNoForm words → Contains (5 ∷ 7 ∷ []) n) → IsVerdict words content n
+other_verdict words content n none two six seven unasked = record {
+  sat = λ h. no_answer n none (Sat, h);
+  unsat = λ h. no_answer n none (Unsat, h);
+  unknown = λ h. no_answer n none (Unknown, h);
+  slow = λ h. no_answer n none (Unknown, h);
+  solved = λ h. no_answer n none h;
+  refused = two;
+  limit = six;
+  usage = seven;
+  unasked = unasked;
+}
+
+-- a status that says nothing of the text, where the words ask for a command
+pub plain_verdict : (words : List Text) (content : Content) (n : ℕ) → is_among answers n ≡ false → n ≢ 2 → n ≢ 6
+    → n ≢ 7 → (HasNoForm words → ⊥) → IsVerdict words content n
+plain_verdict words content n none two six seven some_form =
+    other_verdict words content n none (λ h. absurd (two h)) (λ h. absurd (six h)) (λ h. absurd (seven h))
+    (λ no. absurd (some_form no))
+
+-- the line on the error output of a status that says it alone
+pub plain_line : (words : List Text) (content : Content) (n : ℕ) (line : Text) → n ≢ 2 → n ≢ 6 → line ≡ fixed_line n
+    → IsErrorLine words content n line
+plain_line words content n line two six is =
+    record { refused = λ h. absurd (two h); limit = λ h. absurd (six h); other = λ _ _ _. is }
+
+-- what is told with an answer
+none_told : (P : Account → Type 0) (stops : List Account) (s : ℕ) (a : Answer) → s ≡ answer_status a
+    → AddsEntry P [] stops a → Contains (10 ∷ 20 ∷ 2 ∷ 3 ∷ 5 ∷ 6 ∷ []) s → stops ≡ []
+none_told P stops s Sat at same h = same
+none_told P stops s Unsat at same h = same
+none_told P stops s Unknown at entry h =
+    absent (10 ∷ 20 ∷ 2 ∷ 3 ∷ 5 ∷ 6 ∷ []) 0 refl (subst (Contains (10 ∷ 20 ∷ 2 ∷ 3 ∷ 5 ∷ 6 ∷ [])) at h)
+
+one_told : (P : Account → Type 0) (stops : List Account) (s : ℕ) (a : Answer) → s ≡ answer_status a
+    → AddsEntry P [] stops a → s ≡ 0 → (stopped : Account) × (stops ≡ stopped ∷ []) × P stopped
+one_told P stops s Sat at same h = absurd (omega (arith, at, h))
+one_told P stops s Unsat at same h = absurd (omega (arith, at, h))
+one_told P stops s Unknown at entry h = entry
+
+module _ (budget : ℕ) (known left : Option Text) (output : Option Text × Option Text)
+    (told : List Account × List Account) (empty : told.0 ≡ []) where
+  -- nothing written, and nothing told
+  quiet : (n : ℕ) → is_among answers n ≡ false → n ≢ 4 → Keeps output.0 output.1 → told.1 ≡ told.0
+      → IsSolveOutput budget known output told.1 n
+  quiet n none four kept same = record {
+    line = λ h. no_answer n none h;
+    front = λ h. absurd (four h);
+    nothing = λ _. kept;
+    unknown = λ h. no_answer n none (Unknown, h);
+    none = λ _. same ∙ empty;
+  }
+
+  -- one entry more than none
+  entry : (a : Answer) → AddsEntry (IsStopOn budget known) told.0 told.1 a
+      → AddsEntry (IsStopOn budget known) [] told.1 a
+  entry a h = subst (λ before. AddsEntry (IsStopOn budget known) before told.1 a) empty h
+
+  -- what a solve leaves on the output
+  pub solve_output : (f : Ending) → IsSolved budget known left output told f
+      → IsSolveOutput budget known output told.1 (status_of (Worked f))
+  solve_output (Done s) so =
+      let has : HasAnswer s = so.status s refl in
+      let a : Answer = so.stops.0 in
+      let adds : AddsEntry (IsStopOn budget known) [] told.1 a = entry a so.stops.2 in
+      record {
+        line = λ _. so.written;
+        front = λ h. is_answer s 4 refl has h;
+        nothing = λ h. answer_absent (2 ∷ 3 ∷ 5 ∷ 6 ∷ []) s refl refl refl has h;
+        unknown = λ h. one_told _ told.1 s a so.stops.1 adds h;
+        none = λ h. none_told _ told.1 s a so.stops.1 adds h;
+      }
+  solve_output WriteFault so = record {
+    line = λ h. no_answer 4 refl h;
+    front = λ _. (so.stops.0, so.stops.1, so.stops.2, entry so.stops.0 so.stops.3);
+    nothing = λ h. absent (2 ∷ 3 ∷ 5 ∷ 6 ∷ []) 4 refl h;
+    unknown = λ h. absurd (omega (arith, h));
+    none = λ h. absent (10 ∷ 20 ∷ 2 ∷ 3 ∷ 5 ∷ 6 ∷ []) 4 refl h;
+  }
+  solve_output (Refused number at) so = quiet 2 refl (λ e. omega (arith, e)) so.written so.stops
+  solve_output (Limit quantity at) so = quiet 6 refl (λ e. omega (arith, e)) so.written so.stops
+  solve_output ReadFault so = quiet 3 refl (λ e. omega (arith, e)) so.written so.stops
+  solve_output NoMemory so = quiet 5 refl (λ e. omega (arith, e)) so.written so.stops
+
+module _ (words : List Text) (content : Content) (left : Option Text) (output : Option Text × Option Text)
+    (told : List Account × List Account) (budget : ℕ) (name : Option Text) (asks : AsksSolve words budget name)
+    (some_form : HasNoForm words → ⊥) where
+  -- what is so of the text is so of the input that was asked for
+  asked : (P : ℕ → Text → Type 0) → IfSome (content (input_name name)) (P budget) → Asked words content P
+  asked P h = record { budget = budget; name = name; asks = asks; holds = h }
+
+  pub solve_verdict : (f : Ending) → IsSolved budget (content (input_name name)) left output told f
+      → IsVerdict words content (status_of (Worked f))
+  solve_verdict (Done s) so =
+      let has : HasAnswer s = so.status s refl in
+      record {
+        sat = λ h. asked (λ n text. HasTruth text true) (some_map _ _ _ (true_of budget s h) so.ending);
+        unsat = λ h. asked (λ n text. HasTruth text false) (some_map _ _ _ (false_of budget s h) so.ending);
+        unknown = λ h. inl (asked IsBeyond (some_map _ _ _ (beyond_of budget s h) so.ending));
+        slow = λ h. inl (asked IsSlow (some_map _ _ _ (slow_of budget s h) so.ending));
+        solved = λ _. inl (asked (λ n text. OfAnswer s (Solves n text)) so.ending);
+        refused = λ h. is_answer s 2 refl has h;
+        limit = λ h. is_answer s 6 refl has h;
+        usage = λ h. is_answer s 7 refl has h;
+        unasked = λ none. absurd (some_form none);
+      }
+  solve_verdict (Refused number at) so =
+      other_verdict words content 2 refl
+      (λ _. inl (asked (λ n text. IsRefused text)
+      (some_map _ (λ text. Reads text (refused number at)) IsRefused (λ text h. (number, at, h)) so.ending)))
+      (λ e. absurd (omega (arith, e))) (λ e. absurd (omega (arith, e))) (λ none. absurd (some_form none))
+  solve_verdict (Limit quantity at) so =
+      other_verdict words content 6 refl (λ e. absurd (omega (arith, e)))
+      (λ _. inl (asked (λ n text. IsLimited text)
+      (some_map _ (λ text. Reads text (limit quantity at)) IsLimited (λ text h. (quantity, at, h)) so.ending)))
+      (λ e. absurd (omega (arith, e))) (λ none. absurd (some_form none))
+  solve_verdict ReadFault so =
+      plain_verdict words content 3 refl (λ e. omega (arith, e)) (λ e. omega (arith, e)) (λ e. omega (arith, e))
+      some_form
+  solve_verdict WriteFault so =
+      plain_verdict words content 4 refl (λ e. omega (arith, e)) (λ e. omega (arith, e)) (λ e. omega (arith, e))
+      some_form
+  solve_verdict NoMemory so =
+      plain_verdict words content 5 refl (λ e. omega (arith, e)) (λ e. omega (arith, e)) (λ e. omega (arith, e))
+      some_form
+
+  pub solve_line : (f : Ending) → IsSolved budget (content (input_name name)) left output told f
+      → IsErrorLine words content (status_of (Worked f)) (line_of (Worked f))
+  solve_line (Done s) so =
+      let has : HasAnswer s = so.status s refl in
+      record {
+        refused = λ h. is_answer s 2 refl has h;
+        limit = λ h. is_answer s 6 refl has h;
+        other = λ _ _ _. no_line s has;
+      }
+    where
+      no_line : (s : ℕ) → HasAnswer s → [] ≡ fixed_line s
+      no_line s (Sat, e) = rw e refl
+      no_line s (Unsat, e) = rw e refl
+      no_line s (Unknown, e) = rw e refl
+  solve_line (Refused number at) so = record {
+    refused = λ _. (number, at, refl, inl (asked (λ n text. Reads text (refused number at)) so.ending));
+    limit = λ h. absurd (omega (arith, h));
+    other = λ n _ _. absurd (n refl);
+  }
+  solve_line (Limit quantity at) so = record {
+    refused = λ h. absurd (omega (arith, h));
+    limit = λ _. (quantity, at, refl, inl (asked (λ n text. Reads text (limit quantity at)) so.ending));
+    other = λ _ n _. absurd (n refl);
+  }
+  solve_line ReadFault so = plain_line words content 3 _ (λ e. omega (arith, e)) (λ e. omega (arith, e)) refl
+  solve_line WriteFault so = plain_line words content 4 _ (λ e. omega (arith, e)) (λ e. omega (arith, e)) refl
+  solve_line NoMemory so = plain_line words content 5 _ (λ e. omega (arith, e)) (λ e. omega (arith, e)) refl
+
+  pub solve_read : (f : Ending) → IsSolved budget (content (input_name name)) left output told f
+      → HasAnswer (status_of (Worked f)) → Asked words content (λ n text. left ≡ Some [])
+  solve_read (Done s) so h = asked (λ n text. left ≡ Some []) (so.read tt)
+  solve_read (Refused number at) so h = no_answer 2 refl h
+  solve_read (Limit quantity at) so h = no_answer 6 refl h
+  solve_read ReadFault so h = no_answer 3 refl h
+  solve_read WriteFault so h = no_answer 4 refl h
+  solve_read NoMemory so h = no_answer 5 refl h

@@ -1,0 +1,311 @@
+//! Runs on scripts. In the tables `/` stands for a line end.
+ghost use Rattle.std.specs.Prelude.{◌<◌};
+
+use super::super::run::run;
+use super::{desk, words};
+use ports::MemorySink;
+use std::alloc::Global;
+use std::test::Fail;
+
+// What a run on a script came to.
+#[derive(Drop)]
+struct Outcome {
+    status: u8,
+    out: String,
+    flushed: String,
+    err: String,
+    stops: usize,
+}
+
+// A text whose lines end in `/`, as bytes.
+fn lines(alloc: Global, text: &str) -> Result<Vec<u8>, Fail> {
+    let mut bytes = Vec::new(alloc);
+    for byte in text.as_bytes() {
+        bytes.push(if *byte == b'/' { b'\n' } else { *byte })?;
+    }
+    Ok(bytes)
+}
+
+// A text whose lines end in `/`.
+fn written(alloc: Global, text: &str) -> Result<String, Fail> {
+    Ok(String::from_utf8_lossy(alloc, &lines(alloc, text)?)?)
+}
+
+// What `qbf` with these words comes to on a script, where the calls of the desk and of the output fail that have these
+// numbers. The desk gives a byte a read, and the output takes one a write.
+fn carry_out(
+    alloc: Global,
+    given: &[&str],
+    script: &[u8],
+    failing_reads: Vec<u64>,
+    failing_writes: Vec<u64>,
+) -> Result<Outcome, Fail> {
+    let mut desk = desk(alloc, script, 1, failing_reads)?;
+    let mut out = MemorySink::new(alloc, 4096, 1, failing_writes)?;
+    let mut err = MemorySink::new(alloc, 64, 3, Vec::new(alloc))?;
+    let mut stops = Vec::new(alloc);
+    let status = run(
+        alloc,
+        &words(alloc, given)?,
+        &mut desk,
+        &mut out,
+        &mut err,
+        &mut stops,
+    );
+    Ok(Outcome {
+        status,
+        out: String::from_utf8_lossy(alloc, out.bytes())?,
+        flushed: String::from_utf8_lossy(alloc, out.flushed())?,
+        err: String::from_utf8_lossy(alloc, err.bytes())?,
+        stops: stops.len(),
+    })
+}
+
+// Whether `qbf` with these words on a script ends well, with these replies, of which so many are UNKNOWN.
+fn replies(
+    alloc: Global,
+    given: &[&str],
+    script: &str,
+    want: &str,
+    unknown: usize,
+) -> Result<bool, Fail> {
+    let found = carry_out(
+        alloc,
+        given,
+        &lines(alloc, script)?,
+        Vec::new(alloc),
+        Vec::new(alloc),
+    )?;
+    let want = written(alloc, want)?;
+    let is_written = found.out.as_str() == want.as_str() && found.flushed.as_str() == want.as_str();
+    Ok(found.status == 0 && is_written && found.err.is_empty() && found.stops == unknown)
+}
+
+#[test]
+fn scripts_are_replied_to(rt: HostRuntime) -> Result<(), Fail> {
+    let alloc = rt.alloc();
+    for (script, want) in [
+        ("p qscript 1/", ""),
+        // Clauses of a frame go with it.
+        (
+            "p qscript 1/scope e/var 1 1/clause 1 0/solve/push/clause -1 0/solve/pop/solve/",
+            "SAT/UNSAT/SAT/",
+        ),
+        // Assumptions count for one solve, and a universal one can make the formula true.
+        (
+            "p qscript 1/scope a/var 1 1/scope e/var 2 2/clause 1 2 0/clause 1 -2 0/solve/assume 1/solve/solve/",
+            "UNSAT/SAT/UNSAT/",
+        ),
+        (
+            "p qscript 1/scope a/var 1 1/scope e/var 2 2/clause 1 2 0/clause 1 -2 0/solve/assume -1/solve/cert/",
+            "UNSAT/UNSAT/aag 1 1 0 1 0/2/0/i0 2/o0 1/c/herbrand/",
+        ),
+        // A scope in between, after a solve.
+        (
+            "p qscript 1/scope a/var 1 1/scope e/var 2 2/clause 1 2 0/clause -1 -2 0/solve/scope e 1/var 3 1/\
+clause 3 0/assume -3/solve/",
+            "SAT/UNSAT/",
+        ),
+        // Values of a true formula, and what is asked after a change.
+        (
+            "p qscript 1/scope e/var 1 1/clause -1 0/solve/value 1/value 2/clause 1 0/value 1/solve/value 1/",
+            "SAT/value -1/refused 51/refused 50/UNSAT/refused 52/",
+        ),
+        // What a verdict rests on.
+        (
+            "p qscript 1/scope e/var 1 1/var 2 1/clause 1 0/assume -1/assume 2/solve/relevant/trace/",
+            "UNSAT/relevant -1 0/p qrp 2 1/e 1 2 0/1 1 0 0/r UNSAT/",
+        ),
+        (
+            "p qscript 1/scope e/var 1 1/clause 0/solve/relevant/assume 1/relevant/",
+            "UNSAT/relevant 0/refused 50/",
+        ),
+    ] {
+        assert!(rt;
+            replies(alloc, &["qbf", "script"], script, want, 0)?,
+            "{script:?}"
+        );
+    }
+    Ok(())
+}
+
+#[test]
+fn refused_commands_change_nothing(rt: HostRuntime) -> Result<(), Fail> {
+    let alloc = rt.alloc();
+    for (script, want) in [
+        (
+            "p qscript 1/pop/assume 5/value 1/",
+            "refused 40/refused 41/refused 50/",
+        ),
+        (
+            "p qscript 1/scope e/scope a/var 1 1/var 2 2/var 1 2/var 0 1/var 3 9/assume 2/assume 1/assume -1/\
+var 3 1/scope e/push/clause 7 0/",
+            "refused 1/refused 2/refused 3/refused 42/refused 43/refused 44/refused 44/refused 41/",
+        ),
+    ] {
+        assert!(rt;
+            replies(alloc, &["qbf", "script"], script, want, 0)?,
+            "{script:?}"
+        );
+    }
+    Ok(())
+}
+
+#[test]
+fn each_unknown_of_a_script_is_told(rt: HostRuntime) -> Result<(), Fail> {
+    let alloc = rt.alloc();
+    let script = "p qscript 1/scope e/var 1 1/clause 1 0/solve/assume 1/solve/value 1/";
+    let spent = ["qbf", "script", "--budget", "0"];
+    assert!(rt; replies(alloc, &spent, script, "UNKNOWN/UNKNOWN/refused 50/", 2)?);
+    Ok(())
+}
+
+#[test]
+fn malformed_scripts_are_refused_behind_their_replies(rt: HostRuntime) -> Result<(), Fail> {
+    let alloc = rt.alloc();
+    for (script, out, line, number) in [
+        ("p qscript 1/solve/jump/", "SAT/", 3, 31),
+        ("solve/", "", 1, 30),
+        ("", "", 1, 30),
+        ("p qscript 1/var 1/", "", 2, 32),
+        ("p qscript 1/solve/\u{e9}/", "SAT/", 3, 7),
+        (
+            "p qscript 1/pop/solve/clause 99999999999999999999 0/",
+            "refused 40/SAT/",
+            4,
+            8,
+        ),
+        ("p cnf 1 0/", "", 1, 30),
+    ] {
+        let text = lines(alloc, script)?;
+        let found = carry_out(
+            alloc,
+            &["qbf", "script"],
+            &text,
+            Vec::new(alloc),
+            Vec::new(alloc),
+        )?;
+        let want = format!(in alloc; "qbf: line {line}: refused {number}\n")?;
+        assert_eq!(rt; found.status, 2, "{script:?}");
+        assert_eq!(rt; found.err.as_str(), want.as_str(), "{script:?}");
+        assert_eq!(rt;
+            found.out.as_str(),
+            written(alloc, out)?.as_str(),
+            "{script:?}"
+        );
+    }
+    Ok(())
+}
+
+// Forty existential variables, each clause of two neighbours; then 41 universal, and four clauses over 42 and 43 that
+// no values satisfy. The clauses stand in a frame, which is popped after a solve.
+fn popped_behind_forty(alloc: Global) -> Result<String, Fail> {
+    let mut text = String::from_str(alloc, "p qscript 1/scope e/")?;
+    for v in 1..41 {
+        write!(text, "var {v} 1/")?;
+    }
+    text.push_str("scope a/var 41 2/scope e/var 42 3/var 43 3/push/")?;
+    for v in 1..40 {
+        let next = v + 1;
+        write!(text, "clause {v} {next} 0/")?;
+    }
+    text.push_str(
+        "clause 42 43 0/clause 42 -43 0/clause -42 43 0/clause -42 -43 0/solve/pop/solve/",
+    )?;
+    Ok(text)
+}
+
+#[test]
+fn lessons_settle_a_script_within_a_thousand_steps(rt: HostRuntime) -> Result<(), Fail> {
+    let alloc = rt.alloc();
+    let script = popped_behind_forty(alloc)?;
+    let within = ["qbf", "script", "--budget", "1000"];
+    assert!(rt; replies(alloc, &within, script.as_str(), "UNSAT/SAT/", 0)?);
+    Ok(())
+}
+
+// The clauses of one more pigeon, behind so many: it has one of three holes, and none that an earlier one has.
+// The variable of pigeon p (from 0) and hole h (from 1) is 3 * p + h.
+fn one_pigeon(text: &mut String, before: u64) -> Result<(), Fail>
+    requires { before < 4 }
+{
+    let (first, second, third) = (3 * before + 1, 3 * before + 2, 3 * before + 3);
+    write!(text, "push/clause {first} {second} {third} 0/")?;
+    for other in 0..before {
+        for hole in 1..4 {
+            let (mine, theirs) = (3 * before + hole, 3 * other + hole);
+            write!(text, "clause -{mine} -{theirs} 0/")?;
+        }
+    }
+    text.push_str("solve/")?;
+    Ok(())
+}
+
+#[test]
+fn four_pigeons_are_one_too_many_for_three_holes(rt: HostRuntime) -> Result<(), Fail> {
+    let alloc = rt.alloc();
+    let mut text = String::from_str(alloc, "p qscript 1/scope e/")?;
+    for v in 1..13 {
+        write!(text, "var {v} 1/")?;
+    }
+    for before in 0..4 {
+        one_pigeon(&mut text, before)?;
+    }
+    text.push_str("pop/solve/")?;
+    assert!(rt;
+        replies(
+            alloc,
+            &["qbf", "script"],
+            text.as_str(),
+            "SAT/SAT/SAT/UNSAT/SAT/",
+            0
+        )?
+    );
+    Ok(())
+}
+
+// A script with two replies, a byte a call.
+const TWO_REPLIES: &str = "p qscript 1/scope e/var 1 1/clause 1 0/solve/value 1/";
+
+#[test]
+fn a_failing_input_leaves_a_front_of_the_replies(rt: HostRuntime) -> Result<(), Fail> {
+    let alloc = rt.alloc();
+    let script = lines(alloc, TWO_REPLIES)?;
+    let want = written(alloc, "SAT/value 1/")?;
+    // The choice, the 53 bytes one by one, and the end.
+    for failing in 1..56 {
+        let found = carry_out(
+            alloc,
+            &["qbf", "script"],
+            &script,
+            vec![in alloc; failing]?,
+            Vec::new(alloc),
+        )?;
+        assert_eq!(rt; found.status, 3, "{failing}");
+        assert_eq!(rt; found.err.as_str(), "qbf: read fault\n");
+        assert!(rt; want.starts_with(found.out.as_str()), "{failing}");
+    }
+    Ok(())
+}
+
+#[test]
+fn a_failing_output_leaves_a_front_of_the_replies(rt: HostRuntime) -> Result<(), Fail> {
+    let alloc = rt.alloc();
+    let script = lines(alloc, TWO_REPLIES)?;
+    let want = written(alloc, "SAT/value 1/")?;
+    // The twelve bytes of the replies, one by one, and the flush.
+    for failing in 1..14 {
+        let found = carry_out(
+            alloc,
+            &["qbf", "script"],
+            &script,
+            Vec::new(alloc),
+            vec![in alloc; failing]?,
+        )?;
+        assert_eq!(rt; found.status, 4, "{failing}");
+        assert_eq!(rt; found.err.as_str(), "qbf: write fault\n");
+        assert!(rt; want.starts_with(found.out.as_str()), "{failing}");
+        assert_eq!(rt; found.out.len() as u64, failing - 1);
+    }
+    Ok(())
+}

@@ -1,0 +1,209 @@
+-- Replies to changes of the formula.
+use Rattle.std.proofs.Common.{◌≡◌, ℕ, Bool, true, false, not, ◌||◌, List, [], ◌∷◌, Option, Some, None, Result, Ok, Err, refl, sym, ap, subst, ◌∙◌}
+use Rattle.std.specs.Prelude.{◌+◌, ◌==◌, nat_lt, length, ◌-◌, ◌^◌, min, IfSome, IsOk, IsOkUnless, MatchOption, MatchResult, OnErr, OnOk, is_some, if◌then◌else◌}
+use Rattle.std.specs.Option.{option_and_then, option_map}
+use Rattle.prefix.specs.declared.quant.Quant.{Quant}
+use Rattle.prefix.specs.declared.refusal.PrefixRefusal.{PrefixRefusal}
+use Rattle.prefix.specs.declared.refusal.PrefixRefusal.TheVariants.{VarTwice, VarRange, ScopeRange, ScopeLimit}
+use Rattle.prefix.specs.Refusals.{scope_refusal, variable_refusal}
+use Rattle.prefix.specs.Scopes.{Scope, level_of}
+use Rattle.frames.specs.declared.refusal.FrameRefusal.{FrameRefusal}
+use Rattle.frames.specs.declared.refusal.FrameRefusal.TheVariants.{AssumptionsHeld, NoMemory as NoSpace}
+use Rattle.frames.specs.Commands.{AddScope, AddVariable, Command as FrameCommand, first_of, formula_after, is_empty, prefix_refusals, refusal_of}
+use Rattle.frames.specs.Fold.{ScriptState, accepted, counted, state_after, unless_refused, verdict_after}
+use Rattle.frames.specs.Refusal.{number_of}
+use Rattle.frames.specs.State.{OpenFormula}
+use Rattle.qrp_trace.proofs.Pieces.{nothing}
+use Rattle.engine.specs.State.{EngineState, VerdictState}
+use Rattle.qscript.specs.declared.command.Command.{Command}
+use Rattle.session.specs.declared.reply.Reply.{Reply}
+use Rattle.session.specs.declared.reply.Reply.TheVariants.{Refused, Silent}
+use Rattle.session.specs.declared.reply.SessionStop.{SessionStop}
+use Rattle.session.specs.declared.reply.SessionStop.TheVariants.{NoMemory}
+use Rattle.session.specs.Replies.{Changes, IsAccepted, IsReplyWith, Output, no_change, refusal_number, refused_text, says}
+use Rattle.session.specs.Standing.{Standing}
+use Rattle.session.specs.State.{Holds, given_of}
+use Rattle.session.specs.Steps.{Refuses, Steps, left_by}
+use Rattle.session.proofs.Telling.{stepped}
+
+-- each refusal of a command has a number
+
+abbrev pub HasNumber : Option FrameRefusal → Type 0
+HasNumber o = IfSome o (λ x. is_some (number_of x) ≡ true)
+
+choice : (b : Bool) (x : FrameRefusal) (o : Option FrameRefusal) → is_some (number_of x) ≡ true → HasNumber o
+    → HasNumber (if b then Some x else o)
+choice true x o number rest = number
+choice false x o number rest = rest
+
+abbrev IsNumbered : Option PrefixRefusal → Type 0
+IsNumbered o = HasNumber (first_of (prefix_refusals o))
+
+abbrev else_prefix : Bool → PrefixRefusal → Option PrefixRefusal → Option PrefixRefusal
+else_prefix b x o = if b then Some x else o
+
+one_prefix : (b : Bool) → IsNumbered (else_prefix b ScopeLimit None)
+one_prefix true = refl
+one_prefix false = tt
+
+two_prefix : (b c : Bool) → IsNumbered (else_prefix b ScopeLimit (else_prefix c ScopeRange None))
+two_prefix true c = refl
+two_prefix false true = refl
+two_prefix false false = tt
+
+three_prefix : (b c d : Bool)
+    → IsNumbered (else_prefix b VarRange (else_prefix c VarTwice (else_prefix d ScopeRange None)))
+three_prefix true c d = refl
+three_prefix false true d = refl
+three_prefix false false true = refl
+three_prefix false false false = tt
+
+scope_prefix : (scopes : List Scope) (at : Option ℕ) → IsNumbered (scope_refusal scopes at)
+scope_prefix scopes None = one_prefix (length scopes == 65536)
+scope_prefix scopes (Some n) = two_prefix (length scopes == 65536) (n == 0 || nat_lt (length scopes + 1) n)
+
+pub scope_numbered : (f : OpenFormula) (quant : Quant) (at : Option ℕ) → HasNumber (refusal_of f (AddScope quant at))
+scope_numbered f quant at =
+    choice (not (is_empty f.assumptions)) AssumptionsHeld (first_of (prefix_refusals (scope_refusal f.scopes at))) refl
+    (scope_prefix f.scopes at)
+
+pub variable_numbered : (f : OpenFormula) (var scope : ℕ) → HasNumber (refusal_of f (AddVariable var scope))
+variable_numbered f var scope =
+    choice (not (is_empty f.assumptions)) AssumptionsHeld
+    (first_of (prefix_refusals (variable_refusal f.scopes var scope))) refl
+    (three_prefix (var == 0 || nat_lt 1048576 var) (is_some (level_of f.scopes var))
+    (scope == 0 || nat_lt (length f.scopes) scope))
+
+pub one_numbered : (b : Bool) (x : FrameRefusal) → is_some (number_of x) ≡ true → HasNumber (first_of ((b, x) ∷ []))
+one_numbered true x number = number
+one_numbered false x number = tt
+
+pub two_numbered : (b c : Bool) (x y : FrameRefusal) → is_some (number_of x) ≡ true → is_some (number_of y) ≡ true
+    → HasNumber (first_of ((b, x) ∷ (c, y) ∷ []))
+two_numbered true c x y first second = first
+two_numbered false true x y first second = second
+two_numbered false false x y first second = tt
+
+pub three_numbered : (b c d : Bool) (x y z : FrameRefusal) → is_some (number_of x) ≡ true
+    → is_some (number_of y) ≡ true → is_some (number_of z) ≡ true
+    → HasNumber (first_of ((b, x) ∷ (c, y) ∷ (d, z) ∷ []))
+three_numbered true c d x y z first second third = first
+three_numbered false true d x y z first second third = second
+three_numbered false false true x y z first second third = third
+three_numbered false false false x y z first second third = tt
+
+-- what a refusal may be where the table has none
+
+pub unless_memory : (r : Result (Unit {0}) FrameRefusal) → IsOkUnless r NoSpace → (x : FrameRefusal) → r ≡ Err x
+    → x ≡ NoSpace
+unless_memory (Ok u) h x e = absurd (cc)
+unless_memory (Err y) h x e = let same : y ≡ x = cc in sym same ∙ h
+
+pub always : (r : Result (Unit {0}) FrameRefusal) → IsOk r → (x : FrameRefusal) → r ≡ Err x → x ≡ NoSpace
+always (Ok u) h x e = absurd (cc)
+always (Err y) h x e = absurd (cc)
+
+-- what an accepted change leaves of the engine
+pub record HasChanged (change : FrameCommand) (before e : EngineState) : Type 0 where
+  pub formula : e.formula ≡ formula_after before.formula change
+  pub verdict : e.verdict ≡ None
+  pub solves : e.counts.solves ≡ before.counts.solves
+
+module _ {S : Type 0} (written flushed : S → Option (List ℕ)) (faults : S → ℕ) (has_room : S → ℕ → Type 0)
+    (budget : ℕ) (command : Command) (change : FrameCommand) (s : Standing) (before e : EngineState)
+    (holds : Holds before s) (number : refusal_number s command ≡ no_change s.script.formula change)
+    (changes : (out : Output) (after : Standing) → Changes s change out after
+    → IsAccepted budget s command out after) (left : left_by command s ≡ s)
+    (drops : verdict_after s.script.formula change ≡ None)
+    (same_solves : (counted s.script change).solves ≡ s.script.solves)
+    (numbered : (f : OpenFormula) → HasNumber (refusal_of f change)) where
+  abbrev next : Standing
+  next = record s { script = state_after s.script change }
+
+  state_is : refusal_of before.formula change ≡ None → state_after s.script change ≡ accepted s.script change
+  state_is none = ap (λ o. unless_refused o s.script (accepted s.script change))
+      (ap (λ f. refusal_of f change) holds.formula ∙ none)
+
+  number_is : (o : Option FrameRefusal) → refusal_of before.formula change ≡ o
+      → refusal_number s command ≡ option_and_then number_of o
+  number_is o same = number ∙ ap (λ f. option_and_then number_of (refusal_of f change)) holds.formula
+      ∙ ap (option_and_then number_of) same
+
+  no_state : (w : VerdictState) {P : Type 0} → e.verdict ≡ None → e.verdict ≡ Some w → P
+  no_state w none some = absurd (let both : None ≡ Some w = sym none ∙ some in cc)
+
+  holds_next : refusal_of before.formula change ≡ None → HasChanged change before e → Holds e next
+  holds_next none changed = record {
+    formula = ap (λ (t : ScriptState). t.formula) (state_is none) ∙ ap (λ f. formula_after f change) holds.formula
+        ∙ sym changed.formula;
+    verdict = ap (λ (t : ScriptState). t.verdict) (state_is none) ∙ drops
+        ∙ sym (ap (option_map given_of) changed.verdict);
+    proof = λ w some. no_state w changed.verdict some;
+    values = λ w some. no_state w changed.verdict some;
+    solves = changed.solves ∙ holds.solves ∙ sym (ap (λ m. min m (2 ^ 64 - 1))
+        (ap (λ (t : ScriptState). t.solves) (state_is none) ∙ same_solves));
+  }
+
+  abbrev Goal : S → S → Result Reply SessionStop → Type 0
+  Goal old new result = Steps written flushed faults has_room budget command s old new e result
+
+  silent : (old new : S) (result : Result Reply SessionStop) → refusal_of before.formula change ≡ None
+      → HasChanged change before e → result ≡ Ok Silent → new ≡ old → Goal old new result
+  silent old new result none changed is same =
+      subst (Goal old new) (sym is) (subst (λ n. Goal old n (Ok Silent)) (sym same) (
+        [],
+        next,
+        subst (λ n. IsReplyWith n budget s command (says []) next) (sym (number_is None none))
+            (changes (says []) next (record { silent = refl; state = refl })),
+        refl,
+        nothing written flushed faults has_room old,
+        holds_next none changed,
+      ))
+
+  wants : (old new : S) (result : Result Reply SessionStop) → e ≡ before → result ≡ Err NoMemory → new ≡ old
+      → Goal old new result
+  wants old new result kept is same =
+      subst (Goal old new) (sym is) (subst (λ n. Goal old n (Err NoMemory)) (sym same) (
+        nothing written flushed faults has_room old,
+        subst (λ t. Holds e t) (sym left) (subst (λ f. Holds f s) (sym kept) holds),
+      ))
+
+  refused : (old new : S) (result : Result Reply SessionStop) (x : FrameRefusal) (n : ℕ)
+      → refusal_of before.formula change ≡ Some x → number_of x ≡ Some n → e ≡ before
+      → Refuses written flushed faults has_room (number_of x) old new result → Goal old new result
+  refused old new result x n some numbers kept refuses =
+      stepped written flushed faults has_room budget command s s old new e (Refused n) (refused_text n) result
+      (subst (λ m. IsReplyWith m budget s command (says (refused_text n)) s)
+      (sym (number_is (Some x) some ∙ numbers)) (refl, refl)) refl (subst (λ f. Holds f s) (sym kept) holds)
+      (subst (λ m. Refuses written flushed faults has_room m old new result) numbers refuses)
+
+  pub accepts : (P : Type 0) (r : Result (Unit {0}) FrameRefusal) (old new : S) (result : Result Reply SessionStop)
+      → OnOk r (HasChanged change before e)
+      → MatchOption (refusal_of before.formula change) P (λ x. r ≡ Err x)
+      → (P → (x : FrameRefusal) → r ≡ Err x → x ≡ NoSpace) → OnErr r (e ≡ before)
+      → MatchResult r (λ u. (result ≡ Ok Silent) × (new ≡ old))
+      (λ x. Refuses written flushed faults has_room (number_of x) old new result) → Goal old new result
+  accepts P (Ok u) old new result ok refusal only err answer = by (refusal_of before.formula change) refl refusal
+    where
+      by : (o : Option FrameRefusal) → refusal_of before.formula change ≡ o
+          → MatchOption o P (λ (x : FrameRefusal). ◌≡◌ {A = Result (Unit {0}) FrameRefusal} (Ok u) (Err x)) → Goal old new result
+      by None none m = silent old new result none ok answer.0 answer.1
+      by (Some x) some m = absurd (let both : ◌≡◌ {A = Result (Unit {0}) FrameRefusal} (Ok u) (Err x) = m in cc)
+  accepts P (Err x) old new result ok refusal only err answer = by (refusal_of before.formula change) refl refusal
+    where
+      memory : x ≡ NoSpace → Goal old new result
+      memory is = let want = subst (λ y. Refuses written flushed faults has_room (number_of y) old new result) is
+          answer in wants old new result err want.0 want.1
+
+      at : (o : Option ℕ) → number_of x ≡ o → is_some o ≡ true → refusal_of before.formula change ≡ Some x
+          → Goal old new result
+      at None numbers there some = absurd (cc)
+      at (Some n) numbers there some = refused old new result x n some numbers err answer
+
+      by : (o : Option FrameRefusal) → refusal_of before.formula change ≡ o
+          → MatchOption o P (λ (y : FrameRefusal). ◌≡◌ {A = Result (Unit {0}) FrameRefusal} (Err x) (Err y)) → Goal old new result
+      by None none m = memory (only m x refl)
+      by (Some y) some m =
+          let same : x ≡ y = let both : ◌≡◌ {A = Result (Unit {0}) FrameRefusal} (Err x) (Err y) = m in cc in
+          let there : refusal_of before.formula change ≡ Some x = some ∙ ap Some (sym same) in
+          at (number_of x) refl (subst HasNumber there (numbered before.formula)) there

@@ -1,0 +1,172 @@
+-- Replies to solves.
+use Rattle.std.proofs.Common.{◌≡◌, ◌<◌, ℕ, ◌+◌, ◌-◌, ◌*◌, ◌^◌, Bool, true, false, [], Some, None, refl, sym, ap, ap₂, subst, ◌∙◌, arith, inl, inr}
+use Rattle.std.specs.Prelude.{IfSome, min, option_map}
+use Rattle.std.proofs.lemmas.Bool.Decides.{nat_tests}
+use Rattle.prefix.specs.Scopes.{quantifier_at}
+use Rattle.steps.specs.Counter.{Counter, step_limit}
+use Rattle.truth.specs.Truth.{truth_under}
+use Rattle.calculus.specs.Search.{IsRefuted}
+use Rattle.calculus.specs.Verdicts.{IsProof}
+use Rattle.trail.specs.State.{Account}
+use Rattle.frames.specs.Commands.{Solve as Decide, Stop, Verdict as Found}
+use Rattle.frames.specs.Fold.{state_after}
+use Rattle.frames.specs.State.{OpenFormula, clauses_in}
+use Rattle.search.specs.Counting.{size_of}
+use Rattle.search.specs.Stops.{IsQuickStop}
+use Rattle.search.specs.declared.outcome.SolveStop.TheVariants.{Spent}
+use Rattle.engine.specs.declared.verdict.Verdict.{Verdict}
+use Rattle.engine.specs.Asks.{AreFirstValues, PlaysFirst, first_values}
+use Rattle.engine.specs.Counting.{with_solve}
+use Rattle.engine.specs.Refusals.{winner_of}
+use Rattle.engine.specs.State.{EngineState, VerdictState}
+use Rattle.engine.specs.Verdicts.{HasProof, IsStopFor, loser_of}
+use Rattle.session.specs.declared.reply.Reply.TheVariants.{Unknown}
+use Rattle.session.specs.Replies.{says, verdict_text}
+use Rattle.session.specs.Solve.{answer_line}
+use Rattle.session.specs.Standing.{IsWitness, Standing}
+use Rattle.session.specs.Stops.{IsStopAt}
+use Rattle.session.specs.State.{Holds, given_of}
+use Rattle.session.specs.Steps.{HasText, IsDecided, answered, reply_of, told_by}
+
+-- a count goes on, up to its last value
+pub one_more_solve : (a most : ℕ) → min (min a most + 1) most ≡ min (a + 1) most
+one_more_solve a most = grind (arith, nat_tests)
+
+module _ (budget : ℕ) (s : Standing) (before e : EngineState) (holds : Holds before s) where
+  counted : (n : ℕ) → e.counts ≡ with_solve budget n before.counts
+      → e.counts.solves ≡ min (s.script.solves + 1) (2 ^ 64 - 1)
+  counted n counts = ap (λ c. c.solves) counts ∙ ap (λ m. min (m + 1) (2 ^ 64 - 1)) holds.solves
+      ∙ one_more_solve s.script.solves (2 ^ 64 - 1)
+
+  module _ (v : Verdict) (t : Bool) (same : v.truth ≡ t)
+      (truth : v.truth ≡ truth_under before.formula.assumptions before.formula.scopes
+      (clauses_in before.formula.frames)) (proof : HasProof before.formula v e.verdict)
+      (emptied : e.formula ≡ record before.formula { assumptions = [] }) (n : ℕ)
+      (counts : e.counts ≡ with_solve budget n before.counts) (plays : IfSome e.verdict (PlaysFirst e.formula)) where
+    abbrev state : VerdictState
+    state = proof.state
+
+    abbrev after : Standing
+    after = record {
+      script = state_after s.script (Decide (Found t));
+      witness = record { proof = state.proof; values = first_values e.formula state };
+    }
+
+    is_state : (w : VerdictState) → e.verdict ≡ Some w → state ≡ w
+    is_state w some = let both : Some state ≡ Some w = sym proof.there ∙ some in cc
+
+    held : Holds e after
+    held = record {
+      formula = ap (λ (f : OpenFormula). record f { assumptions = [] }) holds.formula ∙ sym emptied;
+      verdict = ap₂ (λ (b : Bool) (f : OpenFormula). Some (record { truth = b; assumptions = f.assumptions }))
+          (sym same ∙ sym proof.same_truth) holds.formula
+          ∙ ap (λ l. Some (record { truth = state.truth; assumptions = l })) (sym proof.same_assumptions)
+          ∙ sym (ap (option_map given_of) proof.there);
+      proof = λ w some. ap (λ (v : VerdictState). v.proof) (is_state w some);
+      values = λ w some. ap (first_values e.formula) (is_state w some);
+      solves = counted n counts;
+    }
+
+    first : quantifier_at before.formula.scopes 1 ≡ Some (winner_of t)
+        → AreFirstValues before.formula t before.formula.assumptions (first_values e.formula state)
+    first quantifier =
+        let there : PlaysFirst e.formula state = subst (λ o. IfSome o (PlaysFirst e.formula)) proof.there plays in
+        let won : quantifier_at e.formula.scopes 1 ≡ Some (winner_of state.truth) =
+        ap (λ (f : OpenFormula). quantifier_at f.scopes 1) emptied ∙ quantifier
+        ∙ ap (λ b. Some (winner_of b)) (sym same ∙ sym proof.same_truth) in
+        let are = there won in
+        let at : AreFirstValues (record before.formula { assumptions = [] }) t before.formula.assumptions
+        (first_values e.formula state) =
+        subst (λ f. AreFirstValues f t before.formula.assumptions (first_values e.formula state)) emptied
+        (subst (λ b. AreFirstValues e.formula b before.formula.assumptions (first_values e.formula state))
+        (proof.same_truth ∙ same)
+        (subst (λ l. AreFirstValues e.formula state.truth l (first_values e.formula state)) proof.same_assumptions
+        are)) in
+        record { variables = at.variables; assumed = at.assumed; decide = at.decide }
+
+    witness : IsWitness before.formula (record { truth = t; assumptions = before.formula.assumptions })
+        (record { proof = state.proof; values = first_values e.formula state })
+    witness = record {
+      proof = subst (λ b. IsProof (loser_of b) before.formula.scopes (clauses_in before.formula.frames)
+          before.formula.assumptions state.proof) same proof.proof;
+      values = first;
+    }
+
+    pub found : IsDecided budget s (reply_of t) e
+    found = record {
+      after = after;
+      reply_is = inl (record {
+        truth = t;
+        right = subst (λ (f : OpenFormula). truth_under f.assumptions f.scopes (clauses_in f.frames) ≡ t)
+            (sym holds.formula) (sym truth ∙ same);
+        witness = subst (λ (f : OpenFormula). IsWitness f (record { truth = t; assumptions = f.assumptions })
+            (record { proof = state.proof; values = first_values e.formula state })) (sym holds.formula) witness;
+        says_truth = line t;
+        state = refl;
+      });
+      text = has t;
+      holds = held;
+    }
+      where
+        line : (b : Bool) → record { text = answer_line (answered (reply_of b)); stops = told_by (reply_of b) }
+            ≡ says (verdict_text b)
+        line true = refl
+        line false = refl
+
+        has : (b : Bool) → HasText (reply_of b) (answer_line (answered (reply_of b)))
+        has true = refl
+        has false = refl
+
+  module _ (counter now : Counter) (stopped : Account) (fresh : counter.spent ≡ 0) (whole : counter.budget ≡ budget)
+      (ends : now.budget ≡ counter.budget) (kept : e.formula ≡ before.formula) (none : e.verdict ≡ None)
+      (counts : e.counts ≡ with_solve counter.budget (size_of before.formula.scopes) before.counts)
+      (stop : IsStopFor before.formula counter now (Spent stopped))
+      (quick : before.counts.solves ≡ 0 → IsRefuted before.formula.scopes (clauses_in before.formula.frames)
+      before.formula.assumptions → IsQuickStop (size_of before.formula.scopes) counter (Spent stopped)) where
+    abbrev left_over : Standing
+    left_over = record s { script = state_after s.script (Decide Stop) }
+
+    none_is : (w : VerdictState) {P : Type 0} → e.verdict ≡ Some w → P
+    none_is w some = absurd (let both : None ≡ Some w = sym none ∙ some in cc)
+
+    gives_up : (f : OpenFormula) → f ≡ before.formula → budget < step_limit (size_of f.scopes)
+    gives_up f same = subst (λ (g : OpenFormula). budget < step_limit (size_of g.scopes)) (sym same)
+        (let short = stop.stops.short in let zero = fresh in let all = whole in omega arith)
+
+    pub gave_up : IsDecided budget s (Unknown stopped) e
+    gave_up = record {
+      after = left_over;
+      reply_is = inr (record {
+        stopped = stopped;
+        short = gives_up s.script.formula holds.formula;
+        slow = slow;
+        stop = subst (λ (g : OpenFormula). IsStopAt budget (size_of g.scopes) stopped) (sym holds.formula) at;
+        says_unknown = refl;
+        state = refl;
+      });
+      text = refl;
+      holds = record {
+        formula = holds.formula ∙ sym kept;
+        verdict = sym (ap (option_map given_of) none);
+        proof = λ w some. none_is w some;
+        values = λ w some. none_is w some;
+        solves = counted (size_of before.formula.scopes)
+            (subst (λ b. e.counts ≡ with_solve b (size_of before.formula.scopes) before.counts) whole counts);
+      };
+    }
+      where
+        at : IsStopAt budget (size_of before.formula.scopes) stopped
+        at = record {
+          budget = stop.stops.budget ∙ whole;
+          vars = stop.stops.vars;
+          few = let few = stop.stops.few in let spent = stop.stops.spent in omega (arith, ends, whole, fresh);
+        }
+
+        slow : s.script.solves ≡ 0 → IsRefuted s.script.formula.scopes (clauses_in s.script.formula.frames)
+            s.script.formula.assumptions → budget
+            < size_of s.script.formula.scopes * (size_of s.script.formula.scopes + 3)
+        slow zero refuted =
+            let first : before.counts.solves ≡ 0 = holds.solves ∙ ap (λ m. min m (2 ^ 64 - 1)) zero in
+            subst (λ (g : OpenFormula). budget < size_of g.scopes * (size_of g.scopes + 3)) (sym holds.formula)
+            (let fast = quick first (subst (λ (g : OpenFormula). IsRefuted g.scopes (clauses_in g.frames)
+            g.assumptions) holds.formula refuted) in omega (arith, fresh, whole))

@@ -1,0 +1,325 @@
+-- What the work on a script comes to, where its commands were replied to.
+use Rattle.std.proofs.Common.{◌≡◌, ◌≢◌, ℕ, List, [], ◌++◌, Option, Some, None, Result, Ok, Err, refl, sym, subst, arith, length, take, append-nil, true}
+use Rattle.std.specs.Prelude.{IfErr, ⊤, ◌-◌, is_err, IfSome, IsErrOf, IsOk}
+use Rattle.std.specs.Io.KnownBytes.{Appends, Keeps}
+use Rattle.std.proofs.KnownBytes.{Appends-nil, Appends-kept}
+use Rattle.std.proofs.lemmas.List.{take_all}
+use Rattle.ports.specs.Bytes.{AllFlushed, AppendsFront}
+use Rattle.ports.specs.Causes.{Rose, HasCause, IsCounted}
+use Rattle.trail.specs.State.{Account}
+use Rattle.qrp_trace.specs.Writing.{Wrote}
+use Rattle.qscript.specs.declared.command.Command.{Command}
+use Rattle.qscript.specs.Reads.{Ending as ScriptEnding, ReadsScript, done, limit, refused}
+use Rattle.qscript.specs.Run.{Script, stopped}
+use Rattle.session.specs.declared.ending.Ending.{Ending}
+use Rattle.session.specs.declared.ending.Ending.TheVariants.{Done, Limit, NoMemory, ReadFault, Refused, WriteFault}
+use Rattle.session.specs.Replies.{Text, says}
+use Rattle.session.specs.Scripts.{Answers, AreAnswered, AreFirst, IsLeftAt, IsReadOut, IsScriptEnding, IsSentAt, RoomForReplies, ending_of}
+use Rattle.session.specs.Solve.{IsDone}
+use Rattle.session.specs.Standing.{start}
+
+-- each text is read in some way
+abbrev pub AllRead : Type 0
+AllRead = (text : List ℕ) → (cs : List Command) × (e : ScriptEnding) × ReadsScript text cs e
+
+-- the script that is known is that of the text
+abbrev pub IsOfText : Option (List ℕ) → Option Script → Type 0
+IsOfText known script = IfSome known (λ text. (cs : List Command) × (e : ScriptEnding) × ReadsScript text cs e
+    × (script ≡ Some (cs, e)))
+
+pub of_text : (known : Option (List ℕ)) (upcoming : Option (List ℕ) → Option Script) → AllRead
+    → ((text : List ℕ) (cs : List Command) (e : ScriptEnding) → ReadsScript text cs e
+    → upcoming (Some text) ≡ Some (cs, e)) → IsOfText known (upcoming known)
+of_text None upcoming all law = tt
+of_text (Some text) upcoming all law =
+    let r = all text in (r.0, r.1, r.2, law text r.0 r.1 r.2)
+
+-- before any command
+front_none : (a : Option (List ℕ)) → AppendsFront a a []
+front_none a = record { count = 0; within = omega arith; appended = Appends-nil a }
+
+first_none : (known : Option (List ℕ)) → AllRead → IfSome known (λ text. AreFirst text [])
+first_none None all = tt
+first_none (Some text) all = all text
+
+pub none_answered : (budget : ℕ) (known a : Option (List ℕ)) (stops : List Account) → AllRead
+    → AreAnswered budget known (a, a) (stops, stops) NoMemory
+none_answered budget known a stops all = record {
+  commands = [];
+  out = says [];
+  after = start;
+  allowed = (refl, refl);
+  first = first_none known all;
+  all = λ read. absurd read;
+  front = front_none a;
+  whole = λ apart. Appends-nil a;
+  told = sym (append-nil stops);
+}
+
+front_all : (a b : Option (List ℕ)) (text : Text) → Appends a b text → AppendsFront a b text
+front_all a b text whole = record {
+  count = length text;
+  within = omega arith;
+  appended = subst (Appends a b) (sym (take_all (length text) text (omega arith))) whole;
+}
+
+front_kept : (a b c : Option (List ℕ)) (text : Text) → AppendsFront a b text → Keeps b c → AppendsFront a c text
+front_kept a b c text front kept = record {
+  count = front.count;
+  within = front.within;
+  appended = Appends-kept a b c (take front.count text) front.appended kept;
+}
+
+-- the commands are the first of the text's script, and all where nothing is left
+first_of : (known : Option (List ℕ)) (script : Option Script) (commands : List Command) (P : Script → Type 0)
+    → IsOfText known script
+    → IfSome script (λ all. (rest : Script) × (all ≡ (commands ++ rest.0, rest.1)) × P rest)
+    → IfSome known (λ text. (rest : Script) × ReadsScript text (commands ++ rest.0) rest.1 × P rest)
+first_of None script commands P is first = tt
+first_of (Some text) script commands P is first =
+    let at = subst (λ o. IfSome o (λ all. (rest : Script) × (all ≡ (commands ++ rest.0, rest.1)) × P rest)) is.3 first
+    in (
+      at.0,
+      subst (λ (r : Script). ReadsScript text r.0 r.1) at.1 is.2,
+      at.2,
+    )
+
+first_only : (known : Option (List ℕ)) (commands : List Command) (P : Script → Type 0)
+    → IfSome known (λ text. (rest : Script) × ReadsScript text (commands ++ rest.0) rest.1 × P rest)
+    → IfSome known (λ text. AreFirst text commands)
+first_only None commands P is = tt
+first_only (Some text) commands P is = (is.0.0, is.0.1, is.1)
+
+all_read : (known : Option (List ℕ)) (commands : List Command) (P : Script → Type 0) (e : ScriptEnding)
+    → ((r : Script) → P r → r ≡ stopped e)
+    → IfSome known (λ text. (rest : Script) × ReadsScript text (commands ++ rest.0) rest.1 × P rest)
+    → IfSome known (λ text. ReadsScript text commands e)
+all_read None commands P e stops is = tt
+all_read (Some text) commands P e stops is =
+    let read = subst (λ (r : Script). ReadsScript text (commands ++ r.0) r.1) (stops is.0 is.2) is.1 in
+    subst (λ cs. ReadsScript text cs e) (append-nil commands) read
+
+all_with : (known : Option (List ℕ)) (commands : List Command) (e : ScriptEnding)
+    → IfSome known (λ text. ReadsScript text commands e)
+    → IfSome known (λ text. (f : ScriptEnding) × ReadsScript text commands f)
+all_with None commands e is = tt
+all_with (Some text) commands e is = (e, is)
+
+some_map : {X : Type 0} (o : Option X) (P Q : X → Type 0) → ((x : X) → P x → Q x) → IfSome o P → IfSome o Q
+some_map None P Q f h = tt
+some_map (Some x) P Q f h = f x h
+
+module _ {S : Type 0} (written flushed : S → Option (List ℕ)) (faults : S → ℕ) (has_room : S → ℕ → Type 0)
+    (budget : ℕ) (known : Option (List ℕ)) (script : Option Script) (of : IsOfText known script)
+    (result : Result (Unit {0}) Ending) (old new : S) (before after : List Account)
+    (replied : Answers budget start script (IsLeftAt result)
+    (λ text. IsSentAt written flushed faults has_room old new text result) (before, after)) where
+  abbrev left : IfSome known (λ text. (rest : Script) × ReadsScript text (replied.commands ++ rest.0) rest.1
+      × IsLeftAt result rest)
+  left = first_of known script replied.commands (IsLeftAt result) of replied.first
+
+  pub ending_is : IfSome known (λ text. IsScriptEnding text (ending_of result))
+  ending_is = by result left
+    where
+      by : (r : Result (Unit {0}) Ending)
+          → IfSome known (λ text. (rest : Script) × ReadsScript text (replied.commands ++ rest.0) rest.1
+          × IsLeftAt r rest) → IfSome known (λ text. IsScriptEnding text (ending_of r))
+      by (Ok u) h = some_map known _ _ (λ text read. (refl, replied.commands, read))
+          (all_read known replied.commands _ done (λ r same. same) h)
+      by (Err (Done status)) h = some_map known _ _ (λ text r. absurd r.2) h
+      by (Err (Refused number line)) h = some_map known _ _ (λ text read. (replied.commands, read))
+          (all_read known replied.commands _ (refused number line) (λ r same. same) h)
+      by (Err (Limit quantity line)) h = some_map known _ _ (λ text r. (
+        r.2.0,
+        replied.commands,
+        subst (λ cs. ReadsScript text cs (limit line)) (append-nil replied.commands)
+            (subst (λ (s : Script). ReadsScript text (replied.commands ++ s.0) s.1) r.2.1 r.1),
+      )) h
+      by (Err ReadFault) h = some_map known _ _ (λ text r. tt) h
+      by (Err WriteFault) h = some_map known _ _ (λ text r. tt) h
+      by (Err NoMemory) h = some_map known _ _ (λ text r. tt) h
+
+  -- what was written, where no flush follows
+  front_is : AppendsFront (written old) (written new) replied.out.text
+  front_is = by result replied.sent
+    where
+      by : (r : Result (Unit {0}) Ending)
+          → IsSentAt written flushed faults has_room old new replied.out.text r
+          → AppendsFront (written old) (written new) replied.out.text
+      by (Ok u) h = front_all _ _ _ h.appended
+      by (Err (Done status)) h = absurd h
+      by (Err (Refused number line)) h = front_all _ _ _ h.appended
+      by (Err (Limit quantity line)) h = front_all _ _ _ h.appended
+      by (Err ReadFault) h = front_all _ _ _ h.appended
+      by (Err WriteFault) h = h.front
+      by (Err NoMemory) h = front_all _ _ _ h.appended
+
+  whole_is : ending_of result ≢ WriteFault → Appends (written old) (written new) replied.out.text
+  whole_is = by result replied.sent
+    where
+      by : (r : Result (Unit {0}) Ending)
+          → IsSentAt written flushed faults has_room old new replied.out.text r → ending_of r ≢ WriteFault
+          → Appends (written old) (written new) replied.out.text
+      by (Ok u) h apart = h.appended
+      by (Err (Done status)) h apart = absurd h
+      by (Err (Refused number line)) h apart = h.appended
+      by (Err (Limit quantity line)) h apart = h.appended
+      by (Err ReadFault) h apart = h.appended
+      by (Err WriteFault) h apart = absurd (apart refl)
+      by (Err NoMemory) h apart = h.appended
+
+  pub answered_is : AreAnswered budget known (written old, written new) (before, after) (ending_of result)
+  answered_is = record {
+    commands = replied.commands;
+    out = replied.out;
+    after = replied.after;
+    allowed = replied.leads;
+    first = first_only known replied.commands _ left;
+    all = by result left;
+    front = front_is;
+    whole = whole_is;
+    told = replied.told;
+  }
+    where
+      by : (r : Result (Unit {0}) Ending)
+          → IfSome known (λ text. (rest : Script) × ReadsScript text (replied.commands ++ rest.0) rest.1
+          × IsLeftAt r rest) → IsReadOut (ending_of r)
+          → IfSome known (λ text. (e : ScriptEnding) × ReadsScript text replied.commands e)
+      by (Ok u) h read = all_with known replied.commands done (all_read known replied.commands _ done (λ r same. same) h)
+      by (Err (Done status)) h read = some_map known _ _ (λ text r. absurd r.2) h
+      by (Err (Refused number line)) h read = all_with known replied.commands (refused number line)
+          (all_read known replied.commands _ (refused number line) (λ r same. same) h)
+      by (Err (Limit quantity line)) h read = all_with known replied.commands (limit line)
+          (all_read known replied.commands _ (limit line) (λ r both. both.1) h)
+      by (Err ReadFault) h read = absurd read
+      by (Err WriteFault) h read = absurd read
+      by (Err NoMemory) h read = absurd read
+
+  pub counted_is : IsCounted (IsErrOf result WriteFault) (IsOk result) (faults old) (faults new)
+  counted_is = by result replied.sent
+    where
+      whole : (r : Result (Unit {0}) Ending) → Wrote written flushed faults has_room old new replied.out.text
+          → (IsErrOf r WriteFault → ⊥) → IsCounted (IsErrOf r WriteFault) (IsOk r) (faults old) (faults new)
+      whole r h apart = record {
+        later = let e = h.no_fault in omega arith;
+        rose = λ is. absurd (apart is);
+        kept = λ ok. h.no_fault;
+      }
+
+      by : (r : Result (Unit {0}) Ending)
+          → IsSentAt written flushed faults has_room old new replied.out.text r
+          → IsCounted (IsErrOf r WriteFault) (IsOk r) (faults old) (faults new)
+      by (Ok u) h = whole (Ok u) h (λ is. absurd (cc))
+      by (Err (Done status)) h = absurd h
+      by (Err (Refused number line)) h = whole (Err (Refused number line)) h (λ is. absurd (cc))
+      by (Err (Limit quantity line)) h = whole (Err (Limit quantity line)) h (λ is. absurd (cc))
+      by (Err ReadFault) h = whole (Err ReadFault) h (λ is. absurd (cc))
+      by (Err WriteFault) h = record { later = h.later; rose = λ is. h.rose; kept = λ ok. absurd (cc) }
+      by (Err NoMemory) h = whole (Err NoMemory) h (λ is. absurd (cc))
+
+  pub not_done : IfErr result (λ e. IsDone e → ⊥)
+  not_done = by result replied.sent
+    where
+      by : (r : Result (Unit {0}) Ending)
+          → IsSentAt written flushed faults has_room old new replied.out.text r → IfErr r (λ e. IsDone e → ⊥)
+      by (Ok u) h = tt
+      by (Err (Done status)) h = λ is. h
+      by (Err (Refused number line)) h = λ is. is
+      by (Err (Limit quantity line)) h = λ is. is
+      by (Err ReadFault) h = λ is. is
+      by (Err WriteFault) h = λ is. is
+      by (Err NoMemory) h = λ is. is
+
+  -- where there is room for what may be replied
+  has : RoomForReplies budget known (has_room old) → has_room old (length replied.out.text)
+  has room = room replied.commands replied.out replied.after replied.leads (first_only known replied.commands _ left)
+
+  pub room_is : RoomForReplies budget known (has_room old) → IsErrOf result WriteFault → ⊥
+  room_is room = by result replied.sent
+    where
+      by : (r : Result (Unit {0}) Ending)
+          → IsSentAt written flushed faults has_room old new replied.out.text r → IsErrOf r WriteFault → ⊥
+      by (Ok u) h is = absurd (cc)
+      by (Err (Done status)) h is = absurd h
+      by (Err (Refused number line)) h is = absurd (cc)
+      by (Err (Limit quantity line)) h is = absurd (cc)
+      by (Err ReadFault) h is = absurd (cc)
+      by (Err WriteFault) h is = h.no_room (length replied.out.text) (omega arith) (has room)
+      by (Err NoMemory) h is = absurd (cc)
+
+pub any_text : (known : Option (List ℕ)) → IfSome known (λ text. ⊤)
+any_text None = tt
+any_text (Some text) = tt
+
+-- a flush after all replies
+
+flushed_kept : (old middle new all_of : Option (List ℕ)) → Keeps old middle → AllFlushed all_of middle new
+    → AllFlushed all_of old new
+flushed_kept None middle new written kept all = tt
+flushed_kept (Some x) None new written kept all = absurd kept
+flushed_kept (Some x) (Some y) new written kept all = all
+
+answered_kept : (budget : ℕ) (known a m n : Option (List ℕ)) (stops : List Account × List Account) (ending : Ending)
+    → AreAnswered budget known (a, m) stops ending → Keeps m n → AreAnswered budget known (a, n) stops ending
+answered_kept budget known a m n stops ending are kept = record {
+  commands = are.commands;
+  out = are.out;
+  after = are.after;
+  allowed = are.allowed;
+  first = are.first;
+  all = are.all;
+  front = front_kept a m n are.out.text are.front kept;
+  whole = λ apart. Appends-kept a m n are.out.text (are.whole apart) kept;
+  told = are.told;
+}
+
+answered_fault : (budget : ℕ) (known a m n : Option (List ℕ)) (stops : List Account × List Account) (ending : Ending)
+    → AreAnswered budget known (a, m) stops ending → Keeps m n → AreAnswered budget known (a, n) stops WriteFault
+answered_fault budget known a m n stops ending are kept = record {
+  commands = are.commands;
+  out = are.out;
+  after = are.after;
+  allowed = are.allowed;
+  first = are.first;
+  all = λ read. absurd read;
+  front = front_kept a m n are.out.text are.front kept;
+  whole = λ apart. absurd (apart refl);
+  told = are.told;
+}
+
+module _ {S : Type 0} (written flushed : S → Option (List ℕ)) (faults : S → ℕ) (has_room : S → ℕ → Type 0)
+    (budget : ℕ) (known : Option (List ℕ)) (script : Option Script) (of : IsOfText known script)
+    (old middle new : S) (before after : List Account)
+    (replied : Answers budget start script (IsLeftAt (Ok tt))
+    (λ text. IsSentAt written flushed faults has_room old middle text (Ok tt)) (before, after))
+    (kept : Keeps (written middle) (written new)) where
+  pub flushed_answered : AreAnswered budget known (written old, written new) (before, after) (Done 0)
+  flushed_answered = answered_kept budget known (written old) (written middle) (written new) (before, after) (Done 0)
+      (answered_is written flushed faults has_room budget known script of (Ok tt) old middle before after replied) kept
+
+  pub fault_answered : AreAnswered budget known (written old, written new) (before, after) WriteFault
+  fault_answered = answered_fault budget known (written old) (written middle) (written new) (before, after) (Done 0)
+      (answered_is written flushed faults has_room budget known script of (Ok tt) old middle before after replied) kept
+
+  pub all_flushed : AllFlushed (written new) (flushed middle) (flushed new)
+      → AllFlushed (written new) (flushed old) (flushed new)
+  all_flushed all = flushed_kept (flushed old) (flushed middle) (flushed new) (written new) replied.sent.kept all
+
+  -- a flush fails by a fault of its own
+  pub fault_counted : {T E : Type 0} (r : Result T E) → HasCause (faults middle) (faults new) r → is_err r ≡ true
+      → (result : Result (Unit {0}) Ending) → result ≡ Err WriteFault
+      → IsCounted (IsErrOf result WriteFault) (IsOk result) (faults old) (faults new)
+  fault_counted (Ok u) cause err result is = absurd (cc)
+  fault_counted (Err e) cause err result is = record {
+    later = let first = replied.sent.no_fault in let second = cause.later in omega arith;
+    rose = λ same. subst (λ n. Rose n (faults new)) replied.sent.no_fault cause.failed;
+    kept = λ ok. absurd (cc);
+  }
+
+  -- and never where there is room for the replies
+  pub room_left : RoomForReplies budget known (has_room old) → (n : ℕ) × has_room middle n
+  room_left room = (
+    length replied.out.text - length replied.out.text,
+    replied.sent.room (length replied.out.text) (omega arith)
+        (has written flushed faults has_room budget known script of (Ok tt) old middle before after replied room),
+  )

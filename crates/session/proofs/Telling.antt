@@ -1,0 +1,226 @@
+-- Replies that are sent.
+use Rattle.std.proofs.Common.{◌≡◌, ℕ, Bool, true, false, not, List, [], ◌∷◌, ◌++◌, Option, Some, None, Result, Ok, Err, refl, sym, ap, subst, ◌∙◌}
+use Rattle.std.specs.Prelude.{IfSome, MatchOption, if◌then◌else◌, option_map, unwrap_or}
+use Rattle.ports.specs.declared.failed.Failed.{Failed}
+use Rattle.prefix.specs.declared.quant.Quant.{Quant}
+use Rattle.prefix.specs.Literal.{Literal}
+use Rattle.prefix.specs.Scopes.{Scope, level_of, quantifier_at, variables_at}
+use Rattle.prefix.specs.Sides.{is_of}
+use Rattle.calculus.specs.Derivations.{Inference}
+use Rattle.calculus.specs.Plays.{literals_of}
+use Rattle.calculus.specs.Rows.{Assignment, Row}
+use Rattle.calculus.specs.Verdicts.{IsProof, relevant_of}
+use Rattle.frames.specs.Fold.{Given}
+use Rattle.frames.specs.State.{OpenFormula}
+use Rattle.aig.specs.Strategies.{values_of as circuit_values}
+use Rattle.aig.specs.declared.strategy.Strategy.{Strategy}
+use Rattle.aiger_out.specs.Aag.{IsAagText}
+use Rattle.qrp_trace.specs.Cores.{IsNumbered, Trace, inferences_of}
+use Rattle.qrp_trace.specs.Texts.{qrp_text}
+use Rattle.qrp_trace.specs.Writing.{Writes}
+use Rattle.engine.specs.declared.refusal.AskRefusal.{AskRefusal}
+use Rattle.engine.specs.declared.refusal.AskRefusal.TheVariants.{NoVerdict, NotOutermost, NotWinner}
+use Rattle.engine.specs.Asks.{IsCertificateOf, IsVerdictOf, first_values, values_of}
+use Rattle.engine.specs.Refusals.{ask_refusal, is_outermost, value_refusal, winner_of}
+use Rattle.engine.specs.State.{EngineState, VerdictState}
+use Rattle.qscript.specs.declared.command.Command.{Command}
+use Rattle.qscript.specs.declared.command.Command.TheVariants.{Cert, Relevant, Trace as TraceCommand, Value}
+use Rattle.session.specs.declared.reply.Reply.{Reply}
+use Rattle.session.specs.declared.reply.Reply.TheVariants.{Written}
+use Rattle.session.specs.declared.reply.SessionStop.{SessionStop}
+use Rattle.session.specs.declared.reply.SessionStop.TheVariants.{NoMemory, WriteFault}
+use Rattle.session.specs.Replies.{IsAccepted, IsCertText, IsReply, IsReplyWith, IsTraceText, Tells, Text, last_row, no_first, no_value, no_verdict, relevant_text, says, value_in, value_text}
+use Rattle.engine.proofs.FirstScope.{first_among, level_is, literal_among, value_among}
+use Rattle.session.specs.Standing.{Standing}
+use Rattle.session.specs.State.{Holds, given_of}
+use Rattle.session.specs.Steps.{HasText, IsSent, Sends, Steps, told_by}
+
+module _ {S : Type 0} (written flushed : S → Option (List ℕ)) (faults : S → ℕ) (has_room : S → ℕ → Type 0) where
+  pub sent : (reply : Reply) (text : Text) (old new : S) (r : Result (Unit {0}) Failed) (result : Result Reply SessionStop)
+      → Writes written flushed faults has_room old new text r → IsSent reply r result
+      → Sends written flushed faults has_room reply text old new result
+  sent reply text old new (Ok u) result wrote is =
+      subst (Sends written flushed faults has_room reply text old new) (sym is) (refl, wrote)
+  sent reply text old new (Err e) result stops is =
+      subst (Sends written flushed faults has_room reply text old new) (sym is.1) (is.2, stops)
+
+  pub stepped : (budget : ℕ) (command : Command) (s after : Standing) (old new : S) (e : EngineState) (reply : Reply)
+      (text : Text) (result : Result Reply SessionStop)
+      → IsReply budget s command (record { text = text; stops = told_by reply }) after → HasText reply text
+      → Holds e after → Sends written flushed faults has_room reply text old new result
+      → Steps written flushed faults has_room budget command s old new e result
+  stepped budget command s after old new e reply text (Ok given) is has holds sends = (
+    text,
+    after,
+    subst (λ r. IsReply budget s command (record { text = text; stops = told_by r }) after) (sym sends.0) is,
+    subst (λ r. HasText r text) (sym sends.0) has,
+    sends.1,
+    holds,
+  )
+  stepped budget command s after old new e reply text (Err (WriteFault told)) is has holds sends = (
+    text,
+    after,
+    subst (λ l. IsReply budget s command (record { text = text; stops = l }) after) (sym sends.0) is,
+    sends.1,
+    holds,
+  )
+  stepped budget command s after old new e reply text (Err NoMemory) is has holds sends = absurd sends
+
+  -- the answer to a question
+  pub tells : (budget : ℕ) (command : Command) (s : Standing) (old new : S) (e : EngineState) (text : Text)
+      (r : Result (Unit {0}) Failed) (result : Result Reply SessionStop)
+      → IsReply budget s command (says text) s → Holds e s
+      → Writes written flushed faults has_room old new text r → IsSent Written r result
+      → Steps written flushed faults has_room budget command s old new e result
+  tells budget command s old new e text r result is holds writes is_sent =
+      stepped budget command s s old new e Written text result is tt holds
+      (sent Written text old new r result writes is_sent)
+
+-- an answered question wasn't refused
+pub unrefused : {T : Type 0} (P : Type 0) (o : Option AskRefusal) (r : Result T AskRefusal) (t : T) → r ≡ Ok t
+    → MatchOption o P (λ y. r ≡ Err y) → o ≡ None
+unrefused P None r t is m = refl
+unrefused P (Some y) r t is m = absurd (let f : Ok t ≡ Err y = sym is ∙ m in cc)
+
+outer_of_none : (a b : Bool) → (if not a then Some NotOutermost else (if b then Some NotWinner else None)) ≡ None
+    → a ≡ true
+outer_of_none true b e = refl
+outer_of_none false b e = absurd (cc)
+
+-- the first scope's outputs have the values of the play
+cert_text : (f : OpenFormula) (v : VerdictState) (strategy : Strategy) (text : Text) → IsAagText text strategy
+    → IsCertificateOf f v strategy → IsCertText f (given_of v) (first_values f v) text
+cert_text f v strategy text denotes is = record {
+  strategy = strategy;
+  denotes = denotes;
+  winner = is.winner;
+  inputs = is.inputs;
+  outputs = is.outputs;
+  wins = is.wins;
+  earlier = is.earlier;
+  first_values = λ first l listed inputs.
+      let place = literal_among (values_of f v) (variables_at f.scopes 1) l listed in
+      ap (circuit_values strategy inputs) (sym (ap (λ (m : Literal). m.variable) place.2))
+      ∙ is.first first place.0 place.1 inputs ∙ ap (λ (m : Literal). m.positive) place.2;
+}
+
+none_of_two : (a b : Bool) → (if a then Some NotOutermost else (if b then Some NotWinner else None)) ≡ None
+    → (if◌then◌else◌ {A = Option ℕ} a (Some 51) (if◌then◌else◌ {A = Option ℕ} b (Some 52) None)) ≡ None
+none_of_two true b e = absurd (cc)
+none_of_two false true e = absurd (cc)
+none_of_two false false e = refl
+
+-- the row of the last step
+last_row_of : (front : List Inference) (last : Inference) → last_row (front ++ last ∷ []) ≡ last.row
+last_row_of [] last = refl
+last_row_of (s ∷ []) last = refl
+last_row_of (s ∷ t ∷ front) last = last_row_of (t ∷ front) last
+
+proof_row : (pivot : Quant) (scopes : List Scope) (clauses : List Row) (assumptions : List Literal)
+    (steps : List Inference) (proof : IsProof pivot scopes clauses assumptions steps)
+    → last_row steps ≡ proof.last.row
+proof_row pivot scopes clauses assumptions steps proof =
+    ap last_row proof.parts ∙ last_row_of proof.front proof.last
+
+-- a variable of the first scope has its value in the list of them
+value_of : (values : Assignment) (scopes : List Scope) (x : ℕ) → is_outermost scopes x ≡ true
+    → value_in (literals_of values (variables_at scopes 1)) x ≡ record { variable = x; positive = values x }
+value_of values scopes x outer = ap (λ (o : Option Bool). record { variable = x; positive = unwrap_or o false })
+    (value_among values (variables_at scopes 1) x (first_among scopes x (level_is (level_of scopes x) outer)))
+
+module _ (e : EngineState) (s : Standing) (holds : Holds e s) where
+  -- where there is a verdict, the standing has it
+  verdict_is : (v : VerdictState) → e.verdict ≡ Some v → s.script.verdict ≡ Some (given_of v)
+  verdict_is v some = holds.verdict ∙ ap (option_map given_of) some
+
+  unless_none : {P : Type 0} (o : Option VerdictState) → e.verdict ≡ o → ask_refusal e ≡ None
+      → ((v : VerdictState) → e.verdict ≡ Some v → P) → P
+  unless_none None none told otherwise = absurd (let f : Some NoVerdict ≡ None =
+      subst (λ o. ask_refusal (record e { verdict = o }) ≡ None) none told in cc)
+  unless_none (Some v) some told otherwise = otherwise v some
+
+  -- what is told where there is this verdict
+  told_at : (IsTold : Given → Text → Type 0) (text : Text) (v : VerdictState) → e.verdict ≡ Some v
+      → IsTold (given_of v) text → Tells s IsTold (says text) s
+  told_at IsTold text v some is = record {
+    text = text;
+    told = subst (λ o. IfSome o (λ given. IsTold given text)) (sym (verdict_is v some)) is;
+    says_text = refl;
+    same = refl;
+  }
+
+  -- a question that any verdict answers isn't refused
+  answered : (budget : ℕ) (command : Command) (text : Text) (v : VerdictState) → e.verdict ≡ Some v
+      → IsAccepted budget s command (says text) s
+      → IsReplyWith (no_verdict s.script.verdict) budget s command (says text) s
+  answered budget command text v some accepted =
+      subst (λ o. IsReplyWith (no_verdict o) budget s command (says text) s) (sym (verdict_is v some)) accepted
+
+  pub tells_relevant : (budget : ℕ) (list : List Literal) → ask_refusal e ≡ None
+      → IfSome e.verdict (λ v. list ≡ relevant_of v.assumptions v.row) → IfSome e.verdict (IsVerdictOf e.formula)
+      → IsReply budget s Relevant (says (relevant_text list)) s
+  tells_relevant budget list asked value facts = unless_none e.verdict refl asked (λ v some.
+      let is = subst (λ o. IfSome o (λ v. list ≡ relevant_of v.assumptions v.row)) some value in
+      let fact = subst (λ o. IfSome o (IsVerdictOf e.formula)) some facts in
+      let row : last_row s.witness.proof ≡ v.row = ap last_row (holds.proof v some)
+      ∙ proof_row _ _ _ _ v.proof fact.proof ∙ fact.last_row in
+      answered budget Relevant (relevant_text list) v some
+      (told_at (λ given text. text ≡ relevant_text (relevant_of given.assumptions (last_row s.witness.proof)))
+      (relevant_text list) v some
+      (ap relevant_text (is ∙ ap (relevant_of v.assumptions) (sym row)))))
+
+  pub tells_trace : (budget : ℕ) (core : Trace) (scopes : List Scope) → scopes ≡ e.formula.scopes
+      → ask_refusal e ≡ None → IfSome e.verdict (λ v. core.winner ≡ winner_of v.truth)
+      → IfSome e.verdict (λ v. inferences_of core.lines ≡ v.proof) → IsNumbered core.lines
+      → IsReply budget s TraceCommand (says (qrp_text scopes core)) s
+  tells_trace budget core scopes same asked winner list numbered = unless_none e.verdict refl asked (λ v some.
+      let wins = subst (λ o. IfSome o (λ v. core.winner ≡ winner_of v.truth)) some winner in
+      let is = subst (λ o. IfSome o (λ v. inferences_of core.lines ≡ v.proof)) some list in
+      answered budget TraceCommand (qrp_text scopes core) v some
+      (told_at (λ given text. IsTraceText s.script.formula.scopes given.truth s.witness.proof text)
+      (qrp_text scopes core) v some (record {
+        core = core;
+        winner = wins;
+        numbered = numbered;
+        proof_steps = is ∙ sym (holds.proof v some);
+        text_of_core = ap (λ f. qrp_text f core) (same ∙ sym (ap (λ (f : OpenFormula). f.scopes) holds.formula));
+      })))
+
+  pub tells_circuit : (budget : ℕ) (strategy : Strategy) (text : Text) → IsAagText text strategy
+      → ask_refusal e ≡ None → IfSome e.verdict (λ v. IsCertificateOf e.formula v strategy)
+      → IsReply budget s Cert (says text) s
+  tells_circuit budget strategy text denotes asked certifies = unless_none e.verdict refl asked (λ v some.
+      let is = subst (λ o. IfSome o (λ v. IsCertificateOf e.formula v strategy)) some certifies in
+      answered budget Cert text v some
+      (told_at (λ given text. IsCertText s.script.formula given s.witness.values text) text v some
+      (subst (λ f. IsCertText f (given_of v) s.witness.values text) (sym holds.formula)
+      (subst (λ l. IsCertText e.formula (given_of v) l text) (sym (holds.values v some))
+      (cert_text e.formula v strategy text denotes is)))))
+
+  pub tells_value : (budget x : ℕ) (lit : Literal) → value_refusal e x ≡ None
+      → IfSome e.verdict (λ v. lit ≡ record { variable = x; positive = values_of e.formula v x })
+      → IsReply budget s (Value x) (says (value_text lit)) s
+  tells_value budget x lit asked value = by e.verdict refl
+    where
+      by : (o : Option VerdictState) → e.verdict ≡ o → IsReply budget s (Value x) (says (value_text lit)) s
+      by None none = absurd (let f : Some NoVerdict ≡ None =
+          subst (λ o. value_refusal (record e { verdict = o }) x ≡ None) none asked in cc)
+      by (Some v) some =
+          let tests : (if not (is_outermost e.formula.scopes x) then Some NotOutermost
+          else (if not (is_of (quantifier_at e.formula.scopes 1) (winner_of v.truth)) then Some NotWinner
+          else None)) ≡ None = subst (λ o. value_refusal (record e { verdict = o }) x ≡ None) some asked in
+          let is = subst (λ o. IfSome o (λ v. lit ≡ record { variable = x; positive = values_of e.formula v x })) some
+          value in
+          let outer : is_outermost e.formula.scopes x ≡ true =
+          outer_of_none (is_outermost e.formula.scopes x) _ tests in
+          let values : value_in s.witness.values x ≡ lit = ap (λ l. value_in l x) (holds.values v some)
+          ∙ value_of (values_of e.formula v) e.formula.scopes x outer ∙ sym is in
+          let numbers : no_first s.script.formula.scopes v.truth x ≡ None =
+          subst (λ (f : OpenFormula). no_first f.scopes v.truth x ≡ None) (sym holds.formula)
+          (none_of_two (not (is_outermost e.formula.scopes x))
+          (not (is_of (quantifier_at e.formula.scopes 1) (winner_of v.truth))) tests) in
+          let number : no_value s.script.formula.scopes s.script.verdict x ≡ None =
+          ap (λ o. no_value s.script.formula.scopes o x) (verdict_is v some) ∙ numbers in
+          subst (λ n. IsReplyWith n budget s (Value x) (says (value_text lit)) s) (sym number)
+          (told_at (λ given text. text ≡ value_text (value_in s.witness.values x)) (value_text lit) v some
+          (ap value_text (sym values)))

@@ -1,0 +1,214 @@
+use Rattle.std.proofs.Common.{rules, Err, subst, arith, refl, ◌∙◌}
+use Rattle.qscript.specs.State.{upcoming}
+use Rattle.session.specs.Steps.{Goes}
+use Rattle.std.proofs.lemmas.Result.{err_from_is_err_and}
+use Rattle.session.proofs.Going.{begun, ended, failed_at, goes_itself, goes_on, gone_on, no_command, refused_at}
+use Rattle.session.proofs.script.answer_commands.Goals as goal
+
+-- src/script.rt:104:5
+pub loop-command-init : goal.loop-command-init
+loop-command-init g c =
+    let written = g.S.Sink.written in
+    let flushed = g.S.Sink.flushed in
+    let faults = g.S.Sink.faults in
+    let has_room = g.S.Sink.has_room in
+    record {
+      budget = refl;
+      ready = c.requires.ready;
+      under = λ s holds. begun written flushed faults has_room c.args.session.now.budget s
+          (upcoming c.args.reader.now (g.D.Desk.left c.args.desk.now)) c.args.session.now.engine c.args.sink.now
+          c.args.stops.now.items holds;
+      end = c.requires.end;
+      telling = goes_itself c.args.reader.now.ahead (g.D.Desk.left c.args.desk.now);
+      later = omega arith;
+      kept = λ sound. refl;
+      flows = λ flows. flows;
+      content = λ n. refl;
+      stays = λ n steady. steady;
+    }
+
+-- src/script.rt:104:31
+pub next_command-requires : goal.next_command-requires
+next_command-requires g c = search rules
+
+-- src/script.rt:104:31
+pub returns-in_err-command-clause-replied : goal.returns-in_err-command-clause-replied
+returns-in_err-command-clause-replied g c = λ s holds.
+    let written = g.S.Sink.written in
+    let flushed = g.S.Sink.flushed in
+    let faults = g.S.Sink.faults in
+    let has_room = g.S.Sink.has_room in
+    let p = err_from_is_err_and c.from_residual.result c.from_residual.ensures.1 in
+    rw (p.1, p.2) (refused_at written flushed faults has_room c.args.session.now.budget s
+    (upcoming c.args.reader.now (g.D.Desk.left c.args.desk.now))
+    (upcoming c.loop-command.reader (g.D.Desk.left c.loop-command.desk)) c.loop-command.session.engine c.args.sink.now
+    c.loop-command.sink c.args.stops.now.items c.loop-command.stops.items (c.loop-command.invariant.under s holds)
+    c.in_err-command.field-0.0 c.in_err-command.ensures.script)
+
+-- src/script.rt:104:31
+pub returns-in_err-command-clause-read_fault : goal.returns-in_err-command-clause-read_fault
+returns-in_err-command-clause-read_fault g c = search rules
+
+-- src/script.rt:104:31
+pub returns-in_err-command-clause-flows : goal.returns-in_err-command-clause-flows
+returns-in_err-command-clause-flows g c = search rules
+
+-- src/script.rt:104:31
+pub returns-in_err-command-clause-content : goal.returns-in_err-command-clause-content
+returns-in_err-command-clause-content g c = search rules
+
+-- src/script.rt:104:31
+pub returns-in_err-command-clause-stays : goal.returns-in_err-command-clause-stays
+returns-in_err-command-clause-stays g c = search rules
+
+-- src/script.rt:105:9
+pub returns-in_err-answer-clause-replied : goal.returns-in_err-answer-clause-replied
+returns-in_err-answer-clause-replied g c = λ s holds.
+    let written = g.S.Sink.written in
+    let flushed = g.S.Sink.flushed in
+    let faults = g.S.Sink.faults in
+    let has_room = g.S.Sink.has_room in
+    let p = err_from_is_err_and c.from_residual-in_err-answer.result c.from_residual-in_err-answer.ensures.1 in
+    rw (p.1, p.2) (failed_at written flushed faults has_room c.args.session.now.budget s
+    (upcoming c.args.reader.now (g.D.Desk.left c.args.desk.now))
+    (upcoming c.loop-command.reader (g.D.Desk.left c.loop-command.desk))
+    (upcoming c.next_command.new.self (g.D.Desk.left c.next_command.new.desk)) c.in-Some.command
+    c.loop-command.session.engine c.answer.new.session.engine c.args.sink.now c.loop-command.sink c.answer.new.sink
+    c.args.stops.now.items c.loop-command.stops.items c.answer.new.stops.items
+    (c.loop-command.invariant.under s holds) (rw c.in-Some.is at c.in_ok-command.ensures.script)
+    c.in_err-answer.field-0.0
+    (λ t held. subst (λ budget. Goes written flushed faults has_room budget c.in-Some.command t c.loop-command.sink
+    c.answer.new.sink c.answer.new.session.engine (c.loop-command.stops.items, c.answer.new.stops.items)
+    (Err c.in_err-answer.field-0.0)) c.loop-command.invariant.budget (c.in_err-answer.ensures.goes t held)))
+
+-- src/script.rt:105:9
+pub returns-in_err-answer-clause-read_fault : goal.returns-in_err-answer-clause-read_fault
+returns-in_err-answer-clause-read_fault g c =
+    let p = err_from_is_err_and c.from_residual-in_err-answer.result c.from_residual-in_err-answer.ensures.1 in
+    let inv = c.loop-command.invariant in
+    let next = c.in_ok-command.ensures in
+    rw (p.1, p.2) (record {
+      later = let first = inv.later in let second = next.cause.later in omega (arith, first, second);
+      rose = λ is. absurd (c.in_err-answer.ensures.unread is);
+      kept = λ ok. absurd (cc);
+    })
+
+-- src/script.rt:105:9
+pub returns-in_err-answer-clause-flows : goal.returns-in_err-answer-clause-flows
+returns-in_err-answer-clause-flows g c = λ flows.
+    let p = err_from_is_err_and c.from_residual-in_err-answer.result c.from_residual-in_err-answer.ensures.1 in
+    let on = (c.in_ok-command.ensures.flows (c.loop-command.invariant.flows flows)).1 in
+    rw (p.1, p.2) (λ is. c.in_err-answer.ensures.unread is, on)
+
+-- src/script.rt:105:9
+pub returns-in_err-answer-clause-content : goal.returns-in_err-answer-clause-content
+returns-in_err-answer-clause-content g c = search rules
+
+-- src/script.rt:105:9
+pub returns-in_err-answer-clause-stays : goal.returns-in_err-answer-clause-stays
+returns-in_err-answer-clause-stays g c = search rules
+
+-- src/script.rt:104:5
+pub loop-command-smaller-in_ok-answer : goal.loop-command-smaller-in_ok-answer
+loop-command-smaller-in_ok-answer g c = search rules
+
+-- src/script.rt:104:5
+pub loop-command-preserved-in_ok-answer : goal.loop-command-preserved-in_ok-answer
+loop-command-preserved-in_ok-answer g c =
+    let written = g.S.Sink.written in
+    let flushed = g.S.Sink.flushed in
+    let faults = g.S.Sink.faults in
+    let has_room = g.S.Sink.has_room in
+    let inv = c.loop-command.invariant in
+    let next = c.in_ok-command.ensures in
+    record {
+      budget = c.answer.ensures.budget ∙ inv.budget;
+      ready = next.failed;
+      under = λ s holds. gone_on written flushed faults has_room c.args.session.now.budget s
+          (upcoming c.args.reader.now (g.D.Desk.left c.args.desk.now))
+          (upcoming c.loop-command.reader (g.D.Desk.left c.loop-command.desk))
+          (upcoming c.next_command.new.self (g.D.Desk.left c.next_command.new.desk)) c.in-Some.command
+          c.loop-command.session.engine c.answer.new.session.engine c.args.sink.now c.loop-command.sink
+          c.answer.new.sink c.args.stops.now.items c.loop-command.stops.items c.answer.new.stops.items
+          (inv.under s holds) (rw c.in-Some.is at next.script)
+          (rw inv.budget at c.in_ok-answer.ensures.goes);
+      end = next.end inv.end;
+      telling = goes_on c.loop-command.reader.ahead c.next_command.new.self.ahead (g.D.Desk.left c.args.desk.now)
+          (g.D.Desk.left c.loop-command.desk) (g.D.Desk.left c.next_command.new.desk) next.unstopped inv.telling
+          next.telling;
+      later = let first = inv.later in let second = next.cause.later in omega (arith, first, second);
+      kept = λ sound. next.cause.kept (refl, sound) ∙ inv.kept next.unstopped;
+      flows = λ flows. (next.flows (inv.flows flows)).1;
+      content = λ n. next.content n ∙ inv.content n;
+      stays = λ n steady. next.stays n (inv.stays n steady);
+    }
+
+-- src/script.rt:104:5
+pub loop-command-smaller : goal.loop-command-smaller
+loop-command-smaller g c = search rules
+
+-- src/script.rt:104:5
+pub loop-command-preserved : goal.loop-command-preserved
+loop-command-preserved g c =
+    let written = g.S.Sink.written in
+    let flushed = g.S.Sink.flushed in
+    let faults = g.S.Sink.faults in
+    let has_room = g.S.Sink.has_room in
+    let inv = c.loop-command.invariant in
+    let next = c.in_ok-command.ensures in
+    record {
+      budget = c.answer.ensures.budget ∙ inv.budget;
+      ready = next.failed;
+      under = λ s holds. gone_on written flushed faults has_room c.args.session.now.budget s
+          (upcoming c.args.reader.now (g.D.Desk.left c.args.desk.now))
+          (upcoming c.loop-command.reader (g.D.Desk.left c.loop-command.desk))
+          (upcoming c.next_command.new.self (g.D.Desk.left c.next_command.new.desk)) c.in-Some.command
+          c.loop-command.session.engine c.answer.new.session.engine c.args.sink.now c.loop-command.sink
+          c.answer.new.sink c.args.stops.now.items c.loop-command.stops.items c.answer.new.stops.items
+          (inv.under s holds) (rw c.in-Some.is at next.script)
+          (rw inv.budget at c.in_ok-answer.ensures.goes);
+      end = next.end inv.end;
+      telling = goes_on c.loop-command.reader.ahead c.next_command.new.self.ahead (g.D.Desk.left c.args.desk.now)
+          (g.D.Desk.left c.loop-command.desk) (g.D.Desk.left c.next_command.new.desk) next.unstopped inv.telling
+          next.telling;
+      later = let first = inv.later in let second = next.cause.later in omega (arith, first, second);
+      kept = λ sound. next.cause.kept (refl, sound) ∙ inv.kept next.unstopped;
+      flows = λ flows. (next.flows (inv.flows flows)).1;
+      content = λ n. next.content n ∙ inv.content n;
+      stays = λ n steady. next.stays n (inv.stays n steady);
+    }
+
+-- src/script.rt:84:1
+pub returns-clause-replied : goal.returns-clause-replied
+returns-clause-replied g c = λ s holds.
+    let written = g.S.Sink.written in
+    let flushed = g.S.Sink.flushed in
+    let faults = g.S.Sink.faults in
+    let has_room = g.S.Sink.has_room in
+    let none = no_command c.in_ok-command.field-0 c.in_default.not-Some in
+    ended written flushed faults has_room c.args.session.now.budget s
+    (upcoming c.args.reader.now (g.D.Desk.left c.args.desk.now))
+    (upcoming c.loop-command.reader (g.D.Desk.left c.loop-command.desk))
+    (upcoming c.next_command.new.self (g.D.Desk.left c.next_command.new.desk)) c.loop-command.session.engine
+    c.args.sink.now c.loop-command.sink c.args.stops.now.items c.loop-command.stops.items
+    (c.loop-command.invariant.under s holds) (rw none at c.in_ok-command.ensures.script)
+
+-- src/script.rt:84:1
+pub returns-clause-read : goal.returns-clause-read
+returns-clause-read g c = search rules
+
+-- src/script.rt:84:1
+pub returns-clause-read_fault : goal.returns-clause-read_fault
+returns-clause-read_fault g c = search rules
+
+-- src/script.rt:84:1
+pub returns-clause-flows : goal.returns-clause-flows
+returns-clause-flows g c = search rules
+
+-- src/script.rt:84:1
+pub returns-clause-content : goal.returns-clause-content
+returns-clause-content g c = search rules
+
+-- src/script.rt:84:1
+pub returns-clause-stays : goal.returns-clause-stays
+returns-clause-stays g c = search rules

@@ -1,0 +1,27 @@
+use Rattle.std.proofs.Common.{◌≡◌, ◌≤◌, ℕ, false, List}
+use Rattle.qscript.specs.State.{EndsWith, GoesOn, is_fault, most_to_come, upcoming}
+use Rattle.qrp_trace.specs.Writing.{Wrote}
+use Rattle.session.specs.Scripts.{IsUnderWay}
+use Rattle.session.specs.Standing.{Standing}
+use Rattle.session.specs.State.{Holds}
+use Rattle.session.proofs.script.answer_commands.Given as goal
+
+abbrev pub invariant-loop-command : goal.invariant-loop-command
+invariant-loop-command g l = record {
+  budget : l.session.budget ≡ l.fn.session.budget;
+  ready : l.reader.failed ≡ false;
+  under : (s : Standing) → Holds l.fn.session.engine s → IsUnderWay l.fn.session.budget s
+      (upcoming l.fn.reader (g.D.Desk.left l.fn.desk)) (upcoming l.reader (g.D.Desk.left l.desk)) l.session.engine
+      (λ text. Wrote g.S.Sink.written g.S.Sink.flushed g.S.Sink.faults g.S.Sink.has_room l.fn.sink l.sink text)
+      (l.fn.stops.items, l.stops.items);
+  end : EndsWith l.reader.ahead (g.D.Desk.left l.desk);
+  telling : GoesOn l.reader.ahead (g.D.Desk.left l.fn.desk) (g.D.Desk.left l.desk);
+  later : g.D.Desk.faults l.fn.desk ≤ g.D.Desk.faults l.desk;
+  kept : is_fault l.reader.ahead ≡ false → g.D.Desk.faults l.desk ≡ g.D.Desk.faults l.fn.desk;
+  flows : g.D.Desk.flows l.fn.desk → g.D.Desk.flows l.desk;
+  content : (n : List ℕ) → g.D.Desk.content l.desk n ≡ g.D.Desk.content l.fn.desk n;
+  stays : (n : List ℕ) → g.D.Desk.steady l.fn.desk n → g.D.Desk.steady l.desk n;
+}
+
+abbrev pub decreases-loop-command : goal.decreases-loop-command
+decreases-loop-command g l = most_to_come l.reader.ahead l.reader.lexer.room

@@ -1,0 +1,48 @@
+use Rattle.std.proofs.Common.{◌≡◌, ◌<◌, false, [], codes, refl, ap, arith}
+use Rattle.std.specs.Fmt.{digits}
+use Rattle.session.specs.Replies.{says}
+use Rattle.session.specs.Standing.{start}
+use Rattle.session.proofs.Working.{empty_script, empty_ends, no_silence, one_row}
+use Rattle.session.proofs.worked.worked_replies.Goals as goal
+
+pub returns : goal.returns
+unfolding digits
+returns c = record {
+  no_frame = refl;
+  unknown_variable = refl;
+  no_verdict = refl;
+  no_trace = refl;
+  not_outermost = refl;
+  not_winner = refl;
+  accepted = refl;
+  solved = refl;
+  refused = refl;
+  value = refl;
+  none_relevant = refl;
+  one_relevant = refl;
+  lines = (
+    start,
+    (
+      says (codes "refused 40\n"),
+      says (codes "refused 41\nrefused 50\n"),
+      start,
+      refl,
+      (refl, refl),
+      (
+        says (codes "refused 41\n"),
+        says (codes "refused 50\n"),
+        start,
+        refl,
+        (refl, refl),
+        (says (codes "refused 50\n"), says [], start, refl, (refl, refl), (refl, refl)),
+      ),
+    ),
+  );
+  not_silent = λ h. no_silence h;
+  unsat = one_row;
+  not_sat = λ after d. absurd (let t : false ≡ d.truth = d.right in
+      let line : codes "SAT\n" ≡ codes "UNSAT\n" = ap (λ o. o.text) (rw (← t) at d.says_truth) in cc);
+  short = λ out after g. absurd (let low : 8 < 8 = g.short in omega (arith, low));
+  empty = empty_script;
+  not_refused = λ r. empty_ends r;
+}

@@ -1,0 +1,214 @@
+-- The replies that commands may have.
+use Rattle.std.specs.Prelude.{◌≡◌, ◌⊎◌, ℕ, ◌+◌, ◌*◌, ◌<◌, not, true, false, Bool, if◌then◌else◌, List, [], ◌∷◌, ◌++◌, filter, codes, Contains, Option, Some, None, IfSome, unwrap_or}
+use Rattle.std.specs.Fmt.{decimal}
+use Rattle.std.specs.List.{flat_map}
+use Rattle.std.specs.Option.{option_and_then}
+use Rattle.prefix.specs.declared.quant.Quant.{Quant}
+use Rattle.prefix.specs.Literal.{Literal}
+use Rattle.prefix.specs.Sides.{is_of}
+use Rattle.prefix.specs.Scopes.{Scope, all_variables, quantifier_at, quantifier_of}
+use Rattle.steps.specs.Counter.{step_limit}
+use Rattle.truth.specs.Truth.{assumed_value, truth_under}
+use Rattle.calculus.specs.Derivations.{Inference}
+use Rattle.calculus.specs.Plays.{DependsOnEarlier, Wins}
+use Rattle.calculus.specs.Rows.{Assignment, Row}
+use Rattle.calculus.specs.Search.{IsRefuted}
+use Rattle.calculus.specs.Verdicts.{relevant_of}
+use Rattle.trail.specs.State.{Account}
+use Rattle.frames.specs.Commands.{AddClause, AddScope, AddVariable, Assume as AssumeLiteral, Command as FrameCommand, Pop as PopFrame, Push as PushFrame, Solve as Decide, Stop, Verdict, refusal_of}
+use Rattle.frames.specs.Fold.{Given, state_after}
+use Rattle.frames.specs.Refusal.{number_of}
+use Rattle.frames.specs.State.{OpenFormula, clauses_in}
+use Rattle.qrp_trace.specs.Cores.{IsNumbered, Trace as TraceCore, inferences_of}
+use Rattle.qrp_trace.specs.Texts.{literal_word, qrp_text}
+use Rattle.aig.specs.declared.strategy.Strategy.{Strategy}
+use Rattle.aig.specs.Strategies.{output_vars, values_of}
+use Rattle.aiger_out.specs.Aag.{IsAagText}
+use Rattle.search.specs.Counting.{size_of}
+use Rattle.engine.specs.Refusals.{is_outermost, winner_of}
+use Rattle.engine.specs.Verdicts.{loser_of}
+use Rattle.qscript.specs.declared.command.Command.{Command}
+use Rattle.qscript.specs.declared.command.Command.TheVariants.{Scope as ScopeCommand, Var, Clause, Push, Pop, Assume, Solve, Value, Relevant, Trace, Cert}
+use Rattle.session.specs.Standing.{IsWitness, Standing, start}
+use Rattle.session.specs.Stops.{IsStopAt}
+
+abbrev pub Text : Type 0
+Text = List ℕ
+
+-- what replies write, and what is told of the searches that stopped, one for each `UNKNOWN`
+pub record Output : Type 0 where
+  pub text : Text
+  pub stops : List Account
+
+-- a text alone
+abbrev pub says : Text → Output
+says text = record { text = text; stops = [] }
+
+-- one output behind another
+abbrev pub joined : Output → Output → Output
+joined first second = record { text = first.text ++ second.text; stops = first.stops ++ second.stops }
+
+-- why a command is refused, by the number that its reply tells
+
+-- without a verdict, or where a change came after it
+abbrev pub no_verdict : Option Given → Option ℕ
+no_verdict None = Some 50
+no_verdict (Some given) = None
+
+-- a variable that isn't in the first scope, then a first scope that isn't the winner's
+abbrev pub no_first : List Scope → Bool → ℕ → Option ℕ
+no_first scopes truth v =
+    if not (is_outermost scopes v) then Some 51
+    else if not (is_of (quantifier_at scopes 1) (winner_of truth)) then Some 52
+    else None
+
+abbrev pub no_value : List Scope → Option Given → ℕ → Option ℕ
+no_value scopes None v = Some 50
+no_value scopes (Some given) v = no_first scopes given.truth v
+
+-- by the fold over commands
+abbrev pub no_change : OpenFormula → FrameCommand → Option ℕ
+no_change formula command = option_and_then number_of (refusal_of formula command)
+
+abbrev pub refusal_number : Standing → Command → Option ℕ
+refusal_number s (ScopeCommand quant at) = no_change s.script.formula (AddScope quant at)
+refusal_number s (Var var scope) = no_change s.script.formula (AddVariable var scope)
+refusal_number s (Clause lits) = no_change s.script.formula (AddClause lits)
+refusal_number s Push = no_change s.script.formula PushFrame
+refusal_number s Pop = no_change s.script.formula PopFrame
+refusal_number s (Assume lit) = no_change s.script.formula (AssumeLiteral lit)
+refusal_number s Solve = None
+refusal_number s (Value v) = no_value s.script.formula.scopes s.script.verdict v
+refusal_number s Relevant = no_verdict s.script.verdict
+refusal_number s Trace = no_verdict s.script.verdict
+refusal_number s Cert = no_verdict s.script.verdict
+
+-- the texts of replies
+
+abbrev pub refused_text : ℕ → Text
+refused_text number = codes "refused " ++ (decimal number ++ codes "\n")
+
+-- a literal as a number: that of its variable, with a minus sign for a negation
+abbrev pub literal_number : Literal → Text
+literal_number l = (if l.positive then [] else codes "-") ++ decimal l.variable
+
+abbrev pub value_text : Literal → Text
+value_text l = codes "value " ++ (literal_number l ++ codes "\n")
+
+abbrev pub relevant_text : List Literal → Text
+relevant_text lits = codes "relevant " ++ (flat_map literal_word lits ++ codes "0\n")
+
+abbrev pub verdict_text : Bool → Text
+verdict_text true = codes "SAT\n"
+verdict_text false = codes "UNSAT\n"
+
+-- the row that a proof ends in
+abbrev pub last_row : List Inference → Row
+last_row [] = []
+last_row (s ∷ []) = s.row
+last_row (s ∷ t ∷ steps) = last_row (t ∷ steps)
+
+-- the first-scope value of a variable, as a literal
+abbrev pub value_in : List Literal → ℕ → Literal
+value_in values v = record { variable = v; positive = unwrap_or (assumed_value values v) false }
+
+-- the text is the trace of a proof, whose steps are those of a core, for the winner
+pub record IsTraceText (scopes : List Scope) (truth : Bool) (proof : List Inference) (text : Text) : Type 0 where
+  pub core : TraceCore
+  pub winner : core.winner ≡ winner_of truth
+  pub numbered : IsNumbered core.lines
+  pub proof_steps : inferences_of core.lines ≡ proof
+  pub text_of_core : text ≡ qrp_text scopes core
+
+-- the variables of a quantifier, in prefix order
+abbrev pub variables_with : Quant → List Scope → List ℕ
+variables_with quant scopes = filter (λ v. is_of (quantifier_of scopes v) quant) (all_variables scopes)
+
+-- The text denotes a circuit with all variables of the loser for inputs and all of the winner for outputs, in prefix
+-- order. It wins against all values of the inputs that the assumptions allow, each output depends on inputs of earlier
+-- scopes alone, and where the first scope is the winner's its outputs have these values.
+pub record IsCertText (formula : OpenFormula) (given : Given) (values : List Literal) (text : Text) : Type 0 where
+  pub strategy : Strategy
+  pub denotes : IsAagText text strategy
+  pub winner : strategy.winner ≡ winner_of given.truth
+  pub inputs : strategy.inputs ≡ variables_with (loser_of given.truth) formula.scopes
+  pub outputs : output_vars strategy.outputs ≡ variables_with (winner_of given.truth) formula.scopes
+  pub wins : Wins (loser_of given.truth) formula.scopes (clauses_in formula.frames) given.assumptions
+      (values_of strategy)
+  pub earlier : DependsOnEarlier (loser_of given.truth) formula.scopes (values_of strategy)
+  pub first_values : quantifier_at formula.scopes 1 ≡ Some (winner_of given.truth) → (l : Literal) →
+      Contains values l → (inputs : Assignment) → values_of strategy inputs l.variable ≡ l.positive
+
+-- what an accepted command may reply
+
+-- A change of the formula has no reply.
+pub record Changes (s : Standing) (command : FrameCommand) (out : Output) (after : Standing) : Type 0 where
+  pub silent : out ≡ says []
+  pub state : after ≡ record s { script = state_after s.script command }
+
+-- A question of the verdict is replied to by such a text, and changes nothing.
+pub record Tells (s : Standing) (IsTold : Given → Text → Type 0) (out : Output) (after : Standing) : Type 0 where
+  pub text : Text
+  pub told : IfSome s.script.verdict (λ given. IsTold given text)
+  pub says_text : out ≡ says text
+  pub same : after ≡ s
+
+-- A verdict is the truth of the open formula under the assumptions, and is kept with a witness.
+pub record Decides (s : Standing) (out : Output) (after : Standing) : Type 0 where
+  pub truth : Bool
+  pub right : truth_under s.script.formula.assumptions s.script.formula.scopes
+      (clauses_in s.script.formula.frames) ≡ truth
+  pub witness : IsWitness s.script.formula (record {
+    truth = truth;
+    assumptions = s.script.formula.assumptions;
+  }) after.witness
+  pub says_truth : out ≡ says (verdict_text truth)
+  pub state : after.script ≡ state_after s.script (Decide (Verdict truth))
+
+-- Without a verdict the budget is below the step limit of the formula's variables, and a search over these stopped at
+-- it. At the first solve, where propagation refutes the clauses from the assumptions, the budget is below n * (n + 3).
+pub record GivesUp (budget : ℕ) (s : Standing) (out : Output) (after : Standing) : Type 0 where
+  pub stopped : Account
+  pub short : budget < step_limit (size_of s.script.formula.scopes)
+  pub slow : s.script.solves ≡ 0 → IsRefuted s.script.formula.scopes (clauses_in s.script.formula.frames)
+      s.script.formula.assumptions → budget
+      < size_of s.script.formula.scopes * (size_of s.script.formula.scopes + 3)
+  pub stop : IsStopAt budget (size_of s.script.formula.scopes) stopped
+  pub says_unknown : out ≡ record { text = codes "UNKNOWN\n"; stops = stopped ∷ [] }
+  pub state : after ≡ record s { script = state_after s.script (Decide Stop) }
+
+abbrev pub IsAccepted : ℕ → Standing → Command → Output → Standing → Type 0
+IsAccepted budget s (ScopeCommand quant at) out after = Changes s (AddScope quant at) out after
+IsAccepted budget s (Var var scope) out after = Changes s (AddVariable var scope) out after
+IsAccepted budget s (Clause lits) out after = Changes s (AddClause lits) out after
+IsAccepted budget s Push out after = Changes s PushFrame out after
+IsAccepted budget s Pop out after = Changes s PopFrame out after
+IsAccepted budget s (Assume lit) out after = Changes s (AssumeLiteral lit) out after
+IsAccepted budget s Solve out after = Decides s out after ⊎ GivesUp budget s out after
+IsAccepted budget s (Value v) out after =
+    Tells s (λ given text. text ≡ value_text (value_in s.witness.values v)) out after
+IsAccepted budget s Relevant out after =
+    Tells s (λ given text. text ≡ relevant_text (relevant_of given.assumptions (last_row s.witness.proof))) out after
+IsAccepted budget s Trace out after =
+    Tells s (λ given text. IsTraceText s.script.formula.scopes given.truth s.witness.proof text) out after
+IsAccepted budget s Cert out after =
+    Tells s (λ given text. IsCertText s.script.formula given s.witness.values text) out after
+
+-- A refused command says its number, and changes nothing.
+abbrev pub IsReplyWith : Option ℕ → ℕ → Standing → Command → Output → Standing → Type 0
+IsReplyWith None budget s command out after = IsAccepted budget s command out after
+IsReplyWith (Some number) budget s command out after = (out ≡ says (refused_text number)) × (after ≡ s)
+
+-- What a command may reply where others came to a standing, with a budget for each solve, and what it comes to then.
+abbrev pub IsReply : ℕ → Standing → Command → Output → Standing → Type 0
+IsReply budget s command out after = IsReplyWith (refusal_number s command) budget s command out after
+
+-- What commands in a row may reply from a standing on, and what they come to.
+abbrev pub Leads : ℕ → Standing → List Command → Output → Standing → Type 0
+Leads budget s [] out after = (out ≡ says []) × (after ≡ s)
+Leads budget s (command ∷ commands) out after = (first rest : Output) × (next : Standing)
+    × (out ≡ joined first rest) × IsReply budget s command first next × Leads budget next commands rest after
+
+-- What the commands of a script may reply.
+abbrev pub AllowedReplies : ℕ → List Command → Output → Type 0
+AllowedReplies budget commands out = (after : Standing) × Leads budget start commands out after

@@ -1,0 +1,111 @@
+-- What the work on a script comes to.
+use Rattle.std.specs.Prelude.{◌≡◌, ◌≢◌, ℕ, List, ◌++◌, length, Option, Some, IfSome, Result, Ok, Err, ⊤}
+use Rattle.std.specs.Io.KnownBytes.{Appends}
+use Rattle.ports.specs.Bytes.{AppendsFront}
+use Rattle.trail.specs.State.{Account}
+use Rattle.qdimacs.specs.declared.refusal.Quantity.TheVariants.{Bytes}
+use Rattle.qscript.specs.declared.command.Command.{Command}
+use Rattle.qrp_trace.specs.Writing.{Stops, Wrote}
+use Rattle.engine.specs.State.{EngineState}
+use Rattle.qscript.specs.Run.{Script, stopped}
+use Rattle.qscript.specs.Reads.{Ending as ScriptEnding, ReadsScript, done, limit, refused}
+use Rattle.session.specs.declared.ending.Ending.{Ending}
+use Rattle.session.specs.declared.ending.Ending.TheVariants.{Done, Refused, Limit, ReadFault, WriteFault, NoMemory}
+use Rattle.session.specs.Replies.{Leads, Output, Text}
+use Rattle.session.specs.Standing.{Standing, start}
+use Rattle.session.specs.State.{Holds}
+
+-- The ending is that of the script: all of it was answered, or a line is malformed or beyond the limit. Faults and want
+-- of memory say nothing of it.
+abbrev pub IsScriptEnding : List ℕ → Ending → Type 0
+IsScriptEnding text (Done status) = (status ≡ 0) × (commands : List Command) × ReadsScript text commands done
+IsScriptEnding text (Refused number line) = (commands : List Command) × ReadsScript text commands (refused number line)
+IsScriptEnding text (Limit quantity line) = (quantity ≡ Bytes)
+    × (commands : List Command) × ReadsScript text commands (limit line)
+IsScriptEnding text ReadFault = ⊤
+IsScriptEnding text WriteFault = ⊤
+IsScriptEnding text NoMemory = ⊤
+
+-- The script was read to its ending, so that all of its commands were given.
+abbrev pub IsReadOut : Ending → Type 0
+IsReadOut (Done status) = ⊤
+IsReadOut (Refused number line) = ⊤
+IsReadOut (Limit quantity line) = ⊤
+IsReadOut ReadFault = ⊥
+IsReadOut WriteFault = ⊥
+IsReadOut NoMemory = ⊥
+
+-- These commands are the first of the text's script.
+abbrev pub AreFirst : List ℕ → List Command → Type 0
+AreFirst text commands = (rest : List Command) × (ending : ScriptEnding) × ReadsScript text (commands ++ rest) ending
+
+-- Commands were answered: the first of the text's script, if the text is told, and all of them where it was read to its
+-- ending. The replies are allowed ones; all of them were written, or after a write fault a front of them. The list of
+-- what is told of searches that stopped got an entry for each `UNKNOWN` among them. `written` is what stood on the
+-- output and stands on it, `stops` the list before and after.
+pub record AreAnswered (budget : ℕ) (known : Option (List ℕ)) (written : Option (List ℕ) × Option (List ℕ))
+    (stops : List Account × List Account) (ending : Ending) : Type 0 where
+  pub commands : List Command
+  pub out : Output
+  pub after : Standing
+  pub allowed : Leads budget start commands out after
+  pub first : IfSome known (λ text. AreFirst text commands)
+  pub all : IsReadOut ending → IfSome known (λ text. (e : ScriptEnding) × ReadsScript text commands e)
+  pub front : AppendsFront written.0 written.1 out.text
+  pub whole : ending ≢ WriteFault → Appends written.0 written.1 out.text
+  pub told : stops.1 ≡ stops.0 ++ out.stops
+
+-- The output has room for all allowed replies to the first commands of the text's script, if the text is told.
+abbrev pub RoomForReplies : ℕ → Option (List ℕ) → (ℕ → Type 0) → Type 0
+RoomForReplies budget known has_room = (commands : List Command) (out : Output) (after : Standing) →
+    Leads budget start commands out after → IfSome known (λ text. AreFirst text commands) → has_room (length out.text)
+
+-- the ending that a result stands for
+abbrev pub ending_of : Result (Unit {0}) Ending → Ending
+ending_of (Ok u) = Done 0
+ending_of (Err ending) = ending
+
+-- What is left of a script where the work on it has this result: its ending, unless a fault or want of memory came
+-- first.
+abbrev pub IsLeftAt : Result (Unit {0}) Ending → Script → Type 0
+IsLeftAt (Ok u) rest = rest ≡ stopped done
+IsLeftAt (Err (Done status)) rest = ⊥
+IsLeftAt (Err (Refused number line)) rest = rest ≡ stopped (refused number line)
+IsLeftAt (Err (Limit quantity line)) rest = (quantity ≡ Bytes) × (rest ≡ stopped (limit line))
+IsLeftAt (Err ReadFault) rest = ⊤
+IsLeftAt (Err WriteFault) rest = ⊤
+IsLeftAt (Err NoMemory) rest = ⊤
+
+-- A text was written, or a front of it before a write fault.
+abbrev pub IsSentAt : {S : Type 0} → (written flushed : S → Option (List ℕ)) → (S → ℕ) → (S → ℕ → Type 0) → S → S
+    → List ℕ → Result (Unit {0}) Ending → Type 0
+IsSentAt written flushed faults has_room old new text (Ok u) = Wrote written flushed faults has_room old new text
+IsSentAt written flushed faults has_room old new text (Err WriteFault) =
+    Stops written flushed faults has_room old new text
+IsSentAt written flushed faults has_room old new text (Err (Done status)) = ⊥
+IsSentAt written flushed faults has_room old new text (Err (Refused number line)) =
+    Wrote written flushed faults has_room old new text
+IsSentAt written flushed faults has_room old new text (Err (Limit quantity line)) =
+    Wrote written flushed faults has_room old new text
+IsSentAt written flushed faults has_room old new text (Err ReadFault) =
+    Wrote written flushed faults has_room old new text
+IsSentAt written flushed faults has_room old new text (Err NoMemory) =
+    Wrote written flushed faults has_room old new text
+
+-- From a standing on, commands were replied to: the first of the script, if this is known, up to this rest. `IsSent`
+-- says what was written of the replies, and `stops` is the list of what is told of searches before and after.
+pub record Answers (budget : ℕ) (s : Standing) (script : Option Script) (IsRest : Script → Type 0)
+    (IsSent : Text → Type 0) (stops : List Account × List Account) : Type 0 where
+  pub commands : List Command
+  pub out : Output
+  pub after : Standing
+  pub leads : Leads budget s commands out after
+  pub first : IfSome script (λ all. (rest : Script) × (all ≡ (commands ++ rest.0, rest.1)) × IsRest rest)
+  pub sent : IsSent out.text
+  pub told : stops.1 ≡ stops.0 ++ out.stops
+
+-- The same, where the engine holds what the commands came to.
+pub record IsUnderWay (budget : ℕ) (s : Standing) (script to_come : Option Script) (e : EngineState)
+    (IsSent : Text → Type 0) (stops : List Account × List Account) : Type 0 where
+  pub so_far : Answers budget s script (λ rest. to_come ≡ Some rest) IsSent stops
+  pub holds : Holds e so_far.after

@@ -1,0 +1,130 @@
+-- What a session does at a command.
+use Rattle.std.specs.Prelude.{◌≡◌, ℕ, Bool, true, false, List, [], ◌∷◌, ◌++◌, codes, Option, Some, None, Result, Ok, Err, ⊤}
+use Rattle.trail.specs.State.{Account}
+use Rattle.frames.specs.Commands.{Solve as Decide, Stop}
+use Rattle.frames.specs.Fold.{state_after}
+use Rattle.qrp_trace.specs.Writing.{Stops, Wrote}
+use Rattle.engine.specs.State.{EngineState}
+use Rattle.qscript.specs.declared.command.Command.{Command}
+use Rattle.qscript.specs.declared.command.Command.TheVariants.{Scope as ScopeCommand, Var, Clause, Push, Pop, Assume, Solve, Value, Relevant, Trace, Cert}
+use Rattle.session.specs.declared.answer.Answer.{Answer}
+use Rattle.session.specs.declared.answer.Answer.TheVariants.{Sat as IsSat, Unsat as IsUnsat, Unknown as IsUnknown}
+use Rattle.session.specs.declared.ending.Ending.{Ending}
+use Rattle.session.specs.declared.ending.Ending.TheVariants.{Done, Refused as Malformed, Limit as Beyond, ReadFault as Unreadable, WriteFault as EndsInFault, NoMemory as EndsInWant}
+use Rattle.session.specs.declared.reply.Reply.{Reply}
+use Rattle.session.specs.declared.reply.Reply.TheVariants.{Silent, Refused, Sat, Unsat, Unknown, Written}
+use Rattle.session.specs.declared.reply.SessionStop.{SessionStop}
+use Rattle.session.specs.declared.reply.SessionStop.TheVariants.{WriteFault, NoMemory}
+use Rattle.session.specs.Replies.{IsReply, Output, Text, refused_text, verdict_text}
+use Rattle.session.specs.Solve.{answer_line}
+use Rattle.session.specs.Standing.{Standing}
+use Rattle.session.specs.State.{Holds}
+
+-- what a reply tells of a search that stopped
+abbrev pub told_by : Reply → List Account
+told_by Silent = []
+told_by (Refused number) = []
+told_by Sat = []
+told_by Unsat = []
+told_by (Unknown stopped) = stopped ∷ []
+told_by Written = []
+
+-- what is told, if anything is
+abbrev pub listed : Option Account → List Account
+listed None = []
+listed (Some stopped) = stopped ∷ []
+
+-- A reply is one with this text.
+abbrev pub HasText : Reply → Text → Type 0
+HasText Silent text = text ≡ []
+HasText (Refused number) text = text ≡ refused_text number
+HasText Sat text = text ≡ verdict_text true
+HasText Unsat text = text ≡ verdict_text false
+HasText (Unknown stopped) text = text ≡ codes "UNKNOWN\n"
+HasText Written text = ⊤
+
+-- A reply with this text is sent: the text is written, or a front of it before a fault.
+abbrev pub Sends : {S : Type 0} → (written flushed : S → Option (List ℕ)) → (S → ℕ) → (S → ℕ → Type 0) → Reply → Text
+    → S → S → Result Reply SessionStop → Type 0
+Sends written flushed faults has_room reply text old new (Ok sent) =
+    (sent ≡ reply) × Wrote written flushed faults has_room old new text
+Sends written flushed faults has_room reply text old new (Err (WriteFault told)) =
+    (listed told ≡ told_by reply) × Stops written flushed faults has_room old new text
+Sends written flushed faults has_room reply text old new (Err NoMemory) = ⊥
+
+-- A refusal is sent by its number; one without a number is want of memory, and nothing is written.
+abbrev pub Refuses : {S : Type 0} → (written flushed : S → Option (List ℕ)) → (S → ℕ) → (S → ℕ → Type 0) → Option ℕ
+    → S → S → Result Reply SessionStop → Type 0
+Refuses written flushed faults has_room (Some number) old new result =
+    Sends written flushed faults has_room (Refused number) (refused_text number) old new result
+Refuses written flushed faults has_room None old new result = (result ≡ Err NoMemory) × (new ≡ old)
+
+-- A reply is answered where its line was written, and else, with what it tells, that this failed.
+abbrev pub IsSent : {T E : Type 0} → Reply → Result T E → Result Reply SessionStop → Type 0
+IsSent reply (Ok u) result = result ≡ Ok reply
+IsSent reply (Err e) result = (told : Option Account) × (result ≡ Err (WriteFault told)) × (listed told ≡ told_by reply)
+
+-- what is left where there is no memory for a command: a solve stops, and else nothing has changed
+abbrev pub left_by : Command → Standing → Standing
+left_by (ScopeCommand quant at) s = s
+left_by (Var var scope) s = s
+left_by (Clause lits) s = s
+left_by Push s = s
+left_by Pop s = s
+left_by (Assume lit) s = s
+left_by Solve s = record s { script = state_after s.script (Decide Stop) }
+left_by (Value v) s = s
+left_by Relevant s = s
+left_by Trace s = s
+left_by Cert s = s
+
+-- the reply to a verdict
+abbrev pub reply_of : Bool → Reply
+reply_of true = Sat
+reply_of false = Unsat
+
+-- the answer that a reply to a solve has
+abbrev pub answered : Reply → Answer
+answered Silent = IsUnsat
+answered (Refused number) = IsUnsat
+answered Sat = IsSat
+answered Unsat = IsUnsat
+answered (Unknown stopped) = IsUnknown
+answered Written = IsUnsat
+
+-- The reply to a solve has the line of its answer, and the engine holds what it comes to.
+pub record IsDecided (budget : ℕ) (s : Standing) (reply : Reply) (e : EngineState) : Type 0 where
+  pub after : Standing
+  pub reply_is : IsReply budget s Solve (record { text = answer_line (answered reply); stops = told_by reply }) after
+  pub text : HasText reply (answer_line (answered reply))
+  pub holds : Holds e after
+
+-- A command is replied to, and the reply is written; or a front of it is, before a fault; or there is no memory, and
+-- nothing is written. `old` and `new` are the sink, by what sinks of its type tell.
+abbrev pub Steps : {S : Type 0} → (written flushed : S → Option (List ℕ)) → (S → ℕ) → (S → ℕ → Type 0) → ℕ → Command
+    → Standing → S → S → EngineState → Result Reply SessionStop → Type 0
+Steps written flushed faults has_room budget command s old new e (Ok reply) = (text : Text) × (after : Standing)
+    × IsReply budget s command (record { text = text; stops = told_by reply }) after × HasText reply text
+    × Wrote written flushed faults has_room old new text × Holds e after
+Steps written flushed faults has_room budget command s old new e (Err (WriteFault told)) = (text : Text)
+    × (after : Standing) × IsReply budget s command (record { text = text; stops = listed told }) after
+    × Stops written flushed faults has_room old new text × Holds e after
+Steps written flushed faults has_room budget command s old new e (Err NoMemory) =
+    Wrote written flushed faults has_room old new [] × Holds e (left_by command s)
+
+-- A command of a script is replied to, and what the reply tells of a search that stopped is listed behind what was;
+-- after a fault too. Without memory nothing is written or listed. `stops` is the list before and after.
+abbrev pub Goes : {S : Type 0} → (written flushed : S → Option (List ℕ)) → (S → ℕ) → (S → ℕ → Type 0) → ℕ → Command
+    → Standing → S → S → EngineState → (stops : List Account × List Account) → Result (Unit {0}) Ending → Type 0
+Goes written flushed faults has_room budget command s old new e stops (Ok u) = (out : Output) × (after : Standing)
+    × IsReply budget s command out after × Wrote written flushed faults has_room old new out.text
+    × (stops.1 ≡ stops.0 ++ out.stops) × Holds e after
+Goes written flushed faults has_room budget command s old new e stops (Err EndsInFault) = (out : Output)
+    × (after : Standing) × IsReply budget s command out after
+    × Stops written flushed faults has_room old new out.text × (stops.1 ≡ stops.0 ++ out.stops)
+Goes written flushed faults has_room budget command s old new e stops (Err EndsInWant) =
+    Wrote written flushed faults has_room old new [] × (stops.1 ≡ stops.0)
+Goes written flushed faults has_room budget command s old new e stops (Err (Done status)) = ⊥
+Goes written flushed faults has_room budget command s old new e stops (Err (Malformed number line)) = ⊥
+Goes written flushed faults has_room budget command s old new e stops (Err (Beyond quantity line)) = ⊥
+Goes written flushed faults has_room budget command s old new e stops (Err Unreadable) = ⊥

@@ -1,0 +1,110 @@
+//! The lines of replies.
+ghost use Rattle.std.specs.Prelude.{◌≡◌, ◌+◌, ◌≤◌, ◌<◌, ◌++◌, ◌∷◌, codes, flat_map};
+ghost use Rattle.std.specs.Fmt.{decimal};
+ghost use Rattle.arrayvec.specs.ArrayString.{array_string_len};
+ghost use Rattle.aiger_out.specs.Aag.{IsAagText};
+ghost use Rattle.aig.specs.Strategies.{IsStrategy};
+ghost use Rattle.qrp_trace.specs.Texts.{literal_word, qrp_text};
+ghost use Rattle.qrp_trace.specs.Writing.{Writes};
+ghost use Rattle.session.specs.Replies.{Text, refused_text, relevant_text, value_text};
+ghost use Rattle.session.specs.Solve.{answer_line};
+
+use crate::answer::Answer;
+use aig::Strategy;
+use aiger_out::{circuits_have_one_text, write_aag};
+use arrayvec::ArrayString;
+use ports::{Failed, Sink, write_all};
+use prefix::{Lit, Prefix};
+use qrp_trace::{Core, write_literals, write_trace};
+
+// Room for the longest line: two words and a number of at most forty digits.
+const ROOM: usize = 64;
+
+type Line = ArrayString<ROOM>;
+
+// Writes that a command is refused.
+pub(crate) fn write_refused<S: Sink>(number: u8, sink: &mut S) -> Result<(), Failed>
+    ensures { Writes S.written S.flushed S.faults S.has_room sink.old sink.new (refused_text number) result }
+{
+    write(refused_line(number).as_str().as_bytes(), sink)
+}
+
+// Writes the answer to a solve.
+pub(crate) fn write_answer<S: Sink>(answer: Answer, sink: &mut S) -> Result<(), Failed>
+    ensures { Writes S.written S.flushed S.faults S.has_room sink.old sink.new (answer_line answer) result }
+{
+    write(answer.line().as_bytes(), sink)
+}
+
+// Writes the value of a variable.
+pub(crate) fn write_value<S: Sink>(lit: Lit, sink: &mut S) -> Result<(), Failed>
+    ensures { Writes S.written S.flushed S.faults S.has_room sink.old sink.new (value_text lit) result }
+{
+    write(value_line(lit).as_str().as_bytes(), sink)
+}
+
+// Writes assumptions.
+pub(crate) fn write_relevant<S: Sink>(lits: &[Lit], sink: &mut S) -> Result<(), Failed>
+    ensures { Writes S.written S.flushed S.faults S.has_room sink.old sink.new (relevant_text lits.now) result }
+{
+    write(b"relevant ", sink)?;
+    write_literals(lits, sink)?;
+    write(b"0\n", sink)
+}
+
+// Writes a trace.
+pub(crate) fn write_core<S: Sink>(core: &Core, prefix: &Prefix, sink: &mut S) -> Result<(), Failed>
+    ensures { Writes S.written S.flushed S.faults S.has_room sink.old sink.new (qrp_text prefix.now core.now) result }
+{
+    write_trace(core, prefix, sink)
+}
+
+// Writes a circuit.
+pub(crate) fn write_circuit<S: Sink>(strategy: &Strategy, sink: &mut S) -> Result<(), Failed>
+    requires { IsStrategy strategy.now }
+    ensures { (text : Text) × IsAagText text strategy.now
+        × Writes S.written S.flushed S.faults S.has_room sink.old sink.new text result }
+{
+    circuits_have_one_text();
+    write_aag(strategy, sink)
+}
+
+// Writes bytes.
+fn write<S: Sink>(bytes: &[u8], sink: &mut S) -> Result<(), Failed>
+    ensures { Writes S.written S.flushed S.faults S.has_room sink.old sink.new bytes.now result }
+{
+    write_all(sink, bytes)
+}
+
+// The line of a refused command.
+fn refused_line(number: u8) -> Line
+    ensures { result.bytes ≡ refused_text number }
+{
+    let mut line = Line::new();
+    line.push_str("refused ");
+    push_number(&mut line, number as u32);
+    line
+}
+
+// The line of a variable's value.
+fn value_line(lit: Lit) -> Line
+    ensures { result.bytes ≡ value_text lit }
+{
+    let mut line = Line::new();
+    line.push_str("value ");
+    if !lit.is_positive() {
+        line.push_str("-");
+    }
+    push_number(&mut line, lit.var().number());
+    line
+}
+
+// Puts a number behind what the line has, and ends it.
+fn push_number(line: &mut Line, n: u32)
+    requires room { array_string_len line.old + 41 ≤ 64 }
+    ensures bytes { line.new.bytes ≡ line.old.bytes ++ (decimal n ++ codes "\n") }
+{
+    let mut buffer = itoa::Buffer::new();
+    line.push_str(buffer.format(n));
+    line.push('\n');
+}

@@ -1,0 +1,66 @@
+//! Replies to commands.
+ghost use Rattle.std.specs.Prelude.{◌≡◌};
+ghost use Rattle.session.specs.declared.reply.SessionStop.TheVariants.{NoMemory};
+ghost use Rattle.session.specs.Steps.{answered, listed, told_by};
+
+use crate::answer::Answer;
+use steps::NoMemory as NoRoom;
+use trail::Stopped;
+
+/// The reply to a command.
+#[derive(Debug, Drop)]
+pub enum Reply {
+    /// The formula was changed. Nothing is written.
+    Silent,
+    /// The command is refused by the rule of this number, and changes nothing: `refused N`.
+    Refused(u8),
+    /// The formula is true: `SAT`.
+    Sat,
+    /// It is false: `UNSAT`.
+    Unsat,
+    /// The budget was spent first: `UNKNOWN`, with what the search tells that stopped.
+    Unknown(Stopped),
+    /// What was asked of the verdict.
+    Written,
+}
+
+/// Why a command has no reply.
+#[derive(Debug, Drop)]
+pub enum SessionStop {
+    /// The reply couldn't be written; a front of it is. Where it was `UNKNOWN`, with what the search that stopped tells.
+    WriteFault(Option<Stopped>),
+    /// There is no memory. Nothing is written; a solve leaves the formula and the assumptions, and no verdict, and any
+    /// other command all as it was.
+    NoMemory,
+}
+
+impl Reply {
+    // The answer to a solve.
+    pub(crate) fn answer(&self) -> Answer
+        ensures { result ≡ answered self.now }
+    {
+        match self {
+            Self::Sat => Answer::Sat,
+            Self::Unknown(_) => Answer::Unknown,
+            _ => Answer::Unsat,
+        }
+    }
+
+    // What it tells of a search that stopped.
+    pub(crate) fn into_stopped(self) -> Option<Stopped>
+        ensures { listed result ≡ told_by self }
+    {
+        match self {
+            Self::Unknown(stopped) => Some(stopped),
+            _ => None,
+        }
+    }
+}
+
+impl From<NoRoom> for SessionStop {
+    ghost from_gives = { λ _ stop. stop ≡ NoMemory };
+
+    fn from(_e: NoRoom) -> Self {
+        Self::NoMemory
+    }
+}

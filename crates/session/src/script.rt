@@ -1,0 +1,184 @@
+//! A script, read from the chosen input and replied to.
+ghost use Rattle.std.specs.Prelude.{◌≡◌, ◌≢◌, ◌<◌, ◌++◌, ℕ, false, vec_len, vec_capacity, List, IfErr, IfSome, IsErrOf, IsOk, OnErr, OnOk, [], Some, None};
+ghost use Rattle.ports.specs.Bytes.{AllFlushed};
+ghost use Rattle.ports.specs.Causes.{IsCounted};
+ghost use Rattle.qscript.specs.declared.command.Command.{Command as AnyCommand};
+ghost use Rattle.qscript.specs.Reads.{Ending as ScriptEnding, ReadsScript};
+ghost use Rattle.qscript.specs.State.{EndsWith, is_fault, upcoming};
+ghost use Rattle.session.specs.Scripts.{Answers, AreAnswered, IsLeftAt, IsScriptEnding, IsSentAt, RoomForReplies, ending_of};
+ghost use Rattle.session.specs.Steps.{Goes, listed};
+ghost use Rattle.session.specs.Solve.{IsDone};
+ghost use Rattle.session.specs.Standing.{Standing, start};
+ghost use Rattle.session.specs.State.{Holds};
+
+use crate::ending::Ending;
+use crate::reply::{Reply, SessionStop};
+use crate::session::Session;
+use ports::{Desk, Sink};
+use qscript::{Command, ScriptReader, each_script_has_one_reading};
+use std::alloc::Global;
+use trail::Stopped;
+
+/// Reads the script that is left of the chosen input, and replies to its commands as they come; each solve takes at
+/// most so many steps. The output is flushed once, at the end.
+///
+/// The replies are allowed ones (`specs/Replies`) to the commands of the lines before the first malformed one, which
+/// ends the run, as want of memory and a fault do. What each search tells that stopped is put into `stops`.
+pub fn run_script<D: Desk, S: Sink>(
+    alloc: Global,
+    budget: u64,
+    desk: &mut D,
+    sink: &mut S,
+    stops: &mut Vec<Stopped>,
+) -> Ending
+    // The ending is what the text says, where the desk tells what it holds.
+    ensures ending { IfSome (D.left desk.old) (λ text. IsScriptEnding text result) }
+    // A script that is answered was read to its end.
+    ensures read { IsDone result → IfSome (D.left desk.old) (λ _. D.left desk.new ≡ Some []) }
+    // Faults come from outside alone, and a script is answered only where there was none.
+    ensures read_fault { IsCounted (result ≡ Ending.ReadFault) (IsDone result) (D.faults desk.old) (D.faults desk.new) }
+    ensures flows { D.flows desk.old → (result ≢ Ending.ReadFault) × D.flows desk.new }
+    ensures write_fault { IsCounted (result ≡ Ending.WriteFault) (IsDone result) (S.faults sink.old)
+        (S.faults sink.new) }
+    ensures room { RoomForReplies budget (D.left desk.old) (S.has_room sink.old) → result ≢ Ending.WriteFault }
+    // What is written, what is told of the searches that stopped, and that all of it is flushed at the end.
+    ensures answered { AreAnswered budget (D.left desk.old) (S.written sink.old, S.written sink.new)
+        (stops.old.items, stops.new.items) result }
+    ensures flushed { IsDone result → AllFlushed (S.written sink.new) (S.flushed sink.old) (S.flushed sink.new) }
+    // What the desk holds, and whether it is steady, stays.
+    ensures content { (n : List ℕ) → D.content desk.new n ≡ D.content desk.old n }
+    ensures stays { (n : List ℕ) → D.steady desk.old n → D.steady desk.new n }
+{
+    match answer_script(alloc, budget, desk, sink, stops) {
+        Ok(()) => Ending::Done(0),
+        Err(ending) => ending,
+    }
+}
+
+// Replies to the script of the chosen input, and flushes.
+fn answer_script<D: Desk, S: Sink>(
+    alloc: Global,
+    budget: u64,
+    desk: &mut D,
+    sink: &mut S,
+    stops: &mut Vec<Stopped>,
+) -> Result<(), Ending>
+    ensures ending { IfSome (D.left desk.old) (λ text. IsScriptEnding text (ending_of result)) }
+    ensures err { IfErr result (λ e. ¬ IsDone e) }
+    ensures read { OnOk result (IfSome (D.left desk.old) (λ _. D.left desk.new ≡ Some [])) }
+    ensures read_fault { IsCounted (IsErrOf result Ending.ReadFault) (IsOk result) (D.faults desk.old)
+        (D.faults desk.new) }
+    ensures flows { D.flows desk.old → ¬ IsErrOf result Ending.ReadFault × D.flows desk.new }
+    ensures write_fault { IsCounted (IsErrOf result Ending.WriteFault) (IsOk result) (S.faults sink.old)
+        (S.faults sink.new) }
+    ensures room { RoomForReplies budget (D.left desk.old) (S.has_room sink.old) → ¬ IsErrOf result Ending.WriteFault }
+    ensures answered { AreAnswered budget (D.left desk.old) (S.written sink.old, S.written sink.new)
+        (stops.old.items, stops.new.items) (ending_of result) }
+    ensures flushed { OnOk result (AllFlushed (S.written sink.new) (S.flushed sink.old) (S.flushed sink.new)) }
+    ensures content { (n : List ℕ) → D.content desk.new n ≡ D.content desk.old n }
+    ensures stays { (n : List ℕ) → D.steady desk.old n → D.steady desk.new n }
+{
+    each_script_has_one_reading();
+    let mut reader = ScriptReader::new(alloc)?;
+    let mut session = Session::new(alloc, budget)?;
+    answer_and_flush(&mut session, &mut reader, desk, sink, stops)
+}
+
+// Replies to the script that a reader is in front of, and flushes.
+fn answer_and_flush<D: Desk, S: Sink>(
+    session: &mut Session,
+    reader: &mut ScriptReader,
+    desk: &mut D,
+    sink: &mut S,
+    stops: &mut Vec<Stopped>,
+) -> Result<(), Ending>
+    requires holds { Holds session.old.engine start }
+    requires ready { reader.old.failed ≡ false }
+    requires fresh { reader.old.ahead ≡ None }
+    requires script { (text : List ℕ) (commands : List AnyCommand) (e : ScriptEnding) → ReadsScript text commands e →
+        upcoming reader.old (Some text) ≡ Some (commands, e) }
+    ensures ending { IfSome (D.left desk.old) (λ text. IsScriptEnding text (ending_of result)) }
+    ensures err { IfErr result (λ e. ¬ IsDone e) }
+    ensures read { OnOk result (IfSome (D.left desk.old) (λ _. D.left desk.new ≡ Some [])) }
+    ensures read_fault { IsCounted (IsErrOf result Ending.ReadFault) (IsOk result) (D.faults desk.old)
+        (D.faults desk.new) }
+    ensures flows { D.flows desk.old → ¬ IsErrOf result Ending.ReadFault × D.flows desk.new }
+    ensures write_fault { IsCounted (IsErrOf result Ending.WriteFault) (IsOk result) (S.faults sink.old)
+        (S.faults sink.new) }
+    ensures room { RoomForReplies session.old.budget (D.left desk.old) (S.has_room sink.old) →
+        ¬ IsErrOf result Ending.WriteFault }
+    ensures answered { AreAnswered session.old.budget (D.left desk.old) (S.written sink.old, S.written sink.new)
+        (stops.old.items, stops.new.items) (ending_of result) }
+    ensures flushed { OnOk result (AllFlushed (S.written sink.new) (S.flushed sink.old) (S.flushed sink.new)) }
+    ensures content { (n : List ℕ) → D.content desk.new n ≡ D.content desk.old n }
+    ensures stays { (n : List ℕ) → D.steady desk.old n → D.steady desk.new n }
+{
+    each_script_has_one_reading();
+    answer_commands(session, reader, desk, sink, stops)?;
+    Ok(sink.flush()?)
+}
+
+// Replies to the commands that a reader has before it.
+fn answer_commands<D: Desk, S: Sink>(
+    session: &mut Session,
+    reader: &mut ScriptReader,
+    desk: &mut D,
+    sink: &mut S,
+    stops: &mut Vec<Stopped>,
+) -> Result<(), Ending>
+    requires ready { reader.old.failed ≡ false }
+    requires end { EndsWith reader.old.ahead (D.left desk.old) }
+    requires telling { is_fault reader.old.ahead ≡ false }
+    ensures replied { (s : Standing) → Holds session.old.engine s → Answers session.old.budget s
+        (upcoming reader.old (D.left desk.old)) (IsLeftAt result)
+        (λ text. IsSentAt S.written S.flushed S.faults S.has_room sink.old sink.new text result)
+        (stops.old.items, stops.new.items) }
+    ensures read { OnOk result (IfSome (D.left desk.old) (λ _. D.left desk.new ≡ Some [])) }
+    ensures read_fault { IsCounted (IsErrOf result Ending.ReadFault) (IsOk result) (D.faults desk.old)
+        (D.faults desk.new) }
+    ensures flows { D.flows desk.old → ¬ IsErrOf result Ending.ReadFault × D.flows desk.new }
+    ensures content { (n : List ℕ) → D.content desk.new n ≡ D.content desk.old n }
+    ensures stays { (n : List ℕ) → D.steady desk.old n → D.steady desk.new n }
+{
+    while let Some(command) = reader.next_command(desk)? {
+        answer(session, &command, sink, stops)?;
+    }
+    Ok(())
+}
+
+// Replies to a command. What a search tells that stopped is put into `stops`.
+fn answer<S: Sink>(
+    session: &mut Session,
+    command: &Command,
+    sink: &mut S,
+    stops: &mut Vec<Stopped>,
+) -> Result<(), Ending>
+    ensures budget { session.new.budget ≡ session.old.budget }
+    ensures unread { ¬ IsErrOf result Ending.ReadFault }
+    ensures goes { (s : Standing) → Holds session.old.engine s → Goes S.written S.flushed S.faults S.has_room
+        session.old.budget command.now s sink.old sink.new session.new.engine (stops.old.items, stops.new.items)
+        result }
+{
+    stops.reserve(1)?;
+    match session.step(command, sink) {
+        Ok(reply) => {
+            put_told(stops, reply.into_stopped());
+            Ok(())
+        }
+        Err(SessionStop::WriteFault(told)) => {
+            put_told(stops, told);
+            Err(Ending::WriteFault)
+        }
+        Err(SessionStop::NoMemory) => Err(Ending::NoMemory),
+    }
+}
+
+// Puts what is told, if anything is, into the list, which has room for it.
+fn put_told(stops: &mut Vec<Stopped>, told: Option<Stopped>)
+    requires room { vec_len stops.old < vec_capacity stops.old }
+    ensures { stops.new.items ≡ stops.old.items ++ listed told }
+{
+    if let Some(stopped) = told {
+        let _ = stops.push(stopped);
+    }
+}

@@ -1,0 +1,184 @@
+//! Sessions: the commands of a script, replied to.
+ghost use Rattle.std.specs.Prelude.{◌≡◌, ℕ, Ok, IfOk, IfSome, OnErr, MatchResult};
+ghost use Rattle.frames.specs.Refusal.{number_of};
+ghost use Rattle.engine.specs.Asks.{IsVerdictOf, PlaysFirst};
+ghost use Rattle.session.specs.Standing.{Standing, start};
+ghost use Rattle.session.specs.State.{Holds};
+ghost use Rattle.session.specs.Steps.{IsDecided, IsSent, Refuses, Steps as StepsOf, left_by, reply_of};
+
+use crate::lines::{
+    write_answer, write_circuit, write_core, write_refused, write_relevant, write_value,
+};
+use crate::reply::{Reply, SessionStop};
+use engine::{Engine, SolveStop, Verdict};
+use frames::FrameRefusal;
+use ports::{Failed, Sink};
+use qscript::Command;
+use std::alloc::Global;
+use std::marker::Model;
+use steps::{NoMemory, Steps};
+
+/// An engine that takes the commands of a script and writes their replies. Contracts see the budget of each solve and
+/// the engine.
+#[derive(Debug, Drop)]
+pub struct Session {
+    budget: u64,
+    engine: Engine,
+}
+
+impl Model for Session {
+    ghost use Rattle.session.specs.State.{SessionState};
+
+    ghost Value = { SessionState };
+
+    ghost view = { λ s. record { budget = s.budget; engine = s.engine } };
+}
+
+impl Session {
+    /// A session of no commands, in which each solve takes at most so many steps. This takes no memory.
+    pub fn new(alloc: Global, budget: u64) -> Result<Self, NoMemory>
+        ensures budget { IfOk result (λ s. s.budget ≡ budget) }
+        ensures holds { IfOk result (λ s. Holds s.engine start) }
+    {
+        Ok(Self {
+            budget,
+            engine: Engine::new(alloc)?,
+        })
+    }
+
+    /// Carries a command out, and writes its reply; nothing is flushed.
+    ///
+    /// A command is refused as the table `refusal_number` says, and then changes nothing. Where the reply can't be
+    /// written, the command is carried out and a front of the reply is written. Where there is no memory nothing is
+    /// written; a solve leaves the formula and the assumptions, and no verdict, and any other command all as it was.
+    pub fn step<S: Sink>(&mut self, command: &Command, sink: &mut S) -> Result<Reply, SessionStop>
+        ensures budget { self.new.budget ≡ self.old.budget }
+        ensures steps { (s : Standing) → Holds self.old.engine s → StepsOf S.written S.flushed S.faults S.has_room
+            self.old.budget command.now s sink.old sink.new self.new.engine result }
+    {
+        match command {
+            Command::Scope { quant, at } => accept(self.engine.scope(*quant, *at), sink),
+            Command::Var { var, scope } => accept(self.engine.var(*var, *scope), sink),
+            Command::Clause(lits) => accept(self.engine.clause(lits.numbers()), sink),
+            Command::Push => accept(self.engine.push(), sink),
+            Command::Pop => accept(self.engine.pop(), sink),
+            Command::Assume(lit) => accept(self.engine.assume(*lit), sink),
+            Command::Solve => solve(&mut self.engine, self.budget, sink),
+            Command::Value(var) => tell_value(&self.engine, *var, sink),
+            Command::Relevant => tell_relevant(&self.engine, sink),
+            Command::Trace => tell_trace(&self.engine, sink),
+            Command::Cert => tell_circuit(&self.engine, sink),
+        }
+    }
+}
+
+// The reply to a change of the formula that was accepted or not.
+fn accept<S: Sink>(accepted: Result<(), FrameRefusal>, sink: &mut S) -> Result<Reply, SessionStop>
+    ensures { MatchResult accepted
+        (λ _. (result ≡ Ok Reply.Silent) × (sink.new ≡ sink.old))
+        (λ e. Refuses S.written S.flushed S.faults S.has_room (number_of e) sink.old sink.new result) }
+{
+    match accepted {
+        Ok(()) => Ok(Reply::Silent),
+        Err(refusal) => refuse(refusal.number(), sink),
+    }
+}
+
+// Writes a refusal by its number; one without a number is want of memory.
+fn refuse<S: Sink>(number: Option<u8>, sink: &mut S) -> Result<Reply, SessionStop>
+    ensures { Refuses S.written S.flushed S.faults S.has_room number sink.old sink.new result }
+{
+    match number {
+        Some(number) => send(write_refused(number, sink), Reply::Refused(number)),
+        None => Err(SessionStop::NoMemory),
+    }
+}
+
+// A reply whose line was written, or whose writing failed.
+fn send(written: Result<(), Failed>, reply: Reply) -> Result<Reply, SessionStop>
+    ensures { IsSent reply written result }
+{
+    match written {
+        Ok(()) => Ok(reply),
+        Err(Failed) => Err(SessionStop::WriteFault(reply.into_stopped())),
+    }
+}
+
+// Decides the open formula, and writes the answer.
+fn solve<S: Sink>(engine: &mut Engine, budget: u64, sink: &mut S) -> Result<Reply, SessionStop>
+    ensures { (s : Standing) → Holds engine.old s → StepsOf S.written S.flushed S.faults S.has_room budget
+        Command.Solve s sink.old sink.new engine.new result }
+{
+    let reply = decide(engine, budget)?;
+    send(write_answer(reply.answer(), sink), reply)
+}
+
+// The reply to a solve of the open formula.
+fn decide(engine: &mut Engine, budget: u64) -> Result<Reply, NoMemory>
+    ensures ok { (s : Standing) → Holds engine.old s → IfOk result (λ reply. IsDecided budget s reply engine.new) }
+    ensures err { (s : Standing) → Holds engine.old s → OnErr result (Holds engine.new (left_by Command.Solve s)) }
+{
+    match engine.solve(&mut Steps::new(budget)) {
+        Ok(verdict) => Ok(told(engine, verdict)),
+        Err(SolveStop::Spent(stopped)) => Ok(Reply::Unknown(stopped)),
+        Err(SolveStop::NoMemory) => Err(NoMemory),
+    }
+}
+
+// The reply to a verdict that the engine found.
+fn told(engine: &Engine, verdict: Verdict) -> Reply
+    ensures truth { result ≡ reply_of verdict.truth }
+    ensures facts { IfSome engine.now.verdict (IsVerdictOf engine.now.formula) }
+    ensures first { IfSome engine.now.verdict (PlaysFirst engine.now.formula) }
+{
+    let _facts = engine.verdict();
+    if verdict.truth {
+        Reply::Sat
+    } else {
+        Reply::Unsat
+    }
+}
+
+// Tells the winner's value of a variable of the first scope.
+fn tell_value<S: Sink>(engine: &Engine, var: u64, sink: &mut S) -> Result<Reply, SessionStop>
+    ensures { (budget : ℕ) (s : Standing) → Holds engine.now s → StepsOf S.written S.flushed S.faults S.has_room budget
+        (Command.Value var) s sink.old sink.new engine.now result }
+{
+    match engine.value(var) {
+        Ok(lit) => send(write_value(lit, sink), Reply::Written),
+        Err(refusal) => refuse(refusal.number(), sink),
+    }
+}
+
+// Tells the assumptions that the verdict rests on.
+fn tell_relevant<S: Sink>(engine: &Engine, sink: &mut S) -> Result<Reply, SessionStop>
+    ensures { (budget : ℕ) (s : Standing) → Holds engine.now s → StepsOf S.written S.flushed S.faults S.has_room budget
+        Command.Relevant s sink.old sink.new engine.now result }
+{
+    match engine.relevant() {
+        Ok(lits) => send(write_relevant(lits, sink), Reply::Written),
+        Err(refusal) => refuse(refusal.number(), sink),
+    }
+}
+
+// Tells the verdict's trace.
+fn tell_trace<S: Sink>(engine: &Engine, sink: &mut S) -> Result<Reply, SessionStop>
+    ensures { (budget : ℕ) (s : Standing) → Holds engine.now s → StepsOf S.written S.flushed S.faults S.has_room budget
+        Command.Trace s sink.old sink.new engine.now result }
+{
+    match engine.trace_core() {
+        Ok(core) => send(write_core(&core, engine.prefix(), sink), Reply::Written),
+        Err(refusal) => refuse(refusal.number(), sink),
+    }
+}
+
+// Tells the verdict's circuit.
+fn tell_circuit<S: Sink>(engine: &Engine, sink: &mut S) -> Result<Reply, SessionStop>
+    ensures { (budget : ℕ) (s : Standing) → Holds engine.now s → StepsOf S.written S.flushed S.faults S.has_room budget
+        Command.Cert s sink.old sink.new engine.now result }
+{
+    match engine.certificate() {
+        Ok(strategy) => send(write_circuit(&strategy, sink), Reply::Written),
+        Err(refusal) => refuse(refusal.number(), sink),
+    }
+}
