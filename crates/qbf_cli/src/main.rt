@@ -1,4 +1,4 @@
-//! `qbf`: decides quantified Boolean formulas.
+//! `qbf`: decides quantified Boolean formulas, one of a file or those of a script.
 #![tactic(auto)]
 
 mod ending;

@@ -1,4 +1,4 @@
-use Rattle.std.proofs.Common.{◌≡◌, ◌∙◌, List, Option, ap, subst, sym}
+use Rattle.std.proofs.Common.{◌≡◌, List, Option, subst, sym}
 use Rattle.trail.specs.State.{Account}
 use Rattle.command.specs.Forms.{Text}
 use Rattle.session.specs.Scripts.{RoomForReplies}
@@ -7,7 +7,7 @@ use Rattle.std.specs.Prelude.{option_map}
 use Rattle.qbf_cli.specs.Asked.{input_name}
 use Rattle.qbf_cli.specs.Run.{IsReplied}
 use Rattle.qbf_cli.proofs.Scripting.{replied_well, unchosen}
-use Rattle.qbf_cli.proofs.Telling.{ok_here}
+use Rattle.qbf_cli.proofs.Choosing.{chosen}
 use Rattle.qbf_cli.proofs.run.reply.Goals as goal
 
 pub returns-then-is_err-clause-replied : goal.returns-then-is_err-clause-replied
@@ -19,8 +19,8 @@ returns-in-Done-clause-replied g c =
     let content = g.D.Desk.content c.args.desk.now in
     let name = input_name (option_map (λ s. s.now) c.args.name) in
     let same : left c.choose.new.self ≡ content name =
-    ok_here c.choose.result _ c.if-is_err.ensures.negation c.choose.ensures.chosen
-    ∙ ap content c.input_name-input.ensures in
+    chosen c.choose.result content _ _ name c.if-is_err.ensures.negation c.choose.ensures.chosen
+    c.input_name-input.ensures in
     let output : Option Text × Option Text =
     (g.O.Sink.written c.args.out.now, g.O.Sink.written c.run_script.new.sink) in
     let told : List Account × List Account = (c.args.stops.now.items, c.run_script.new.stops.items) in
@@ -34,8 +34,8 @@ returns-in_default-clause-replied g c =
     let content = g.D.Desk.content c.args.desk.now in
     let name = input_name (option_map (λ s. s.now) c.args.name) in
     let same : left c.choose.new.self ≡ content name =
-    ok_here c.choose.result _ c.if-is_err.ensures.negation c.choose.ensures.chosen
-    ∙ ap content c.input_name-input.ensures in
+    chosen c.choose.result content _ _ name c.if-is_err.ensures.negation c.choose.ensures.chosen
+    c.input_name-input.ensures in
     let output : Option Text × Option Text =
     (g.O.Sink.written c.args.out.now, g.O.Sink.written c.run_script.new.sink) in
     let told : List Account × List Account = (c.args.stops.now.items, c.run_script.new.stops.items) in
@@ -53,7 +53,7 @@ returns-in_default-clause-room g c room =
     let content = g.D.Desk.content c.args.desk.now in
     let name = input_name (option_map (λ s. s.now) c.args.name) in
     let same : left c.choose.new.self ≡ content name =
-    ok_here c.choose.result _ c.if-is_err.ensures.negation c.choose.ensures.chosen
-    ∙ ap content c.input_name-input.ensures in
+    chosen c.choose.result content _ _ name c.if-is_err.ensures.negation c.choose.ensures.chosen
+    c.input_name-input.ensures in
     c.run_script.ensures.room
     (subst (λ known. RoomForReplies c.args.budget known (g.O.Sink.has_room c.args.out.now)) (sym same) room)

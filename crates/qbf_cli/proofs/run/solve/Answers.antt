@@ -1,10 +1,10 @@
-use Rattle.std.proofs.Common.{◌≡◌, ◌∙◌, List, Option, ap, subst}
+use Rattle.std.proofs.Common.{◌≡◌, List, Option, subst}
 use Rattle.std.specs.Prelude.{option_map}
 use Rattle.trail.specs.State.{Account}
 use Rattle.command.specs.Forms.{Text}
 use Rattle.qbf_cli.specs.Asked.{input_name}
 use Rattle.qbf_cli.specs.Run.{IsSolved}
-use Rattle.qbf_cli.proofs.Telling.{ok_here}
+use Rattle.qbf_cli.proofs.Choosing.{chosen}
 use Rattle.qbf_cli.proofs.run.solve.Goals as goal
 
 pub returns-clause-solved : goal.returns-clause-solved
@@ -13,8 +13,7 @@ returns-clause-solved g c =
     let content = g.D.Desk.content c.args.desk.now in
     let name = input_name (option_map (λ s. s.now) c.args.name) in
     let same : left c.choose.new.self ≡ content name =
-    ok_here c.choose.result _ c.if-is_err.ensures.negation c.choose.ensures.chosen
-    ∙ ap content c.input_name.ensures in
+    chosen c.choose.result content _ _ name c.if-is_err.ensures.negation c.choose.ensures.chosen c.input_name.ensures in
     let output : Option Text × Option Text =
     (g.O.Sink.written c.args.out.now, g.O.Sink.written c.run_file.new.sink) in
     let told : List Account × List Account = (c.args.stops.now.items, c.run_file.new.stops.items) in
