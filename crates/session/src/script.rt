@@ -33,6 +33,7 @@ pub fn run_script<D: Desk, S: Sink>(
 ) -> Ending
     // The ending is what the text says, where the desk tells what it holds.
     ensures ending { IfSome (D.left desk.old) (λ text. IsScriptEnding text result) }
+    ensures status { (s : ℕ) → result ≡ Ending.Done s → s ≡ 0 }
     // A script that is answered was read to its end.
     ensures read { IsDone result → IfSome (D.left desk.old) (λ _. D.left desk.new ≡ Some []) }
     // Faults come from outside alone, and a script is answered only where there was none.

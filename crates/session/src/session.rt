@@ -1,5 +1,5 @@
 //! Sessions: the commands of a script, replied to.
-ghost use Rattle.std.specs.Prelude.{◌≡◌, ℕ, Ok, IfOk, IfSome, OnErr, MatchResult};
+ghost use Rattle.std.specs.Prelude.{◌≡◌, ℕ, Ok, IsOk, IfOk, IfSome, OnErr, MatchResult};
 ghost use Rattle.frames.specs.Refusal.{number_of};
 ghost use Rattle.engine.specs.Asks.{IsVerdictOf, PlaysFirst};
 ghost use Rattle.session.specs.Standing.{Standing, start};
@@ -37,6 +37,7 @@ impl Model for Session {
 impl Session {
     /// A session of no commands, in which each solve takes at most so many steps. This takes no memory.
     pub fn new(alloc: Global, budget: u64) -> Result<Self, NoMemory>
+        ensures made { IsOk result }
         ensures budget { IfOk result (λ s. s.budget ≡ budget) }
         ensures holds { IfOk result (λ s. Holds s.engine start) }
     {
