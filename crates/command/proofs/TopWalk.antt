@@ -15,7 +15,7 @@ use Rattle.clap.proofs.OnLiterals.{clap_on_literals}
 use Rattle.command.specs.Account.{command_words, qbf_app}
 use Rattle.command.specs.Forms.{word_of}
 use Rattle.command.specs.declared.command.Command.{Command}
-use Rattle.command.specs.declared.command.Command.TheVariants.{Script, Solve}
+use Rattle.command.specs.declared.command.Command.TheVariants.{Cert, Script, Solve, Trace}
 use Rattle.command.proofs.Turns.{IsPlainWord, command_shape, held, leaf, no_kinds, plain_met, rules, some_left}
 use Rattle.command.proofs.WordKinds.{IsNotDashes, KnowsHelpAlone, asks_for_help, first_flag, help, long_fault_is, short_fault_is}
 
@@ -113,12 +113,20 @@ IsNoneOf (x ∷ xs) w = (bytes_eq x w ≡ false) × IsNoneOf xs w
 all_are : AreCommandWords command_words
 all_are = (
   record { met = refl; no_help = refl; no_dashes = refl; found = refl },
-  (record { met = refl; no_help = refl; no_dashes = refl; found = refl }, tt),
+  (
+    record { met = refl; no_help = refl; no_dashes = refl; found = refl },
+    (
+      record { met = refl; no_help = refl; no_dashes = refl; found = refl },
+      (record { met = refl; no_help = refl; no_dashes = refl; found = refl }, tt),
+    ),
+  ),
 )
 
 pub word_of_command : (c : Command) → IsCommandWord (word_of c)
 word_of_command (Solve n g) = all_are.0
-word_of_command (Script n g) = all_are.1.0
+word_of_command (Trace n g) = all_are.1.0
+word_of_command (Cert n g) = all_are.1.1.0
+word_of_command (Script n g) = all_are.1.1.1.0
 
 one_or_none : (xs : List Text) → AreCommandWords xs → (w : Text) → IsCommandWord w ⊎ IsNoneOf xs w
 one_or_none [] all w = inr tt
@@ -197,9 +205,9 @@ by_long w dashes other (Some p) l =
 
 turn_fails : (w : Text) → IsNotDashes w → IsNoneOf command_words w → (b : Bool) → bytes_eq (codes "help") w ≡ b
     → TurnFails w
-turn_fails w dashes none true e = λ x. let bad = rw (none.0, none.1.0, e) at x in absurd cc
+turn_fails w dashes none true e = λ x. let bad = rw (none.0, none.1.0, none.1.1.0, none.1.1.1.0, e) at x in absurd cc
 turn_fails w dashes none false e =
-    let other : IsOther w = rw (none.0, none.1.0, e) refl in
+    let other : IsOther w = rw (none.0, none.1.0, none.1.1.0, none.1.1.1.0, e) refl in
     by_long w dashes other (long_of w) refl
 
 -- a first word that is neither `--` nor that of a command

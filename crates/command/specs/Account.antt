@@ -28,7 +28,7 @@ command_app word = with_rule (with_rule (new_app word) budget_rule) name_rule
 
 -- the words of the commands
 abbrev pub command_words : List Text
-command_words = codes "solve" ∷ codes "script" ∷ []
+command_words = codes "solve" ∷ codes "trace" ∷ codes "cert" ∷ codes "script" ∷ []
 
 -- the program without its commands, one of which is wanted
 abbrev pub bare_app : App

@@ -2,7 +2,7 @@
 use Rattle.std.specs.Prelude.{◌≡◌, ◌≢◌, ◌⊎◌, ⊤, ℕ, ◌<◌, ◌^◌, ◌-◌, List, [], ◌∷◌, ◌++◌, Option, Some, None, codes, option_map, slice_get}
 use Rattle.std.specs.Fmt.{decimal}
 use Rattle.command.specs.declared.command.Command.{Command}
-use Rattle.command.specs.declared.command.Command.TheVariants.{Solve, Script}
+use Rattle.command.specs.declared.command.Command.TheVariants.{Solve, Trace, Cert, Script}
 use Rattle.command.specs.declared.refused.Refused.{Refused}
 use Rattle.command.specs.declared.refused.Refused.TheVariants.{Usage, NoMemory}
 
@@ -40,6 +40,14 @@ AsksWith word words budget name = (program : Text) × (rest : List Text) × (wor
 abbrev pub AsksSolve : List Text → ℕ → Option Text → Type 0
 AsksSolve words budget name = AsksWith (codes "solve") words budget name
 
+-- `trace [--budget N] [NAME]`
+abbrev pub AsksTrace : List Text → ℕ → Option Text → Type 0
+AsksTrace words budget name = AsksWith (codes "trace") words budget name
+
+-- `cert [--budget N] [NAME]`
+abbrev pub AsksCert : List Text → ℕ → Option Text → Type 0
+AsksCert words budget name = AsksWith (codes "cert") words budget name
+
 -- `script [--budget N] [NAME]`
 abbrev pub AsksScript : List Text → ℕ → Option Text → Type 0
 AsksScript words budget name = AsksWith (codes "script") words budget name
@@ -47,16 +55,22 @@ AsksScript words budget name = AsksWith (codes "script") words budget name
 -- the word of the command
 abbrev pub word_of : Command → Text
 word_of (Solve budget name) = codes "solve"
+word_of (Trace budget name) = codes "trace"
+word_of (Cert budget name) = codes "cert"
 word_of (Script budget name) = codes "script"
 
 -- the budget of the command
 abbrev pub budget_of : Command → ℕ
 budget_of (Solve budget name) = budget
+budget_of (Trace budget name) = budget
+budget_of (Cert budget name) = budget
 budget_of (Script budget name) = budget
 
 -- the text of the name of the command, if it has one
 abbrev pub name_of : Command → Option Text
 name_of (Solve budget name) = option_map (λ s. s.now) name
+name_of (Trace budget name) = option_map (λ s. s.now) name
+name_of (Cert budget name) = option_map (λ s. s.now) name
 name_of (Script budget name) = option_map (λ s. s.now) name
 
 -- the words ask for the command

@@ -5,6 +5,10 @@
 pub enum Command<'a> {
     /// Decide one formula, with at most this many steps.
     Solve { budget: u64, name: Option<&'a str> },
+    /// Write the derivation that a formula's verdict rests on, with at most this many steps.
+    Trace { budget: u64, name: Option<&'a str> },
+    /// Write the circuit that wins for a formula's verdict, with at most this many steps.
+    Cert { budget: u64, name: Option<&'a str> },
     /// Reply to a script of incremental commands, with at most this many steps in each of its solves.
     Script { budget: u64, name: Option<&'a str> },
 }

@@ -12,11 +12,23 @@ pub(crate) fn program<'a>(alloc: Global) -> Result<Command<'a>, AllocError>
     ensures { IfOk result (λ c. app_of c ≡ qbf_app) }
 {
     let solve = command(alloc, "solve", "Decides one formula in QDIMACS")?;
+    let trace = command(
+        alloc,
+        "trace",
+        "Writes the derivation of a formula's verdict",
+    )?;
+    let cert = command(
+        alloc,
+        "cert",
+        "Writes the winning circuit of a formula's verdict",
+    )?;
     let script = command(alloc, "script", "Replies to a script of commands")?;
     Command::new(alloc, "qbf")
         .about("Decides quantified Boolean formulas")
         .subcommand_required(true)
         .subcommand(solve)?
+        .subcommand(trace)?
+        .subcommand(cert)?
         .subcommand(script)
 }
 

@@ -82,6 +82,8 @@ fn command_named<'a>(word: &str, budget: u64, name: Option<&'a str>) -> Option<C
 {
     match word {
         "solve" => Some(Command::Solve { budget, name }),
+        "trace" => Some(Command::Trace { budget, name }),
+        "cert" => Some(Command::Cert { budget, name }),
         "script" => Some(Command::Script { budget, name }),
         _ => None,
     }

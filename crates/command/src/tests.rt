@@ -9,6 +9,14 @@ fn solve(budget: u64, name: Option<&str>) -> Want<'_> {
     Ok(Command::Solve { budget, name })
 }
 
+fn trace(budget: u64, name: Option<&str>) -> Want<'_> {
+    Ok(Command::Trace { budget, name })
+}
+
+fn cert(budget: u64, name: Option<&str>) -> Want<'_> {
+    Ok(Command::Cert { budget, name })
+}
+
 fn script(budget: u64, name: Option<&str>) -> Want<'_> {
     Ok(Command::Script { budget, name })
 }
@@ -52,6 +60,14 @@ fn lines_come_to_commands_or_refusals(rt: HostRuntime) -> Result<(), Fail> {
         ("qbf script --budget=0", script(0, None)),
         ("qbf script --budget 7 f", script(7, Some("f"))),
         ("qbf script f --budget=7", script(7, Some("f"))),
+        ("qbf trace", trace(greatest, None)),
+        ("qbf trace f", trace(greatest, Some("f"))),
+        ("qbf trace --budget 7 f", trace(7, Some("f"))),
+        ("qbf trace cert --budget=7", trace(7, Some("cert"))),
+        ("qbf cert", cert(greatest, None)),
+        ("qbf cert f", cert(greatest, Some("f"))),
+        ("qbf cert --budget=7 trace", cert(7, Some("trace"))),
+        ("qbf cert f --budget 0", cert(0, Some("f"))),
         ("qbf", Err("requires a subcommand")),
         ("qbf jump", Err("unrecognized subcommand 'jump'")),
         ("qbf scrip", Err("unrecognized subcommand 'scrip'")),
@@ -62,6 +78,8 @@ fn lines_come_to_commands_or_refusals(rt: HostRuntime) -> Result<(), Fail> {
         ("qbf help", Err("Usage: qbf <COMMAND>")),
         ("qbf solve --help", Err("Usage: qbf solve [OPTIONS] [NAME]")),
         ("qbf script -h", Err("Usage: qbf script [OPTIONS] [NAME]")),
+        ("qbf trace --help", Err("Usage: qbf trace [OPTIONS] [NAME]")),
+        ("qbf cert -h", Err("Usage: qbf cert [OPTIONS] [NAME]")),
         ("qbf --version", Err("unexpected argument '--version'")),
         ("qbf -V", Err("unexpected argument '-V'")),
         (
@@ -86,6 +104,14 @@ fn lines_come_to_commands_or_refusals(rt: HostRuntime) -> Result<(), Fail> {
         ("qbf script --budget=1 f --budget=2", Err("multiple times")),
         ("qbf solve a b", Err("unexpected argument 'b'")),
         ("qbf script a b", Err("unexpected argument 'b'")),
+        ("qbf trace a b", Err("unexpected argument 'b'")),
+        ("qbf cert a b", Err("unexpected argument 'b'")),
+        ("qbf trace --budget 1 --budget 2", Err("multiple times")),
+        ("qbf cert --budget +5", Err("N has no sign")),
+        ("qbf trace -", Err("NAME begins with no '-'")),
+        ("qbf cert -- f", Err("'--' is no word")),
+        ("qbf certs", Err("unrecognized subcommand 'certs'")),
+        ("qbf trac", Err("unrecognized subcommand 'trac'")),
         ("qbf solve -x", Err("unexpected argument '-x'")),
         ("qbf solve --bud 3", Err("unexpected argument '--bud'")),
         ("qbf solve -", Err("NAME begins with no '-'")),

@@ -13,5 +13,9 @@ returns c =
     ∙ ap (on_top (λ s. record s { subcommand_required = true })) new_is in
     let solve_is = c.in_ok-subcommand.ensures.shape c.in_ok-solve.ensures.local
     ∙ ap₂ with_subcommand bare_is (ap (λ (a : App). a.top) c.in_ok-solve.ensures.app) in
-    IfOk-weaker c.subcommand-2.result _ _ (λ r h. h.shape c.in_ok-script.ensures.local
-    ∙ ap₂ with_subcommand solve_is (ap (λ (a : App). a.top) c.in_ok-script.ensures.app)) c.subcommand-2.ensures
+    let trace_is = c.in_ok-subcommand-2.ensures.shape c.in_ok-trace.ensures.local
+    ∙ ap₂ with_subcommand solve_is (ap (λ (a : App). a.top) c.in_ok-trace.ensures.app) in
+    let cert_is = c.in_ok-subcommand-3.ensures.shape c.in_ok-cert.ensures.local
+    ∙ ap₂ with_subcommand trace_is (ap (λ (a : App). a.top) c.in_ok-cert.ensures.app) in
+    IfOk-weaker c.subcommand-4.result _ _ (λ r h. h.shape c.in_ok-script.ensures.local
+    ∙ ap₂ with_subcommand cert_is (ap (λ (a : App). a.top) c.in_ok-script.ensures.app)) c.subcommand-4.ensures
