@@ -8,3 +8,8 @@ pub chosen : {A E : Type 0} (r : Result A E) (content : Text → Option Text) (l
     → is_ok r ≡ true → OnOk r (left ≡ content by) → by ≡ name → left ≡ content name
 chosen (Ok x) content left by name good h same = h ∙ ap content same
 chosen (Err e) content left by name good h same = absurd (let f : false ≡ true = good in cc)
+
+-- what holds where a choice ends well
+pub where_chosen : {A E : Type 0} (r : Result A E) (P : Type 0) → is_ok r ≡ true → OnOk r P → P
+where_chosen (Ok x) P good h = h
+where_chosen (Err e) P good h = absurd (let f : false ≡ true = good in cc)

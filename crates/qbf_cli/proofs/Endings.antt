@@ -2,13 +2,14 @@
 use Rattle.std.proofs.Common.{◌≡◌, inl, inr, ℕ, List, [], ◌∷◌, Option, Some, Contains, refl, sym, subst, ⊎_elim, arith, ◌∙◌}
 use Rattle.std.specs.Io.KnownBytes.{Keeps}
 use Rattle.trail.specs.State.{Account}
-use Rattle.command.specs.Forms.{Asks, HasNoForm, Text, name_of}
+use Rattle.command.specs.Forms.{Asks, HasNoForm, Text}
 use Rattle.command.specs.declared.command.Command.{Command}
-use Rattle.command.specs.declared.command.Command.TheVariants.{Solve, Script}
+use Rattle.command.specs.declared.command.Command.TheVariants.{Solve, Trace, Cert, Script}
 use Rattle.session.specs.declared.answer.Answer.TheVariants.{Sat, Unsat, Unknown}
 use Rattle.session.specs.Solve.{HasAnswer}
 use Rattle.session.specs.declared.ending.Ending.{Ending}
 use Rattle.session.specs.declared.ending.Ending.TheVariants.{Done, Refused, Limit, ReadFault, WriteFault, NoMemory}
+use Rattle.session.specs.declared.ending.Job.TheVariants.{Solve as SolveJob, Trace as TraceJob, Cert as CertJob}
 use Rattle.qbf_cli.specs.declared.ending.RunEnding.{RunEnding}
 use Rattle.qbf_cli.specs.declared.ending.RunEnding.TheVariants.{Worked, Usage}
 use Rattle.qbf_cli.specs.Asked.{AskedEither, input_of}
@@ -58,11 +59,13 @@ module _ (words : List Text) (content : Content) (left : Option Text) (output : 
       by : (c : Command) (f : Ending) → Asks words c → IsWorkOf c (content (input_of c)) left output told f
           → IsVerdict words content (status_of (Worked f))
       by (Solve budget name) f asks so =
-          solve_verdict words content left output told budget (name_of (Solve budget name)) asks
-          (λ none. none (Solve budget name) asks) f so
+          solve_verdict words content left output told SolveJob budget (Solve budget name) asks (λ P h. h) f so
+      by (Trace budget name) f asks so =
+          solve_verdict words content left output told TraceJob budget (Trace budget name) asks (λ P h. h) f so
+      by (Cert budget name) f asks so =
+          solve_verdict words content left output told CertJob budget (Cert budget name) asks (λ P h. h) f so
       by (Script budget name) f asks so =
-          script_verdict words content left output told budget (name_of (Script budget name)) asks
-          (λ none. none (Script budget name) asks) f so
+          script_verdict words content left output told budget (Script budget name) asks (λ P h. h) f so
 
   pub output_is : told.0 ≡ [] → (e : RunEnding) → Carried words content left output told e
       → IsOutput words content output told.1 (status_of e)
@@ -73,7 +76,9 @@ module _ (words : List Text) (content : Content) (left : Option Text) (output : 
     where
       by : (c : Command) (f : Ending) → IsWorkOf c (content (input_of c)) left output told f
           → IsOutputOf c (content (input_of c)) output told.1 (status_of (Worked f))
-      by (Solve budget name) f so = solve_output budget _ left output told empty f so
+      by (Solve budget name) f so = solve_output SolveJob budget _ left output told empty f so
+      by (Trace budget name) f so = solve_output TraceJob budget _ left output told empty f so
+      by (Cert budget name) f so = solve_output CertJob budget _ left output told empty f so
       by (Script budget name) f so = script_output budget _ output told empty f so.answered
 
   error_line : (e : RunEnding) → Carried words content left output told e
@@ -90,11 +95,13 @@ module _ (words : List Text) (content : Content) (left : Option Text) (output : 
       by : (c : Command) (f : Ending) → Asks words c → IsWorkOf c (content (input_of c)) left output told f
           → IsErrorLine words content (status_of (Worked f)) (line_of (Worked f))
       by (Solve budget name) f asks so =
-          solve_line words content left output told budget (name_of (Solve budget name)) asks
-          (λ none. none (Solve budget name) asks) f so
+          solve_line words content left output told SolveJob budget (Solve budget name) asks (λ P h. h) f so
+      by (Trace budget name) f asks so =
+          solve_line words content left output told TraceJob budget (Trace budget name) asks (λ P h. h) f so
+      by (Cert budget name) f asks so =
+          solve_line words content left output told CertJob budget (Cert budget name) asks (λ P h. h) f so
       by (Script budget name) f asks so =
-          script_line words content left output told budget (name_of (Script budget name)) asks
-          (λ none. none (Script budget name) asks) f so
+          script_line words content left output told budget (Script budget name) asks (λ P h. h) f so
 
   pub error_at : (e : RunEnding) → Carried words content left output told e → (s : ℕ) → s ≡ status_of e
       → IsErrorLine words content s (line_of e)
@@ -110,11 +117,13 @@ module _ (words : List Text) (content : Content) (left : Option Text) (output : 
       by : (c : Command) (f : Ending) → Asks words c → IsWorkOf c (content (input_of c)) left output told f
           → HasAnswer (status_of (Worked f)) → Read
       by (Solve budget name) f asks so h =
-          inl (solve_read words content left output told budget (name_of (Solve budget name)) asks
-          (λ none. none (Solve budget name) asks) f so h)
+          inl (solve_read words content left output told SolveJob budget (Solve budget name) asks (λ P h. h) f so h)
+      by (Trace budget name) f asks so h =
+          inl (solve_read words content left output told TraceJob budget (Trace budget name) asks (λ P h. h) f so h)
+      by (Cert budget name) f asks so h =
+          inl (solve_read words content left output told CertJob budget (Cert budget name) asks (λ P h. h) f so h)
       by (Script budget name) f asks so h =
-          inr (script_read words content left output told budget (name_of (Script budget name)) asks
-          (λ none. none (Script budget name) asks) f so h)
+          inr (script_read words content left output told budget (Script budget name) asks (λ P h. h) f so h)
 
   pub statuses : (e : RunEnding) → Carried words content left output told e → Listed (status_of e)
   statuses e carried = each (λ e. Listed (status_of e)) (λ text none kept same. (8, omega arith, refl))
@@ -123,4 +132,6 @@ module _ (words : List Text) (content : Content) (left : Option Text) (output : 
       by : (c : Command) (f : Ending) → Asks words c → IsWorkOf c (content (input_of c)) left output told f
           → Listed (status_of (Worked f))
       by (Solve budget name) f asks so = ending_listed f so.status
+      by (Trace budget name) f asks so = ending_listed f so.status
+      by (Cert budget name) f asks so = ending_listed f so.status
       by (Script budget name) f asks so = ending_listed f (λ s is. (Unknown, so.status s is))

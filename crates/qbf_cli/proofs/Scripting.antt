@@ -3,9 +3,10 @@ use Rattle.std.proofs.Common.{◌≡◌, ◌≢◌, inr, ℕ, List, [], ◌∷�
 use Rattle.std.specs.Prelude.{IfSome}
 use Rattle.std.specs.Io.KnownBytes.{Appends}
 use Rattle.trail.specs.State.{Account}
-use Rattle.command.specs.Forms.{AsksScript, HasNoForm, Text}
+use Rattle.command.specs.Forms.{Asks, HasNoForm, Text}
+use Rattle.command.specs.declared.command.Command.{Command}
 use Rattle.qdimacs.specs.declared.refusal.Quantity.TheVariants.{Bytes}
-use Rattle.qscript.specs.declared.command.Command.{Command}
+use Rattle.qscript.specs.declared.command.Command.{Command as ScriptCommand}
 use Rattle.qscript.specs.Reads.{Ending as ScriptEnding, ReadsScript, done, limit as script_limit, refused as script_refused}
 use Rattle.session.specs.Replies.{says}
 use Rattle.session.specs.Scripts.{AreAnswered, AreFirst, IsReadOut, IsScriptEnding}
@@ -14,7 +15,7 @@ use Rattle.session.specs.Standing.{start}
 use Rattle.session.specs.declared.ending.Ending.{Ending}
 use Rattle.session.specs.declared.ending.Ending.TheVariants.{Done, Refused, Limit, ReadFault, WriteFault, NoMemory}
 use Rattle.qbf_cli.specs.declared.ending.RunEnding.TheVariants.{Worked}
-use Rattle.qbf_cli.specs.Asked.{AskedScript, input_name}
+use Rattle.qbf_cli.specs.Asked.{AskedScript, OfScript, input_of}
 use Rattle.qbf_cli.specs.Run.{EndsIn, IsErrorLine, IsLimitedScript, IsRefusedScript, IsReplied, IsVerdict, line_of, status_of}
 use Rattle.qbf_cli.specs.Told.{IsScriptOutput}
 use Rattle.qbf_cli.proofs.Solving.{Content, other_verdict, plain_line, plain_verdict, some_map}
@@ -26,7 +27,7 @@ nothing_more (Some x) = sym (append-nil x)
 
 -- each text is a script
 abbrev pub HaveReadings : Type 0
-HaveReadings = (text : Text) → (commands : List Command) × (e : ScriptEnding) × ReadsScript text commands e
+HaveReadings = (text : Text) → (commands : List ScriptCommand) × (e : ScriptEnding) × ReadsScript text commands e
 
 first_none : HaveReadings → (known : Option Text) → IfSome known (λ text. AreFirst text [])
 first_none reads None = tt
@@ -60,30 +61,6 @@ unchosen budget known left w told reads = record {
     by : (known : Option Text) → IfSome known (λ text. IsScriptEnding text ReadFault)
     by None = tt
     by (Some text) = tt
-
-module _ (budget : ℕ) (known left : Option Text) (output : Option Text × Option Text)
-    (told : List Account × List Account) where
-  -- all of it was answered
-  pub replied_well : (s : ℕ) → IfSome known (λ text. IsScriptEnding text (Done s))
-      → IfSome known (λ text. left ≡ Some []) → AreAnswered budget known output told (Done s)
-      → IsReplied budget known left output told (Done 0)
-  replied_well s ending read answered = record {
-    ending = some_map known (λ text. IsScriptEnding text (Done s)) (λ text. IsScriptEnding text (Done 0))
-        (λ text e. (refl, e.1, e.2)) ending;
-    status = λ t is. let same : Done 0 ≡ Done t = is in cc;
-    read = λ _. read;
-    answered = record {
-      commands = answered.commands;
-      out = answered.out;
-      after = answered.after;
-      allowed = answered.allowed;
-      first = answered.first;
-      all = λ _. answered.all tt;
-      front = answered.front;
-      whole = λ _. answered.whole (λ is. absurd (let same : Done s ≡ WriteFault = is in cc));
-      told = answered.told;
-    };
-  }
 
 -- what a script leaves on the output
 module _ (budget : ℕ) (known : Option Text) (output : Option Text × Option Text) (told : List Account × List Account)
@@ -123,14 +100,17 @@ module _ (budget : ℕ) (known : Option Text) (output : Option Text × Option Te
       (λ _ is. absurd (let same : NoMemory ≡ WriteFault = is in cc))
 
 module _ (words : List Text) (content : Content) (left : Option Text) (output : Option Text × Option Text)
-    (told : List Account × List Account) (budget : ℕ) (name : Option Text) (asks : AsksScript words budget name)
-    (some_form : HasNoForm words → ⊥) where
+    (told : List Account × List Account) (budget : ℕ) (c : Command) (asks : Asks words c)
+    (of : (P : ℕ → Text → Type 0) → IfSome (content (input_of c)) (P budget) → OfScript c content P) where
   -- what is so of the text is so of the input that was asked for
-  asked : (P : ℕ → Text → Type 0) → IfSome (content (input_name name)) (P budget) → AskedScript words content P
-  asked P h = record { budget = budget; name = name; asks = asks; holds = h }
+  asked : (P : ℕ → Text → Type 0) → IfSome (content (input_of c)) (P budget) → AskedScript words content P
+  asked P h = (c, asks, of P h)
+
+  some_form : HasNoForm words → ⊥
+  some_form none = none c asks
 
   -- a script that ends well
-  well : (s : ℕ) → s ≡ 0 → IfSome (content (input_name name)) (λ text. IsScriptEnding text (Done s))
+  well : (s : ℕ) → s ≡ 0 → IfSome (content (input_of c)) (λ text. IsScriptEnding text (Done s))
       → IsVerdict words content s
   well s zero_is ending = record {
     sat = λ h. absurd (omega (arith, h, zero_is));
@@ -150,7 +130,7 @@ module _ (words : List Text) (content : Content) (left : Option Text) (output : 
       good = asked (λ n text. EndsIn text done)
           (some_map _ (λ text. IsScriptEnding text (Done s)) (λ text. EndsIn text done) (λ text e. (e.1, e.2)) ending)
 
-  pub script_verdict : (f : Ending) → IsReplied budget (content (input_name name)) left output told f
+  pub script_verdict : (f : Ending) → IsReplied budget (content (input_of c)) left output told f
       → IsVerdict words content (status_of (Worked f))
   script_verdict (Done s) so = well s (so.status s refl) so.ending
   script_verdict (Refused number at) so =
@@ -175,7 +155,7 @@ module _ (words : List Text) (content : Content) (left : Option Text) (output : 
       plain_verdict words content 5 refl (λ e. omega (arith, e)) (λ e. omega (arith, e)) (λ e. omega (arith, e))
       some_form
 
-  pub script_line : (f : Ending) → IsReplied budget (content (input_name name)) left output told f
+  pub script_line : (f : Ending) → IsReplied budget (content (input_of c)) left output told f
       → IsErrorLine words content (status_of (Worked f)) (line_of (Worked f))
   script_line (Done s) so =
       let zero_is : s ≡ 0 = so.status s refl in
@@ -203,7 +183,7 @@ module _ (words : List Text) (content : Content) (left : Option Text) (output : 
   script_line WriteFault so = plain_line words content 4 _ (λ e. omega (arith, e)) (λ e. omega (arith, e)) refl
   script_line NoMemory so = plain_line words content 5 _ (λ e. omega (arith, e)) (λ e. omega (arith, e)) refl
 
-  pub script_read : (f : Ending) → IsReplied budget (content (input_name name)) left output told f
+  pub script_read : (f : Ending) → IsReplied budget (content (input_of c)) left output told f
       → HasAnswer (status_of (Worked f)) → AskedScript words content (λ n text. left ≡ Some [])
   script_read (Done s) so h = asked (λ n text. left ≡ Some []) (so.read tt)
   script_read (Refused number at) so h = no_answer 2 refl h

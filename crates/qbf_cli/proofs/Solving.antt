@@ -7,17 +7,19 @@ use Rattle.truth.specs.Truth.{truth}
 use Rattle.trail.specs.State.{Account}
 use Rattle.qdimacs.specs.Reads.{Reads}
 use Rattle.qdimacs.specs.Rules.{refused, limit}
-use Rattle.command.specs.Forms.{AsksSolve, HasNoForm, Text}
+use Rattle.command.specs.Forms.{Asks, HasNoForm, Text}
+use Rattle.command.specs.declared.command.Command.{Command}
 use Rattle.session.specs.declared.answer.Answer.{Answer}
 use Rattle.session.specs.declared.answer.Answer.TheVariants.{Sat, Unsat, Unknown}
 use Rattle.session.specs.Solve.{answer_status, HasAnswer, IsAnswerTo, IsShort, OfAnswer, Solves}
-use Rattle.session.specs.Stops.{AddsEntry, IsStopOn}
+use Rattle.session.specs.Jobs.{IsReplyOn}
 use Rattle.session.specs.declared.ending.Ending.{Ending}
 use Rattle.session.specs.declared.ending.Ending.TheVariants.{Done, Refused, Limit, ReadFault, WriteFault, NoMemory}
+use Rattle.session.specs.declared.ending.Job.{Job}
 use Rattle.qbf_cli.specs.declared.ending.RunEnding.TheVariants.{Worked}
-use Rattle.qbf_cli.specs.Asked.{Asked, AskedEither, input_name}
+use Rattle.qbf_cli.specs.Asked.{Asked, AskedEither, OfFormula, input_of}
 use Rattle.qbf_cli.specs.Run.{HasTruth, IsBeyond, IsErrorLine, IsLimited, IsLimitedScript, IsRefused, IsRefusedScript, IsSlow, IsSolved, IsVerdict, line_of, status_of, fixed_line}
-use Rattle.qbf_cli.specs.Told.{IsSolveOutput}
+use Rattle.qbf_cli.specs.Told.{IsJobOutput}
 use Rattle.qbf_cli.proofs.Statuses.{absent, answer_absent, answers, is_among, is_answer, no_answer}
 
 abbrev pub Content : Type 0
@@ -89,72 +91,55 @@ pub plain_line : (words : List Text) (content : Content) (n : ℕ) (line : Text)
 plain_line words content n line two six is =
     record { refused = λ h. absurd (two h); limit = λ h. absurd (six h); other = λ _ _ _. is }
 
--- what is told with an answer
-none_told : (P : Account → Type 0) (stops : List Account) (s : ℕ) (a : Answer) → s ≡ answer_status a
-    → AddsEntry P [] stops a → Contains (10 ∷ 20 ∷ 2 ∷ 3 ∷ 5 ∷ 6 ∷ []) s → stops ≡ []
-none_told P stops s Sat at same h = same
-none_told P stops s Unsat at same h = same
-none_told P stops s Unknown at entry h =
-    absent (10 ∷ 20 ∷ 2 ∷ 3 ∷ 5 ∷ 6 ∷ []) 0 refl (subst (Contains (10 ∷ 20 ∷ 2 ∷ 3 ∷ 5 ∷ 6 ∷ [])) at h)
-
-one_told : (P : Account → Type 0) (stops : List Account) (s : ℕ) (a : Answer) → s ≡ answer_status a
-    → AddsEntry P [] stops a → s ≡ 0 → (stopped : Account) × (stops ≡ stopped ∷ []) × P stopped
-one_told P stops s Sat at same h = absurd (omega (arith, at, h))
-one_told P stops s Unsat at same h = absurd (omega (arith, at, h))
-one_told P stops s Unknown at entry h = entry
-
-module _ (budget : ℕ) (known left : Option Text) (output : Option Text × Option Text)
+module _ (job : Job) (budget : ℕ) (known left : Option Text) (output : Option Text × Option Text)
     (told : List Account × List Account) (empty : told.0 ≡ []) where
   -- nothing written, and nothing told
-  quiet : (n : ℕ) → is_among answers n ≡ false → n ≢ 4 → Keeps output.0 output.1 → told.1 ≡ told.0
-      → IsSolveOutput budget known output told.1 n
-  quiet n none four kept same = record {
-    line = λ h. no_answer n none h;
+  quiet : (n : ℕ) → is_among answers n ≡ false → n ≢ 4 → Keeps output.0 output.1 × (told.1 ≡ told.0)
+      → IsJobOutput job budget known output told.1 n
+  quiet n none four same = record {
+    reply = λ h. no_answer n none h;
     front = λ h. absurd (four h);
-    nothing = λ _. kept;
-    unknown = λ h. no_answer n none (Unknown, h);
-    none = λ _. same ∙ empty;
+    nothing = λ _. (same.0, same.1 ∙ empty);
   }
 
-  -- one entry more than none
-  entry : (a : Answer) → AddsEntry (IsStopOn budget known) told.0 told.1 a
-      → AddsEntry (IsStopOn budget known) [] told.1 a
-  entry a h = subst (λ before. AddsEntry (IsStopOn budget known) before told.1 a) empty h
+  -- a reply where none was told before
+  first_reply : (a : Answer) (text : Text) → IsReplyOn job budget known told a text
+      → IsReplyOn job budget known ([], told.1) a text
+  first_reply a text h = subst (λ before. IsReplyOn job budget known (before, told.1) a text) empty h
 
-  -- what a solve leaves on the output
-  pub solve_output : (f : Ending) → IsSolved budget known left output told f
-      → IsSolveOutput budget known output told.1 (status_of (Worked f))
+  -- what a job leaves on the output
+  pub solve_output : (f : Ending) → IsSolved job budget known left output told f
+      → IsJobOutput job budget known output told.1 (status_of (Worked f))
   solve_output (Done s) so =
       let has : HasAnswer s = so.status s refl in
-      let a : Answer = so.stops.0 in
-      let adds : AddsEntry (IsStopOn budget known) [] told.1 a = entry a so.stops.2 in
+      let out = so.output_of in
       record {
-        line = λ _. so.written;
+        reply = λ _. (out.0, out.1, (out.2.0, first_reply out.0 out.2.0 out.2.1, out.2.2));
         front = λ h. is_answer s 4 refl has h;
         nothing = λ h. answer_absent (2 ∷ 3 ∷ 5 ∷ 6 ∷ []) s refl refl refl has h;
-        unknown = λ h. one_told _ told.1 s a so.stops.1 adds h;
-        none = λ h. none_told _ told.1 s a so.stops.1 adds h;
       }
   solve_output WriteFault so = record {
-    line = λ h. no_answer 4 refl h;
-    front = λ _. (so.stops.0, so.stops.1, so.stops.2, entry so.stops.0 so.stops.3);
+    reply = λ h. no_answer 4 refl h;
+    front = λ _.
+        let out = so.output_of in (out.0, out.1, first_reply out.0 out.1 out.2, out.3);
     nothing = λ h. absent (2 ∷ 3 ∷ 5 ∷ 6 ∷ []) 4 refl h;
-    unknown = λ h. absurd (omega (arith, h));
-    none = λ h. absent (10 ∷ 20 ∷ 2 ∷ 3 ∷ 5 ∷ 6 ∷ []) 4 refl h;
   }
-  solve_output (Refused number at) so = quiet 2 refl (λ e. omega (arith, e)) so.written so.stops
-  solve_output (Limit quantity at) so = quiet 6 refl (λ e. omega (arith, e)) so.written so.stops
-  solve_output ReadFault so = quiet 3 refl (λ e. omega (arith, e)) so.written so.stops
-  solve_output NoMemory so = quiet 5 refl (λ e. omega (arith, e)) so.written so.stops
+  solve_output (Refused number at) so = quiet 2 refl (λ e. omega (arith, e)) so.output_of
+  solve_output (Limit quantity at) so = quiet 6 refl (λ e. omega (arith, e)) so.output_of
+  solve_output ReadFault so = quiet 3 refl (λ e. omega (arith, e)) so.output_of
+  solve_output NoMemory so = quiet 5 refl (λ e. omega (arith, e)) so.output_of
 
 module _ (words : List Text) (content : Content) (left : Option Text) (output : Option Text × Option Text)
-    (told : List Account × List Account) (budget : ℕ) (name : Option Text) (asks : AsksSolve words budget name)
-    (some_form : HasNoForm words → ⊥) where
+    (told : List Account × List Account) (job : Job) (budget : ℕ) (c : Command) (asks : Asks words c)
+    (of : (P : ℕ → Text → Type 0) → IfSome (content (input_of c)) (P budget) → OfFormula c content P) where
   -- what is so of the text is so of the input that was asked for
-  asked : (P : ℕ → Text → Type 0) → IfSome (content (input_name name)) (P budget) → Asked words content P
-  asked P h = record { budget = budget; name = name; asks = asks; holds = h }
+  asked : (P : ℕ → Text → Type 0) → IfSome (content (input_of c)) (P budget) → Asked words content P
+  asked P h = (c, asks, of P h)
 
-  pub solve_verdict : (f : Ending) → IsSolved budget (content (input_name name)) left output told f
+  some_form : HasNoForm words → ⊥
+  some_form none = none c asks
+
+  pub solve_verdict : (f : Ending) → IsSolved job budget (content (input_of c)) left output told f
       → IsVerdict words content (status_of (Worked f))
   solve_verdict (Done s) so =
       let has : HasAnswer s = so.status s refl in
@@ -189,7 +174,7 @@ module _ (words : List Text) (content : Content) (left : Option Text) (output : 
       plain_verdict words content 5 refl (λ e. omega (arith, e)) (λ e. omega (arith, e)) (λ e. omega (arith, e))
       some_form
 
-  pub solve_line : (f : Ending) → IsSolved budget (content (input_name name)) left output told f
+  pub solve_line : (f : Ending) → IsSolved job budget (content (input_of c)) left output told f
       → IsErrorLine words content (status_of (Worked f)) (line_of (Worked f))
   solve_line (Done s) so =
       let has : HasAnswer s = so.status s refl in
@@ -217,7 +202,7 @@ module _ (words : List Text) (content : Content) (left : Option Text) (output : 
   solve_line WriteFault so = plain_line words content 4 _ (λ e. omega (arith, e)) (λ e. omega (arith, e)) refl
   solve_line NoMemory so = plain_line words content 5 _ (λ e. omega (arith, e)) (λ e. omega (arith, e)) refl
 
-  pub solve_read : (f : Ending) → IsSolved budget (content (input_name name)) left output told f
+  pub solve_read : (f : Ending) → IsSolved job budget (content (input_of c)) left output told f
       → HasAnswer (status_of (Worked f)) → Asked words content (λ n text. left ≡ Some [])
   solve_read (Done s) so h = asked (λ n text. left ≡ Some []) (so.read tt)
   solve_read (Refused number at) so h = no_answer 2 refl h

@@ -6,15 +6,17 @@ use Rattle.ports.specs.Bytes.{AppendsFront}
 use Rattle.ports.specs.Causes.{Rose}
 use Rattle.command.specs.Forms.{Asks, HasNoForm, Text}
 use Rattle.command.specs.declared.command.Command.{Command}
-use Rattle.command.specs.declared.command.Command.TheVariants.{Solve, Script}
+use Rattle.command.specs.declared.command.Command.TheVariants.{Solve, Trace, Cert, Script}
 use Rattle.calculus.specs.Search.{IsRefuted}
 use Rattle.trail.specs.State.{Account}
 use Rattle.search.specs.Counting.{size_of}
+use Rattle.session.specs.Jobs.{LeavesOutput}
 use Rattle.session.specs.Scripts.{AreAnswered, IsScriptEnding}
-use Rattle.session.specs.Solve.{HasAnswer, HasWritten, IsDone, IsEnding, OfAnswer, Solves}
-use Rattle.session.specs.Stops.{HasStops}
+use Rattle.session.specs.Solve.{HasAnswer, IsDone, IsEnding, OfAnswer, Solves}
 use Rattle.session.specs.declared.ending.Ending.{Ending}
 use Rattle.session.specs.declared.ending.Ending.TheVariants.{Done, Refused, Limit, ReadFault, WriteFault, NoMemory}
+use Rattle.session.specs.declared.ending.Job.{Job}
+use Rattle.session.specs.declared.ending.Job.TheVariants.{Solve as SolveJob, Trace as TraceJob, Cert as CertJob}
 use Rattle.steps.specs.Counter.{step_limit}
 use Rattle.truth.specs.declared.formula.Formula.{Formula}
 use Rattle.truth.specs.Truth.{truth}
@@ -143,15 +145,14 @@ pub record IsErrorOutput (words : List Text) (content : Text → Option Text) (f
   pub front : AppendsFront old new line
   pub whole : ¬ Rose faults.0 faults.1 → Appends old new line
 
--- What is known of the work on a formula that an input holds. `output` is what stood on the output and stands on it,
+-- What is known of the work of a job on a formula that an input holds. `output` is what stood on the output and stands on it,
 -- `told` the list of stopped searches before and after.
-pub record IsSolved (budget : ℕ) (known left : Option Text) (output : Option Text × Option Text)
+pub record IsSolved (job : Job) (budget : ℕ) (known left : Option Text) (output : Option Text × Option Text)
     (told : List Account × List Account) (e : Ending) : Type 0 where
   pub ending : IfSome known (λ text. IsEnding budget text e)
   pub status : (s : ℕ) → e ≡ Done s → HasAnswer s
   pub read : IsDone e → IfSome known (λ text. left ≡ Some [])
-  pub written : HasWritten budget known output.0 output.1 e
-  pub stops : HasStops budget known output told e
+  pub output_of : LeavesOutput job budget known output told e
 
 -- What is known of the work on a script that an input holds.
 pub record IsReplied (budget : ℕ) (known left : Option Text) (output : Option Text × Option Text)
@@ -164,7 +165,9 @@ pub record IsReplied (budget : ℕ) (known left : Option Text) (output : Option 
 -- what is known of the work on the input of a command
 abbrev pub IsWorkOf : Command → (known left : Option Text) (output : Option Text × Option Text)
     (told : List Account × List Account) → Ending → Type 0
-IsWorkOf (Solve budget name) known left output told e = IsSolved budget known left output told e
+IsWorkOf (Solve budget name) known left output told e = IsSolved SolveJob budget known left output told e
+IsWorkOf (Trace budget name) known left output told e = IsSolved TraceJob budget known left output told e
+IsWorkOf (Cert budget name) known left output told e = IsSolved CertJob budget known left output told e
 IsWorkOf (Script budget name) known left output told e = IsReplied budget known left output told e
 
 -- what is known of a run by its ending

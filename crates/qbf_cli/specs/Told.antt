@@ -5,28 +5,29 @@ use Rattle.ports.specs.Bytes.{AppendsFront}
 use Rattle.trail.specs.State.{Account}
 use Rattle.command.specs.Forms.{Asks, Text}
 use Rattle.command.specs.declared.command.Command.{Command}
-use Rattle.command.specs.declared.command.Command.TheVariants.{Solve, Script}
+use Rattle.command.specs.declared.command.Command.TheVariants.{Solve, Trace, Cert, Script}
 use Rattle.qscript.specs.declared.command.Command.{Command as ScriptCommand}
 use Rattle.qscript.specs.Reads.{Ending as ScriptEnding, ReadsScript}
 use Rattle.session.specs.declared.answer.Answer.{Answer}
 use Rattle.session.specs.Replies.{Leads, Output}
 use Rattle.session.specs.Scripts.{AreFirst}
-use Rattle.session.specs.Solve.{answer_line, HasAnswer, OfAnswer, Solves}
+use Rattle.session.specs.Jobs.{IsReplyOn}
+use Rattle.session.specs.Solve.{HasAnswer, OfAnswer}
 use Rattle.session.specs.Standing.{Standing, start}
-use Rattle.session.specs.Stops.{AddsEntry, IsStopOn}
+use Rattle.session.specs.declared.ending.Job.{Job}
+use Rattle.session.specs.declared.ending.Job.TheVariants.{Solve as SolveJob, Trace as TraceJob, Cert as CertJob}
 use Rattle.qbf_cli.specs.Asked.{input_of}
 
--- What a solve leaves on the output: the answer's line, a front of it after a write fault, and else nothing. What it
--- tells of its search: an entry where UNKNOWN was written; after a write fault that of the answer that a front was
--- written of, if this is UNKNOWN; and else none. `written` is what stood on the output and stands on it.
-pub record IsSolveOutput (budget : ℕ) (known : Option Text) (written : Option Text × Option Text)
+-- What a job on a formula leaves on the output and tells: its reply with an answer, a front of one after a write fault,
+-- and else nothing. With UNKNOWN an entry is told of its search, and else none. `written` is what stood on the output
+-- and stands on it.
+pub record IsJobOutput (job : Job) (budget : ℕ) (known : Option Text) (written : Option Text × Option Text)
     (stops : List Account) (status : ℕ) : Type 0 where
-  pub line : HasAnswer status → OfAnswer status (λ answer. Appends written.0 written.1 (answer_line answer))
-  pub front : status ≡ 4 → (answer : Answer) × IfSome known (λ text. Solves budget text answer)
-      × AppendsFront written.0 written.1 (answer_line answer) × AddsEntry (IsStopOn budget known) [] stops answer
-  pub nothing : Contains (2 ∷ 3 ∷ 5 ∷ 6 ∷ []) status → Keeps written.0 written.1
-  pub unknown : status ≡ 0 → (stopped : Account) × (stops ≡ stopped ∷ []) × IsStopOn budget known stopped
-  pub none : Contains (10 ∷ 20 ∷ 2 ∷ 3 ∷ 5 ∷ 6 ∷ []) status → stops ≡ []
+  pub reply : HasAnswer status → OfAnswer status (λ answer. (text : Text)
+      × IsReplyOn job budget known ([], stops) answer text × Appends written.0 written.1 text)
+  pub front : status ≡ 4 → (answer : Answer) × (text : Text) × IsReplyOn job budget known ([], stops) answer text
+      × AppendsFront written.0 written.1 text
+  pub nothing : Contains (2 ∷ 3 ∷ 5 ∷ 6 ∷ []) status → Keeps written.0 written.1 × (stops ≡ [])
 
 -- What a script leaves on the output: allowed replies to commands, all of them, or after a write fault a front of them.
 -- The commands are the first of the text's script, if the text is told, and all of them where it was read to its
@@ -47,7 +48,9 @@ pub record IsScriptOutput (budget : ℕ) (known : Option Text) (written : Option
 -- what a command leaves on the output and tells, whose input is this text, where it is told
 abbrev pub IsOutputOf : Command → (known : Option Text) (written : Option Text × Option Text)
     (stops : List Account) → ℕ → Type 0
-IsOutputOf (Solve budget name) known written stops status = IsSolveOutput budget known written stops status
+IsOutputOf (Solve budget name) known written stops status = IsJobOutput SolveJob budget known written stops status
+IsOutputOf (Trace budget name) known written stops status = IsJobOutput TraceJob budget known written stops status
+IsOutputOf (Cert budget name) known written stops status = IsJobOutput CertJob budget known written stops status
 IsOutputOf (Script budget name) known written stops status = IsScriptOutput budget known written stops status
 
 -- What a run leaves on the output and tells: what the command does that the words ask for. Nothing, where they ask for

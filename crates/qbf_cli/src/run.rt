@@ -3,8 +3,9 @@ ghost use Rattle.std.specs.Prelude.{◌≡◌, ◌≢◌, [], ◌∷◌, map, op
 ghost use Rattle.std.specs.Io.KnownBytes.{Appends};
 ghost use Rattle.ports.specs.Bytes.{AllFlushed, AppendsFront};
 ghost use Rattle.ports.specs.Causes.{IsCounted, Rose};
+ghost use Rattle.session.specs.Jobs.{RoomForJob};
 ghost use Rattle.session.specs.Scripts.{RoomForReplies};
-ghost use Rattle.session.specs.Solve.{HasAnswer, IsDone, RoomForAnswer};
+ghost use Rattle.session.specs.Solve.{HasAnswer, IsDone};
 ghost use Rattle.qbf_cli.specs.Asked.{AskedEither, RoomForOutput, SteadyForInput, input_name as name_of_input};
 ghost use Rattle.qbf_cli.specs.Run.{Carried, IsAnswered, IsErrorOutput, IsReplied, IsSolved, IsVerdict, line_of, status_of};
 ghost use Rattle.qbf_cli.specs.Told.{IsOutput};
@@ -19,9 +20,10 @@ use trail::Stopped;
 
 /// Carries out the command that the words ask for, the program's name first: `solve [--budget N] [NAME]` decides the
 /// formula of the file NAME, or of standard input, by search with at most N steps, and writes `SAT`, `UNSAT` or
-/// `UNKNOWN` to `out`. `script [--budget N] [NAME]` replies on `out` to the commands of that input, each of its solves
-/// with at most N steps. What else happens is said on `err`. With each `UNKNOWN` what the search that stopped tells is
-/// put into `stops`.
+/// `UNKNOWN` to `out`. `trace` and `cert` with the same words write in the place of `SAT` and `UNSAT` the trace of the
+/// verdict's proof (QRP), and the circuit by which its winner wins (AIGER 1.9, ASCII). `script [--budget N] [NAME]`
+/// replies on `out` to the commands of that input, each of its solves with at most N steps. What else happens is said on
+/// `err`. With each `UNKNOWN` what the search that stopped tells is put into `stops`.
 ///
 /// Answers the exit status: 10 for a true formula, 20 for a false one, and 0 where the budget was spent; 0 too where a
 /// script ends well; 2 where the input is malformed and 6 where it goes beyond a limit, each with its line; 3 for a
@@ -98,7 +100,13 @@ fn ending_of<D: Desk, O: Sink>(
 {
     match read_command(alloc, words) {
         Ok(Command::Solve { budget, name }) => {
-            RunEnding::Worked(solve(alloc, budget, name, desk, out, stops))
+            RunEnding::Worked(work(alloc, Job::Solve, budget, name, desk, out, stops))
+        }
+        Ok(Command::Trace { budget, name }) => {
+            RunEnding::Worked(work(alloc, Job::Trace, budget, name, desk, out, stops))
+        }
+        Ok(Command::Cert { budget, name }) => {
+            RunEnding::Worked(work(alloc, Job::Cert, budget, name, desk, out, stops))
         }
         Ok(Command::Script { budget, name }) => {
             RunEnding::Worked(reply(alloc, budget, name, desk, out, stops))
@@ -108,29 +116,30 @@ fn ending_of<D: Desk, O: Sink>(
     }
 }
 
-// Solves an input.
-fn solve<D: Desk, O: Sink>(
+// Does a job on the formula of an input.
+fn work<D: Desk, O: Sink>(
     alloc: Global,
+    job: Job,
     budget: u64,
     name: Option<&str>,
     desk: &mut D,
     out: &mut O,
     stops: &mut Vec<Stopped>,
 ) -> Ending
-    ensures solved { IsSolved budget (D.content desk.old (name_of_input (option_map (λ s. s.now) name.entry)))
+    ensures solved { IsSolved job budget (D.content desk.old (name_of_input (option_map (λ s. s.now) name.entry)))
         (D.left desk.new) (O.written out.old, O.written out.new) (stops.old.items, stops.new.items) result }
     ensures read_fault { IsCounted (result ≡ Ending.ReadFault) (IsDone result) (D.faults desk.old) (D.faults desk.new) }
     ensures write_fault { IsCounted (result ≡ Ending.WriteFault) (IsDone result) (O.faults out.old) (O.faults out.new) }
     ensures steady { D.steady desk.old (name_of_input (option_map (λ s. s.now) name.entry))
         → result ≢ Ending.ReadFault }
-    ensures room { RoomForAnswer budget (D.content desk.old (name_of_input (option_map (λ s. s.now) name.entry)))
+    ensures room { RoomForJob job budget (D.content desk.old (name_of_input (option_map (λ s. s.now) name.entry)))
         (O.has_room out.old) → result ≢ Ending.WriteFault }
     ensures flushed { IsDone result → AllFlushed (O.written out.new) (O.flushed out.old) (O.flushed out.new) }
 {
     if desk.choose(input_name(name)).is_err() {
         return Ending::ReadFault;
     }
-    run_file(alloc, Job::Solve, budget, desk, out, stops)
+    run_file(alloc, job, budget, desk, out, stops)
 }
 
 // Replies to the script of an input.
@@ -157,10 +166,7 @@ fn reply<D: Desk, O: Sink>(
     if desk.choose(input).is_err() {
         return Ending::ReadFault;
     }
-    match run_script(alloc, budget, desk, out, stops) {
-        Ending::Done(_) => Ending::Done(0),
-        ending => ending,
-    }
+    run_script(alloc, budget, desk, out, stops)
 }
 
 // The name of the input: without one it is standard input.

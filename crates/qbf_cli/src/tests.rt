@@ -1,6 +1,7 @@
 //! Runs of the whole program in memory.
 ghost use Rattle.std.specs.Prelude.{◌<◌};
 
+mod jobs;
 mod scripts;
 
 use super::run::{report, run};
@@ -338,6 +339,20 @@ fn words_choose_the_input_and_the_budget(rt: HostRuntime) -> Result<(), Fail> {
             10,
             "SAT\n",
         ),
+        (
+            &["qbf", "trace", "f"],
+            20,
+            "p qrp 1 2\na 1 0\n1 1 0 0\n2 0 1 0\nr UNSAT\n",
+        ),
+        (
+            &["qbf", "cert", "--budget=32"],
+            10,
+            "aag 0 0 0 1 0\n1\no0 1\nc\nskolem\n",
+        ),
+        (&["qbf", "trace", "--budget", "0"], 0, "UNKNOWN\n"),
+        (&["qbf", "cert", "--budget", "0"], 0, "UNKNOWN\n"),
+        (&["qbf", "trace", "g"], 3, ""),
+        (&["qbf", "cert", "g"], 3, ""),
         (&["qbf", "solve", "g"], 3, ""),
         (&["qbf", "script", "g"], 3, ""),
         (&["qbf", "script", "--budget=9", "g"], 3, ""),
@@ -378,6 +393,9 @@ fn other_words_are_usage(rt: HostRuntime) -> Result<(), Fail> {
         &["qbf", "script", "f", "g"],
         &["qbf", "script", "-"],
         &["qbf", "script", "--budget", "x"],
+        &["qbf", "trace", "f", "g"],
+        &["qbf", "cert", "--budget", "x"],
+        &["qbf", "certificate"],
     ] {
         let (found, written, silent) = runs(alloc, others)?;
         assert_eq!(rt; found, 7, "{others:?}");

@@ -1,6 +1,6 @@
 -- What an engine is given of a formula that was read: no refusal, and what it then holds.
 use Rattle.std.proofs.Common.{◌≡◌, ℕ, zero, suc, ◌+◌, ◌-◌, ◌<◌, ◌≤◌, ℤ, Bool, true, false, ◌||◌, List, [], ◌∷◌, ◌++◌, length, take, get_or, Option, None, Some, refl, sym, ap, subst, ◌∙◌, arith, length-append}
-use Rattle.std.specs.Prelude.{◌==◌, drop, slice_get, unwrap_or, nat_lt, nat_le, if◌then◌else◌, is_some, flat_map, IsOkUnless, MatchOption, Result, Err}
+use Rattle.std.specs.Prelude.{◌==◌, ◌^◌, min, drop, slice_get, unwrap_or, nat_lt, nat_le, if◌then◌else◌, is_some, flat_map, IsOkUnless, MatchOption, Result, Err}
 use Rattle.std.specs.Option.{option_map}
 use Rattle.std.specs.List.{AllByRecursion, list_all}
 use Rattle.std.proofs.lemmas.Bool.{eqb-true, ne_eqb}
@@ -132,6 +132,13 @@ module _ (scopes : List Scope) (clauses : List (List Literal)) (valid : IsPrefix
   clause_fed old new holds is_new = record {
     formula = ap (λ (e : EngineState). e.formula) is_new ∙ ap (λ f. formula_after f (AddClause ns)) holds.formula ∙ ap (λ m. formula_after (formula_with scopes (take i clauses)) (AddClause m)) as_numbers
         ∙ clause_given scopes (take i clauses) row valid this_over ∙ ap (λ rows. formula_with scopes rows) (ap (λ r. take i clauses ++ r ∷ []) is ∙ sym (take_more clauses i row low));
+    undecided = ap (λ (e : EngineState). e.verdict) is_new;
+    counted =
+        let count : new.counts.clauses ≡ min (old.counts.clauses + 1) (2 ^ 64 - 1) =
+        ap (λ (e : EngineState). e.counts.clauses) is_new in
+        let long : length (take i clauses) ≡ i = length-take-le i clauses (omega (arith, low)) in
+        let longer : length (take (i + 1) clauses) ≡ i + 1 = length-take-le (i + 1) clauses (omega (arith, low)) in
+        omega (arith, count, long, longer, holds.counted);
     unsolved = ap (λ (e : EngineState). e.counts.solves) is_new ∙ holds.unsolved;
   }
 
@@ -144,6 +151,8 @@ module _ (scopes : List Scope) (q : Quant) (vs : List ℕ) (i n v : ℕ) (low : 
   pub variable_fed : (old new : EngineState) → HoldsFormula (and_scope scopes q (take i vs)) [] old → IsAscending vs → new ≡ changed old (AddVariable v n) → HoldsFormula (and_scope scopes q (take (i + 1) vs)) [] new
   variable_fed old new holds rising is_new = record {
     formula = ap (λ (e : EngineState). e.formula) is_new ∙ ap (λ f. formula_after f (AddVariable v n)) holds.formula ∙ ap (λ w. formula_after (formula_with (and_scope scopes q (take i vs)) []) (AddVariable w n)) is ∙ variable_given scopes q vs i n low rising number;
+    undecided = ap (λ (e : EngineState). e.verdict) is_new;
+    counted = subst (λ n. n ≤ 0) (sym (ap (λ (e : EngineState). e.counts.clauses) is_new)) holds.counted;
     unsolved = ap (λ (e : EngineState). e.counts.solves) is_new ∙ holds.unsolved;
   }
 
@@ -151,6 +160,8 @@ module _ (scopes : List Scope) (q : Quant) (vs : List ℕ) (i n v : ℕ) (low : 
 pub scope_fed : (old new : EngineState) (q : Quant) → HoldsFormula old.formula.scopes [] old → new ≡ changed old (AddScope q None) → HoldsFormula (and_scope old.formula.scopes q []) [] new
 scope_fed old new q holds is_new = record {
   formula = ap (λ (e : EngineState). e.formula) is_new ∙ ap (λ f. formula_after f (AddScope q None)) holds.formula ∙ scope_given old.formula.scopes q;
+  undecided = ap (λ (e : EngineState). e.verdict) is_new;
+  counted = subst (λ n. n ≤ 0) (sym (ap (λ (e : EngineState). e.counts.clauses) is_new)) holds.counted;
   unsolved = ap (λ (e : EngineState). e.counts.solves) is_new ∙ holds.unsolved;
 }
 

@@ -1,4 +1,3 @@
-mod Answering
 mod Feeding
 mod Numbers
 pub mod Circuits
@@ -6,5 +5,6 @@ pub mod Telling
 pub mod Deciding
 pub mod Accepting
 pub mod Going
+pub mod Jobs
 pub mod Scripting
 pub mod Working

@@ -56,7 +56,7 @@ none_answered budget known a stops all = record {
   told = sym (append-nil stops);
 }
 
-front_all : (a b : Option (List ℕ)) (text : Text) → Appends a b text → AppendsFront a b text
+pub front_all : (a b : Option (List ℕ)) (text : Text) → Appends a b text → AppendsFront a b text
 front_all a b text whole = record {
   count = length text;
   within = omega arith;
@@ -105,7 +105,7 @@ all_with : (known : Option (List ℕ)) (commands : List Command) (e : ScriptEndi
 all_with None commands e is = tt
 all_with (Some text) commands e is = (e, is)
 
-some_map : {X : Type 0} (o : Option X) (P Q : X → Type 0) → ((x : X) → P x → Q x) → IfSome o P → IfSome o Q
+pub some_map : {X : Type 0} (o : Option X) (P Q : X → Type 0) → ((x : X) → P x → Q x) → IfSome o P → IfSome o Q
 some_map None P Q f h = tt
 some_map (Some x) P Q f h = f x h
 
@@ -253,7 +253,7 @@ any_text (Some text) = tt
 
 -- a flush after all replies
 
-flushed_kept : (old middle new all_of : Option (List ℕ)) → Keeps old middle → AllFlushed all_of middle new
+pub flushed_kept : (old middle new all_of : Option (List ℕ)) → Keeps old middle → AllFlushed all_of middle new
     → AllFlushed all_of old new
 flushed_kept None middle new written kept all = tt
 flushed_kept (Some x) None new written kept all = absurd kept

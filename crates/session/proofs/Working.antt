@@ -31,7 +31,7 @@ empty_ends r = absurd (let same : done ≡ refused 30 1 =
     in cc)
 
 -- the empty clause is a proof by itself
-empty_proof : IsProof Exists [] ([] ∷ []) [] (record { row = []; reason = Input } ∷ [])
+pub empty_proof : IsProof Exists [] ([] ∷ []) [] (record { row = []; reason = Input } ∷ [])
 empty_proof = record {
   front = [];
   last = record { row = []; reason = Input };

@@ -1,8 +1,14 @@
 -- Endings without an answer.
+use Rattle.std.specs.Prelude.{Option, Result, Ok, Err}
+use Rattle.trail.specs.State.{Account}
 use Rattle.qdimacs.specs.declared.refusal.ReadRefusal.{ReadRefusal}
 use Rattle.qdimacs.specs.declared.refusal.ReadRefusal.TheVariants.{Refused as Rejected, Limit as Beyond, ReadFault as Unreadable, NoMemory as NoRoom}
+use Rattle.session.specs.declared.answer.Answer.{Answer}
 use Rattle.session.specs.declared.ending.Ending.{Ending}
-use Rattle.session.specs.declared.ending.Ending.TheVariants.{Refused, Limit, ReadFault, NoMemory}
+use Rattle.session.specs.declared.ending.Ending.TheVariants.{Done, Refused, Limit, ReadFault, WriteFault, NoMemory}
+use Rattle.session.specs.declared.reply.SessionStop.{SessionStop}
+use Rattle.session.specs.declared.reply.SessionStop.TheVariants.{WriteFault as Unwritten, NoMemory as NoRoomLeft}
+use Rattle.session.specs.Solve.{answer_status}
 
 -- The ending where a text is no formula, or can't be read.
 abbrev pub ending_for : ReadRefusal → Ending
@@ -10,3 +16,22 @@ ending_for (Rejected number line) = Refused number line
 ending_for (Beyond quantity line) = Limit quantity line
 ending_for Unreadable = ReadFault
 ending_for NoRoom = NoMemory
+
+-- The ending where a reply can't be written, or there is no memory for it.
+abbrev pub ending_at : SessionStop → Ending
+ending_at (Unwritten told) = WriteFault
+ending_at NoRoomLeft = NoMemory
+
+-- The ending with an answer, or without one.
+abbrev pub ending_with : Result Answer Ending → Ending
+ending_with (Ok answer) = Done (answer_status answer)
+ending_with (Err ending) = ending
+
+-- No formula was read.
+abbrev pub IsUnread : Ending → Type 0
+IsUnread (Done status) = ⊥
+IsUnread (Refused number line) = Unit {0}
+IsUnread (Limit quantity line) = Unit {0}
+IsUnread ReadFault = Unit {0}
+IsUnread WriteFault = ⊥
+IsUnread NoMemory = Unit {0}

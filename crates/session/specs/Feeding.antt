@@ -1,5 +1,5 @@
 -- An engine that holds one formula.
-use Rattle.std.specs.Prelude.{◌≡◌, List, [], ◌∷◌}
+use Rattle.std.specs.Prelude.{◌≡◌, ◌≤◌, List, [], ◌∷◌, None, length}
 use Rattle.prefix.specs.Literal.{Literal}
 use Rattle.prefix.specs.Scopes.{Scope}
 use Rattle.frames.specs.State.{OpenFormula}
@@ -13,7 +13,9 @@ formula_with scopes clauses = record {
   assumptions = [];
 }
 
--- The engine holds these scopes and clauses, and has not decided any formula.
+-- The engine holds these scopes and clauses, accepted no more clauses than these, and has not decided any formula.
 pub record HoldsFormula (scopes : List Scope) (clauses : List (List Literal)) (e : EngineState) : Type 0 where
   pub formula : e.formula ≡ formula_with scopes clauses
+  pub undecided : e.verdict ≡ None
+  pub counted : e.counts.clauses ≤ length clauses
   pub unsolved : e.counts.solves ≡ 0

@@ -1,5 +1,6 @@
 pub mod Endings
 pub mod Feeding
+pub mod Jobs
 pub mod Replies
 pub mod Scripts
 pub mod Solve

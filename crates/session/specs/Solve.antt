@@ -1,7 +1,5 @@
 -- What the answer to a text is, and what is written.
-use Rattle.std.specs.Prelude.{◌≡◌, ℕ, ◌+◌, ◌*◌, ◌<◌, true, false, List, [], codes, Option, IfSome, length}
-use Rattle.std.specs.Io.KnownBytes.{Appends, Keeps}
-use Rattle.ports.specs.Bytes.{AppendsFront}
+use Rattle.std.specs.Prelude.{◌≡◌, ℕ, ◌+◌, ◌*◌, ◌<◌, true, false, List, [], codes}
 use Rattle.truth.specs.declared.formula.Formula.{Formula}
 use Rattle.truth.specs.Truth.{truth}
 use Rattle.steps.specs.Counter.{step_limit}
@@ -67,18 +65,3 @@ IsDone (Limit quantity line) = ⊥
 IsDone ReadFault = ⊥
 IsDone WriteFault = ⊥
 IsDone NoMemory = ⊥
-
--- The output has room for the line of each answer that the text, where it is told, can have.
-abbrev pub RoomForAnswer : ℕ → Option (List ℕ) → (ℕ → Type 0) → Type 0
-RoomForAnswer budget known has_room =
-    (answer : Answer) → IfSome known (λ text. Solves budget text answer) → has_room (length (answer_line answer))
-
--- The output got the answer's line, or after a write fault a front of it, and else nothing.
-abbrev pub HasWritten : ℕ → Option (List ℕ) → Option (List ℕ) → Option (List ℕ) → Ending → Type 0
-HasWritten budget known old new (Done status) = OfAnswer status (λ answer. Appends old new (answer_line answer))
-HasWritten budget known old new WriteFault = (answer : Answer) × IfSome known (λ text. Solves budget text answer)
-    × AppendsFront old new (answer_line answer)
-HasWritten budget known old new (Refused number line) = Keeps old new
-HasWritten budget known old new (Limit quantity line) = Keeps old new
-HasWritten budget known old new ReadFault = Keeps old new
-HasWritten budget known old new NoMemory = Keeps old new

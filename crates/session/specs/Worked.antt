@@ -1,4 +1,5 @@
--- Worked values: answers to two formulas, what is told of searches that stopped, and replies to commands.
+-- Worked values: answers to two formulas, what is told of searches that stopped, replies to commands, and what jobs
+-- write.
 use Rattle.std.specs.Prelude.{◌≡◌, pos, negsuc, true, false, [], ◌∷◌, codes, Some, None}
 use Rattle.prefix.specs.declared.quant.Quant.{Quant}
 use Rattle.prefix.specs.declared.quant.Quant.TheVariants.{Exists, Forall}
@@ -9,7 +10,9 @@ use Rattle.frames.specs.Commands.{AddClause, AddScope, AddVariable, Assume as As
 use Rattle.frames.specs.Fold.{new_script, state_after, state_of}
 use Rattle.qscript.specs.declared.command.Command.TheVariants.{Assume, Clause, Pop, Solve, Trace, Value}
 use Rattle.session.specs.declared.answer.Answer.TheVariants.{Sat, Unsat, Unknown}
-use Rattle.session.specs.declared.ending.Ending.TheVariants.{Done, Refused}
+use Rattle.session.specs.declared.ending.Ending.TheVariants.{Done, NoMemory, Refused}
+use Rattle.session.specs.declared.ending.Job.TheVariants.{Solve as SolveJob, Trace as TraceJob, Cert as CertJob}
+use Rattle.session.specs.Jobs.{IsJobText, IsReplyTo, LeavesOutput}
 use Rattle.session.specs.Replies.{AllowedReplies, Decides, GivesUp, Output, refusal_number, refused_text, relevant_text, says, value_in, value_text}
 use Rattle.session.specs.Scripts.{IsScriptEnding}
 use Rattle.session.specs.Solve.{IsAnswerTo}
@@ -92,3 +95,35 @@ pub record WorkedReplies : Type 0 where
   -- an empty script ends well
   pub empty : IsScriptEnding (codes "p qscript 1\n") (Done 0)
   pub not_refused : IsScriptEnding (codes "p qscript 1\n") (Refused 30 1) → ⊥
+
+-- a formula that is false by its one clause
+abbrev pub nothing_fits : Formula
+nothing_fits = record { prefix = []; clauses = [] ∷ []; declared_vars = 0; declared_clauses = 1 }
+
+-- a formula of no clause
+abbrev pub anything_fits : Formula
+anything_fits = record { prefix = []; clauses = []; declared_vars = 0; declared_clauses = 0 }
+
+-- a search over two variables that stopped at nine steps, after one assignment
+abbrev pub at_nine : Account
+at_nine = record at_twelve { budget = 9 }
+
+pub record WorkedJobs : Type 0 where
+  -- a line for a solve, and no other
+  pub solved : IsJobText SolveJob nothing_fits Unsat (codes "UNSAT\n")
+  pub not_solved : IsJobText SolveJob nothing_fits Unsat (codes "SAT\n") → ⊥
+  -- the trace of the empty clause, which no line of an answer is
+  pub traced : IsJobText TraceJob nothing_fits Unsat (codes "p qrp 0 1\n1 0 0\nr UNSAT\n")
+  pub not_traced : IsJobText TraceJob nothing_fits Unsat (codes "UNSAT\n") → ⊥
+  -- a circuit without variables, which is no trace
+  pub certified : IsJobText CertJob anything_fits Sat (codes "aag 0 0 0 0 0\nc\nskolem\n")
+  pub not_certified : IsJobText CertJob anything_fits Sat (codes "p qrp 0 1\n1 0 0\nr SAT\n") → ⊥
+  -- the same line for each job where the answer is unknown
+  pub unknown : IsJobText CertJob nothing_fits Unknown (codes "UNKNOWN\n")
+  pub not_silent : IsJobText TraceJob nothing_fits Unknown [] → ⊥
+  -- a reply with its entry, and none without
+  pub told : IsReplyTo SolveJob 9 (differs Forall Exists) ([], at_nine ∷ []) Unknown (codes "UNKNOWN\n")
+  pub untold : IsReplyTo SolveJob 9 (differs Forall Exists) ([], []) Unknown (codes "UNKNOWN\n") → ⊥
+  -- after an ending without an answer nothing more is written
+  pub kept : LeavesOutput SolveJob 12 None (Some [], Some []) ([], []) NoMemory
+  pub not_kept : LeavesOutput SolveJob 12 None (Some [], Some (codes "SAT\n")) ([], []) NoMemory → ⊥

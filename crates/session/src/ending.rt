@@ -1,8 +1,9 @@
 //! What is asked of a file, and how it ends.
 ghost use Rattle.std.specs.Prelude.{◌≡◌};
 ghost use Rattle.session.specs.declared.ending.Ending.TheVariants.{Refused, Limit, ReadFault, WriteFault, NoMemory as NoRoom};
-ghost use Rattle.session.specs.Endings.{ending_for};
+ghost use Rattle.session.specs.Endings.{ending_at, ending_for};
 
+use crate::reply::SessionStop;
 use ports::Failed;
 use qdimacs::{Quantity, ReadRefusal};
 use std::alloc::AllocError;
@@ -13,6 +14,10 @@ use steps::NoMemory;
 pub enum Job {
     /// Whether the formula is true.
     Solve,
+    /// The trace of the verdict's proof, as QRP.
+    Trace,
+    /// The circuit by which the verdict's winner wins, as AIGER 1.9 in ASCII.
+    Cert,
 }
 
 /// How the work on an input ends.
@@ -68,5 +73,17 @@ impl From<NoMemory> for Ending {
 
     fn from(_e: NoMemory) -> Self {
         Self::NoMemory
+    }
+}
+
+// The ending where a reply fails.
+impl From<SessionStop> for Ending {
+    ghost from_gives = { λ e ending. ending ≡ ending_at e };
+
+    fn from(e: SessionStop) -> Self {
+        match e {
+            SessionStop::WriteFault(_) => Self::WriteFault,
+            SessionStop::NoMemory => Self::NoMemory,
+        }
     }
 }

@@ -1,7 +1,7 @@
 //! Files of formulas, decided, and scripts of commands, replied to.
 //!
-//! A formula is read, fed to an engine and solved. `specs/Solve` says what the answer to a text is, and `specs/Stops`
-//! what is told of a search that stopped. `specs/Replies` says what the commands of a script may reply, `specs/Scripts`
+//! A formula is read, fed to an engine and solved. `specs/Solve` says what the answer to a text is, `specs/Jobs` what is
+//! written for it, and `specs/Stops` what is told of a search that stopped. `specs/Replies` says what the commands of a script may reply, `specs/Scripts`
 //! what the work on a script comes to.
 #![tactic(auto)]
 
@@ -21,7 +21,7 @@ pub use file::run_file;
 pub use reply::{Reply, SessionStop};
 pub use script::run_script;
 pub use session::Session;
-pub use worked::{worked_answers, worked_replies};
+pub use worked::{worked_answers, worked_jobs, worked_replies};
 
 #[cfg(test)]
 mod tests;

@@ -175,7 +175,7 @@ fn answer<S: Sink>(
 }
 
 // Puts what is told, if anything is, into the list, which has room for it.
-fn put_told(stops: &mut Vec<Stopped>, told: Option<Stopped>)
+pub(crate) fn put_told(stops: &mut Vec<Stopped>, told: Option<Stopped>)
     requires room { vec_len stops.old < vec_capacity stops.old }
     ensures { stops.new.items ≡ stops.old.items ++ listed told }
 {

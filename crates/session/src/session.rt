@@ -115,7 +115,7 @@ fn solve<S: Sink>(engine: &mut Engine, budget: u64, sink: &mut S) -> Result<Repl
 }
 
 // The reply to a solve of the open formula.
-fn decide(engine: &mut Engine, budget: u64) -> Result<Reply, NoMemory>
+pub(crate) fn decide(engine: &mut Engine, budget: u64) -> Result<Reply, NoMemory>
     ensures ok { (s : Standing) → Holds engine.old s → IfOk result (λ reply. IsDecided budget s reply engine.new) }
     ensures err { (s : Standing) → Holds engine.old s → OnErr result (Holds engine.new (left_by Command.Solve s)) }
 {
@@ -163,7 +163,7 @@ fn tell_relevant<S: Sink>(engine: &Engine, sink: &mut S) -> Result<Reply, Sessio
 }
 
 // Tells the verdict's trace.
-fn tell_trace<S: Sink>(engine: &Engine, sink: &mut S) -> Result<Reply, SessionStop>
+pub(crate) fn tell_trace<S: Sink>(engine: &Engine, sink: &mut S) -> Result<Reply, SessionStop>
     ensures { (budget : ℕ) (s : Standing) → Holds engine.now s → StepsOf S.written S.flushed S.faults S.has_room budget
         Command.Trace s sink.old sink.new engine.now result }
 {
@@ -174,7 +174,7 @@ fn tell_trace<S: Sink>(engine: &Engine, sink: &mut S) -> Result<Reply, SessionSt
 }
 
 // Tells the verdict's circuit.
-fn tell_circuit<S: Sink>(engine: &Engine, sink: &mut S) -> Result<Reply, SessionStop>
+pub(crate) fn tell_circuit<S: Sink>(engine: &Engine, sink: &mut S) -> Result<Reply, SessionStop>
     ensures { (budget : ℕ) (s : Standing) → Holds engine.now s → StepsOf S.written S.flushed S.faults S.has_room budget
         Command.Cert s sink.old sink.new engine.now result }
 {

@@ -68,6 +68,77 @@ fn files_end_as_their_texts_say(rt: HostRuntime) -> Result<(), Fail> {
     Ok(())
 }
 
+// No value of 1 differs from both of 2.
+const FALSE: &str = "p cnf 2 2\ne 2 0\na 1 0\n1 2 0\n-1 -2 0\n";
+
+// A job on a text with this budget has this ending and writes this.
+#[derive(Clone, Copy)]
+struct Row {
+    job: Job,
+    text: &'static str,
+    budget: u64,
+    ending: Ending,
+    written: &'static str,
+}
+
+#[test]
+fn jobs_write_what_they_ask_for(rt: HostRuntime) -> Result<(), Fail> {
+    let alloc = rt.alloc();
+    for row in [
+        Row {
+            job: Job::Trace,
+            text: FALSE,
+            budget: 96,
+            ending: Ending::Done(20),
+            written: "p qrp 2 5\ne 2 0\na 1 0\n1 1 2 0 0\n2 -1 -2 0 0\n3 2 0 1 0\n4 -2 0 2 0\n5 0 3 4 0\nr UNSAT\n",
+        },
+        Row {
+            job: Job::Cert,
+            text: FALSE,
+            budget: 96,
+            ending: Ending::Done(20),
+            written: "aag 1 1 0 1 0\n2\n2\ni0 2\no0 1\nc\nherbrand\n",
+        },
+        Row {
+            job: Job::Cert,
+            text: DIFFERS,
+            budget: 96,
+            ending: Ending::Done(10),
+            written: "aag 1 1 0 1 0\n2\n3\ni0 1\no0 2\nc\nskolem\n",
+        },
+        Row {
+            job: Job::Trace,
+            text: "p cnf 1 1\ne 1 0\n1 0\n",
+            budget: 32,
+            ending: Ending::Done(10),
+            written: "p qrp 1 2\ne 1 0\n1 1 0 0\n2 0 1 0\nr SAT\n",
+        },
+        Row {
+            job: Job::Trace,
+            text: DIFFERS,
+            budget: 0,
+            ending: Ending::Done(0),
+            written: "UNKNOWN\n",
+        },
+        Row {
+            job: Job::Cert,
+            text: DIFFERS,
+            budget: 0,
+            ending: Ending::Done(0),
+            written: "UNKNOWN\n",
+        },
+    ] {
+        let mut desk = desk_with(alloc, row.text)?;
+        let mut sink = MemorySink::new(alloc, 128, 5, Vec::new(alloc))?;
+        let mut stops = Vec::new(alloc);
+        let ending = run_file(alloc, row.job, row.budget, &mut desk, &mut sink, &mut stops);
+        assert_eq!(rt; ending, row.ending);
+        assert_eq!(rt; sink.bytes(), row.written.as_bytes());
+        assert_eq!(rt; sink.flushed(), row.written.as_bytes());
+    }
+    Ok(())
+}
+
 #[test]
 fn each_search_that_stopped_is_told(rt: HostRuntime) -> Result<(), Fail> {
     let alloc = rt.alloc();

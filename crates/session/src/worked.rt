@@ -1,5 +1,5 @@
 //! Worked values of the definitions, each proved.
-ghost use Rattle.session.specs.Worked.{WorkedAnswers, WorkedReplies};
+ghost use Rattle.session.specs.Worked.{WorkedAnswers, WorkedJobs, WorkedReplies};
 
 /// Answers to formulas of both truths, and what is told of searches that stopped.
 pub fn worked_answers()
@@ -9,4 +9,9 @@ pub fn worked_answers()
 /// Replies to commands, allowed ones and others.
 pub fn worked_replies()
     ensures { WorkedReplies }
+{}
+
+/// What jobs write for formulas, and what they leave where there is no answer.
+pub fn worked_jobs()
+    ensures { WorkedJobs }
 {}

@@ -9,16 +9,16 @@ use std::test::Fail;
 
 // What a run on a script came to.
 #[derive(Drop)]
-struct Outcome {
-    status: u8,
-    out: String,
-    flushed: String,
-    err: String,
-    stops: usize,
+pub(super) struct Outcome {
+    pub(super) status: u8,
+    pub(super) out: String,
+    pub(super) flushed: String,
+    pub(super) err: String,
+    pub(super) stops: usize,
 }
 
 // A text whose lines end in `/`, as bytes.
-fn lines(alloc: Global, text: &str) -> Result<Vec<u8>, Fail> {
+pub(super) fn lines(alloc: Global, text: &str) -> Result<Vec<u8>, Fail> {
     let mut bytes = Vec::new(alloc);
     for byte in text.as_bytes() {
         bytes.push(if *byte == b'/' { b'\n' } else { *byte })?;
@@ -27,13 +27,13 @@ fn lines(alloc: Global, text: &str) -> Result<Vec<u8>, Fail> {
 }
 
 // A text whose lines end in `/`.
-fn written(alloc: Global, text: &str) -> Result<String, Fail> {
+pub(super) fn written(alloc: Global, text: &str) -> Result<String, Fail> {
     Ok(String::from_utf8_lossy(alloc, &lines(alloc, text)?)?)
 }
 
 // What `qbf` with these words comes to on a script, where the calls of the desk and of the output fail that have these
 // numbers. The desk gives a byte a read, and the output takes one a write.
-fn carry_out(
+pub(super) fn carry_out(
     alloc: Global,
     given: &[&str],
     script: &[u8],
@@ -99,6 +99,13 @@ fn scripts_are_replied_to(rt: HostRuntime) -> Result<(), Fail> {
         (
             "p qscript 1/scope a/var 1 1/scope e/var 2 2/clause 1 2 0/clause 1 -2 0/solve/assume -1/solve/cert/",
             "UNSAT/UNSAT/aag 1 1 0 1 0/2/0/i0 2/o0 1/c/herbrand/",
+        ),
+        // Circuits: of the verdict that stands, also where it rests on what earlier solves have learned.
+        (
+            "p qscript 1/scope a/var 1 1/scope e/var 2 2/clause 1 2 0/clause -1 -2 0/cert/solve/cert/push/clause 2 0/\
+cert/solve/pop/solve/cert/",
+            "refused 50/SAT/aag 1 1 0 1 0/2/3/i0 1/o0 2/c/skolem/refused 50/UNSAT/SAT/aag 1 1 0 1 0/2/3/i0 1/o0 2/c/\
+skolem/",
         ),
         // A scope in between, after a solve.
         (

@@ -5,7 +5,7 @@ use Rattle.command.specs.Forms.{Text}
 use Rattle.qbf_cli.specs.Asked.{input_name}
 use Rattle.qbf_cli.specs.Run.{IsSolved}
 use Rattle.qbf_cli.proofs.Choosing.{chosen}
-use Rattle.qbf_cli.proofs.run.solve.Goals as goal
+use Rattle.qbf_cli.proofs.run.work.Goals as goal
 
 pub returns-clause-solved : goal.returns-clause-solved
 returns-clause-solved g c =
@@ -18,10 +18,9 @@ returns-clause-solved g c =
     (g.O.Sink.written c.args.out.now, g.O.Sink.written c.run_file.new.sink) in
     let told : List Account × List Account = (c.args.stops.now.items, c.run_file.new.stops.items) in
     let e = c.run_file.result in
-    subst (λ known. IsSolved c.args.budget known (left c.run_file.new.desk) output told e) same (record {
+    subst (λ known. IsSolved c.args.job c.args.budget known (left c.run_file.new.desk) output told e) same (record {
       ending = c.run_file.ensures.ending;
       status = c.run_file.ensures.status;
       read = c.run_file.ensures.read;
-      written = c.run_file.ensures.written;
-      stops = c.run_file.ensures.stops;
+      output_of = c.run_file.ensures.output;
     })

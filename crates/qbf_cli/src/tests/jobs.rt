@@ -1,0 +1,169 @@
+//! Runs that write the trace or the circuit of a formula. In the tables `/` stands for a line end.
+
+use super::scripts::{carry_out, lines, written};
+use std::alloc::Global;
+use std::test::Fail;
+
+// For each value of 1 there is one of 2 that differs from it; and no value of 1 differs from both of 2.
+const DIFFERS: &str = "p cnf 2 2/a 1 0/e 2 0/1 2 0/-1 -2 0/";
+
+const FALSE: &str = "p cnf 2 2/e 2 0/a 1 0/1 2 0/-1 -2 0/";
+
+#[test]
+fn traces_and_circuits_are_written(rt: HostRuntime) -> Result<(), Fail> {
+    let alloc = rt.alloc();
+    for (command, text, status, want) in [
+        ("cert", DIFFERS, 10, "aag 1 1 0 1 0/2/3/i0 1/o0 2/c/skolem/"),
+        ("cert", FALSE, 20, "aag 1 1 0 1 0/2/2/i0 2/o0 1/c/herbrand/"),
+        (
+            "trace",
+            FALSE,
+            20,
+            "p qrp 2 5/e 2 0/a 1 0/1 1 2 0 0/2 -1 -2 0 0/3 2 0 1 0/4 -2 0 2 0/5 0 3 4 0/r UNSAT/",
+        ),
+        (
+            "trace",
+            "p cnf 1 1/e 1 0/1 0/",
+            10,
+            "p qrp 1 2/e 1 0/1 1 0 0/2 0 1 0/r SAT/",
+        ),
+        (
+            "cert",
+            "p cnf 1 1/e 1 0/1 0/",
+            10,
+            "aag 0 0 0 1 0/1/o0 1/c/skolem/",
+        ),
+        ("trace", "p cnf 0 1/0/", 20, "p qrp 0 1/1 0 0/r UNSAT/"),
+        ("trace", "p cnf 1 1/2 0/", 2, ""),
+        ("cert", "p cnf 1048577 0/", 6, ""),
+    ] {
+        let found = carry_out(
+            alloc,
+            &["qbf", command],
+            &lines(alloc, text)?,
+            Vec::new(alloc),
+            Vec::new(alloc),
+        )?;
+        let want = written(alloc, want)?;
+        assert_eq!(rt; found.status, status, "{command} {text:?}");
+        assert_eq!(rt; found.out.as_str(), want.as_str());
+        assert_eq!(rt; found.flushed.as_str(), want.as_str());
+        assert_eq!(rt; found.stops, 0);
+    }
+    Ok(())
+}
+
+// A circuit with one output, as its text gives it: the literals of its gates, three a gate, and of its output.
+#[derive(Drop)]
+struct Read {
+    gates: Vec<u64>,
+    output: u64,
+}
+
+// The circuit of a text with two inputs: a header of six words, the inputs, the output, and the gates.
+fn circuit(alloc: Global, text: &str) -> Result<Read, Fail> {
+    let mut output = 0;
+    let mut gates = Vec::new(alloc);
+    for (place, word) in text.split_ascii_whitespace().enumerate() {
+        let Ok(number) = word.parse::<u64>() else {
+            if place > 0 {
+                break;
+            }
+            continue;
+        };
+        if place == 8 {
+            output = number;
+        }
+        if place > 8 {
+            gates.push(number)?;
+        }
+    }
+    Ok(Read { gates, output })
+}
+
+// The value of a literal by those of the variables.
+fn value(values: &[bool], literal: u64) -> bool {
+    let plain = values.get((literal / 2) as usize).copied().unwrap_or(false);
+    plain != (literal % 2 == 1)
+}
+
+// The value of the output for two inputs. The variable 0 is the constant false, and the gates follow the inputs.
+fn output(alloc: Global, read: &Read, first: bool, second: bool) -> Result<bool, Fail> {
+    let mut values = Vec::from_slice(alloc, &[false, first, second])?;
+    for gate in read.gates.chunks_exact(3) {
+        let both = value(&values, gate[1]) && value(&values, gate[2]);
+        values.push(both)?;
+    }
+    Ok(value(&values, read.output))
+}
+
+#[test]
+fn the_circuit_of_a_conjunction_computes_it(rt: HostRuntime) -> Result<(), Fail> {
+    let alloc = rt.alloc();
+    let text = lines(alloc, "p cnf 3 3/a 1 2 0/e 3 0/-3 1 0/-3 2 0/3 -1 -2 0/")?;
+    let found = carry_out(
+        alloc,
+        &["qbf", "cert"],
+        &text,
+        Vec::new(alloc),
+        Vec::new(alloc),
+    )?;
+    assert_eq!(rt; found.status, 10);
+    let read = circuit(alloc, found.out.as_str())?;
+    for (first, second) in [(false, false), (false, true), (true, false), (true, true)] {
+        assert_eq!(rt; output(alloc, &read, first, second)?, first && second);
+    }
+    Ok(())
+}
+
+#[test]
+fn each_failing_call_of_an_output_leaves_a_front(rt: HostRuntime) -> Result<(), Fail> {
+    let alloc = rt.alloc();
+    let text = lines(alloc, FALSE)?;
+    for (command, whole) in [
+        (
+            "trace",
+            "p qrp 2 5/e 2 0/a 1 0/1 1 2 0 0/2 -1 -2 0 0/3 2 0 1 0/4 -2 0 2 0/5 0 3 4 0/r UNSAT/",
+        ),
+        ("cert", "aag 1 1 0 1 0/2/2/i0 2/o0 1/c/herbrand/"),
+    ] {
+        // Each byte, one by one, and the flush.
+        for failing in 0..whole.len() + 1 {
+            let failing = failing as u64 + 1;
+            let found = carry_out(
+                alloc,
+                &["qbf", command],
+                &text,
+                Vec::new(alloc),
+                vec![in alloc; failing]?,
+            )?;
+            assert_eq!(rt; found.status, 4);
+            assert_eq!(rt; found.err.as_str(), "qbf: write fault\n");
+            assert_eq!(rt; found.out.len() as u64, failing - 1);
+            assert!(rt; written(alloc, whole)?.starts_with(found.out.as_str()));
+        }
+    }
+    Ok(())
+}
+
+#[test]
+fn each_failing_call_of_an_input_leaves_nothing(rt: HostRuntime) -> Result<(), Fail> {
+    let alloc = rt.alloc();
+    let text = lines(alloc, DIFFERS)?;
+    for command in ["trace", "cert"] {
+        // The choice, the 36 bytes one by one, and the end.
+        for failing in 1..39 {
+            let found = carry_out(
+                alloc,
+                &["qbf", command],
+                &text,
+                vec![in alloc; failing]?,
+                Vec::new(alloc),
+            )?;
+            assert_eq!(rt; found.status, 3);
+            assert_eq!(rt; found.err.as_str(), "qbf: read fault\n");
+            assert!(rt; found.out.is_empty());
+        }
+    }
+    Ok(())
+}

@@ -1,0 +1,114 @@
+use Rattle.std.proofs.Common.{◌≡◌, ◌≤◌, ◌<◌, ℕ, List, [], ◌∷◌, codes, true, false, Some, None, refl, sym, ap, subst, ◌∙◌, arith, lit<}
+use Rattle.std.specs.Prelude.{◌-◌, slice_index_or}
+use Rattle.std.specs.Fmt.{digits}
+use Rattle.prefix.specs.declared.quant.Quant.TheVariants.{Exists, Forall}
+use Rattle.calculus.specs.Derivations.Reason.{Input as ByInput}
+use Rattle.calculus.proofs.Lists.{contains_head, contains_nil}
+use Rattle.qrp_trace.specs.declared.listing.Line.{Line}
+use Rattle.qrp_trace.specs.declared.listing.CoreStep.TheVariants.{Input}
+use Rattle.qrp_trace.specs.Cores.{IsNumbered, RestsOnNumber, step_numbered}
+use Rattle.aig.specs.declared.strategy.Strategy.{Strategy}
+use Rattle.calculus.specs.Verdicts.{IsProof}
+use Rattle.session.specs.Jobs.{IsJobText}
+use Rattle.session.specs.Worked.{at_nine, anything_fits, nothing_fits}
+use Rattle.session.specs.declared.answer.Answer.TheVariants.{Sat, Unsat}
+use Rattle.session.specs.declared.ending.Job.TheVariants.{Solve, Trace, Cert}
+use Rattle.session.proofs.Working.{empty_proof}
+use Rattle.session.proofs.worked.worked_jobs.Goals as goal
+
+abbrev one_input : List Line
+one_input = record { lits = []; step = Input } ∷ []
+
+numbered : IsNumbered one_input
+numbered = record {
+  earlier = λ i k low high rests. absurd (subst (λ n. RestsOnNumber (step_numbered one_input n) k)
+      (let one : i ≡ 1 = omega arith in one) rests);
+  used = λ k low high. absurd (omega (arith, low, high));
+}
+
+unsat : (text : List ℕ) → text ≡ codes "UNSAT\n" → IsJobText Solve nothing_fits Unsat text
+unsat text is = record {
+  witness = record { proof = record { row = []; reason = ByInput } ∷ []; values = [] };
+  is_witness = record { proof = empty_proof; values = λ e. absurd (let f : None ≡ Some Forall = e in cc) };
+  says = is;
+}
+
+trace : IsJobText Trace nothing_fits Unsat (codes "p qrp 0 1\n1 0 0\nr UNSAT\n")
+unfolding digits
+trace = record {
+  witness = record { proof = record { row = []; reason = ByInput } ∷ []; values = [] };
+  is_witness = record { proof = empty_proof; values = λ e. absurd (let f : None ≡ Some Forall = e in cc) };
+  says = record {
+    core = record { winner = Forall; lines = one_input };
+    winner = refl;
+    numbered = numbered;
+    proof_steps = refl;
+    text_of_core = refl;
+  };
+}
+
+-- the empty cube hits no clause, and is a proof by itself
+empty_cube : IsProof Forall [] [] [] (record { row = []; reason = ByInput } ∷ [])
+empty_cube = record {
+  front = [];
+  last = record { row = []; reason = ByInput };
+  parts = refl;
+  legal = tt;
+  last_row = record { ascending = tt; over_prefix = λ l i. absurd (contains_nil l i) };
+  last_step = λ c i. absurd (contains_nil c i);
+  decided = λ l i. absurd (contains_nil l i);
+  used = tt;
+}
+
+no_gates : Strategy
+no_gates = record { aig = record { inputs = 0; gates = [] }; winner = Exists; inputs = []; outputs = [] }
+
+first_byte : List ℕ → ℕ
+first_byte text = slice_index_or text 0 0
+
+pub returns : goal.returns
+unfolding no_gates first_byte
+returns c = record {
+  solved = unsat (codes "UNSAT\n") refl;
+  not_solved = λ h. absurd (let f : 83 ≡ 85 = ap first_byte h.says in omega (arith, f));
+  traced = trace;
+  not_traced = λ h. absurd (let f : 85 ≡ 112 = ap first_byte h.says.text_of_core in omega (arith, f));
+  certified = record {
+    witness = record { proof = record { row = []; reason = ByInput } ∷ []; values = [] };
+    is_witness = record { proof = empty_cube; values = λ e. absurd (let f : None ≡ Some Exists = e in cc) };
+    says = record {
+      strategy = no_gates;
+      denotes = record {
+        input_lines = [];
+        output_lines = [];
+        gate_lines = [];
+        input_symbols = [];
+        output_symbols = [];
+        lines = refl;
+        named = refl;
+        inputs = tt;
+        outputs = tt;
+        gates = tt;
+        input_names = tt;
+        output_names = tt;
+      };
+      winner = refl;
+      inputs = refl;
+      outputs = refl;
+      wins = λ inputs allowed. (refl, λ x b e. absurd (let f : None ≡ Some b = e in cc));
+      earlier = λ x i. absurd (contains_nil x i);
+      first_values = λ e. absurd (let f : None ≡ Some Exists = e in cc);
+    };
+  };
+  not_certified = λ h. absurd (let f : 112 ≡ 97 = ap first_byte h.says.denotes.lines in omega (arith, f));
+  unknown = refl;
+  not_silent = λ e. absurd (let f : [] ≡ codes "UNKNOWN\n" = e in cc);
+  told = record {
+    right = record { limit = lit< tt; propagation = λ _. lit< tt };
+    says = refl;
+    told = (at_nine, refl, record { budget = refl; vars = refl; few = lit< tt });
+  };
+  untold = λ h. absurd (let f : [] ≡ h.told.0 ∷ [] = h.told.1 in cc);
+  kept = (refl, refl);
+  not_kept = λ h. absurd (let f : codes "SAT\n" ≡ [] = h.0 in cc);
+}

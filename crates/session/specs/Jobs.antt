@@ -1,0 +1,159 @@
+-- What is written for a formula that is decided, traced or certified.
+use Rattle.std.specs.Prelude.{◌≡◌, ◌≤◌, ℕ, Bool, true, false, List, [], length, Option, Some, None, IfSome, Result, Ok, Err, ⊤}
+use Rattle.std.specs.Io.KnownBytes.{Appends, Keeps}
+use Rattle.ports.specs.Bytes.{AllFlushed, AppendsFront}
+use Rattle.ports.specs.Causes.{Rose}
+use Rattle.truth.specs.declared.formula.Formula.{Formula}
+use Rattle.trail.specs.State.{Account}
+use Rattle.search.specs.Counting.{size_of}
+use Rattle.frames.specs.Fold.{Given}
+use Rattle.frames.specs.State.{OpenFormula}
+use Rattle.qdimacs.specs.Rules.{parsed}
+use Rattle.qdimacs.specs.Reads.{Reads}
+use Rattle.qrp_trace.specs.Writing.{Stops, Wrote}
+use Rattle.session.specs.declared.answer.Answer.{Answer}
+use Rattle.session.specs.declared.answer.Answer.TheVariants.{Sat, Unsat, Unknown}
+use Rattle.session.specs.declared.ending.Ending.{Ending}
+use Rattle.session.specs.declared.ending.Ending.TheVariants.{Done, Refused, Limit, ReadFault, WriteFault, NoMemory}
+use Rattle.session.specs.declared.ending.Job.{Job}
+use Rattle.session.specs.declared.ending.Job.TheVariants.{Solve, Trace, Cert}
+use Rattle.session.specs.Feeding.{formula_with}
+use Rattle.session.specs.Replies.{IsCertText, IsTraceText, Text, verdict_text}
+use Rattle.session.specs.Solve.{IsAnswerTo, OfAnswer, answer_line}
+use Rattle.session.specs.Standing.{IsWitness, Standing, Witness}
+use Rattle.session.specs.Stops.{AddsEntry, IsStopAt}
+
+-- a formula as commands would build it: its clauses in frame 0, no other frame, no assumption
+abbrev pub opened : Formula → OpenFormula
+opened f = formula_with f.prefix f.clauses
+
+-- a verdict under no assumption
+abbrev pub unassumed : Bool → Given
+unassumed truth = record { truth = truth; assumptions = [] }
+
+-- what commands come to that build a formula
+abbrev pub built : Formula → Standing
+built f = record {
+  script = record { formula = opened f; verdict = None; clauses = length f.clauses; solves = 0; greatest = 0 };
+  witness = record { proof = []; values = [] };
+}
+
+-- The text of a job for a verdict with this witness: its line, the trace of its proof, or the text of a circuit that
+-- wins, where the first scope is the winner's with these values.
+abbrev pub IsVerdictText : Job → Formula → Bool → Witness → Text → Type 0
+IsVerdictText Solve f truth witness text = text ≡ verdict_text truth
+IsVerdictText Trace f truth witness text = IsTraceText f.prefix truth witness.proof text
+IsVerdictText Cert f truth witness text = IsCertText (opened f) (unassumed truth) witness.values text
+
+-- the same with some witness
+pub record HasVerdictText (job : Job) (f : Formula) (truth : Bool) (text : Text) : Type 0 where
+  pub witness : Witness
+  pub is_witness : IsWitness (opened f) (unassumed truth) witness
+  pub says : IsVerdictText job f truth witness text
+
+-- The text of a job for an answer to a formula. Where it is unknown, its line stands for any text.
+abbrev pub IsJobText : Job → Formula → Answer → Text → Type 0
+IsJobText job f Sat text = HasVerdictText job f true text
+IsJobText job f Unsat text = HasVerdictText job f false text
+IsJobText job f Unknown text = text ≡ answer_line Unknown
+
+-- The reply of a job to a formula: a right answer, its text, and one more entry of what a search tells that stopped
+-- where the answer is unknown. `stops` is the list of entries before and after.
+pub record IsReplyTo (job : Job) (budget : ℕ) (f : Formula) (stops : List Account × List Account) (answer : Answer)
+    (text : Text) : Type 0 where
+  pub right : IsAnswerTo budget f answer
+  pub says : IsJobText job f answer text
+  pub told : AddsEntry (IsStopAt budget (size_of f.prefix)) stops.0 stops.1 answer
+
+-- The same to the formula of an input, whose text says it, where it is told.
+pub record IsReplyOn (job : Job) (budget : ℕ) (known : Option Text) (stops : List Account × List Account)
+    (answer : Answer) (text : Text) : Type 0 where
+  pub formula : Formula
+  pub read : IfSome known (λ bytes. Reads bytes (parsed formula))
+  pub reply : IsReplyTo job budget formula stops answer text
+
+-- What the work on an input leaves: its reply on the output, or after a write fault a front of that, and else nothing.
+-- `written` is what stood on the output and stands on it.
+abbrev pub LeavesOutput : Job → ℕ → (known : Option Text) → (written : Option Text × Option Text)
+    → (stops : List Account × List Account) → Ending → Type 0
+LeavesOutput job budget known written stops (Done status) = OfAnswer status (λ answer. (text : Text)
+    × IsReplyOn job budget known stops answer text × Appends written.0 written.1 text)
+LeavesOutput job budget known written stops WriteFault = (answer : Answer) × (text : Text)
+    × IsReplyOn job budget known stops answer text × AppendsFront written.0 written.1 text
+LeavesOutput job budget known written stops (Refused number line) =
+    Keeps written.0 written.1 × (stops.1 ≡ stops.0)
+LeavesOutput job budget known written stops (Limit quantity line) =
+    Keeps written.0 written.1 × (stops.1 ≡ stops.0)
+LeavesOutput job budget known written stops ReadFault = Keeps written.0 written.1 × (stops.1 ≡ stops.0)
+LeavesOutput job budget known written stops NoMemory = Keeps written.0 written.1 × (stops.1 ≡ stops.0)
+
+-- The output has room for each text that a job may write for the formula of an input.
+abbrev pub RoomForJob : Job → ℕ → Option Text → (ℕ → Type 0) → Type 0
+RoomForJob job budget known has_room = (f : Formula) (answer : Answer) (text : Text)
+    → IfSome known (λ bytes. Reads bytes (parsed f)) → IsAnswerTo budget f answer → IsJobText job f answer text
+    → has_room (length text)
+
+-- the verdict of an answer to a formula, with its witness; an unknown one has none
+abbrev pub HasVerdictFor : Formula → Answer → Standing → Type 0
+HasVerdictFor f Sat s = (s.script.verdict ≡ Some (unassumed true)) × IsWitness (opened f) (unassumed true) s.witness
+HasVerdictFor f Unsat s = (s.script.verdict ≡ Some (unassumed false)) × IsWitness (opened f) (unassumed false) s.witness
+HasVerdictFor f Unknown s = ⊤
+
+-- commands came to this formula, and to its answer
+pub record IsAnsweredBy (f : Formula) (answer : Answer) (s : Standing) : Type 0 where
+  pub formula : s.script.formula ≡ opened f
+  pub verdict : HasVerdictFor f answer s
+
+-- there is a verdict
+abbrev pub IsVerdict : Answer → Type 0
+IsVerdict Sat = ⊤
+IsVerdict Unsat = ⊤
+IsVerdict Unknown = ⊥
+
+-- The text of a job is written, or a front of it before a fault; or nothing, for want of memory to tell of a verdict.
+abbrev pub WritesJob : {S : Type 0} → (written flushed : S → Option (List ℕ)) → (S → ℕ) → (S → ℕ → Type 0) → Job
+    → Formula → Answer → S → S → Result (Unit {0}) Ending → Type 0
+WritesJob written flushed faults has_room job f answer old new (Ok u) = (text : Text)
+    × IsJobText job f answer text × Wrote written flushed faults has_room old new text
+WritesJob written flushed faults has_room job f answer old new (Err WriteFault) = (text : Text)
+    × IsJobText job f answer text × Stops written flushed faults has_room old new text
+WritesJob written flushed faults has_room job f answer old new (Err NoMemory) =
+    IsVerdict answer × Wrote written flushed faults has_room old new []
+WritesJob written flushed faults has_room job f answer old new (Err (Done status)) = ⊥
+WritesJob written flushed faults has_room job f answer old new (Err (Refused number line)) = ⊥
+WritesJob written flushed faults has_room job f answer old new (Err (Limit quantity line)) = ⊥
+WritesJob written flushed faults has_room job f answer old new (Err ReadFault) = ⊥
+
+-- a text was written, and all that is written was flushed
+pub record Delivers {S : Type 0} (written flushed : S → Option (List ℕ)) (faults : S → ℕ) (old new : S) (text : Text)
+    : Type 0 where
+  pub appended : Appends (written old) (written new) text
+  pub all_flushed : AllFlushed (written new) (flushed old) (flushed new)
+  pub no_fault : faults new ≡ faults old
+
+-- a front of a text was written, and then a fault came, for which there was no cause where there was room
+pub record Fails {S : Type 0} (written : S → Option (List ℕ)) (faults : S → ℕ) (has_room : S → ℕ → Type 0)
+    (old new : S) (text : Text) : Type 0 where
+  pub front : AppendsFront (written old) (written new) text
+  pub later : faults old ≤ faults new
+  pub rose : Rose (faults old) (faults new)
+  pub no_room : has_room old (length text) → ⊥
+
+-- nothing was written
+pub record IsUntouched {S : Type 0} (written : S → Option (List ℕ)) (faults : S → ℕ) (old new : S) : Type 0 where
+  pub kept : Keeps (written old) (written new)
+  pub no_fault : faults new ≡ faults old
+
+-- A job is replied to, and all is flushed; or a front of the reply is written, before a fault; or there is no memory.
+abbrev pub RepliesTo : {S : Type 0} → (written flushed : S → Option (List ℕ)) → (S → ℕ) → (S → ℕ → Type 0) → Job → ℕ
+    → Formula → S → S → (stops : List Account × List Account) → Result Answer Ending → Type 0
+RepliesTo written flushed faults has_room job budget f old new stops (Ok answer) = (text : Text)
+    × IsReplyTo job budget f stops answer text × Delivers written flushed faults old new text
+RepliesTo written flushed faults has_room job budget f old new stops (Err WriteFault) = (answer : Answer)
+    × (text : Text) × IsReplyTo job budget f stops answer text × Fails written faults has_room old new text
+RepliesTo written flushed faults has_room job budget f old new stops (Err NoMemory) =
+    IsUntouched written faults old new × (stops.1 ≡ stops.0)
+RepliesTo written flushed faults has_room job budget f old new stops (Err (Done status)) = ⊥
+RepliesTo written flushed faults has_room job budget f old new stops (Err (Refused number line)) = ⊥
+RepliesTo written flushed faults has_room job budget f old new stops (Err (Limit quantity line)) = ⊥
+RepliesTo written flushed faults has_room job budget f old new stops (Err ReadFault) = ⊥
