@@ -16,7 +16,7 @@ A trace is checked step by step, by docs/CIRCUITS.md and docs/CALCULUS.md: input
 last step, inputs first, and each step used.
 
 This needs Python 3 alone. abc is the command berkeley-abc of Debian's package of that name; without it all else is
-checked, and a line says so. It takes some seconds. Prints a line a case, and one that counts them, and ends with
+checked, and a line says so. It takes some ten seconds. Prints a line a case and one that counts them, and ends with
 status 1 if a case failed.
 """
 
@@ -532,11 +532,12 @@ def cases(program, has_abc):
 
 def main():
     if len(sys.argv) != 2:
-        sys.exit("usage: circuits.py PROGRAM")
+        print("usage: circuits.py PROGRAM", file=sys.stderr)
+        sys.exit(2)
     program = sys.argv[1]
     has_abc = shutil.which(ABC) is not None
     if not has_abc:
-        print(f"{ABC} isn't there (Debian's package {ABC}): all but its part is checked")
+        print(f"no abc: {ABC}, of Debian's package of that name, isn't there; all but its part is checked")
     passed = failed = 0
     for name, case in cases(program, has_abc):
         try:
