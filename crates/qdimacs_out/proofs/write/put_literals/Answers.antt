@@ -1,0 +1,23 @@
+use Rattle.std.proofs.Common.{◌≤◌, suc, length, ap, sym, ◌∙◌, arith}
+use Rattle.qdimacs_out.specs.Pieces.{spaced}
+use Rattle.qdimacs_out.specs.Texts.{literal_word}
+use Rattle.qdimacs_out.proofs.Writes.{each_more, each_stops}
+use Rattle.qdimacs_out.proofs.write.put_literals.Goals as goal
+
+pub loop-lit-preserved : goal.loop-lit-preserved
+loop-lit-preserved g c =
+    let below : suc c.loop-lit.lit-index ≤ length c.args.lits.now = omega arith in
+    each_more g.S.Sink.written g.S.Sink.flushed g.S.Sink.faults g.S.Sink.has_room
+    (λ l. spaced (literal_word l)) c.args.lits.now c.loop-lit.lit-index c.lit-item.result
+    c.args.sink.now c.loop-lit.sink c.put_words.new.sink c.literal.result.bytes below
+    (ap (λ l. spaced (literal_word l)) (sym c.lit-item.is)
+    ∙ sym c.literal.ensures) c.loop-lit.invariant c.in_ok-put_words.ensures
+
+pub returns-in_err-put_words : goal.returns-in_err-put_words
+returns-in_err-put_words g c =
+    let below : suc c.loop-lit.lit-index ≤ length c.args.lits.now = omega arith in
+    each_stops g.S.Sink.written g.S.Sink.flushed g.S.Sink.faults g.S.Sink.has_room
+    (λ l. spaced (literal_word l)) c.args.lits.now c.loop-lit.lit-index c.lit-item.result
+    c.args.sink.now c.loop-lit.sink c.put_words.new.sink c.literal.result.bytes _ c.from_residual.result below
+    (ap (λ l. spaced (literal_word l)) (sym c.lit-item.is)
+    ∙ sym c.literal.ensures) c.loop-lit.invariant c.in_err-put_words.ensures c.from_residual.ensures.1

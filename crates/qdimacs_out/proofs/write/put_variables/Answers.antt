@@ -1,0 +1,23 @@
+use Rattle.std.proofs.Common.{◌≤◌, suc, length, ap, sym, ◌∙◌, arith}
+use Rattle.std.specs.Fmt.{decimal}
+use Rattle.qdimacs_out.specs.Pieces.{spaced}
+use Rattle.qdimacs_out.proofs.Writes.{each_more, each_stops}
+use Rattle.qdimacs_out.proofs.write.put_variables.Goals as goal
+
+pub loop-v-preserved : goal.loop-v-preserved
+loop-v-preserved g c =
+    let below : suc c.loop-v.v-index ≤ length c.args.vars.now = omega arith in
+    each_more g.S.Sink.written g.S.Sink.flushed g.S.Sink.faults g.S.Sink.has_room
+    (λ v. spaced (decimal v)) c.args.vars.now c.loop-v.v-index c.v-item.result
+    c.args.sink.now c.loop-v.sink c.put_words.new.sink c.variable.result.bytes below
+    (ap (λ v. spaced (decimal v)) (sym c.v-item.is) ∙ sym c.variable.ensures) c.loop-v.invariant
+    c.in_ok-put_words.ensures
+
+pub returns-in_err-put_words : goal.returns-in_err-put_words
+returns-in_err-put_words g c =
+    let below : suc c.loop-v.v-index ≤ length c.args.vars.now = omega arith in
+    each_stops g.S.Sink.written g.S.Sink.flushed g.S.Sink.faults g.S.Sink.has_room
+    (λ v. spaced (decimal v)) c.args.vars.now c.loop-v.v-index c.v-item.result
+    c.args.sink.now c.loop-v.sink c.put_words.new.sink c.variable.result.bytes _ c.from_residual.result below
+    (ap (λ v. spaced (decimal v)) (sym c.v-item.is) ∙ sym c.variable.ensures) c.loop-v.invariant
+    c.in_err-put_words.ensures c.from_residual.ensures.1

@@ -1,0 +1,28 @@
+use Rattle.qdimacs_out.specs.Texts.{formula_text}
+use Rattle.qdimacs_out.proofs.Writes.{cause_of, front_of, kept_of, on_ok, room_of}
+use Rattle.qdimacs_out.proofs.write.write_formula.Goals as goal
+
+pub returns-clause-ok : goal.returns-clause-ok
+returns-clause-ok g c =
+    on_ok g.S.Sink.written g.S.Sink.flushed g.S.Sink.faults g.S.Sink.has_room c.put_formula.result c.args.sink.now
+    c.put_formula.new.sink (formula_text c.args.f.now) c.put_formula.ensures
+
+pub returns-clause-front : goal.returns-clause-front
+returns-clause-front g c =
+    front_of g.S.Sink.written g.S.Sink.flushed g.S.Sink.faults g.S.Sink.has_room c.put_formula.result c.args.sink.now
+    c.put_formula.new.sink (formula_text c.args.f.now) c.put_formula.ensures
+
+pub returns-clause-flushed : goal.returns-clause-flushed
+returns-clause-flushed g c =
+    kept_of g.S.Sink.written g.S.Sink.flushed g.S.Sink.faults g.S.Sink.has_room c.put_formula.result c.args.sink.now
+    c.put_formula.new.sink (formula_text c.args.f.now) c.put_formula.ensures
+
+pub returns-clause-cause : goal.returns-clause-cause
+returns-clause-cause g c =
+    cause_of g.S.Sink.written g.S.Sink.flushed g.S.Sink.faults g.S.Sink.has_room c.put_formula.result c.args.sink.now
+    c.put_formula.new.sink (formula_text c.args.f.now) c.put_formula.ensures
+
+pub returns-clause-room : goal.returns-clause-room
+returns-clause-room g c =
+    room_of g.S.Sink.written g.S.Sink.flushed g.S.Sink.faults g.S.Sink.has_room c.put_formula.result c.args.sink.now
+    c.put_formula.new.sink (formula_text c.args.f.now) c.put_formula.ensures

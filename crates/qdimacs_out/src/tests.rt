@@ -1,0 +1,75 @@
+//! Texts of formulas that are made from seeds, read back, and faults of the sink.
+ghost use Rattle.std.specs.Prelude.{◌≤◌, ◌<◌};
+
+use super::write_formula;
+use generate::make;
+use ports::{Desk, Failed, Input, MemoryDesk, MemorySink};
+use qdimacs::read_formula;
+use std::alloc::Global;
+use std::test::Fail;
+use truth::Formula;
+
+const TWO_CLAUSES: &str = "p cnf 4 2\ne 1 0\na 2 0\ne 3 4 0\n-1 -3 -4 0\n-1 3 -4 0\n";
+
+// A sink with this room that takes at most so many bytes at once.
+fn sink_with(alloc: Global, room: usize, greatest: usize) -> Result<MemorySink, Fail>
+    requires { 0 < greatest }
+{
+    Ok(MemorySink::new(alloc, room, greatest, Vec::new(alloc))?)
+}
+
+// The formula that a text is read as.
+fn read_back(alloc: Global, text: &[u8]) -> Result<Formula, Fail> {
+    let mut inputs = Vec::new(alloc);
+    inputs.push(Input {
+        name: String::from_str(alloc, "-")?,
+        bytes: Vec::from_slice(alloc, text)?,
+    })?;
+    let mut desk = MemoryDesk::new(inputs, 4096, Vec::new(alloc));
+    desk.choose("-")?;
+    Ok(read_formula(alloc, &mut desk)?)
+}
+
+#[test]
+fn made_formulas_have_these_texts(rt: HostRuntime) -> Result<(), Fail> {
+    for (seed, vars, clauses, want) in [
+        (0, 3, 1, "p cnf 3 1\ne 1 0\na 2 0\ne 3 0\n-1 2 -3 0\n"),
+        (1, 4, 2, TWO_CLAUSES),
+        (7, 5, 0, "p cnf 5 0\ne 1 0\na 2 0\ne 3 4 5 0\n"),
+    ] {
+        let mut sink = sink_with(rt.alloc(), 64, 3)?;
+        write_formula(&make(rt.alloc(), seed, vars, clauses)?, &mut sink)?;
+        assert_eq!(rt; sink.bytes(), want.as_bytes(), "seed {seed}");
+        assert_eq!(rt; sink.flushed(), b"".as_slice());
+    }
+    Ok(())
+}
+
+#[test]
+fn what_is_written_is_read_back(rt: HostRuntime) -> Result<(), Fail> {
+    for (seed, vars, clauses) in [(1, 4, 2), (5, 40, 30), (9, 100, 0)] {
+        let mut sink = sink_with(rt.alloc(), 4096, 4096)?;
+        write_formula(&make(rt.alloc(), seed, vars, clauses)?, &mut sink)?;
+        let mut again = sink_with(rt.alloc(), 4096, 4096)?;
+        write_formula(&read_back(rt.alloc(), sink.bytes())?, &mut again)?;
+        assert_eq!(rt; sink.bytes(), again.bytes(), "seed {seed}");
+    }
+    Ok(())
+}
+
+// Each of the calls fails in turn, and then the room is too small.
+#[test]
+fn a_fault_leaves_a_front(rt: HostRuntime) -> Result<(), Fail> {
+    let f = make(rt.alloc(), 1, 4, 2)?;
+    let whole = TWO_CLAUSES.as_bytes();
+    for failing in 1..20 {
+        let failing = vec![in rt.alloc(); failing]?;
+        let mut sink = MemorySink::new(rt.alloc(), 64, 64, failing)?;
+        assert_eq!(rt; write_formula(&f, &mut sink), Err(Failed));
+        assert!(rt; whole.starts_with(sink.bytes()));
+    }
+    let mut sink = sink_with(rt.alloc(), whole.len() - 1, 64)?;
+    assert_eq!(rt; write_formula(&f, &mut sink), Err(Failed));
+    assert_eq!(rt; sink.bytes(), &whole[..whole.len() - 1]);
+    Ok(())
+}
