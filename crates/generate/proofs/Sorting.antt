@@ -15,32 +15,31 @@ use Rattle.qdimacs.proofs.Fitting.{permuted_distinct}
 use Rattle.qdimacs.proofs.InOrder.{permuted_among}
 use Rattle.generate.specs.Made.{by_variable, put}
 
-abbrev variables : List Literal → List ℕ
+abbrev pub variables : List Literal → List ℕ
 variables ls = map (λ (l : Literal). l.variable) ls
 
-abbrev codes : List Literal → List ℕ
+abbrev pub codes : List Literal → List ℕ
 codes ls = map code_of ls
 
 -- a literal is known by its code
 
+abbrev literal : ℕ → Bool → Literal
+literal v s = record { variable = v; positive = s }
+
 literal_back : (l : Literal) → literal_of (code_of l) ≡ l
 literal_back l = by l.variable l.positive
   where
-    by : (v : ℕ) (s : Bool) → literal_of (code_of (record { variable = v; positive = s })) ≡ record {
-      variable =
-          v;
-      positive = s;
-    }
+    by : (v : ℕ) (s : Bool) → literal_of (code_of (literal v s)) ≡ literal v s
     by v true =
         let half : (2 * v + 1) / 2 ≡ v = omega arith in
         let sign : (2 * v + 1) % 2 ≡ 1 = omega arith in
-        ap₂ (λ n r. record { variable = n; positive = r == 1 }) half sign
+        ap₂ (λ n r. literal n (r == 1)) half sign
     by v false =
         let half : (2 * v + 0) / 2 ≡ v = omega arith in
         let sign : (2 * v + 0) % 2 ≡ 0 = omega arith in
-        ap₂ (λ n r. record { variable = n; positive = r == 1 }) half sign
+        ap₂ (λ n r. literal n (r == 1)) half sign
 
-literals_back : (ls : List Literal) → map literal_of (codes ls) ≡ ls
+pub literals_back : (ls : List Literal) → map literal_of (codes ls) ≡ ls
 literals_back [] = refl
 literals_back (l ∷ ls) = ap₂ (λ (k : Literal) ks. k ∷ ks) (literal_back l) (literals_back ls)
 
@@ -63,7 +62,7 @@ codes_above : (k : Literal) (ls : List Literal) → AllByRecursion (λ v. k.vari
 codes_above k [] h = tt
 codes_above k (l ∷ ls) h = (code_less k l h.0, codes_above k ls h.1)
 
-codes_ascend : (ls : List Literal) → IsAscending (variables ls) → IsAscending (codes ls)
+pub codes_ascend : (ls : List Literal) → IsAscending (variables ls) → IsAscending (codes ls)
 codes_ascend [] h = tt
 codes_ascend (l ∷ ls) h = (codes_above l ls h.0, codes_ascend ls h.1)
 

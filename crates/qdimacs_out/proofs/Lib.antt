@@ -1,3 +1,13 @@
 pub mod Writes
 pub mod Lines
 pub mod Numbered
+pub mod All
+pub mod Parting
+pub mod Spelling
+pub mod Items
+pub mod Rows
+pub mod Merging
+pub mod ReadBack
+pub mod Readable
+pub mod Lengths
+pub mod MadeTexts

@@ -14,8 +14,8 @@ use ports::{Failed, Sink, write_all};
 use prefix::{Lit, LitList, Prefix, Quant, Var};
 use truth::Formula;
 
-/// Writes a formula as QDIMACS 1.1 writes it: the header `p cnf VARS CLAUSES` with the declared numbers, a line for each
-/// scope and a line for each clause, in order. This takes no memory.
+/// Writes a formula as QDIMACS 1.1 writes it: the header `p cnf VARS CLAUSES` with the declared numbers, a line for
+/// each scope and a line for each clause, in order. This takes no memory.
 ///
 /// Fails only where the sink does, with a front of the text written.
 pub fn write_formula<S: Sink>(f: &Formula, sink: &mut S) -> Result<(), Failed>
