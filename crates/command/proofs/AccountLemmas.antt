@@ -1,24 +1,21 @@
 -- From `clap`'s account of the words to the command that they ask for, and back.
-use Rattle.std.proofs.Common.{◌≡◌, ◌∙◌, ◌||◌, ◌<◌, ◌^◌, ℕ, Bool, true, false, List, [], ◌∷◌, Option, Some, None, IfNone, unwrap_or, codes, decimal, refl, sym, ap, subst, inl, inr, true≢false}
-use Rattle.std.specs.List.{list_any}
+use Rattle.std.proofs.Common.{◌≡◌, ◌∙◌, ◌||◌, ◌<◌, ◌^◌, ◌-◌, ℕ, Bool, cond, true, false, List, [], ◌∷◌, map, Option, Some, None, unwrap_or, codes, decimal, refl, sym, ap, ap₂, subst, inl, inr, arith}
+use Rattle.std.specs.List.{AllByRecursion}
 use Rattle.std.specs.Option.{option_map_or}
 use Rattle.std.specs.Str.{bytes_eq}
-use Rattle.clap.specs.Words.{App, HasMatchesOf, IsAmong, HasKind, Row, Text, fault_of, first_of, first_value, found_of, rows_of, is_simple, is_simple_and_free, kind_of, subcommand_of, subcommand_rows_of}
-use Rattle.clap.specs.Walk.{rows_after}
+use Rattle.std.proofs.lemmas.Fmt.{decimal_injective}
+use Rattle.clap.specs.Words.{App, HasMatchesOf, IsAmong, HasKind, Row, Text, fault_of, first_of, is_simple, is_simple_and_free, kind_of, subcommand_of, subcommand_rows_of}
 use Rattle.clap.specs.declared.Error.{Error}
 use Rattle.clap.specs.declared.ArgMatches.{ArgMatches}
 use Rattle.clap.specs.declared.error.ErrorKind.TheVariants.{OutOfMemory}
-use Rattle.clap.proofs.WalkLemmas.{first_value-rows}
 use Rattle.clap.proofs.OnLiterals.{clap_on_literals}
-use Rattle.command.specs.Account.{AreValues, HasNoHyphen, IsFoundAs, has_dashes, qbf_app}
-use Rattle.command.specs.Forms.{Asks, AsksWith, Explains, GivesName, budget_of, name_of, word_of}
+use Rattle.command.specs.Account.{AreInput, AreValues, IsFoundAs, has_dashes, is_set, qbf_app}
+use Rattle.command.specs.Forms.{AreAlike, Asks, AsksInput, Explains, GivesInput, budget_of, name_of, numbers_of, qdo_of, word_of}
 use Rattle.command.specs.declared.command.Command.{Command}
+use Rattle.command.specs.declared.command.Command.TheVariants.{Cert, Demo, Gen, Script, Solve, Trace}
 use Rattle.command.specs.declared.refused.Refused.{Refused}
 use Rattle.command.specs.declared.refused.Refused.TheVariants.{Usage, NoMemory}
-use Rattle.command.proofs.Turns.{rules}
-use Rattle.command.proofs.CommandWalk.{LacksDashes}
-use Rattle.command.proofs.FormLemmas.{accounted, has_form, in_form}
-use Rattle.command.proofs.TopWalk.{IsCommandWord, command_account, command_fault, no_words, word_of_command}
+use Rattle.command.proofs.Calls.{asked, called, calls, is_solve_input, qdo_is, told}
 
 pub is_plain_command : is_simple_and_free qbf_app ≡ true
 unfolding clap_on_literals
@@ -37,80 +34,131 @@ account_of a words m is fault matches = (
   (matches (ap is_simple is ∙ is_simple_command)).1 ∙ ap (λ b. subcommand_of b words) is,
 )
 
--- ---- no word is `--`
+-- ---- words ask for one command at most
 
-either_false : (a b : Bool) → (a || b) ≡ false → (a ≡ false) × (b ≡ false)
-either_false true b e = absurd (true≢false e)
-either_false false b e = (refl, e)
+pub one_input : (words : List Text) (v w : Text) (m n : ℕ) (q r : Bool) (g h : Option Text) → AsksInput v words m q g
+    → AsksInput w words n r h → (v ≡ w) × (m ≡ n) × (q ≡ r) × (g ≡ h)
+one_input words v w m n q r g h a b =
+    let both : a.0 ∷ v ∷ a.1 ≡ b.0 ∷ w ∷ b.1 = sym a.2 ∙ b.2 in
+    let word : v ≡ w = cc in
+    let same : a.1 ≡ b.1 = cc in
+    let x = is_solve_input b.1 m q g (subst (λ (ws : List Text). GivesInput ws m q g) same a.3) in
+    let y = is_solve_input b.1 n r h b.3 in
+    let budget : decimal m ≡ decimal n = ap (λ o. unwrap_or o []) (sym x.values.1 ∙ y.values.1) in (
+      word,
+      decimal_injective m n x.values.0 y.values.0 budget,
+      qdo_is b.1 m q g x ∙ sym (qdo_is b.1 n r h y),
+      sym x.values.2 ∙ y.values.2,
+    )
 
-abbrev any_dashes : List Text → Bool
-any_dashes = list_any (λ w. bytes_eq w (codes "--"))
+-- the word is that of a command of numbers, which have these names
+abbrev takes_numbers : Text → Bool
+takes_numbers w = bytes_eq w (codes "gen") || bytes_eq w (codes "demo")
 
-lacks_from : (words : List Text) → any_dashes words ≡ false → LacksDashes words
-lacks_from [] e = tt
-lacks_from (x ∷ xs) e =
-    let both = either_false (bytes_eq x (codes "--")) (any_dashes xs) e in
-    (both.0, lacks_from xs both.1)
+abbrev names_of_numbers : Text → List Text
+names_of_numbers w =
+    cond (bytes_eq w (codes "gen")) (codes "SEED" ∷ codes "VARS" ∷ codes "CLAUSES" ∷ [])
+    (codes "SEED" ∷ codes "COUNT" ∷ [])
 
-any_from : (words : List Text) → LacksDashes words → any_dashes words ≡ false
-any_from [] d = refl
-any_from (x ∷ xs) d = rw d.0 (any_from xs d.1)
+abbrev AreSmall : List ℕ → Type 0
+AreSmall numbers = AllByRecursion (λ n. n < 2 ^ 64) numbers
+
+-- the values of a command, by its word alone
+record AreOfInput (rows : List Row) (c : Command) : Type 0 where
+  pub input : AreInput rows (budget_of c) (name_of c)
+  pub qdo : qdo_of c ≡ cond (bytes_eq (word_of c) (codes "solve")) (is_set rows) false
+  pub numbers : numbers_of c ≡ []
+
+record AreOfNumbers (rows : List Row) (c : Command) : Type 0 where
+  pub budget : budget_of c ≡ 2 ^ 64 - 1
+  pub qdo : qdo_of c ≡ false
+  pub name : name_of c ≡ None
+  pub small : AreSmall (numbers_of c)
+  pub numbers : map (λ n. Some (decimal n)) (numbers_of c) ≡ map (λ id. first_of id rows) (names_of_numbers (word_of c))
+
+of_input : (rows : List Row) (c : Command) → takes_numbers (word_of c) ≡ false → AreValues rows c → AreOfInput rows c
+of_input rows (Solve n q g) e v = record { input = v.0; qdo = v.1; numbers = refl }
+of_input rows (Trace n g) e v = record { input = v; qdo = refl; numbers = refl }
+of_input rows (Cert n g) e v = record { input = v; qdo = refl; numbers = refl }
+of_input rows (Script n g) e v = record { input = v; qdo = refl; numbers = refl }
+of_input rows (Gen s v k) e r = absurd cc
+of_input rows (Demo s k) e r = absurd cc
+
+of_numbers : (rows : List Row) (c : Command) → takes_numbers (word_of c) ≡ true → AreValues rows c → AreOfNumbers rows c
+of_numbers rows (Solve n q g) e v = absurd cc
+of_numbers rows (Trace n g) e v = absurd cc
+of_numbers rows (Cert n g) e v = absurd cc
+of_numbers rows (Script n g) e v = absurd cc
+of_numbers rows (Gen s v k) e r = record {
+  budget = refl;
+  qdo = refl;
+  name = refl;
+  small = (omega (arith, r.0.1.1), (omega (arith, r.1.1.1), (omega (arith, r.2.1.1), tt)));
+  numbers = λ i. sym r.0.0 i ∷ sym r.1.0 i ∷ sym r.2.0 i ∷ [];
+}
+of_numbers rows (Demo s k) e r = record {
+  budget = refl;
+  qdo = refl;
+  name = refl;
+  small = (omega (arith, r.0.1.1), (omega (arith, r.1.1.1), tt));
+  numbers = λ i. sym r.0.0 i ∷ sym r.1.0 i ∷ [];
+}
+
+same_numbers : (xs ys : List ℕ) → AreSmall xs → AreSmall ys
+    → map (λ n. Some (decimal n)) xs ≡ map (λ n. Some (decimal n)) ys → xs ≡ ys
+same_numbers [] [] a b e = refl
+same_numbers [] (y ∷ ys) a b e = absurd cc
+same_numbers (x ∷ xs) [] a b e = absurd cc
+same_numbers (x ∷ xs) (y ∷ ys) a b e =
+    let text : decimal x ≡ decimal y = cc in
+    let rest : map (λ n. Some (decimal n)) xs ≡ map (λ n. Some (decimal n)) ys = cc in
+    ap₂ (λ n ns. n ∷ ns) (decimal_injective x y a.0 b.0 text) (same_numbers xs ys a.1 b.1 rest)
+
+alike : (rows : List Row) (c d : Command) → word_of c ≡ word_of d → AreValues rows c → AreValues rows d → AreAlike c d
+alike rows c d word v w = go (takes_numbers (word_of c)) refl
+  where
+    go : (b : Bool) → takes_numbers (word_of c) ≡ b → AreAlike c d
+    go false e =
+        let x = of_input rows c e v in
+        let y = of_input rows d (ap takes_numbers (sym word) ∙ e) w in
+        let text : decimal (budget_of c) ≡ decimal (budget_of d) = ap (λ o. unwrap_or o []) (sym x.input.1
+        ∙ y.input.1) in
+        record {
+          words = word;
+          budgets = decimal_injective (budget_of c) (budget_of d) x.input.0 y.input.0 text;
+          qdo = x.qdo ∙ ap (λ t. cond (bytes_eq t (codes "solve")) (is_set rows) false) word ∙ sym y.qdo;
+          names = sym x.input.2 ∙ y.input.2;
+          numbers = x.numbers ∙ sym y.numbers;
+        }
+    go true e =
+        let x = of_numbers rows c e v in
+        let y = of_numbers rows d (ap takes_numbers (sym word) ∙ e) w in
+        let texts = x.numbers ∙ ap (λ t. map (λ id. first_of id rows) (names_of_numbers t)) word ∙ sym y.numbers in
+        record {
+          words = word;
+          budgets = x.budget ∙ sym y.budget;
+          qdo = x.qdo ∙ sym y.qdo;
+          names = x.name ∙ sym y.name;
+          numbers = same_numbers (numbers_of c) (numbers_of d) x.small y.small texts;
+        }
+
+found_alike : (o : Option (Text × List Row)) (c d : Command) → IsFoundAs c o → IsFoundAs d o → AreAlike c d
+found_alike o c d x y =
+    let both : Some (word_of c, x.0) ≡ Some (word_of d, y.0) = sym x.1 ∙ y.1 in
+    let word : word_of c ≡ word_of d = ap (λ p. option_map_or (λ (q : Text × List Row). q.0) p []) both in
+    let rows : x.0 ≡ y.0 = ap (λ p. option_map_or (λ (q : Text × List Row). q.1) p []) both in
+    alike y.0 c d word (subst (λ r. AreValues r c) rows x.2) y.2
+
+pub one_command : (words : List Text) (c d : Command) → Asks words c → Asks words d → AreAlike c d
+one_command words c d a b =
+    found_alike (subcommand_of qbf_app words) c d (told words c (calls words c a)).found (told words d
+    (calls words d b)).found
 
 -- ---- from the account to the command
 
-asked_with : (words : List Text) (word : Text) (n : ℕ) (given : Option Text) (rows : List Row)
-    → fault_of qbf_app words ≡ [] → has_dashes words ≡ false → subcommand_of qbf_app words ≡ Some (word, rows)
-    → AreValues rows n given → AsksWith word words n given
-asked_with [] word n given rows fault d sub v = absurd (no_words fault)
-asked_with (program ∷ others) word n given rows fault d sub v =
-    let form = has_form program others (lacks_from others d) fault in
-    let here = sym (command_account form.word form.is_command program form.args)
-    ∙ ap (λ ws. subcommand_of qbf_app (program ∷ ws)) (sym form.all) ∙ sub in
-    let same_word : form.word ≡ word = ap (λ o. option_map_or (λ (p : Text × List Row). p.0) o []) here in
-    let same : rows_after rules [] form.args ≡ rows =
-    ap (λ o. option_map_or (λ (p : Text × List Row). p.1) o []) here in (
-      program,
-      form.args,
-      ap (λ ws. program ∷ ws) (form.all ∙ ap (λ w. w ∷ form.args) same_word),
-      in_form form.args form.taken n given v.0 v.3
-          (ap (first_of (codes "budget")) same ∙ v.1) (ap (first_of (codes "name")) same ∙ v.2),
-    )
-
-pub asked : (words : List Text) (c : Command) → fault_of qbf_app words ≡ [] → has_dashes words ≡ false
+pub asked_by : (words : List Text) (c : Command) → fault_of qbf_app words ≡ [] → has_dashes words ≡ false
     → IsFoundAs c (subcommand_of qbf_app words) → Asks words c
-asked words c fault d found =
-    asked_with words (word_of c) (budget_of c) (name_of c) found.0 fault d found.1 found.2
-
--- ---- and back
-
--- what `clap` tells of words that ask for a command
-pub record IsTold (words : List Text) (word : Text) (n : ℕ) (given : Option Text) : Type 0 where
-  pub rows : List Row
-  pub fault : fault_of qbf_app words ≡ []
-  pub dashes : has_dashes words ≡ false
-  pub found : subcommand_of qbf_app words ≡ Some (word, rows)
-  pub values : AreValues rows n given
-
-no_hyphen : (words : List Text) (given : Option Text) → GivesName words given → HasNoHyphen given
-no_hyphen words None h = tt
-no_hyphen words (Some w) h = h.1
-
-pub told_with : (words : List Text) (word : Text) (n : ℕ) (given : Option Text) → IsCommandWord word
-    → AsksWith word words n given → IsTold words word n given
-told_with words word n given is asks =
-    let program : Text = asks.0 in
-    let args : List Text = asks.1 in
-    let a = accounted args n given asks.3 in
-    subst (λ ws. IsTold ws word n given) (sym asks.2) (record {
-      rows = rows_after rules [] args;
-      fault = command_fault word is program args ∙ a.unfaulted;
-      dashes = any_from (word ∷ args) (is.no_dashes, a.lacks);
-      found = command_account word is program args;
-      values = (a.small, a.budget_at, a.name_at, no_hyphen asks.3.name_words given asks.3.gives_name);
-    })
-
-told : (words : List Text) (c : Command) → Asks words c → IsTold words (word_of c) (budget_of c) (name_of c)
-told words c asks = told_with words (word_of c) (budget_of c) (name_of c) (word_of_command c) asks
+asked_by words c fault d found = asked words c (called words c fault d found)
 
 -- ---- refusals
 
@@ -123,53 +171,16 @@ pub explains_error : (words : List Text) (r : Refused) (e : Error) → (kind_of 
     → HasKind (fault_of qbf_app words) e → Explains words r
 explains_error words r e memory (inl out) = subst (Explains words) (sym (memory out)) tt
 explains_error words r e memory (inr among) =
-    unwanted words r (λ c asks. subst (IsAmong (kind_of e)) (told words c asks).fault among)
+    unwanted words r (λ c asks. subst (IsAmong (kind_of e)) (told words c (calls words c asks)).fault among)
 
 -- words that are out of form
 pub explains_form : (words : List Text) (r : Refused) (m : ArgMatches)
     → subcommand_rows_of m ≡ subcommand_of qbf_app words
     → ((c : Command) → has_dashes words ≡ false → IsFoundAs c (subcommand_rows_of m) → ⊥) → Explains words r
 explains_form words r m is none = unwanted words r (λ c asks.
-    let t = told words c asks in none c t.dashes (t.rows, is ∙ t.found, t.values))
+    let t = told words c (calls words c asks) in none c t.dashes (subst (IsFoundAs c) (sym is) t.found))
 
 pub fault_is : (a : App) (words : List Text) (e : Error) → a ≡ qbf_app
     → (is_simple_and_free a ≡ true → HasKind (fault_of a words) e) → HasKind (fault_of qbf_app words) e
 fault_is a words e is h =
     subst (λ (b : App). HasKind (fault_of b words) e) is (h (ap is_simple_and_free is ∙ is_plain_command))
-
--- ---- the values of a command
-
-pub if_none : {X : Type 0} (o : Option X) (P : Type 0) → P → IfNone o P
-if_none None P p = p
-if_none (Some x) P p = tt
-
-module _ (m : ArgMatches) (n : ℕ) (given : Option Text) where
-  abbrev budget_found : Option Text
-  budget_found = first_value (found_of m) (codes "budget")
-
-  abbrev name_found : Option Text
-  name_found = first_value (found_of m) (codes "name")
-
-  abbrev Found : Type 0
-  Found = AreValues (rows_of (found_of m)) n given
-
-  pub no_budget : None ≡ budget_found → Found → ⊥
-  no_budget is v = let bad = is ∙ first_value-rows (found_of m) (codes "budget") ∙ v.1 in absurd cc
-
-  pub other_budget : (t : Text) → Some t ≡ budget_found → ((k : ℕ) → k < 2 ^ 64 → t ≡ decimal k → ⊥) → Found → ⊥
-  other_budget t is none v =
-      none n v.0 (ap (λ o. unwrap_or o []) (is ∙ first_value-rows (found_of m) (codes "budget") ∙ v.1))
-
-  pub other_name : (o : Option Text) → o ≡ name_found → (HasNoHyphen o → ⊥) → Found → ⊥
-  other_name o is bad v =
-      let same = sym v.2 ∙ sym (first_value-rows (found_of m) (codes "name")) ∙ sym is in
-      bad (subst HasNoHyphen same v.3)
-
-  pub values : (t : Text) → n < 2 ^ 64 → Some t ≡ budget_found → t ≡ decimal n → given ≡ name_found
-      → HasNoHyphen given → Found
-  values t small budget_at text name_at fine = (
-    small,
-    sym (first_value-rows (found_of m) (codes "budget")) ∙ sym budget_at ∙ ap (λ x. Some x) text,
-    sym (first_value-rows (found_of m) (codes "name")) ∙ sym name_at,
-    fine,
-  )

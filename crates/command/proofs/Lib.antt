@@ -2,8 +2,13 @@ pub mod NumberLemmas
 pub mod Turns
 pub mod WordKinds
 pub mod Spelled
-pub mod CommandWalk
-pub mod CommandReads
+pub mod DecimalWords
+pub mod PartWalk
+pub mod PartUses
+pub mod NumberWords
+pub mod InputWords
+pub mod InputForms
 pub mod TopWalk
-pub mod FormLemmas
+pub mod Calls
 pub mod AccountLemmas
+pub mod ValueLemmas

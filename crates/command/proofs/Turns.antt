@@ -2,25 +2,25 @@
 use Rattle.std.proofs.Common.{◌≡◌, ◌≢◌, ◌⊎◌, ℕ, false, List, [], ◌∷◌, length, Option, Some, None, chars, codes, slice_get, refl, sym, ap, inl, inr}
 use Rattle.std.specs.Str.{bytes_eq}
 use Rattle.clap.specs.Lexer.{long_of, short_of}
-use Rattle.clap.specs.Words.{Row, Rule, Shape, Kinds}
+use Rattle.clap.specs.Words.{App, Row, Rule, Shape, Kinds, new_app}
 use Rattle.clap.specs.Kinds.{or_else}
 use Rattle.clap.specs.Walk.{Held, Names, Text, Waiting, Walk, after_flag, long_or_other, option, plain, plain_word, subcommand_met, word_met}
 use Rattle.clap.specs.Simple.{built_leaf, inherited, marked_built, with_leaf_noted}
 use Rattle.clap.specs.Faults.{flag_word_fault, word_fault}
 use Rattle.clap.proofs.WalkLemmas.{bundle_ends}
 use Rattle.clap.proofs.FaultLemmas.{fault_ends}
-use Rattle.command.specs.Account.{command_app, qbf_app}
+use Rattle.command.specs.Account.{qbf_app}
 
 -- a command of the program as it is built
-abbrev pub command_shape : Text → Shape
-command_shape word = built_leaf (inherited (with_leaf_noted (marked_built qbf_app.top)) (command_app word).top)
+abbrev pub command_shape : App → Shape
+command_shape a = built_leaf (inherited (with_leaf_noted (marked_built qbf_app.top)) a.top)
 
--- the same for all words: what stands behind a word is read alike
-abbrev pub leaf : Shape
-leaf = command_shape []
+abbrev pub rules_of : App → List Rule
+rules_of a = (command_shape a).rules
 
-abbrev pub rules : List Rule
-rules = leaf.rules
+-- a command with these rules: what stands behind its word is read alike whatever the word is
+abbrev pub leaf : List Rule → Shape
+leaf rules = record (command_shape (new_app [])) { rules = rules }
 
 -- ---- the states of the walk
 
@@ -38,9 +38,6 @@ no_budget_yet = Some (codes "budget", [])
 abbrev pub as_budget : Text → Pending
 as_budget t = Some (codes "budget", t ∷ [])
 
-abbrev pub as_name : Text → Pending
-as_name w = Some (codes "name", w ∷ [])
-
 abbrev pub held : List Row → Pending → Held
 held rows pending = record { rows = rows; pending = pending; skip = 0 }
 
@@ -50,6 +47,14 @@ at waiting rows pending position =
     record { held = held rows pending; waiting = waiting; position = position; is_trailing = false; stopped = None }
 
 -- ---- kinds that come first
+
+pub nothing_after : (a : Kinds) → or_else a [] ≡ a
+nothing_after [] = refl
+nothing_after (k ∷ ks) = refl
+
+pub first_of_three : (a b c : Kinds) → or_else (or_else a b) c ≡ or_else a (or_else b c)
+first_of_three [] b c = refl
+first_of_three (k ∷ ks) b c = refl
 
 pub no_kinds : (a b : Kinds) → or_else a b ≡ [] → (a ≡ []) × (b ≡ [])
 no_kinds [] b e = (refl, e)

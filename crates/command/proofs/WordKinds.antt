@@ -1,14 +1,14 @@
--- Which words there are, to a command.
-use Rattle.std.proofs.Common.{◌≡◌, ◌≢◌, ◌⊎◌, ◌∙◌, ◌==◌, ℕ, Bool, Decides, true, false, List, [], ◌∷◌, length, Option, Some, None, codes, slice_get, refl, sym, ap, subst, inl, inr}
+-- Which words there are, to a command with these rules.
+use Rattle.std.proofs.Common.{◌≡◌, ◌≢◌, ◌∙◌, ◌==◌, ◌||◌, ℕ, Bool, cond, true, false, List, [], ◌∷◌, length, Option, Some, None, codes, slice_get, refl, sym, ap, subst, inl, inr}
 use Rattle.std.specs.Str.{bytes_eq, chars}
-use Rattle.std.proofs.lemmas.Slice.Eq.{bytes_eq-Decides}
 use Rattle.clap.specs.Lexer.{long_of, short_of}
 use Rattle.clap.specs.Words.{Row, Rule, Shape}
-use Rattle.clap.specs.Walk.{Held, Names, Text, Waiting, arg_by_long, arg_by_short, long_word, subcommand_met, word_met}
+use Rattle.clap.specs.Walk.{Held, Names, Text, Waiting, arg_by_id, arg_by_long, arg_by_short, long_word, subcommand_met, word_met}
 use Rattle.clap.specs.Faults.{bundle_step_fault, flags_fault, long_fault, react_fault, settle_fault, word_fault}
 use Rattle.clap.specs.Simple.{filled, help_rule}
 use Rattle.clap.specs.declared.error.ErrorKind.TheVariants.{DisplayHelp}
-use Rattle.command.proofs.Turns.{IsPlainWord, Pending, held, leaf, rules, some_left, some_right}
+use Rattle.command.specs.Account.{budget_rule, qdo_rule}
+use Rattle.command.proofs.Turns.{IsPlainWord, Pending, held, leaf, some_left, some_right}
 
 abbrev pub IsNotDashes : Text → Type 0
 IsNotDashes w = bytes_eq w (45 ∷ 45 ∷ []) ≡ false
@@ -48,7 +48,7 @@ asks_for_help c again h = some_right (settle_fault c again h) (DisplayHelp ∷ [
 
 -- the only flag with one hyphen is help
 abbrev pub KnowsHelpAlone : List Rule → Type 0
-KnowsHelpAlone c = (x : ℕ) → (arg_by_short c x ≡ None) ⊎ (arg_by_short c x ≡ Some help)
+KnowsHelpAlone c = (x : ℕ) → arg_by_short c x ≡ cond ((104 == x) || false) (Some help) None
 
 pub first_flag : (c : List Rule) (again : Bool) (flags : Text) (x : ℕ) (h : Held)
     → Some x ≡ slice_get (chars flags) 0 → KnowsHelpAlone c → flags_fault c again (length flags) flags 0 h ≢ []
@@ -56,58 +56,84 @@ unfolding flags_fault chars
 first_flag c again [] x h first known = λ e. absurd cc
 first_flag c again (f ∷ flags) x h first known =
     subst (λ o. bundle_step_fault c again o (f ∷ flags) 0 h (flags_fault c again (length flags)) ≢ []) first
-    (go (known x))
+    (go (104 == x) (known x))
   where
-    go : (arg_by_short c x ≡ None) ⊎ (arg_by_short c x ≡ Some help)
+    go : (b : Bool) → arg_by_short c x ≡ cond (b || false) (Some help) None
         → bundle_step_fault c again (Some x) (f ∷ flags) 0 h (flags_fault c again (length flags)) ≢ []
-    go (inl none) = rw none (λ e. absurd cc)
-    go (inr some) = rw some (some_left (react_fault c again help [] h) _ (asks_for_help c again h))
+    go false none = rw none (λ e. absurd cc)
+    go true some = rw some (some_left (react_fault c again help [] h) _ (asks_for_help c again h))
 
-pub leaf_knows_help : KnowsHelpAlone rules
-leaf_knows_help x = go (104 == x) refl
+-- a name with two hyphens is that of help, or of no option
+abbrev pub FindsHelpAlone : List Rule → Text → Type 0
+FindsHelpAlone c name = arg_by_long c name ≡ cond (bytes_eq (codes "help") name || false) (Some help) None
+
+pub long_fails : (c : List Rule) (name : Text) → FindsHelpAlone c name → (v : Option Text) (h : Held)
+    → long_fault c false (arg_by_long c name) v h ≢ []
+long_fails c name found v h = go (bytes_eq (codes "help") name) v found
   where
-    go : (b : Bool) → (104 == x) ≡ b → (arg_by_short rules x ≡ None) ⊎ (arg_by_short rules x ≡ Some help)
-    go true e = inr (rw e refl)
-    go false e = inl (rw e refl)
+    go : (b : Bool) (v : Option Text) → arg_by_long c name ≡ cond (b || false) (Some help) None
+        → long_fault c false (arg_by_long c name) v h ≢ []
+    go false v none = rw none (λ e. absurd cc)
+    go true None some = rw some (asks_for_help c false h)
+    go true (Some t) some = rw some (λ e. absurd cc)
 
 -- ---- the kinds
 
-pub data Kind (w : Text) : Type 0 where
-  is_plain : IsPlainWord w → Kind w
-  is_flag : long_of w ≡ Some (codes "budget", None) → Kind w
-  sets : (t : Text) → long_of w ≡ Some (codes "budget", Some t) → Kind w
-  is_refused : IsRefused leaf [] w → Kind w
+abbrev pub budget : Rule
+budget = filled budget_rule
 
-by_char : (w : Text) → IsNotDashes w → long_of w ≡ None → (flags : Text) → short_of w ≡ Some flags
-    → (o : Option ℕ) → o ≡ slice_get (chars flags) 0 → Kind w
-by_char w dashes l flags f None c = is_plain (record { dashes = dashes; long = l; short = inr (flags, f, c) })
-by_char w dashes l flags f (Some x) c = is_refused (λ waiting rows pending unmet.
-    rw (short_fault_is leaf [] waiting w unmet dashes rows pending flags l f)
-    (first_flag rules false flags x (held rows pending) c leaf_knows_help))
+abbrev pub qdo : Rule
+qdo = filled qdo_rule
 
-by_short : (w : Text) → IsNotDashes w → long_of w ≡ None → (o : Option Text) → short_of w ≡ o → Kind w
-by_short w dashes l None f = is_plain (record { dashes = dashes; long = l; short = inl f })
-by_short w dashes l (Some flags) f = by_char w dashes l flags f (slice_get (chars flags) 0) refl
+-- the rules have `--budget N`
+abbrev pub KnowsBudget : List Rule → Type 0
+KnowsBudget c = (arg_by_long c (codes "budget") ≡ Some budget) × (arg_by_id c (codes "budget") ≡ Some budget)
 
--- a long word that names no option
-unknown_long : (name : Text) (v : Option Text) (h : Held) → bytes_eq (codes "budget") name ≡ false
-    → (b : Bool) → bytes_eq (codes "help") name ≡ b → long_fault rules false (arg_by_long rules name) v h ≢ []
-unknown_long name v h e false f = rw (e, f) (λ x. absurd cc)
-unknown_long name None h e true f = rw (e, f) (asks_for_help rules false h)
-unknown_long name (Some t) h e true f = rw (e, f) (λ x. absurd cc)
+-- the rules have `--qdo`
+abbrev pub KnowsQdo : List Rule → Type 0
+KnowsQdo c = arg_by_long c (codes "qdo") ≡ Some qdo
 
-by_name : (w : Text) → IsNotDashes w → (name : Text) (v : Option Text) → long_of w ≡ Some (name, v)
-    → (b : Bool) → bytes_eq (codes "budget") name ≡ b → Decides b (codes "budget" ≡ name) → Kind w
-by_name w dashes name v l false e d = is_refused (λ waiting rows pending unmet.
-    rw (long_fault_is leaf [] waiting w unmet dashes rows pending name v l)
-    (unknown_long name v (held rows pending) e (bytes_eq (codes "help") name) refl))
-by_name w dashes name None l true e d = is_flag (l ∙ ap (λ (n : Text). Some (n, None)) (sym (d.0 refl)))
-by_name w dashes name (Some t) l true e d = sets t (l ∙ ap (λ (n : Text). Some (n, Some t)) (sym (d.0 refl)))
+-- what the rules make of a word with two hyphens and this name
+pub data Long (c : List Rule) (name : Text) : Type 0 where
+  long_budget : codes "budget" ≡ name → KnowsBudget c → Long c name
+  long_qdo : codes "qdo" ≡ name → KnowsQdo c → Long c name
+  long_refused : FindsHelpAlone c name → Long c name
 
-by_long : (w : Text) → IsNotDashes w → (o : Option (Text × Option Text)) → long_of w ≡ o → Kind w
-by_long w dashes None l = by_short w dashes l (short_of w) refl
-by_long w dashes (Some p) l =
-    by_name w dashes p.0 p.1 l (bytes_eq (codes "budget") p.0) refl (bytes_eq-Decides (codes "budget") p.0)
+pub data Kind (c : List Rule) (w : Text) : Type 0 where
+  is_plain : IsPlainWord w → Kind c w
+  is_budget : KnowsBudget c → long_of w ≡ Some (codes "budget", None) → Kind c w
+  sets_budget : KnowsBudget c → (t : Text) → long_of w ≡ Some (codes "budget", Some t) → Kind c w
+  is_qdo : KnowsQdo c → long_of w ≡ Some (codes "qdo", None) → Kind c w
+  is_refused : IsRefused (leaf c) [] w → Kind c w
 
-pub kind_of_word : (w : Text) → IsNotDashes w → Kind w
-kind_of_word w dashes = by_long w dashes (long_of w) refl
+module _ (c : List Rule) (help_alone : KnowsHelpAlone c) (long : (name : Text) → Long c name) (w : Text)
+    (dashes : IsNotDashes w) where
+  by_char : long_of w ≡ None → (flags : Text) → short_of w ≡ Some flags → (o : Option ℕ)
+      → o ≡ slice_get (chars flags) 0 → Kind c w
+  by_char l flags f None e = is_plain (record { dashes = dashes; long = l; short = inr (flags, f, e) })
+  by_char l flags f (Some x) e = is_refused (λ waiting rows pending unmet.
+      rw (short_fault_is (leaf c) [] waiting w unmet dashes rows pending flags l f)
+      (first_flag c false flags x (held rows pending) e help_alone))
+
+  by_short : long_of w ≡ None → (o : Option Text) → short_of w ≡ o → Kind c w
+  by_short l None f = is_plain (record { dashes = dashes; long = l; short = inl f })
+  by_short l (Some flags) f = by_char l flags f (slice_get (chars flags) 0) refl
+
+  by_name : (name : Text) (v : Option Text) → long_of w ≡ Some (name, v) → Long c name → Kind c w
+  by_name name v l (long_refused found) = is_refused (λ waiting rows pending unmet.
+      rw (long_fault_is (leaf c) [] waiting w unmet dashes rows pending name v l)
+      (long_fails c name found v (held rows pending)))
+  by_name name None l (long_budget e knows) = is_budget knows (l ∙ ap (λ (n : Text). Some (n, None)) (sym e))
+  by_name name (Some t) l (long_budget e knows) = sets_budget knows t (l ∙ ap (λ (n : Text). Some (n, Some t)) (sym e))
+  by_name name None l (long_qdo e knows) = is_qdo knows (l ∙ ap (λ (n : Text). Some (n, None)) (sym e))
+  by_name name (Some t) l (long_qdo e knows) = is_refused (λ waiting rows pending unmet.
+      let at_qdo = l ∙ ap (λ (n : Text). Some (n, Some t)) (sym e) in
+      rw (long_fault_is (leaf c) [] waiting w unmet dashes rows pending (codes "qdo") (Some t) at_qdo, knows)
+      (λ bad. absurd cc))
+
+  by_long : (o : Option (Text × Option Text)) → long_of w ≡ o → Kind c w
+  by_long None l = by_short l (short_of w) refl
+  by_long (Some p) l = by_name p.0 p.1 l (long p.0)
+
+  pub kind_of_word : Kind c w
+  kind_of_word = by_long (long_of w) refl

@@ -1,13 +1,18 @@
 -- The command line as `clap` is told of it, and `clap`'s account of the words.
-use Rattle.std.specs.Prelude.{◌≡◌, ◌≢◌, ⊤, ℕ, ◌<◌, ◌^◌, List, Option, Some, None, [], ◌∷◌, Bool, true, codes, drop, fold, slice_get}
+use Rattle.std.specs.Prelude.{◌≡◌, ◌≢◌, ⊤, ℕ, ◌<◌, ◌^◌, List, Option, Some, None, [], ◌∷◌, Bool, true, codes, drop, false, fold, option_map, slice_get}
 use Rattle.std.specs.Fmt.{decimal}
 use Rattle.std.specs.List.{list_any}
+use Rattle.std.specs.Option.{option_map_or}
 use Rattle.std.specs.Str.{bytes_eq}
 use Rattle.clap.specs.Words.{App, Row, Rule, Text, fault_of, first_of, new_app, new_rule, subcommand_of, with_rule, with_subcommand}
 use Rattle.clap.specs.Simple.{on_top}
+use Rattle.clap.specs.declared.builder.ArgAction.TheVariants.{SetTrue}
 use Rattle.clap.specs.declared.builder.ValueParser.TheVariants as parser
 use Rattle.command.specs.declared.command.Command.{Command}
-use Rattle.command.specs.Forms.{budget_of, name_of, word_of}
+use Rattle.command.specs.declared.command.Command.TheVariants.{Solve, Trace, Cert, Script, Gen, Demo}
+use Rattle.command.specs.Forms.{IsBetween, word_of}
+
+-- ---- what `clap` is told
 
 -- `--budget N`, with N of 64 bits, and 2^64 - 1 where it isn't given
 abbrev pub budget_rule : Rule
@@ -18,17 +23,40 @@ budget_rule = record (new_rule (codes "budget")) {
   defaults = codes "18446744073709551615" ∷ [];
 }
 
+-- `--qdo`
+abbrev pub qdo_rule : Rule
+qdo_rule = record (new_rule (codes "qdo")) { long = Some (codes "qdo"); action = Some SetTrue }
+
 -- `[NAME]`
 abbrev pub name_rule : Rule
 name_rule = record (new_rule (codes "name")) { value_names = 1 }
+
+-- a number that is wanted, from the least to the most
+abbrev pub number_rule : Text → ℕ → ℕ → Rule
+number_rule id least most = record (new_rule id) { required = true; parser = Some (parser.Unsigned least most) }
 
 -- `WORD [--budget N] [NAME]`, for the word of a command
 abbrev pub command_app : Text → App
 command_app word = with_rule (with_rule (new_app word) budget_rule) name_rule
 
--- the words of the commands
-abbrev pub command_words : List Text
-command_words = codes "solve" ∷ codes "trace" ∷ codes "cert" ∷ codes "script" ∷ []
+-- `solve [--budget N] [--qdo] [NAME]`
+abbrev pub solve_app : App
+solve_app = with_rule (command_app (codes "solve")) qdo_rule
+
+-- `gen SEED VARS CLAUSES`
+abbrev pub gen_app : App
+gen_app = with_rule (with_rule (with_rule (new_app (codes "gen")) (number_rule (codes "SEED") 0 4294967295))
+    (number_rule (codes "VARS") 3 32000)) (number_rule (codes "CLAUSES") 0 1000000)
+
+-- `demo SEED COUNT`
+abbrev pub demo_app : App
+demo_app = with_rule (with_rule (new_app (codes "demo")) (number_rule (codes "SEED") 0 4294967295))
+    (number_rule (codes "COUNT") 1 10000)
+
+-- the commands
+abbrev pub command_apps : List App
+command_apps = solve_app ∷ command_app (codes "trace") ∷ command_app (codes "cert") ∷ command_app (codes "script")
+    ∷ gen_app ∷ demo_app ∷ []
 
 -- the program without its commands, one of which is wanted
 abbrev pub bare_app : App
@@ -36,21 +64,50 @@ bare_app = on_top (λ s. record s { subcommand_required = true }) (new_app (code
 
 -- the program
 abbrev pub qbf_app : App
-qbf_app = fold (λ app word. with_subcommand app (command_app word).top) bare_app command_words
+qbf_app = fold (λ app command. with_subcommand app command.top) bare_app command_apps
+
+-- ---- what `clap` found
 
 -- the word doesn't begin with `-`
 abbrev pub HasNoHyphen : Option Text → Type 0
 HasNoHyphen None = ⊤
 HasNoHyphen (Some word) = slice_get word 0 ≢ Some 45
 
--- the values that `clap` found for a command are these, and in form
-abbrev pub AreValues : List Row → ℕ → Option Text → Type 0
-AreValues rows budget name = (budget < 2 ^ 64) × (first_of (codes "budget") rows ≡ Some (decimal budget))
+-- the budget and the name are these, and in form
+abbrev pub AreInput : List Row → ℕ → Option Text → Type 0
+AreInput rows budget name = (budget < 2 ^ 64) × (first_of (codes "budget") rows ≡ Some (decimal budget))
     × (first_of (codes "name") rows ≡ name) × HasNoHyphen name
+
+-- `--qdo` is given
+abbrev pub is_set : List Row → Bool
+is_set rows = option_map_or (λ text. bytes_eq text (codes "true")) (first_of (codes "qdo") rows) false
+
+-- the number of this name is this one, from the least to the most
+abbrev pub IsNumberAt : Text → ℕ → ℕ → List Row → ℕ → Type 0
+IsNumberAt id least most rows n = (first_of id rows ≡ Some (decimal n)) × IsBetween least most n
+
+-- the numbers of `gen`
+abbrev pub AreGen : List Row → ℕ → ℕ → ℕ → Type 0
+AreGen rows seed vars clauses = IsNumberAt (codes "SEED") 0 4294967295 rows seed
+    × IsNumberAt (codes "VARS") 3 32000 rows vars × IsNumberAt (codes "CLAUSES") 0 1000000 rows clauses
+
+-- the numbers of `demo`
+abbrev pub AreDemo : List Row → ℕ → ℕ → Type 0
+AreDemo rows seed count = IsNumberAt (codes "SEED") 0 4294967295 rows seed
+    × IsNumberAt (codes "COUNT") 1 10000 rows count
+
+-- the values that `clap` found are those of the command, and in form
+abbrev pub AreValues : List Row → Command → Type 0
+AreValues rows (Solve budget qdo name) = AreInput rows budget (option_map (λ s. s.now) name) × (qdo ≡ is_set rows)
+AreValues rows (Trace budget name) = AreInput rows budget (option_map (λ s. s.now) name)
+AreValues rows (Cert budget name) = AreInput rows budget (option_map (λ s. s.now) name)
+AreValues rows (Script budget name) = AreInput rows budget (option_map (λ s. s.now) name)
+AreValues rows (Gen seed vars clauses) = AreGen rows seed vars clauses
+AreValues rows (Demo seed count) = AreDemo rows seed count
 
 -- the subcommand that `clap` found is the command, with its values
 abbrev pub IsFoundAs : Command → Option (Text × List Row) → Type 0
-IsFoundAs c found = (rows : List Row) × (found ≡ Some (word_of c, rows)) × AreValues rows (budget_of c) (name_of c)
+IsFoundAs c found = (rows : List Row) × (found ≡ Some (word_of c, rows)) × AreValues rows c
 
 -- by `clap`'s account no word is at fault, and the subcommand is the command
 abbrev pub IsAccountOf : List Text → Command → Type 0

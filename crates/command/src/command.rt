@@ -3,12 +3,37 @@
 /// A command, with the values that its words give. Without a name its text is read from standard input.
 #[derive(Clone, Copy, Debug, PartialEq, Eq)]
 pub enum Command<'a> {
-    /// Decide one formula, with at most this many steps.
-    Solve { budget: u64, name: Option<&'a str> },
+    /// Decide one formula, with at most this many steps, and reply in the lines of QDIMACS where `qdo` asks for them.
+    Solve {
+        budget: u64,
+        qdo: bool,
+        name: Option<&'a str>,
+    },
     /// Write the derivation that a formula's verdict rests on, with at most this many steps.
-    Trace { budget: u64, name: Option<&'a str> },
+    Trace {
+        budget: u64,
+        name: Option<&'a str>,
+    },
     /// Write the circuit that wins for a formula's verdict, with at most this many steps.
-    Cert { budget: u64, name: Option<&'a str> },
+    Cert {
+        budget: u64,
+        name: Option<&'a str>,
+    },
     /// Reply to a script of incremental commands, with at most this many steps in each of its solves.
-    Script { budget: u64, name: Option<&'a str> },
+    Script {
+        budget: u64,
+        name: Option<&'a str>,
+    },
+    /// Write the formula that the generator makes of this seed, with 3 to 32,000 variables and at most 1,000,000
+    /// clauses.
+    Gen {
+        seed: u32,
+        vars: u32,
+        clauses: u32,
+    },
+    /// Solve this many formulas of the generator, 1 to 10,000, from this seed on.
+    Demo {
+        seed: u32,
+        count: u32,
+    },
 }

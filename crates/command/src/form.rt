@@ -1,38 +1,61 @@
 //! The command line as `clap` is told of it.
 ghost use Rattle.std.specs.Prelude.{◌≡◌, IfOk, false};
-ghost use Rattle.clap.specs.Words.{app_of};
+ghost use Rattle.clap.specs.Words.{app_of, rule_of};
 ghost use Rattle.clap.specs.declared.builder.Command.TheViews.{out-Command as fields_of};
-ghost use Rattle.command.specs.Account.{command_app, qbf_app};
+ghost use Rattle.command.specs.Account.{command_app, demo_app, gen_app, number_rule, qbf_app, solve_app};
 
-use clap::{Arg, Command, value_parser};
+use clap::builder::ValueParser;
+use clap::{Arg, ArgAction, Command, value_parser};
 use std::alloc::{AllocError, Global};
+
+pub(crate) const GREATEST_SEED: u32 = u32::MAX;
+
+pub(crate) const LEAST_VARS: u32 = 3;
+
+pub(crate) const GREATEST_VARS: u32 = 32_000;
+
+pub(crate) const GREATEST_CLAUSES: u32 = 1_000_000;
+
+pub(crate) const LEAST_COUNT: u32 = 1;
+
+pub(crate) const GREATEST_COUNT: u32 = 10_000;
 
 // The program `qbf`.
 pub(crate) fn program<'a>(alloc: Global) -> Result<Command<'a>, AllocError>
     ensures { IfOk result (λ c. app_of c ≡ qbf_app) }
 {
-    let solve = command(alloc, "solve", "Decides one formula in QDIMACS")?;
-    let trace = command(
-        alloc,
-        "trace",
-        "Writes the derivation of a formula's verdict",
-    )?;
-    let cert = command(
-        alloc,
-        "cert",
-        "Writes the winning circuit of a formula's verdict",
-    )?;
-    let script = command(alloc, "script", "Replies to a script of commands")?;
     Command::new(alloc, "qbf")
         .about("Decides quantified Boolean formulas")
         .subcommand_required(true)
-        .subcommand(solve)?
-        .subcommand(trace)?
-        .subcommand(cert)?
-        .subcommand(script)
+        .subcommand(solve(alloc)?)?
+        .subcommand(command(
+            alloc,
+            "trace",
+            "Writes the derivation of a formula's verdict",
+        )?)?
+        .subcommand(command(
+            alloc,
+            "cert",
+            "Writes the winning circuit of a formula's verdict",
+        )?)?
+        .subcommand(command(alloc, "script", "Replies to a script of commands")?)?
+        .subcommand(generator(alloc)?)?
+        .subcommand(demonstration(alloc)?)
 }
 
-// A command of this word, of which help says this about it.
+// The command that decides one formula.
+fn solve<'a>(alloc: Global) -> Result<Command<'a>, AllocError>
+    ensures app { IfOk result (λ c. app_of c ≡ solve_app) }
+    ensures local { IfOk result (λ c. (fields_of c).has_globals ≡ false) }
+{
+    let qdo = Arg::new(alloc, "qdo")
+        .long("qdo")
+        .help("Writes the verdict and the outermost values as QDIMACS output")
+        .action(ArgAction::SetTrue);
+    command(alloc, "solve", "Decides one formula in QDIMACS")?.arg(qdo)
+}
+
+// A command of this word that reads an input, of which help says this about it.
 fn command<'a>(alloc: Global, word: &'a str, about: &'a str) -> Result<Command<'a>, AllocError>
     ensures app { IfOk result (λ c. app_of c ≡ command_app word.entry.now) }
     ensures local { IfOk result (λ c. (fields_of c).has_globals ≡ false) }
@@ -50,4 +73,68 @@ fn command<'a>(alloc: Global, word: &'a str, about: &'a str) -> Result<Command<'
         .about(about)
         .arg(budget)?
         .arg(name)
+}
+
+// The command that writes a generated formula.
+fn generator<'a>(alloc: Global) -> Result<Command<'a>, AllocError>
+    ensures app { IfOk result (λ c. app_of c ≡ gen_app) }
+    ensures local { IfOk result (λ c. (fields_of c).has_globals ≡ false) }
+{
+    Command::new(alloc, "gen")
+        .about("Writes a generated formula in QDIMACS")
+        .arg(number(
+            alloc,
+            "SEED",
+            "The seed of the formula, at most 4294967295",
+            0,
+            GREATEST_SEED,
+        ))?
+        .arg(number(
+            alloc,
+            "VARS",
+            "How many variables it has, from 3 to 32000",
+            LEAST_VARS,
+            GREATEST_VARS,
+        ))?
+        .arg(number(
+            alloc,
+            "CLAUSES",
+            "How many clauses it has, at most 1000000",
+            0,
+            GREATEST_CLAUSES,
+        ))
+}
+
+// The command that solves generated formulas.
+fn demonstration<'a>(alloc: Global) -> Result<Command<'a>, AllocError>
+    ensures app { IfOk result (λ c. app_of c ≡ demo_app) }
+    ensures local { IfOk result (λ c. (fields_of c).has_globals ≡ false) }
+{
+    Command::new(alloc, "demo")
+        .about("Solves generated formulas and counts the verdicts")
+        .arg(number(
+            alloc,
+            "SEED",
+            "The seed of the first formula, at most 4294967295",
+            0,
+            GREATEST_SEED,
+        ))?
+        .arg(number(
+            alloc,
+            "COUNT",
+            "How many formulas there are, from 1 to 10000",
+            LEAST_COUNT,
+            GREATEST_COUNT,
+        ))
+}
+
+// A number that is wanted, from `least` to `most`.
+fn number<'a>(alloc: Global, id: &'a str, help: &'a str, least: u32, most: u32) -> Arg<'a>
+    ensures rule { rule_of result ≡ number_rule id.entry.now least most }
+    ensures local { result.global ≡ false }
+{
+    Arg::new(alloc, id)
+        .help(help)
+        .value_parser(ValueParser::unsigned(u64::from(least), u64::from(most)))
+        .required(true)
 }

@@ -8,6 +8,7 @@ mod read;
 mod refused;
 #[cfg(test)]
 mod tests;
+mod values;
 
 pub use command::Command;
 pub use read::{read_command, words_ask_for_one_command};

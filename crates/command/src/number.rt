@@ -1,5 +1,5 @@
 //! Numbers in decimal.
-ghost use Rattle.std.specs.Prelude.{◌≡◌, ◌≢◌, ◌↔◌, ℕ, ◌<◌, ◌^◌, IsTrue, IfSome, IfNone, length, slice_index};
+ghost use Rattle.std.specs.Prelude.{◌≡◌, ◌≢◌, ◌↔◌, ℕ, ◌<◌, ◌≤◌, ◌^◌, IsTrue, IfSome, IfNone, length, slice_index};
 ghost use Rattle.std.specs.Fmt.{decimal};
 
 // The number whose decimal text this is, without a sign or a needless zero.
@@ -14,6 +14,18 @@ pub(crate) fn number_of(text: &str) -> Option<u64>
         Ok(number) => Some(number),
         Err(_) => None,
     }
+}
+
+// The number from `least` to `most` whose decimal text this is, without a sign or a needless zero.
+pub(crate) fn number_between(text: &str, least: u32, most: u32) -> Option<u32>
+    ensures some { IfSome result (λ n. (text.now ≡ decimal n) × (least ≤ n) × (n ≤ most)) }
+    ensures none { IfNone result ((n : ℕ) → least ≤ n → n ≤ most → text.now ≢ decimal n) }
+{
+    let number = number_of(text)?;
+    if number < u64::from(least) || u64::from(most) < number {
+        return None;
+    }
+    Some(number as u32)
 }
 
 // Whether no plus and no needless zero stands in front.

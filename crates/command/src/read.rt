@@ -1,16 +1,16 @@
 //! The command that words ask for.
-ghost use Rattle.std.specs.Prelude.{◌≡◌, ◌≢◌, ◌↔◌, ℕ, Option, IsTrue, option_map, List, Some, [], ◌∷◌, false, IfOk, IfErr, IfSome, IfNone, map, codes, string_bytes};
+ghost use Rattle.std.specs.Prelude.{◌≡◌, ◌≢◌, ◌↔◌, ℕ, Bool, Option, IsTrue, option_map, List, Some, [], ◌∷◌, false, IfOk, IfErr, IfSome, IfNone, map, codes, string_bytes};
 ghost use Rattle.std.specs.List.{list_any};
 ghost use Rattle.std.specs.Str.{bytes_eq};
 ghost use Rattle.clap.specs.Words.{found_of, kind_of, rows_of, subcommand_rows_of};
-ghost use Rattle.command.specs.Account.{AreValues, HasNoHyphen, IsAccountOf, IsFoundAs, has_dashes};
-ghost use Rattle.command.specs.Forms.{AreAlike, Asks, AsksWith, Explains, Text, budget_of, name_of, word_of};
+ghost use Rattle.command.specs.Account.{IsAccountOf, IsFoundAs, has_dashes};
+ghost use Rattle.command.specs.Forms.{AreAlike, Asks, AsksInput, Explains, Text};
 ghost use Rattle.command.specs.declared.command.Command.{Command as CommandSpec};
 
 use super::command::Command;
 use super::form::program;
-use super::number::number_of;
 use super::refused::Refused;
+use super::values::command_found;
 use clap::ArgMatches;
 use clap::error::{Error, ErrorKind};
 use std::alloc::Global;
@@ -52,7 +52,7 @@ fn refused(alloc: Global, error: &Error) -> Refused
 // The refusal of words that `clap` takes and that are out of form.
 fn out_of_form(alloc: Global, program: &mut clap::Command<'_>) -> Refused {
     let message =
-        "N has no sign and no needless zero, NAME begins with no '-', and '--' is no word";
+        "a number has no sign and no needless zero, NAME begins with no '-', and '--' is no word";
     match program.error(ErrorKind::ValueValidation, message) {
         Ok(error) => refused(alloc, &error),
         Err(_) => Refused::NoMemory,
@@ -70,23 +70,7 @@ fn command_of<'a>(words: &[String], matches: &ArgMatches<'a>) -> Option<Command<
         return None;
     }
     let (word, found) = matches.subcommand()?;
-    let (budget, name) = values_of(found)?;
-    command_named(word, budget, name)
-}
-
-// The command of this word, if there is one, with these values.
-fn command_named<'a>(word: &str, budget: u64, name: Option<&'a str>) -> Option<Command<'a>>
-    ensures some { IfSome result (λ c. (word_of c ≡ word.now) × (budget_of c ≡ budget)
-        × (name_of c ≡ option_map (λ s. s.now) name.entry)) }
-    ensures none { IfNone result ((c : CommandSpec) → word_of c ≢ word.now) }
-{
-    match word {
-        "solve" => Some(Command::Solve { budget, name }),
-        "trace" => Some(Command::Trace { budget, name }),
-        "cert" => Some(Command::Cert { budget, name }),
-        "script" => Some(Command::Script { budget, name }),
-        _ => None,
-    }
+    command_found(word, found)
 }
 
 // Whether a word behind the program's name is `--`.
@@ -106,33 +90,10 @@ fn contains_dashes(words: &[String]) -> bool
     words.iter().any(|word| word.as_str() == "--")
 }
 
-// The values in the matches of a command, if they are in form.
-fn values_of<'a>(found: &ArgMatches<'a>) -> Option<(u64, Option<&'a str>)>
-    ensures some { IfSome result (λ v. AreValues (rows_of (found_of found.now)) v.0 (option_map (λ s. s.now) v.1)) }
-    ensures none { IfNone result ((n : ℕ) (g : Option Text) → ¬ AreValues (rows_of (found_of found.now)) n g) }
-{
-    let budget = number_of(found.get_str("budget")?)?;
-    let name = found.get_str("name");
-    if !has_no_hyphen(name) {
-        return None;
-    }
-    Some((budget, name))
-}
-
-// Whether a name, if there is one, doesn't begin with `-`.
-fn has_no_hyphen(name: Option<&str>) -> bool
-    ensures { IsTrue result ↔ HasNoHyphen (option_map (λ s. s.now) name.entry) }
-{
-    match name {
-        Some(word) => word.as_bytes().first() != Some(&b'-'),
-        None => true,
-    }
-}
-
 /// A law: words ask for one command at most.
 pub fn words_ask_for_one_command()
-    // whatever the words of two commands are
-    ensures values { (words : List Text) (v w : Text) (m n : ℕ) (g h : Option Text)
-        → AsksWith v words m g → AsksWith w words n h → (v ≡ w) × (m ≡ n) × (g ≡ h) }
+    // whatever the words of two commands that read an input are
+    ensures values { (words : List Text) (v w : Text) (m n : ℕ) (q r : Bool) (g h : Option Text)
+        → AsksInput v words m q g → AsksInput w words n r h → (v ≡ w) × (m ≡ n) × (q ≡ r) × (g ≡ h) }
     ensures commands { (words : List Text) (c d : CommandSpec) → Asks words c → Asks words d → AreAlike c d }
 {}

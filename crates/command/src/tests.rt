@@ -5,8 +5,10 @@ use std::test::Fail;
 // What a command line comes to: a command, or a refusal with this part in its text.
 type Want<'a> = Result<Command<'a>, &'a str>;
 
-fn solve(budget: u64, name: Option<&str>) -> Want<'_> {
-    Ok(Command::Solve { budget, name })
+const GREATEST: u64 = u64::MAX;
+
+fn solve(budget: u64, qdo: bool, name: Option<&str>) -> Want<'_> {
+    Ok(Command::Solve { budget, qdo, name })
 }
 
 fn trace(budget: u64, name: Option<&str>) -> Want<'_> {
@@ -19,6 +21,18 @@ fn cert(budget: u64, name: Option<&str>) -> Want<'_> {
 
 fn script(budget: u64, name: Option<&str>) -> Want<'_> {
     Ok(Command::Script { budget, name })
+}
+
+fn generated<'a>(seed: u32, vars: u32, clauses: u32) -> Want<'a> {
+    Ok(Command::Gen {
+        seed,
+        vars,
+        clauses,
+    })
+}
+
+fn demo<'a>(seed: u32, count: u32) -> Want<'a> {
+    Ok(Command::Demo { seed, count })
 }
 
 // Whether the words of the line, with one blank between each two, come to this.
@@ -37,90 +51,138 @@ fn comes_to(alloc: Global, line: &str, want: Want<'_>) -> Result<bool, Fail> {
 }
 
 #[test]
-fn lines_come_to_commands_or_refusals(rt: HostRuntime) -> Result<(), Fail> {
-    let alloc = rt.alloc();
-    let greatest = u64::MAX;
+fn commands_with_an_input_are_read(rt: HostRuntime) -> Result<(), Fail> {
     for (line, want) in [
-        ("qbf solve", solve(greatest, None)),
-        ("qbf solve f", solve(greatest, Some("f"))),
-        ("qbf solve ", solve(greatest, Some(""))),
-        ("qbf solve script", solve(greatest, Some("script"))),
-        ("qbf solve --budget 0", solve(0, None)),
-        ("qbf solve --budget=32 f", solve(32, Some("f"))),
-        ("qbf solve --budget 7 f", solve(7, Some("f"))),
-        ("qbf solve f --budget 7", solve(7, Some("f"))),
-        ("qbf solve f --budget=7", solve(7, Some("f"))),
+        ("qbf solve", solve(GREATEST, false, None)),
+        ("qbf solve f", solve(GREATEST, false, Some("f"))),
+        ("qbf solve ", solve(GREATEST, false, Some(""))),
+        ("qbf solve script", solve(GREATEST, false, Some("script"))),
+        ("qbf solve --budget 0", solve(0, false, None)),
+        ("qbf solve --budget=32 f", solve(32, false, Some("f"))),
+        ("qbf solve f --budget 7", solve(7, false, Some("f"))),
         (
             "qbf solve --budget 18446744073709551615",
-            solve(greatest, None),
+            solve(GREATEST, false, None),
         ),
-        ("qbf script", script(greatest, None)),
-        ("qbf script f", script(greatest, Some("f"))),
-        ("qbf script solve", script(greatest, Some("solve"))),
-        ("qbf script --budget=0", script(0, None)),
-        ("qbf script --budget 7 f", script(7, Some("f"))),
-        ("qbf script f --budget=7", script(7, Some("f"))),
-        ("qbf trace", trace(greatest, None)),
-        ("qbf trace f", trace(greatest, Some("f"))),
-        ("qbf trace --budget 7 f", trace(7, Some("f"))),
-        ("qbf trace cert --budget=7", trace(7, Some("cert"))),
-        ("qbf cert", cert(greatest, None)),
-        ("qbf cert f", cert(greatest, Some("f"))),
-        ("qbf cert --budget=7 trace", cert(7, Some("trace"))),
-        ("qbf cert f --budget 0", cert(0, Some("f"))),
-        ("qbf", Err("requires a subcommand")),
-        ("qbf jump", Err("unrecognized subcommand 'jump'")),
-        ("qbf scrip", Err("unrecognized subcommand 'scrip'")),
-        ("qbf --budget 1", Err("'--budget'")),
-        ("qbf -- solve", Err("'solve'")),
-        ("qbf --help", Err("Usage: qbf <COMMAND>")),
-        ("qbf -h", Err("Usage: qbf <COMMAND>")),
-        ("qbf help", Err("Usage: qbf <COMMAND>")),
-        ("qbf solve --help", Err("Usage: qbf solve [OPTIONS] [NAME]")),
-        ("qbf script -h", Err("Usage: qbf script [OPTIONS] [NAME]")),
-        ("qbf trace --help", Err("Usage: qbf trace [OPTIONS] [NAME]")),
-        ("qbf cert -h", Err("Usage: qbf cert [OPTIONS] [NAME]")),
-        ("qbf --version", Err("unexpected argument '--version'")),
-        ("qbf -V", Err("unexpected argument '-V'")),
-        (
-            "qbf solve --budget 18446744073709551616",
-            Err("invalid value"),
-        ),
-        (
-            "qbf script --budget 18446744073709551616",
-            Err("invalid value"),
-        ),
-        ("qbf solve --budget x", Err("invalid value 'x'")),
-        ("qbf solve --budget ", Err("invalid value ''")),
-        ("qbf solve --budget=", Err("invalid value ''")),
-        ("qbf solve --budget 1\t", Err("invalid value '1\t'")),
-        ("qbf solve --budget -1", Err("unexpected argument '-1'")),
-        ("qbf solve --budget +5", Err("N has no sign")),
-        ("qbf script --budget +5", Err("N has no sign")),
-        ("qbf solve --budget 007", Err("no needless zero")),
-        ("qbf solve --budget --", Err("a value is required")),
-        ("qbf solve --budget", Err("a value is required")),
-        ("qbf solve --budget 1 --budget 2", Err("multiple times")),
-        ("qbf script --budget=1 f --budget=2", Err("multiple times")),
-        ("qbf solve a b", Err("unexpected argument 'b'")),
-        ("qbf script a b", Err("unexpected argument 'b'")),
-        ("qbf trace a b", Err("unexpected argument 'b'")),
-        ("qbf cert a b", Err("unexpected argument 'b'")),
-        ("qbf trace --budget 1 --budget 2", Err("multiple times")),
-        ("qbf cert --budget +5", Err("N has no sign")),
-        ("qbf trace -", Err("NAME begins with no '-'")),
-        ("qbf cert -- f", Err("'--' is no word")),
-        ("qbf certs", Err("unrecognized subcommand 'certs'")),
-        ("qbf trac", Err("unrecognized subcommand 'trac'")),
-        ("qbf solve -x", Err("unexpected argument '-x'")),
-        ("qbf solve --bud 3", Err("unexpected argument '--bud'")),
-        ("qbf solve -", Err("NAME begins with no '-'")),
-        ("qbf script -", Err("NAME begins with no '-'")),
-        ("qbf solve --", Err("'--' is no word")),
-        ("qbf script -- f", Err("'--' is no word")),
+        ("qbf solve --qdo", solve(GREATEST, true, None)),
+        ("qbf solve --qdo f", solve(GREATEST, true, Some("f"))),
+        ("qbf solve f --qdo", solve(GREATEST, true, Some("f"))),
+        ("qbf solve --qdo --budget 7", solve(7, true, None)),
+        ("qbf solve --budget=7 --qdo", solve(7, true, None)),
+        ("qbf solve --qdo --budget 7 f", solve(7, true, Some("f"))),
+        ("qbf solve --budget 7 --qdo f", solve(7, true, Some("f"))),
+        ("qbf solve --budget=7 f --qdo", solve(7, true, Some("f"))),
+        ("qbf solve --qdo f --budget=7", solve(7, true, Some("f"))),
+        ("qbf solve f --qdo --budget 7", solve(7, true, Some("f"))),
+        ("qbf solve f --budget 7 --qdo", solve(7, true, Some("f"))),
+        ("qbf trace", trace(GREATEST, None)),
+        ("qbf trace f --budget=7", trace(7, Some("f"))),
+        ("qbf cert", cert(GREATEST, None)),
+        ("qbf cert --budget 0 solve", cert(0, Some("solve"))),
+        ("qbf script", script(GREATEST, None)),
+        ("qbf script --budget 7 gen", script(7, Some("gen"))),
     ] {
-        assert!(rt; comes_to(alloc, line, want)?, "{line}");
+        assert!(rt; comes_to(rt.alloc(), line, want)?, "{line}");
     }
-    assert!(rt; read_command(alloc, &[]).is_err());
+    Ok(())
+}
+
+#[test]
+fn commands_of_numbers_are_read(rt: HostRuntime) -> Result<(), Fail> {
+    let over = "is not in";
+    for (line, want) in [
+        ("qbf gen 0 3 1", generated(0, 3, 1)),
+        (
+            "qbf gen 4294967295 32000 1000000",
+            generated(4_294_967_295, 32_000, 1_000_000),
+        ),
+        ("qbf gen 7 3 0", generated(7, 3, 0)),
+        ("qbf gen 4294967296 3 1", Err(over)),
+        ("qbf gen 0 2 1", Err(over)),
+        ("qbf gen 0 32001 1", Err(over)),
+        ("qbf gen 0 3 1000001", Err(over)),
+        ("qbf gen 99999999999999999999 3 1", Err("too large")),
+        ("qbf gen", Err("<CLAUSES>")),
+        ("qbf gen 0 3", Err("<CLAUSES>")),
+        ("qbf gen 0 3 1 1", Err("unexpected argument '1'")),
+        ("qbf gen +1 3 1", Err("a number has no sign")),
+        ("qbf gen 0 03 1", Err("no needless zero")),
+        ("qbf gen -1 3 1", Err("unexpected argument '-1'")),
+        ("qbf gen 0 3 x", Err("invalid value 'x'")),
+        ("qbf gen 0 3 ", Err("invalid value ''")),
+        ("qbf gen -- 0 3 1", Err("'--' is no word")),
+        (
+            "qbf gen --budget 1 0 3 1",
+            Err("unexpected argument '--budget'"),
+        ),
+        ("qbf demo 0 1", demo(0, 1)),
+        ("qbf demo 4294967295 10000", demo(4_294_967_295, 10_000)),
+        ("qbf demo 0 0", Err(over)),
+        ("qbf demo 0 10001", Err(over)),
+        ("qbf demo 4294967296 1", Err(over)),
+        ("qbf demo 00 1", Err("no needless zero")),
+        ("qbf demo 0", Err("<COUNT>")),
+        ("qbf demo 0 1 1", Err("unexpected argument '1'")),
+        ("qbf demo 0 1 --qdo", Err("unexpected argument '--qdo'")),
+    ] {
+        assert!(rt; comes_to(rt.alloc(), line, want)?, "{line}");
+    }
+    Ok(())
+}
+
+#[test]
+fn other_words_are_refused(rt: HostRuntime) -> Result<(), Fail> {
+    for (line, part) in [
+        ("qbf", "requires a subcommand"),
+        ("qbf jump", "unrecognized subcommand 'jump'"),
+        ("qbf scrip", "unrecognized subcommand 'scrip'"),
+        ("qbf --budget 1", "'--budget'"),
+        ("qbf --qdo solve", "'--qdo'"),
+        ("qbf -- solve", "'solve'"),
+        (
+            "qbf --help",
+            "  gen     Writes a generated formula in QDIMACS\n",
+        ),
+        ("qbf -h", "Usage: qbf <COMMAND>"),
+        ("qbf help", "Usage: qbf <COMMAND>"),
+        ("qbf solve --help", "--qdo "),
+        ("qbf trace --help", "Usage: qbf trace [OPTIONS] [NAME]"),
+        ("qbf cert -h", "Usage: qbf cert [OPTIONS] [NAME]"),
+        ("qbf script -h", "Usage: qbf script [OPTIONS] [NAME]"),
+        ("qbf gen --help", "Usage: qbf gen <SEED> <VARS> <CLAUSES>"),
+        ("qbf demo -h", "Usage: qbf demo <SEED> <COUNT>"),
+        ("qbf --version", "unexpected argument '--version'"),
+        ("qbf -V", "unexpected argument '-V'"),
+        ("qbf solve --budget 18446744073709551616", "invalid value"),
+        ("qbf solve --budget x", "invalid value 'x'"),
+        ("qbf solve --budget ", "invalid value ''"),
+        ("qbf solve --budget=", "invalid value ''"),
+        ("qbf solve --budget 1\t", "invalid value '1\t'"),
+        ("qbf solve --budget -1", "unexpected argument '-1'"),
+        ("qbf trace --budget +5", "a number has no sign"),
+        ("qbf solve --budget 007", "no needless zero"),
+        ("qbf solve --budget --", "a value is required"),
+        ("qbf solve --budget --qdo", "a value is required"),
+        ("qbf solve --budget", "a value is required"),
+        ("qbf solve --budget 1 --budget 2", "multiple times"),
+        ("qbf script --budget=1 f --budget=2", "multiple times"),
+        ("qbf solve --qdo --qdo", "multiple times"),
+        ("qbf solve --qdo f --qdo", "multiple times"),
+        ("qbf solve --qdo=true", "unexpected value 'true'"),
+        ("qbf solve --qd", "unexpected argument '--qd'"),
+        ("qbf trace --qdo", "unexpected argument '--qdo'"),
+        ("qbf cert f --qdo", "unexpected argument '--qdo'"),
+        ("qbf script --qdo", "unexpected argument '--qdo'"),
+        ("qbf solve a b", "unexpected argument 'b'"),
+        ("qbf solve a --qdo b", "unexpected argument 'b'"),
+        ("qbf cert a b", "unexpected argument 'b'"),
+        ("qbf solve -x", "unexpected argument '-x'"),
+        ("qbf solve -", "NAME begins with no '-'"),
+        ("qbf script --", "'--' is no word"),
+        ("qbf solve --qdo -- f", "'--' is no word"),
+    ] {
+        assert!(rt; comes_to(rt.alloc(), line, Err(part))?, "{line}");
+    }
+    assert!(rt; read_command(rt.alloc(), &[]).is_err());
     Ok(())
 }

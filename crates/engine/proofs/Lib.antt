@@ -1,4 +1,5 @@
 pub mod Asking
+pub mod Bounding
 pub mod Certifying
 pub mod Changing
 pub mod Framing

@@ -1,12 +1,15 @@
 -- How an engine is kept: frames and a search that belong together.
-use Rattle.std.specs.Prelude.{◌≡◌, ℕ, ◌+◌, ◌≤◌, List, [], ◌∷◌, ◌++◌, length, map, Option, Some, None, IfSome}
+use Rattle.std.specs.Prelude.{◌≡◌, ℕ, ◌+◌, ◌<◌, ◌≤◌, List, [], ◌∷◌, ◌++◌, length, map, Option, Some, None, IfSome}
 use Rattle.prefix.specs.Literal.{Literal}
 use Rattle.prefix.specs.Scopes.{IsAscending}
+use Rattle.calculus.specs.Limits.{removal_bound}
 use Rattle.calculus.specs.Rows.{Row, variables_in}
 use Rattle.calculus.specs.Verdicts.{AreOuter, relevant_of}
 use Rattle.derive.specs.State.{OpenClause, State, clauses_of, row_of}
+use Rattle.clean.specs.Turns.{reductions_in}
 use Rattle.frames.specs.State.{Frame, OpenFormula, clauses_in}
 use Rattle.search.specs.declared.outcome.Outcome.{Outcome}
+use Rattle.search.specs.Counting.{size_of}
 use Rattle.search.specs.Finishes.{HasNoFinish, IsFinishId}
 use Rattle.search.specs.Forcing.{HasNoCubes}
 use Rattle.search.specs.State.{IsResting, SearchState}
@@ -64,9 +67,12 @@ abbrev pub HasFinishesOf : Option Held → State → Type 0
 HasFinishesOf None d = HasNoFinish d
 HasFinishesOf (Some held) d = (id : ℕ) → IsFinishId d id → id ≡ held.verdict.end
 
--- what holds of an engine between calls
+-- What holds of an engine between calls. The counts allow the live reductions and one removal more, which is for the
+-- finish; and a verdict is of as many variables as were counted, or fewer.
 pub record IsEngine (formula : OpenFormula) (s : SearchState) (verdict : Option Held) (counts : Counts) : Type 0 where
   pub tied : AreTied formula s
   pub held : IfSome verdict (IsHeld formula s.derivation)
   pub finishes : HasFinishesOf verdict s.derivation
   pub cubes : counts.solves ≡ 0 → HasNoCubes s
+  pub reductions : reductions_in s.derivation < removal_bound counts.clauses counts.solves counts.budget counts.vars
+  pub variables : IfSome verdict (λ _. size_of formula.scopes ≤ counts.vars)

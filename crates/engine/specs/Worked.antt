@@ -4,14 +4,17 @@ use Rattle.prefix.specs.declared.quant.Quant.TheVariants.{Forall}
 use Rattle.calculus.specs.Derivations.{Inference, Why}
 use Rattle.calculus.specs.Derivations.Reason.{Input, One}
 use Rattle.calculus.specs.Derivations.Why.{Given, FinishedFrom}
+use Rattle.calculus.specs.Limits.{removals_of}
 use Rattle.calculus.specs.Worked.{minus, plus, refutation}
 use Rattle.derive.specs.State.{Note, State}
+use Rattle.clean.specs.Turns.{reductions_in}
 use Rattle.frames.specs.Commands.{Push}
 use Rattle.frames.specs.Fold.{state_of}
 use Rattle.frames.specs.State.{Frame, OpenFormula, popped}
 use Rattle.frames.specs.Worked.{framed as framed_commands}
 use Rattle.qrp_trace.specs.Cores.{proof_at}
 use Rattle.qrp_trace.specs.Worked.{clause, derived, stored}
+use Rattle.search.specs.Finishes.{finishes_in}
 use Rattle.engine.specs.declared.counts.Counts.{Counts}
 use Rattle.engine.specs.declared.verdict.Verdict.{Verdict}
 use Rattle.engine.specs.Counting.{one_more, with_clause, with_solve}
@@ -70,5 +73,9 @@ pub record WorkedEngines : Type 0 where
       ≡ record { row = plus 1 ∷ plus 2 ∷ []; reason = Input } ∷ []
   pub finish : proof_at (finished_with clause) (minus 1 ∷ []) 1 ≡ finished_proof
   pub cube_finish : proof_at (finished_with cube) (plus 1 ∷ []) 1 ≡ finished_proof
+  -- the finish is the one removal of such a proof, and is live
+  pub removals : removals_of finished_proof ≡ 1
+  pub finishes : finishes_in (finished_with clause) ≡ 1
+  pub reductions : reductions_in (finished_with clause) ≡ 0
   -- no verdict, no proof
   pub none : (formula : OpenFormula) (verdict : Verdict) → HasProof formula verdict None → ⊥

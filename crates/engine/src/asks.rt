@@ -1,13 +1,17 @@
 //! What the last verdict is asked.
-ghost use Rattle.std.specs.Prelude.{◌≡◌, Bool, Some, IsOk, IfOk, IsTrue, IsOkUnless, MatchOption, IfSome, SomeIff};
+ghost use Rattle.std.specs.Prelude.{◌≡◌, ◌≤◌, ◌+◌, length, Bool, Some, IsOk, IfOk, IsTrue, IsOkUnless, MatchOption, IfSome, SomeIff};
 ghost use Rattle.std.specs.Option.{option_map};
 ghost use Rattle.prefix.specs.Scopes.{IsAscending, quantifier_at};
 ghost use Rattle.prefix.specs.Sides.{is_of};
 ghost use Rattle.truth.specs.Truth.{assumed_value};
+ghost use Rattle.calculus.specs.Limits.{removal_bound, removals_of, weight_bound};
 ghost use Rattle.calculus.specs.Rows.{variables_in};
 ghost use Rattle.calculus.specs.Verdicts.{relevant_of};
-ghost use Rattle.derive.specs.State.{has_rows, is_live, why_at};
-ghost use Rattle.qrp_trace.specs.Cores.{IsNumbered, inferences_of};
+ghost use Rattle.derive.specs.State.{IsLegalFor, has_rows, is_live, open_clauses, why_at};
+ghost use Rattle.clean.specs.Turns.{reductions_in};
+ghost use Rattle.frames.specs.State.{clauses_in};
+ghost use Rattle.qrp_trace.specs.Cores.{IsNumbered, inferences_of, proof_at};
+ghost use Rattle.search.specs.Finishes.{finishes_in};
 ghost use Rattle.aig.specs.Strategies.{IsStrategy};
 ghost use Rattle.engine.specs.Asks.{Decides, IfAnswered, IsCertificateOf, IsVerdictOf, PlaysFirst, end_row_of, first_value, first_values, removed_value, values_of, verdict_of};
 ghost use Rattle.engine.specs.Refusals.{ask_refusal, value_refusal, winner_of, is_outermost};
@@ -19,8 +23,8 @@ use crate::variables::variable;
 use crate::verdict::{Held, Verdict, winner_of};
 use aig::Strategy;
 use calculus::{
-    end_rows_give_proofs, first_values_decide, last_steps_decide, plays_exist, plays_look_back,
-    proofs_decide, relevant_ones_decide, steps_have_cores,
+    end_rows_give_proofs, first_values_decide, gates_are_bounded, last_steps_decide, plays_exist,
+    plays_look_back, proofs_decide, relevant_ones_decide, steps_have_cores,
 };
 use derive::{Derivation, Step, StepId, steps_are_listed};
 use extract::extract;
@@ -45,6 +49,23 @@ impl Engine {
             None => None,
             Some(held) => Some(held.verdict),
         }
+    }
+
+    /// The derivation that verdicts rest on, for inspection: its open clauses are the formula's, and the last verdict's
+    /// proof is made of its steps. This takes no memory.
+    ///
+    /// Of its live steps at most `c + k * (min(N, limit(n)) + 1) + 1` are reductions and finishes: with c clauses
+    /// accepted and k solves so far, however these ended, N their greatest budget, n their greatest number of
+    /// variables, and `limit(n) = (4n + 4) * 2^(n + 1)`. A count that came to 2^64 - 1 stays there.
+    pub fn derivation(&self) -> &Derivation
+        ensures clauses { open_clauses result.now ≡ clauses_in self.now.formula.frames }
+        ensures legal { IsLegalFor self.now.formula.scopes result.now }
+        ensures proof { IfSome self.now.verdict (λ v. v.proof ≡ proof_at result.now v.assumptions v.end) }
+        ensures few { reductions_in result.now + finishes_in result.now ≤ removal_bound self.now.counts.clauses
+            self.now.counts.solves self.now.counts.budget self.now.counts.vars }
+        ensures rows { IsTrue (has_rows result.now) }
+    {
+        self.search.derivation()
     }
 
     /// The assumptions of the last verdict that matter, ascending by variable: those over variables of the last row of
@@ -103,14 +124,17 @@ impl Engine {
         }
     }
 
-    /// The steps of the last verdict's proof, numbered. Refused, in this order, with NoVerdict and with NoMemory. It
-    /// takes time in proportion to the ids from the oldest step of the proof to its end, and to the proof's literals.
+    /// The steps of the last verdict's proof, numbered. Those that remove literals, reductions and a finish, are no more
+    /// than `derivation` says. Refused, in this order, with NoVerdict and with NoMemory. It takes time in proportion to
+    /// the ids from the oldest step of the proof to its end, and to the proof's literals.
     pub fn trace_core(&self) -> Result<Core, AskRefusal>
         ensures refused { MatchOption (ask_refusal self.now) (IsOkUnless result AskRefusal.NoMemory)
             (λ e. result ≡ Err e) }
         ensures winner { IfAnswered self.now.verdict result (λ v core. core.winner ≡ winner_of v.truth) }
         ensures list { IfAnswered self.now.verdict result (λ v core. inferences_of core.lines ≡ v.proof) }
         ensures numbered { IfOk result (λ core. IsNumbered core.lines) }
+        ensures few { IfOk result (λ core. removals_of (inferences_of core.lines) ≤ removal_bound
+            self.now.counts.clauses self.now.counts.solves self.now.counts.budget self.now.counts.vars) }
         ensures verdict { IfSome self.now.verdict (IsVerdictOf self.now.formula) }
     {
         let _facts = self.verdict();
@@ -121,17 +145,21 @@ impl Engine {
     }
 
     /// The circuit of the last verdict's proof, by which the winner wins: a certificate of the verdict under its
-    /// assumptions. Refused, in this order, with NoVerdict and with NoMemory. It takes the time of `trace_core`, and of
+    /// assumptions. It has at most `n * (n + 1)` gates, with the n of `derivation`, for each of the steps that this bounds.
+    /// Refused, in this order, with NoVerdict and with NoMemory. It takes the time of `trace_core`, and of
     /// `extract::extract` for that core.
     pub fn certificate(&self) -> Result<Strategy, AskRefusal>
         ensures refused { MatchOption (ask_refusal self.now) (IsOkUnless result AskRefusal.NoMemory)
             (λ e. result ≡ Err e) }
         ensures strategy { IfOk result IsStrategy }
         ensures certifies { IfAnswered self.now.verdict result (IsCertificateOf self.now.formula) }
+        ensures few { IfOk result (λ s. length s.aig.gates ≤ weight_bound self.now.counts.clauses
+            self.now.counts.solves self.now.counts.budget self.now.counts.vars) }
         ensures verdict { IfSome self.now.verdict (IsVerdictOf self.now.formula) }
     {
         plays_exist();
         plays_look_back();
+        gates_are_bounded();
         let _valid = self.prefix();
         let core = self.trace_core()?;
         match &self.verdict {

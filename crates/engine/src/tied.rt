@@ -1,8 +1,10 @@
 //! Frames and a search that belong together.
-ghost use Rattle.std.specs.Prelude.{◌≡◌, ◌≤◌, ◌==◌, ℕ, ◌++◌, ◌∷◌, [], not, filter, length, List, IfOk, IfErr, OnOk, OnErr, IsOkUnless, MatchOption};
+ghost use Rattle.std.specs.Prelude.{◌≡◌, ◌≤◌, ◌<◌, ◌+◌, ◌-◌, ◌^◌, ◌==◌, ℕ, ◌++◌, ◌∷◌, [], not, filter, length, List, IfOk, IfErr, OnOk, OnErr, IsOkUnless, MatchOption};
+ghost use Rattle.steps.specs.Counter.{step_limit};
 ghost use Rattle.calculus.specs.Rows.{Row};
 ghost use Rattle.calculus.specs.Search.{IsRefuted};
 ghost use Rattle.derive.specs.State.{OpenClause, clauses_of};
+ghost use Rattle.clean.specs.Turns.{reductions_in};
 ghost use Rattle.frames.specs.State.{clauses_in, depth};
 ghost use Rattle.frames.specs.Commands.{AddClause, formula_after, refusal_of};
 ghost use Rattle.search.specs.Changing.{AddsClause};
@@ -26,8 +28,12 @@ pub(crate) fn forget_outcome(search: &mut Search, frames: &Frames)
     ensures tied { AreTied frames.now.formula search.new }
     ensures finishes { HasNoFinish search.new.derivation }
     ensures cubes { HasNoCubes search.old → HasNoCubes search.new }
+    ensures reductions { reductions_in search.new.derivation ≡ reductions_in search.old.derivation }
+    ensures fit { reductions_in search.new.derivation < 2 ^ 64 }
 {
     search.drop_finish(frames.prefix());
+    // Ids are fewer than 2 ^ 64.
+    let _next = search.derivation().next_id();
 }
 
 // Decides the open formula under its assumptions.
@@ -44,11 +50,20 @@ pub(crate) fn decide(
     ensures stop { IfErr result (IsStopFor frames.now.formula steps.old steps.new) }
     ensures quick { HasNoCubes search.old → IsRefuted frames.now.formula.scopes (clauses_in frames.now.formula.frames)
         frames.now.formula.assumptions → IfErr result (IsQuickStop (size_of frames.now.formula.scopes) steps.old) }
+    ensures reductions { reductions_in search.new.derivation
+        ≤ reductions_in search.old.derivation + (steps.new.spent - steps.old.spent) + 1 }
+    ensures fit { reductions_in search.new.derivation < 2 ^ 64 }
+    ensures few { steps.new.spent - steps.old.spent < step_limit (size_of frames.now.formula.scopes) }
+    ensures within { steps.new.spent ≤ steps.new.budget }
     ensures budget { steps.new.budget ≡ steps.old.budget }
     ensures rises { steps.old.spent ≤ steps.new.spent }
 {
     let matrix = frames.open_clauses();
-    let outcome = search.solve(frames.prefix(), matrix, frames.assumptions(), steps)?;
+    let found = search.solve(frames.prefix(), matrix, frames.assumptions(), steps);
+    // The counter is within its budget, and ids are fewer than 2 ^ 64.
+    let _budget = steps.budget();
+    let _next = search.derivation().next_id();
+    let outcome = found?;
     Ok(Verdict {
         truth: truth_against(outcome.loser),
         end: outcome.end,
@@ -69,6 +84,7 @@ pub(crate) fn put_clause(
     ensures same { OnErr result (SameSteps search.old.derivation search.new.derivation) }
     ensures tied { AreTied frames.new.formula search.new }
     ensures cubes { HasNoCubes search.old → HasNoCubes search.new }
+    ensures reductions { reductions_in search.new.derivation ≤ reductions_in search.old.derivation + 1 }
 {
     let count = frames.open_clauses().len();
     frames.add_clause(lits)?;
@@ -92,6 +108,7 @@ fn put_last(search: &mut Search, frames: &Frames) -> Result<(), NoMemory>
     ensures err { OnErr result (SameSteps search.old.derivation search.new.derivation) }
     ensures resting { IsResting frames.now.formula.scopes search.new }
     ensures cubes { HasNoCubes search.old → HasNoCubes search.new }
+    ensures reductions { reductions_in search.new.derivation ≤ reductions_in search.old.derivation + 1 }
 {
     let clauses = frames.open_clauses();
     let last = &clauses[clauses.len() - 1];
@@ -105,6 +122,7 @@ pub(crate) fn drop_top(search: &mut Search, frames: &Frames, top: usize)
         (clauses_of search.old.derivation) }
     ensures resting { IsResting frames.now.formula.scopes search.new }
     ensures cubes { HasNoCubes search.old → HasNoCubes search.new }
+    ensures reductions { reductions_in search.new.derivation ≤ reductions_in search.old.derivation }
 {
     search.drop_frame(frames.prefix(), top);
 }

@@ -1,5 +1,5 @@
 -- What is known of the work on a script, by its status.
-use Rattle.std.proofs.Common.{◌≡◌, ◌≢◌, inr, ℕ, List, [], ◌∷◌, ◌++◌, Option, None, Some, Contains, refl, sym, ap, subst, append-nil, arith, ◌∙◌}
+use Rattle.std.proofs.Common.{◌≡◌, ◌≢◌, inl, inr, ℕ, List, [], ◌∷◌, ◌++◌, Option, None, Some, Contains, refl, sym, ap, subst, append-nil, arith, ◌∙◌}
 use Rattle.std.specs.Prelude.{IfSome}
 use Rattle.std.specs.Io.KnownBytes.{Appends}
 use Rattle.trail.specs.State.{Account}
@@ -115,11 +115,11 @@ module _ (words : List Text) (content : Content) (left : Option Text) (output : 
   well s zero_is ending = record {
     sat = λ h. absurd (omega (arith, h, zero_is));
     unsat = λ h. absurd (omega (arith, h, zero_is));
-    unknown = λ _. inr good;
-    slow = λ _. inr good;
-    solved = λ _. inr (asked (λ n text. (s ≡ 0) × EndsIn text done)
+    unknown = λ _. inl (inr good);
+    slow = λ _. inl (inr good);
+    solved = λ _. inl (inr (asked (λ n text. (s ≡ 0) × EndsIn text done)
         (some_map _ (λ text. IsScriptEnding text (Done s)) (λ text. (s ≡ 0) × EndsIn text done)
-        (λ text e. (e.0, (e.1, e.2))) ending));
+        (λ text e. (e.0, (e.1, e.2))) ending)));
     refused = λ h. absurd (omega (arith, h, zero_is));
     limit = λ h. absurd (omega (arith, h, zero_is));
     usage = λ h. absurd (omega (arith, h, zero_is));

@@ -146,9 +146,9 @@ module _ (words : List Text) (content : Content) (left : Option Text) (output : 
       record {
         sat = λ h. asked (λ n text. HasTruth text true) (some_map _ _ _ (true_of budget s h) so.ending);
         unsat = λ h. asked (λ n text. HasTruth text false) (some_map _ _ _ (false_of budget s h) so.ending);
-        unknown = λ h. inl (asked IsBeyond (some_map _ _ _ (beyond_of budget s h) so.ending));
-        slow = λ h. inl (asked IsSlow (some_map _ _ _ (slow_of budget s h) so.ending));
-        solved = λ _. inl (asked (λ n text. OfAnswer s (Solves n text)) so.ending);
+        unknown = λ h. inl (inl (asked IsBeyond (some_map _ _ _ (beyond_of budget s h) so.ending)));
+        slow = λ h. inl (inl (asked IsSlow (some_map _ _ _ (slow_of budget s h) so.ending)));
+        solved = λ _. inl (inl (asked (λ n text. OfAnswer s (Solves n text)) so.ending));
         refused = λ h. is_answer s 2 refl has h;
         limit = λ h. is_answer s 6 refl has h;
         usage = λ h. is_answer s 7 refl has h;

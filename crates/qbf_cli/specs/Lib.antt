@@ -1,4 +1,5 @@
 pub mod Asked
+pub mod Complete
 pub mod Run
 pub mod Told
 pub mod Words

@@ -6,7 +6,7 @@ use Rattle.ports.specs.Bytes.{AppendsFront}
 use Rattle.ports.specs.Causes.{Rose}
 use Rattle.command.specs.Forms.{Asks, HasNoForm, Text}
 use Rattle.command.specs.declared.command.Command.{Command}
-use Rattle.command.specs.declared.command.Command.TheVariants.{Solve, Trace, Cert, Script}
+use Rattle.command.specs.declared.command.Command.TheVariants.{Solve, Trace, Cert, Script, Gen, Demo}
 use Rattle.calculus.specs.Search.{IsRefuted}
 use Rattle.trail.specs.State.{Account}
 use Rattle.search.specs.Counting.{size_of}
@@ -16,7 +16,7 @@ use Rattle.session.specs.Solve.{HasAnswer, IsDone, IsEnding, OfAnswer, Solves}
 use Rattle.session.specs.declared.ending.Ending.{Ending}
 use Rattle.session.specs.declared.ending.Ending.TheVariants.{Done, Refused, Limit, ReadFault, WriteFault, NoMemory}
 use Rattle.session.specs.declared.ending.Job.{Job}
-use Rattle.session.specs.declared.ending.Job.TheVariants.{Solve as SolveJob, Trace as TraceJob, Cert as CertJob}
+use Rattle.session.specs.declared.ending.Job.TheVariants.{Trace as TraceJob, Cert as CertJob}
 use Rattle.steps.specs.Counter.{step_limit}
 use Rattle.truth.specs.declared.formula.Formula.{Formula}
 use Rattle.truth.specs.Truth.{truth}
@@ -26,7 +26,10 @@ use Rattle.qdimacs.specs.declared.refusal.Quantity.{Quantity}
 use Rattle.qdimacs.specs.declared.refusal.Quantity.TheVariants.{Variables, Scopes, Clauses, Literals, Bytes}
 use Rattle.qscript.specs.declared.command.Command.{Command as ScriptCommand}
 use Rattle.qscript.specs.Reads.{Ending as ScriptEnding, ReadsScript, done, limit as script_limit, refused as script_refused}
-use Rattle.qbf_cli.specs.Asked.{Asked, AskedEither, input_of}
+use Rattle.generate.specs.Made.{made}
+use Rattle.qdimacs_out.specs.Texts.{formula_text}
+use Rattle.samples.specs.Samples.{LeavesText, counts_text}
+use Rattle.qbf_cli.specs.Asked.{Asked, AskedAny, AskedEither, known_for, solve_job}
 use Rattle.qbf_cli.specs.declared.ending.RunEnding.{RunEnding}
 use Rattle.qbf_cli.specs.declared.ending.RunEnding.TheVariants.{Worked, Usage}
 
@@ -65,13 +68,13 @@ abbrev pub IsLimitedScript : Text → Type 0
 IsLimitedScript text = (at : ℕ) × EndsIn text (script_limit at)
 
 -- What the status says of the words and the input: a true formula, a false one, one for which the budget may be too
--- low or a script that ends well, a malformed text, one beyond a limit, or words that ask for no command.
+-- low, a script that ends well or no input at all, a malformed text, one beyond a limit, or words that ask for no command.
 pub record IsVerdict (words : List Text) (content : Text → Option Text) (status : ℕ) : Type 0 where
   pub sat : status ≡ 10 → Asked words content (λ budget text. HasTruth text true)
   pub unsat : status ≡ 20 → Asked words content (λ budget text. HasTruth text false)
-  pub unknown : status ≡ 0 → AskedEither words content IsBeyond (λ budget text. EndsIn text done)
-  pub slow : status ≡ 0 → AskedEither words content IsSlow (λ budget text. EndsIn text done)
-  pub solved : HasAnswer status → AskedEither words content (λ budget text. OfAnswer status (Solves budget text))
+  pub unknown : status ≡ 0 → AskedAny words content IsBeyond (λ budget text. EndsIn text done)
+  pub slow : status ≡ 0 → AskedAny words content IsSlow (λ budget text. EndsIn text done)
+  pub solved : HasAnswer status → AskedAny words content (λ budget text. OfAnswer status (Solves budget text))
       (λ budget text. (status ≡ 0) × EndsIn text done)
   pub refused : status ≡ 2 → AskedEither words content (λ budget text. IsRefused text)
       (λ budget text. IsRefusedScript text)
@@ -162,13 +165,21 @@ pub record IsReplied (budget : ℕ) (known left : Option Text) (output : Option 
   pub read : IsDone e → IfSome known (λ text. left ≡ Some [])
   pub answered : AreAnswered budget known output told e
 
--- what is known of the work on the input of a command
+-- What is known of the work of a command that makes formulas and writes this text.
+pub record IsMade (text : Text) (output : Option Text × Option Text) (told : List Account × List Account) (e : Ending)
+    : Type 0 where
+  pub leaves : LeavesText text output.0 output.1 e
+  pub none_told : told.1 ≡ told.0
+
+-- what is known of the work of a command
 abbrev pub IsWorkOf : Command → (known left : Option Text) (output : Option Text × Option Text)
     (told : List Account × List Account) → Ending → Type 0
-IsWorkOf (Solve budget name) known left output told e = IsSolved SolveJob budget known left output told e
+IsWorkOf (Solve budget qdo name) known left output told e = IsSolved (solve_job qdo) budget known left output told e
 IsWorkOf (Trace budget name) known left output told e = IsSolved TraceJob budget known left output told e
 IsWorkOf (Cert budget name) known left output told e = IsSolved CertJob budget known left output told e
 IsWorkOf (Script budget name) known left output told e = IsReplied budget known left output told e
+IsWorkOf (Gen seed vars clauses) known left output told e = IsMade (formula_text (made seed vars clauses)) output told e
+IsWorkOf (Demo seed count) known left output told e = IsMade (counts_text seed count) output told e
 
 -- what is known of a run by its ending
 abbrev pub Carried : (words : List Text) (content : Text → Option Text) (left : Option Text)
@@ -177,7 +188,7 @@ Carried words content left output told (Usage text) =
     HasNoForm words × Keeps output.0 output.1 × (told.1 ≡ told.0)
 Carried words content left output told (Worked e) =
     ((e ≡ NoMemory) × Keeps output.0 output.1 × (told.1 ≡ told.0))
-    ⊎ ((c : Command) × Asks words c × IsWorkOf c (content (input_of c)) left output told e)
+    ⊎ ((c : Command) × Asks words c × IsWorkOf c (known_for content c) left output told e)
 
 -- the answer is written
 abbrev pub IsAnswered : RunEnding → Type 0

@@ -5,7 +5,7 @@ use Rattle.ports.specs.Bytes.{AppendsFront}
 use Rattle.trail.specs.State.{Account}
 use Rattle.command.specs.Forms.{Asks, Text}
 use Rattle.command.specs.declared.command.Command.{Command}
-use Rattle.command.specs.declared.command.Command.TheVariants.{Solve, Trace, Cert, Script}
+use Rattle.command.specs.declared.command.Command.TheVariants.{Solve, Trace, Cert, Script, Gen, Demo}
 use Rattle.qscript.specs.declared.command.Command.{Command as ScriptCommand}
 use Rattle.qscript.specs.Reads.{Ending as ScriptEnding, ReadsScript}
 use Rattle.session.specs.declared.answer.Answer.{Answer}
@@ -15,8 +15,11 @@ use Rattle.session.specs.Jobs.{IsReplyOn}
 use Rattle.session.specs.Solve.{HasAnswer, OfAnswer}
 use Rattle.session.specs.Standing.{Standing, start}
 use Rattle.session.specs.declared.ending.Job.{Job}
-use Rattle.session.specs.declared.ending.Job.TheVariants.{Solve as SolveJob, Trace as TraceJob, Cert as CertJob}
-use Rattle.qbf_cli.specs.Asked.{input_of}
+use Rattle.session.specs.declared.ending.Job.TheVariants.{Trace as TraceJob, Cert as CertJob}
+use Rattle.generate.specs.Made.{made}
+use Rattle.qdimacs_out.specs.Texts.{formula_text}
+use Rattle.samples.specs.Samples.{counts_text}
+use Rattle.qbf_cli.specs.Asked.{known_for, solve_job}
 
 -- What a job on a formula leaves on the output and tells: its reply with an answer, a front of one after a write fault,
 -- and else nothing. With UNKNOWN an entry is told of its search, and else none. `written` is what stood on the output
@@ -45,13 +48,27 @@ pub record IsScriptOutput (budget : ℕ) (known : Option Text) (written : Option
   pub whole : status ≢ 4 → Appends written.0 written.1 out.text
   pub told : stops ≡ out.stops
 
+-- What a command leaves on the output that makes formulas and writes this text: all of it, or after a write fault a
+-- front of it; or nothing, for want of memory. No search is told of.
+pub record IsSampleOutput (text : Text) (written : Option Text × Option Text) (stops : List Account) (status : ℕ)
+    : Type 0 where
+  pub whole : status ≡ 0 → Appends written.0 written.1 text
+  pub front : status ≡ 4 → AppendsFront written.0 written.1 text
+  pub nothing : status ≡ 5 → Keeps written.0 written.1
+  pub none : stops ≡ []
+  pub ends : Contains (0 ∷ 4 ∷ 5 ∷ []) status
+
 -- what a command leaves on the output and tells, whose input is this text, where it is told
 abbrev pub IsOutputOf : Command → (known : Option Text) (written : Option Text × Option Text)
     (stops : List Account) → ℕ → Type 0
-IsOutputOf (Solve budget name) known written stops status = IsJobOutput SolveJob budget known written stops status
+IsOutputOf (Solve budget qdo name) known written stops status =
+    IsJobOutput (solve_job qdo) budget known written stops status
 IsOutputOf (Trace budget name) known written stops status = IsJobOutput TraceJob budget known written stops status
 IsOutputOf (Cert budget name) known written stops status = IsJobOutput CertJob budget known written stops status
 IsOutputOf (Script budget name) known written stops status = IsScriptOutput budget known written stops status
+IsOutputOf (Gen seed vars clauses) known written stops status =
+    IsSampleOutput (formula_text (made seed vars clauses)) written stops status
+IsOutputOf (Demo seed count) known written stops status = IsSampleOutput (counts_text seed count) written stops status
 
 -- What a run leaves on the output and tells: what the command does that the words ask for. Nothing, where they ask for
 -- none, or want of memory came before.
@@ -59,4 +76,4 @@ abbrev pub IsOutput : (words : List Text) (content : Text → Option Text) (writ
     (stops : List Account) → ℕ → Type 0
 IsOutput words content written stops status =
     (Contains (5 ∷ 7 ∷ []) status × Keeps written.0 written.1 × (stops ≡ []))
-    ⊎ ((c : Command) × Asks words c × IsOutputOf c (content (input_of c)) written stops status)
+    ⊎ ((c : Command) × Asks words c × IsOutputOf c (known_for content c) written stops status)

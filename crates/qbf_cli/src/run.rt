@@ -6,29 +6,37 @@ ghost use Rattle.ports.specs.Causes.{IsCounted, Rose};
 ghost use Rattle.session.specs.Jobs.{RoomForJob};
 ghost use Rattle.session.specs.Scripts.{RoomForReplies};
 ghost use Rattle.session.specs.Solve.{HasAnswer, IsDone};
-ghost use Rattle.qbf_cli.specs.Asked.{AskedEither, RoomForOutput, SteadyForInput, input_name as name_of_input};
+ghost use Rattle.qbf_cli.specs.Asked.{AskedAny, RoomForOutput, SteadyForInput, input_name as name_of_input, solve_job};
+ghost use Rattle.qbf_cli.specs.Complete.{IsValid};
 ghost use Rattle.qbf_cli.specs.Run.{Carried, IsAnswered, IsErrorOutput, IsReplied, IsSolved, IsVerdict, line_of, status_of};
 ghost use Rattle.qbf_cli.specs.Told.{IsOutput};
 
 use super::ending::RunEnding;
 use command::{Command, Refused, read_command};
 use ports::{Desk, Sink};
+use qdimacs::each_text_has_one_outcome;
 use qscript::each_script_has_one_reading;
+use samples::{count_samples, write_sample};
 use session::{Ending, Job, run_file, run_script};
 use std::alloc::Global;
 use trail::Stopped;
 
-/// Carries out the command that the words ask for, the program's name first: `solve [--budget N] [NAME]` decides the
-/// formula of the file NAME, or of standard input, by search with at most N steps, and writes `SAT`, `UNSAT` or
-/// `UNKNOWN` to `out`. `trace` and `cert` with the same words write in the place of `SAT` and `UNSAT` the trace of the
-/// verdict's proof (QRP), and the circuit by which its winner wins (AIGER 1.9, ASCII). `script [--budget N] [NAME]`
-/// replies on `out` to the commands of that input, each of its solves with at most N steps. What else happens is said on
-/// `err`. With each `UNKNOWN` what the search that stopped tells is put into `stops`.
+/// Carries out the command that the words ask for, the program's name first:
+/// - `solve [--budget N] [NAME]` decides the formula of the file NAME, or of standard input, by search with at most N
+///   steps, and writes `SAT`, `UNSAT` or `UNKNOWN` to `out`; with `--qdo` the lines of QDIMACS 1.1's output format.
+/// - `trace` and `cert` with the same words write in the place of `SAT` and `UNSAT` the trace of the verdict's proof
+///   (QRP), and the circuit by which its winner wins (AIGER 1.9, ASCII).
+/// - `script [--budget N] [NAME]` replies on `out` to the commands of that input, each of its solves with at most N
+///   steps.
+/// - `gen SEED VARS CLAUSES` writes a formula that is made from a seed, and `demo SEED COUNT` how many of so many of
+///   these are true and false.
+///
+/// What else happens is said on `err`. With each `UNKNOWN` what the search that stopped tells is put into `stops`.
 ///
 /// Answers the exit status: 10 for a true formula, 20 for a false one, and 0 where the budget was spent; 0 too where a
-/// script ends well; 2 where the input is malformed and 6 where it goes beyond a limit, each with its line; 3 for a
-/// read fault; 4 for a write fault of `out`; 5 for want of memory, which may come at any time; 7 for other words. The
-/// first of these events decides. A failing `err` changes none.
+/// script ends well, and of `gen` and `demo`; 2 where the input is malformed and 6 where it goes beyond a limit, each
+/// with its line; 3 for a read fault; 4 for a write fault of `out`; 5 for want of memory, which may come at any time; 7
+/// for other words. The first of these events decides. A failing `err` changes none.
 pub fn run<D: Desk, O: Sink, E: Sink>(
     alloc: Global,
     words: &[String],
@@ -44,7 +52,7 @@ pub fn run<D: Desk, O: Sink, E: Sink>(
 
     // an answer comes after the whole input was read
     ensures whole_input { HasAnswer result
-        → AskedEither (map string_bytes words.now) (D.content desk.old) (λ _ _. D.left desk.new ≡ Some [])
+        → AskedAny (map string_bytes words.now) (D.content desk.old) (λ _ _. D.left desk.new ≡ Some [])
         (λ _ _. D.left desk.new ≡ Some []) }
 
     // faults come from outside alone, and an answer only where there was none
@@ -52,6 +60,11 @@ pub fn run<D: Desk, O: Sink, E: Sink>(
     ensures write_fault { IsCounted (result ≡ 4) (HasAnswer result) (O.faults out.old) (O.faults out.new) }
     ensures steady { SteadyForInput (map string_bytes words.now) (D.steady desk.old) → result ≢ 3 }
     ensures room { RoomForOutput (map string_bytes words.now) (D.content desk.old) (O.has_room out.old) → result ≢ 4 }
+
+    // a valid input is answered, where no fault comes and there is memory
+    ensures complete { IsValid (map string_bytes words.now) (D.content desk.old)
+        → ¬ Rose (D.faults desk.old) (D.faults desk.new) → ¬ Rose (O.faults out.old) (O.faults out.new)
+        → Contains (10 ∷ 20 ∷ 0 ∷ 5 ∷ []) result }
 
     // what stands on the output, with what is told of searches that stopped: an entry for each UNKNOWN; and that all of
     // it is flushed where there is an answer
@@ -63,6 +76,8 @@ pub fn run<D: Desk, O: Sink, E: Sink>(
     ensures error { IsErrorOutput (map string_bytes words.now) (D.content desk.old) (E.faults err.old, E.faults err.new)
         (E.written err.old) (E.written err.new) result }
 {
+    each_text_has_one_outcome();
+    each_script_has_one_reading();
     let ending = ending_of(alloc, words, desk, out, stops);
     report(err, &ending)
 }
@@ -99,8 +114,8 @@ fn ending_of<D: Desk, O: Sink>(
     ensures flushed { IsAnswered result → AllFlushed (O.written out.new) (O.flushed out.old) (O.flushed out.new) }
 {
     match read_command(alloc, words) {
-        Ok(Command::Solve { budget, name }) => {
-            RunEnding::Worked(work(alloc, Job::Solve, budget, name, desk, out, stops))
+        Ok(Command::Solve { budget, qdo, name }) => {
+            RunEnding::Worked(work(alloc, job_of(qdo), budget, name, desk, out, stops))
         }
         Ok(Command::Trace { budget, name }) => {
             RunEnding::Worked(work(alloc, Job::Trace, budget, name, desk, out, stops))
@@ -111,9 +126,26 @@ fn ending_of<D: Desk, O: Sink>(
         Ok(Command::Script { budget, name }) => {
             RunEnding::Worked(reply(alloc, budget, name, desk, out, stops))
         }
+        Ok(
+            Command::Gen {
+                seed,
+                vars,
+                clauses,
+            },
+        ) => RunEnding::Worked(write_sample(alloc, seed, vars, clauses, out)),
+        Ok(Command::Demo { seed, count }) => {
+            RunEnding::Worked(count_samples(alloc, seed, count, out))
+        }
         Err(Refused::Usage(text)) => RunEnding::Usage(text),
         Err(Refused::NoMemory) => RunEnding::Worked(Ending::NoMemory),
     }
+}
+
+// The job of `solve`, with `--qdo` or without.
+fn job_of(qdo: bool) -> Job
+    ensures { result ≡ solve_job qdo }
+{
+    if qdo { Job::Qdo } else { Job::Solve }
 }
 
 // Does a job on the formula of an input.

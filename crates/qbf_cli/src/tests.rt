@@ -2,6 +2,7 @@
 ghost use Rattle.std.specs.Prelude.{◌<◌};
 
 mod jobs;
+mod made;
 mod scripts;
 
 use super::run::{report, run};

@@ -57,6 +57,11 @@ few_limit : (n assigned spent : ℕ) → assigned + 1 < assignment_limit 0 n →
     → spent < step_limit n
 few_limit n assigned spent few h = few_below n (2 ^ (n + 1)) assigned spent few h
 
+pub steps_few : (scopes : List Scope) (start : ℕ) (t : TrailState) (steps : Counter) → IsTrailFor scopes t
+    → IsBounded (size_of scopes) start t steps → steps.spent - start < step_limit (size_of scopes)
+steps_few scopes start t steps trail bounded =
+    few_limit (size_of scopes) t.assigned (steps.spent - start) (assigned_few scopes t trail) bounded.few
+
 -- the same clauses at the start
 pub due_first : (scopes : List Scope) (old new : State) (assumptions : List Literal) (before : Counter) (assigned : ℕ)
     → clauses_of new ≡ clauses_of old → WasSpentWhenDue scopes new assumptions before assigned
@@ -73,7 +78,7 @@ pub is_spent : (scopes : List Scope) (first : State) (assumptions : List Literal
 is_spent scopes first assumptions before now t stopped trail spent budget due bounded is =
     let few = bounded.few in
     let limit : now.spent - before.spent < step_limit (size_of scopes) =
-    few_limit (size_of scopes) t.assigned (now.spent - before.spent) (assigned_few scopes t trail) few in
+    steps_few scopes before.spent t now trail bounded in
     let same : left before ≡ now.spent - before.spent = omega arith in
     rw is (record {
       spent = spent;

@@ -18,6 +18,7 @@ use Rattle.search.specs.Moves.IsDue.{decision, unit}
 use Rattle.search.specs.Stops.{WasSpentWhenDue}
 use Rattle.search.specs.Stops.WasSpentWhenDue.{searching as in_search}
 use Rattle.search.specs.Watching.{Keeps}
+use Rattle.search.proofs.Counting.{bounded_now}
 
 -- a step of a derivation with the same steps
 pub step_same : (side : Quant) (scopes : List Scope) (old new : State) (id : ℕ) → SameSteps old new
@@ -88,6 +89,8 @@ ends_analysed scopes s new before now side row analyses step ends = record {
   clauses = analyses.clauses;
   budget = analyses.budget;
   rises = analyses.rises;
+  bounded = λ start is. bounded_now (size_of scopes) (2 * size_of scopes) start new.trail new.trail now (omega arith) refl
+      (analyses.owed start is);
   row = step;
   end = λ assumptions a. let h = analyses.assumed assumptions a in
       ends assumptions (record { entries = h.entries; values = λ x b e. (h.stand x b e).0 });

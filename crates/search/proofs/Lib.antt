@@ -12,6 +12,7 @@ pub mod Learning
 pub mod Listing
 pub mod Looking
 pub mod Marks
+pub mod Reducing
 pub mod Rows
 pub mod Starting
 pub mod Turning

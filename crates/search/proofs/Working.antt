@@ -192,6 +192,9 @@ no_finishes : (q : Quant) (id : ℕ) → IsFinishId (three_of q detached) id →
 no_finishes q zero e = false≢true e
 no_finishes q (suc id) e = false≢true e
 
+not_paid : 1 ≤ 0 → ⊥
+not_paid l = absurd (omega arith)
+
 pub finishes : (pivot : Quant) → WorkedFinishes pivot
 finishes pivot = record {
   finish = refl;
@@ -201,4 +204,13 @@ finishes pivot = record {
   one_there = λ none. none 1 refl;
   goes = λ id e. absurd (no_finishes pivot id e);
   comes = λ gains. no_finishes pivot 1 (gains 1 refl);
+  no_finishes = refl;
+  one_finish = refl;
+  no_reductions = refl;
+  one_reduction = refl;
+  not_finished = refl;
+  paid = omega arith;
+  unpaid = not_paid;
+  allowed = omega arith;
+  gone = omega arith;
 }

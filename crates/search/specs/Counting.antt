@@ -1,9 +1,11 @@
--- How the steps of a search are counted.
+-- How the steps of a search are counted, and the reductions that come in.
 use Rattle.std.specs.Prelude.{ℕ, ◌+◌, ◌-◌, ◌*◌, ◌^◌, ◌<◌, ◌≤◌, List, length}
 use Rattle.prefix.specs.Scopes.{Scope, all_variables}
 use Rattle.steps.specs.Counter.{Counter}
 use Rattle.trail.specs.State.{TrailState}
+use Rattle.derive.specs.State.{State}
 use Rattle.clean.specs.Marks.{marks_left}
+use Rattle.clean.specs.Turns.{reductions_in}
 
 -- the number of variables
 abbrev pub size_of : List Scope → ℕ
@@ -22,3 +24,7 @@ pub record IsCounted (n slack start : ℕ) (t : TrailState) (steps : Counter) : 
 pub record IsBounded (n start : ℕ) (t : TrailState) (steps : Counter) : Type 0 where
   pub later : start ≤ steps.spent
   pub few : steps.spent - start < (4 * n + 4) * (t.assigned + 1)
+
+-- at most that many reductions came in beside one for each step that was taken
+abbrev pub ReducesFew : ℕ → State → State → Counter → Counter → Type 0
+ReducesFew more old new before now = reductions_in new ≤ reductions_in old + (now.spent - before.spent) + more

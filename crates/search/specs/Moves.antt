@@ -37,14 +37,14 @@ abbrev pub KeepsAssumptions : TrailState → TrailState → Type 0
 KeepsAssumptions old new = (assumptions : List Literal) → AreTheAssumptions old.placed assumptions
     → AreTheAssumptions new.placed assumptions
 
--- the search goes on, with more assignments, and may decide
+-- the search goes on, with more steps and assignments, and may decide
 pub record Advances (scopes : List Scope) (slack : ℕ) (old new : SearchState) (before now : Counter) : Type 0 where
   pub searching : IsSearching scopes new
   pub clauses : clauses_of new.derivation ≡ clauses_of old.derivation
   pub assumed : KeepsAssumptions old.trail new.trail
   pub allowed : new.trail.allowed ≡ Anything
   pub budget : now.budget ≡ before.budget
-  pub rises : before.spent ≤ now.spent
+  pub rises : before.spent < now.spent
   pub counted : (start : ℕ) → IsCounted (size_of scopes) slack start old.trail before
       → IsCounted (size_of scopes) 0 start new.trail now × (old.trail.assigned < new.trail.assigned)
 
@@ -82,6 +82,8 @@ pub record Ends (scopes : List Scope) (old new : SearchState) (before now : Coun
   pub clauses : clauses_of new.derivation ≡ clauses_of old.derivation
   pub budget : now.budget ≡ before.budget
   pub rises : before.spent ≤ now.spent
+  pub bounded : (start : ℕ) → IsCounted (size_of scopes) 0 start old.trail before
+      → IsBounded (size_of scopes) start new.trail now
   pub row : IsReducedStep side scopes new.derivation id
   pub end : (assumptions : List Literal) → AreTheAssumptions old.trail.placed assumptions
       → IsEndRow side scopes assumptions (row_of new.derivation id)

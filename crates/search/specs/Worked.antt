@@ -1,12 +1,12 @@
--- Worked values: how steps are counted, when a solve stops, what is found and due, what is kept, and which finishes are
--- live, with rows of both sides.
+-- Worked values: how steps are counted, when a solve stops, what is found and due, what is kept, and which finishes and
+-- reductions are live, with rows of both sides.
 use Rattle.std.specs.Prelude.{◌≡◌, ℕ, true, List, [], ◌∷◌, Option, Some, None, length, replicate, ◌++◌}
 use Rattle.prefix.specs.declared.quant.Quant.{Quant}
 use Rattle.prefix.specs.declared.quant.Quant.TheVariants.{Exists, Forall}
 use Rattle.prefix.specs.Scopes.{Scope}
 use Rattle.prefix.specs.Sides.{opposite}
 use Rattle.steps.specs.Counter.{Counter}
-use Rattle.calculus.specs.Derivations.Why.{FinishedFrom, Given}
+use Rattle.calculus.specs.Derivations.Why.{FinishedFrom, Given, ReducedFrom}
 use Rattle.calculus.specs.Search.{Trail}
 use Rattle.calculus.specs.Search.Cause.{Assumed, Decided, Propagated}
 use Rattle.calculus.specs.Worked.{existential, plus}
@@ -14,13 +14,14 @@ use Rattle.calculus.specs.WorkedSearch.{alternating, bad, three}
 use Rattle.trail.specs.State.{Account, TrailState}
 use Rattle.trail.specs.declared.allowed.Allowed.TheVariants.{Anything}
 use Rattle.derive.specs.State.{State, with_step}
+use Rattle.clean.specs.Turns.{reductions_in}
 use Rattle.watch.specs.Links.{mark_of}
 use Rattle.watch.specs.State.{new_watch}
 use Rattle.search.specs.declared.outcome.Found.TheVariants.{Unit as IsUnit, Bad, Quiet}
 use Rattle.search.specs.declared.outcome.SolveStop.TheVariants.{Spent}
 use Rattle.search.specs.Changing.{AddsClause, IsRoomy}
-use Rattle.search.specs.Counting.{IsBounded, IsCounted, size_of}
-use Rattle.search.specs.Finishes.{GainsNoFinish, HasNoFinish, IsFinishId}
+use Rattle.search.specs.Counting.{IsBounded, IsCounted, ReducesFew, size_of}
+use Rattle.search.specs.Finishes.{GainsNoFinish, HasNoFinish, IsFinishId, finishes_in}
 use Rattle.search.specs.Forcing.{HasNoCubes, IsForced}
 use Rattle.search.specs.Moves.{IsDue, IsFound, IsMatrix}
 use Rattle.search.specs.State.{AreMarked, AreDetached, IsAtRest, SearchState, rows_of}
@@ -44,6 +45,11 @@ three_of pivot links = record {
 abbrev pub finished_three : Quant → State
 finished_three pivot =
     with_step (three_of pivot detached) (record { side = pivot; why = FinishedFrom 0; tag = 0 }) []
+
+-- the same with a reduction in the place of the finish
+abbrev pub reduced_three : Quant → State
+reduced_three pivot =
+    with_step (three_of pivot detached) (record { side = pivot; why = ReducedFrom 0; tag = 0 }) []
 
 -- a trail of these literals, each of which was assigned once
 abbrev pub trail_of : Trail → TrailState
@@ -150,7 +156,7 @@ pub record WorkedCounts : Type 0 where
   -- rest is an empty trail on which nothing was counted
   pub not_at_rest : IsAtRest (trail_of (once Exists)) → ⊥
 
--- finishes that are live
+-- finishes and reductions that are live
 pub record WorkedFinishes (pivot : Quant) : Type 0 where
   -- the finish of a row, not the row itself, nor what comes next
   pub finish : IsFinishId (finished_three pivot) 1
@@ -162,6 +168,18 @@ pub record WorkedFinishes (pivot : Quant) : Type 0 where
   -- no new one where the finish goes; not where it comes
   pub goes : GainsNoFinish (finished_three pivot) (three_of pivot detached)
   pub comes : GainsNoFinish (three_of pivot detached) (finished_three pivot) → ⊥
+  -- how many there are: a reduction is no finish, and a finish is no reduction
+  pub no_finishes : finishes_in (three_of pivot detached) ≡ 0
+  pub one_finish : finishes_in (finished_three pivot) ≡ 1
+  pub no_reductions : reductions_in (finished_three pivot) ≡ 0
+  pub one_reduction : reductions_in (reduced_three pivot) ≡ 1
+  pub not_finished : finishes_in (reduced_three pivot) ≡ 0
+  -- a step pays for a reduction that came in; not without a step, unless one more is allowed
+  pub paid : ReducesFew 0 (three_of pivot detached) (reduced_three pivot) (spent 10) (spent 11)
+  pub unpaid : ReducesFew 0 (three_of pivot detached) (reduced_three pivot) (spent 10) (spent 10) → ⊥
+  pub allowed : ReducesFew 1 (three_of pivot detached) (reduced_three pivot) (spent 10) (spent 10)
+  -- none is to be paid where it goes
+  pub gone : ReducesFew 0 (reduced_three pivot) (three_of pivot detached) (spent 10) (spent 10)
 
 -- when a solve may stop
 pub record WorkedStops : Type 0 where

@@ -1,8 +1,9 @@
 //! Changes of the formula, between solves.
-ghost use Rattle.std.specs.Prelude.{◌≡◌, ◌==◌, ℕ, IsTrue, false, not, filter, OnOk, OnErr};
+ghost use Rattle.std.specs.Prelude.{◌≡◌, ◌≤◌, ◌+◌, ◌==◌, ℕ, IsTrue, false, not, filter, OnOk, OnErr};
 ghost use Rattle.calculus.specs.Rows.{IsRow};
 ghost use Rattle.derive.specs.Dropping.{unless_finish};
 ghost use Rattle.derive.specs.State.{OpenClause, SameStep, clauses_of, is_live, note_at};
+ghost use Rattle.clean.specs.Turns.{reductions_in};
 ghost use Rattle.search.specs.State.{IsResting};
 ghost use Rattle.search.specs.Finishes.{GainsNoFinish, HasNoFinish};
 ghost use Rattle.search.specs.Forcing.{HasNoCubes};
@@ -41,8 +42,8 @@ impl Search {
         Ok(())
     }
 
-    /// Puts in a clause of a frame; every cube that was learned goes, since it may miss the clause. With no memory the
-    /// steps are as they were.
+    /// Puts in a clause of a frame, with its reduction where something goes; every cube that was learned goes, since it
+    /// may miss the clause. With no memory the steps are as they were.
     pub fn add_clause(
         &mut self,
         prefix: &Prefix,
@@ -57,6 +58,7 @@ impl Search {
         ensures resting { IsResting prefix.now self.new }
         ensures cubes { HasNoCubes self.old → HasNoCubes self.new }
         ensures finishes { GainsNoFinish self.old.derivation self.new.derivation }
+        ensures reductions { reductions_in self.new.derivation ≤ reductions_in self.old.derivation + 1 }
     {
         self.watched.reserve(1)?;
         self.detach_all(prefix);
@@ -74,6 +76,7 @@ impl Search {
         ensures resting { IsResting prefix.now self.new }
         ensures cubes { HasNoCubes self.old → HasNoCubes self.new }
         ensures finishes { GainsNoFinish self.old.derivation self.new.derivation }
+        ensures reductions { reductions_in self.new.derivation ≤ reductions_in self.old.derivation + 1 }
     {
         holding_laws();
         agreeing_laws();
@@ -92,6 +95,7 @@ impl Search {
         ensures resting { IsResting prefix.now self.new }
         ensures cubes { HasNoCubes self.old → HasNoCubes self.new }
         ensures finishes { GainsNoFinish self.old.derivation self.new.derivation }
+        ensures reductions { reductions_in self.new.derivation ≤ reductions_in self.old.derivation }
     {
         self.detach_all(prefix);
         holding_laws();
@@ -107,6 +111,7 @@ impl Search {
         ensures others { (id : ℕ) → IsTrue (is_live self.new.derivation id) →
             SameStep self.old.derivation self.new.derivation id }
         ensures finishes { HasNoFinish self.new.derivation }
+        ensures reductions { reductions_in self.new.derivation ≡ reductions_in self.old.derivation }
         ensures resting { IsResting prefix.now self.new }
         ensures clauses { clauses_of self.new.derivation ≡ clauses_of self.old.derivation }
         ensures cubes { HasNoCubes self.old → HasNoCubes self.new }

@@ -1,5 +1,5 @@
 //! What bad rows teach, and what is done about it.
-ghost use Rattle.std.specs.Prelude.{◌≡◌, ◌≢◌, ◌≤◌, ◌<◌, ◌+◌, ◌*◌, ℕ, IsTrue, IfOk, IfSome, OnOk, OnErr, Ok, Err, None, length, List};
+ghost use Rattle.std.specs.Prelude.{◌≡◌, ◌≢◌, ◌≤◌, ◌<◌, ◌+◌, ◌-◌, ◌*◌, ℕ, IsTrue, IfOk, IfSome, OnOk, OnErr, Ok, Err, None, length, List};
 ghost use Rattle.prefix.specs.Literal.{Literal};
 ghost use Rattle.prefix.specs.declared.quant.Quant.{Quant as Q};
 ghost use Rattle.steps.specs.Counter.{left};
@@ -13,9 +13,10 @@ ghost use Rattle.derive.specs.State.{has_rows, row_of, IsLegalFor};
 ghost use Rattle.derive.specs.Growing.{GainsSteps};
 ghost use Rattle.clean.specs.Reasons.{HaveReasons, IsReducedStep};
 ghost use Rattle.clean.specs.Marks.{CleansReasons, KeepsReasons, StopsCleaning, marks_left};
+ghost use Rattle.clean.specs.Turns.{reductions_in};
 ghost use Rattle.analyse.specs.Lessons.{IsLesson, NeedsResolution};
 ghost use Rattle.search.specs.State.{IsSearching};
-ghost use Rattle.search.specs.Counting.{size_of};
+ghost use Rattle.search.specs.Counting.{ReducesFew, size_of};
 ghost use Rattle.search.specs.Moves.{Advances, Analyses, Ends, Halts, Pushes, Undoes, WasDue};
 
 use crate::outcome::EndRow;
@@ -47,6 +48,9 @@ impl Search {
         ensures err { OnErr result (Halts prefix.now 0 self.old self.new steps.old steps.new) }
         ensures spent { result ≡ Err spent → steps.new.spent ≡ steps.new.budget }
         ensures due { result ≡ Err spent → WasDue prefix.now self.old self.new }
+        ensures reductions { ReducesFew 0 self.old.derivation self.new.derivation steps.old steps.new }
+        ensures fewer { result ≡ Ok None →
+            reductions_in self.new.derivation < reductions_in self.old.derivation + (steps.new.spent - steps.old.spent) }
         ensures ends { last_level self.old.trail.placed ≡ 0 → result ≢ Ok None }
         ensures few { last_level self.old.trail.placed ≡ 0 → result ≡ Err spent → left steps.old
             < marks_left self.old.trail * length self.old.trail.placed + 2 * length self.old.trail.placed }
@@ -77,6 +81,7 @@ impl Search {
         ensures err { OnErr result (Halts prefix.now 0 self.old self.new steps.old steps.new) }
         ensures spent { result ≡ Err spent → steps.new.spent ≡ steps.new.budget }
         ensures due { result ≡ Err spent → WasDue prefix.now self.old self.new }
+        ensures reductions { ReducesFew 0 self.old.derivation self.new.derivation steps.old steps.new }
         ensures few { result ≡ Err spent → left steps.old
             < marks_left self.old.trail * length self.old.trail.placed + 2 * length self.old.trail.placed }
     {
@@ -114,6 +119,7 @@ impl Search {
         ensures err { OnErr result (Halts prefix.now (2 * size_of prefix.now) self.old self.new steps.old steps.new) }
         ensures spent { result ≡ Err spent → steps.new.spent ≡ steps.new.budget }
         ensures due { result ≡ Err spent → WasDue prefix.now self.old self.new }
+        ensures reductions { reductions_in self.new.derivation ≡ reductions_in self.old.derivation }
     {
         bump(&mut self.decider, self.derivation.lits(row));
         self.undo(prefix, level);
@@ -177,6 +183,7 @@ impl Search {
         requires decision { IsDecision prefix.now self.old.trail.placed lit.variable }
         requires allowed { self.old.trail.allowed ≡ Anything }
         ensures ok { OnOk result (Advances prefix.now 0 self.old self.new steps.old steps.new) }
+        ensures derivation { self.new.derivation ≡ self.old.derivation }
         ensures same { OnErr result (self.new ≡ self.old) }
         ensures uncounted { OnErr result (steps.new ≡ steps.old) }
         ensures spent { OnErr result (steps.new.spent ≡ steps.new.budget) }

@@ -1,6 +1,7 @@
 //! A search.
 ghost use Rattle.std.specs.Prelude.{◌≡◌, []};
 ghost use Rattle.derive.specs.State.{clauses_of};
+ghost use Rattle.clean.specs.Turns.{reductions_in};
 ghost use Rattle.search.specs.Finishes.{HasNoFinish};
 ghost use Rattle.search.specs.State.{IsResting};
 
@@ -53,6 +54,7 @@ impl Search {
         ensures clauses { clauses_of result.derivation ≡ [] }
         ensures watched { result.watched ≡ [] }
         ensures finishes { HasNoFinish result.derivation }
+        ensures reductions { reductions_in result.derivation ≡ 0 }
     {
         holding_laws();
         Self {

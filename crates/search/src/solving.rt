@@ -1,8 +1,8 @@
 //! A solve, from rest to rest.
-ghost use Rattle.std.specs.Prelude.{◌≡◌, ℕ, ◌+◌, ◌*◌, ◌<◌, ◌≤◌, IfOk, IfErr, OnOk, OnErr, Err, length};
+ghost use Rattle.std.specs.Prelude.{◌≡◌, ℕ, ◌+◌, ◌-◌, ◌*◌, ◌<◌, ◌≤◌, IfOk, IfErr, OnOk, OnErr, Err, length};
 ghost use Rattle.prefix.specs.Scopes.{IsAscending};
 ghost use Rattle.prefix.specs.declared.quant.Quant.{Quant as Q};
-ghost use Rattle.steps.specs.Counter.{left};
+ghost use Rattle.steps.specs.Counter.{left, step_limit};
 ghost use Rattle.steps.specs.declared.stop.Stop.TheVariants.{Spent as spent};
 ghost use Rattle.calculus.specs.Rows.{variables_in};
 ghost use Rattle.calculus.specs.Search.{AreTheAssumptions, IsRefuted};
@@ -11,8 +11,9 @@ ghost use Rattle.trail.specs.State.{account_of};
 ghost use Rattle.trail.specs.declared.allowed.Allowed.TheVariants.{Anything};
 ghost use Rattle.derive.specs.State.{clauses_of, row_of};
 ghost use Rattle.clean.specs.Reasons.{IsReducedStep};
+ghost use Rattle.clean.specs.Turns.{reductions_in};
 ghost use Rattle.search.specs.State.{IsAtRest, IsPaused, IsResting, IsSearching};
-ghost use Rattle.search.specs.Counting.{IsBounded, IsCounted, size_of};
+ghost use Rattle.search.specs.Counting.{IsBounded, IsCounted, ReducesFew, size_of};
 ghost use Rattle.search.specs.Finishes.{HasNoFinish, IsFinishId};
 ghost use Rattle.search.specs.Forcing.{HasNoCubes, IsForced, NoCubeAttached};
 ghost use Rattle.search.specs.Moves.{IsMatrix};
@@ -32,6 +33,9 @@ impl Search {
     /// Decides the formula of the prefix and the clauses of the matrix, which are the open clauses, under assumptions
     /// of the first scope, by search with learned clauses and cubes (QCDCL). What it learns stays for the next call.
     /// The finish of the last outcome goes: after a call no finish is live but that of its own outcome.
+    ///
+    /// For each step that it takes at most one reduction comes in, and beside these at most one more; and it takes fewer
+    /// steps than suffice for the variables.
     ///
     /// Spent comes only where a step is due and the budget is spent, which with as many steps left as suffice for the
     /// variables is never so. After it and after want of memory the search is at rest, with the same open clauses.
@@ -54,6 +58,9 @@ impl Search {
         ensures clauses { clauses_of self.new.derivation ≡ clauses_of self.old.derivation }
         ensures finishes { IfOk result (λ o. (id : ℕ) → IsFinishId self.new.derivation id → id ≡ o.end) }
         ensures unfinished { OnErr result (HasNoFinish self.new.derivation) }
+        ensures reductions { reductions_in self.new.derivation
+            ≤ reductions_in self.old.derivation + (steps.new.spent - steps.old.spent) + 1 }
+        ensures few { steps.new.spent - steps.old.spent < step_limit (size_of prefix.now) }
         ensures budget { steps.new.budget ≡ steps.old.budget }
         ensures rises { steps.old.spent ≤ steps.new.spent }
     {
@@ -86,12 +93,13 @@ impl Search {
         ensures clauses { clauses_of self.new.derivation ≡ clauses_of self.old.derivation }
         ensures row { IfOk result (λ e. IsReducedStep e.side prefix.now self.new.derivation e.row) }
         ensures end { IfOk result (λ e. IsEndRow e.side prefix.now assumptions.now (row_of self.new.derivation e.row)) }
-        ensures bounded { OnErr result (IsBounded (size_of prefix.now) steps.old.spent self.new.trail steps.new) }
+        ensures bounded { IsBounded (size_of prefix.now) steps.old.spent self.new.trail steps.new }
         ensures due { result ≡ Err spent → WasSpentWhenDue prefix.now self.old.derivation assumptions.now steps.old
             self.new.trail.assigned }
         ensures spent { result ≡ Err spent → steps.new.spent ≡ steps.new.budget }
         ensures refuted { NoCubeAttached self.old → IsRefuted prefix.now matrix.now assumptions.now →
             result ≡ Err spent → left steps.old < size_of prefix.now * (size_of prefix.now + 3) }
+        ensures reductions { ReducesFew 1 self.old.derivation self.new.derivation steps.old steps.new }
         ensures budget { steps.new.budget ≡ steps.old.budget }
         ensures rises { steps.old.spent ≤ steps.new.spent }
     {
@@ -153,6 +161,7 @@ impl Search {
         ensures err { OnErr result (result ≡ Err SolveStop.NoMemory) }
         ensures resting { IsResting prefix.now self.new }
         ensures clauses { clauses_of self.new.derivation ≡ clauses_of self.old.derivation }
+        ensures reductions { reductions_in self.new.derivation ≡ reductions_in self.old.derivation }
         ensures finishes { IfOk result (λ o. (id : ℕ) → IsFinishId self.new.derivation id → id ≡ o.end) }
         ensures unfinished { OnErr result (HasNoFinish self.new.derivation) }
     {
@@ -184,6 +193,7 @@ impl Search {
             (record { loser = end.side; end = id })) }
         ensures resting { IsResting prefix.now self.new }
         ensures clauses { clauses_of self.new.derivation ≡ clauses_of self.old.derivation }
+        ensures reductions { reductions_in self.new.derivation ≡ reductions_in self.old.derivation }
         ensures finishes { IfOk result (λ end. (id : ℕ) → IsFinishId self.new.derivation id → id ≡ end) }
         ensures unfinished { OnErr result (HasNoFinish self.new.derivation) }
     {
@@ -221,6 +231,7 @@ impl Search {
         ensures resting { IsResting prefix.now self.new }
         ensures clauses { clauses_of self.new.derivation ≡ clauses_of self.old.derivation }
         ensures unfinished { HasNoFinish self.new.derivation }
+        ensures reductions { reductions_in self.new.derivation ≡ reductions_in self.old.derivation }
         ensures stopped { result ≡ account_of prefix.now self.old.trail steps.now.budget }
     {
         holding_laws();

@@ -1,5 +1,5 @@
 //! The turns of a search.
-ghost use Rattle.std.specs.Prelude.{◌≡◌, ◌-◌, ◌+◌, ◌*◌, ◌<◌, ℕ, IfOk, IfSome, OnOk, OnErr, Ok, Err, None, List};
+ghost use Rattle.std.specs.Prelude.{◌≡◌, ◌-◌, ◌+◌, ◌*◌, ◌<◌, ◌≤◌, ℕ, IfOk, IfSome, OnOk, OnErr, Ok, Err, None, List};
 ghost use Rattle.prefix.specs.Literal.{Literal};
 ghost use Rattle.prefix.specs.declared.quant.Quant.{Quant as Q};
 ghost use Rattle.prefix.specs.declared.quant.Quant.TheVariants.{Exists as exists, Forall as forall};
@@ -10,8 +10,9 @@ ghost use Rattle.trail.specs.declared.allowed.Allowed.TheVariants.{Anything};
 ghost use Rattle.derive.specs.State.{clauses_of, row_of};
 ghost use Rattle.watch.specs.Events.{AreQuiet, IsEvent};
 ghost use Rattle.clean.specs.Reasons.{IsReducedStep};
+ghost use Rattle.clean.specs.Turns.{reductions_in};
 ghost use Rattle.search.specs.State.{IsSearching, rows_of};
-ghost use Rattle.search.specs.Counting.{size_of};
+ghost use Rattle.search.specs.Counting.{ReducesFew, size_of};
 ghost use Rattle.search.specs.Forcing.{IsRefuting};
 ghost use Rattle.search.specs.Moves.{Advances, Ends, Halts, IsFound, IsMatrix, SameSteps, WasDue};
 ghost use Rattle.search.specs.Watching.{Looks};
@@ -43,6 +44,8 @@ impl Search {
         ensures err { OnErr result (Halts prefix.now 0 self.old self.new steps.old steps.new) }
         ensures spent { result ≡ Err spent → steps.new.spent ≡ steps.new.budget }
         ensures due { result ≡ Err spent → WasDue prefix.now self.old self.new }
+        ensures reductions { ReducesFew 1 self.old.derivation self.new.derivation steps.old steps.new }
+        ensures paid { result ≡ Ok None → ReducesFew 0 self.old.derivation self.new.derivation steps.old steps.new }
         ensures forced { (start : ℕ) → IsRefuting prefix.now matrix.now start self.old steps.old → result ≡ Ok None →
             IsRefuting prefix.now matrix.now start self.new steps.new }
         ensures refuted { (start : ℕ) → IsRefuting prefix.now matrix.now start self.old steps.old →
@@ -112,6 +115,8 @@ impl Search {
         ensures err { OnErr result (Halts prefix.now 0 self.old self.new steps.old steps.new) }
         ensures spent { result ≡ Err spent → steps.new.spent ≡ steps.new.budget }
         ensures due { result ≡ Err spent → WasDue prefix.now self.old self.new }
+        ensures reductions { ReducesFew 1 self.old.derivation self.new.derivation steps.old steps.new }
+        ensures paid { result ≡ Ok None → ReducesFew 0 self.old.derivation self.new.derivation steps.old steps.new }
     {
         let Some(lit) = self.decider.next_decision(&self.trail, prefix) else {
             let cube = self.solution(prefix, matrix)?;
@@ -130,6 +135,7 @@ impl Search {
         ensures searching { IsSearching prefix.now self.new }
         ensures clauses { clauses_of self.new.derivation ≡ clauses_of self.old.derivation }
         ensures trail { self.new.trail ≡ self.old.trail }
+        ensures reductions { reductions_in self.new.derivation ≤ reductions_in self.old.derivation + 1 }
         ensures row { IfOk result (λ id. IsReducedStep forall prefix.now self.new.derivation id) }
         ensures bad { IfOk result (λ id. IsBadRow forall prefix.now (value_on self.new.trail.placed)
             (row_of self.new.derivation id)) }

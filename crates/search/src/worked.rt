@@ -12,7 +12,7 @@ pub fn worked_counts()
     ensures { WorkedCounts }
 {}
 
-/// Which finishes are live, for steps of either side.
+/// Which finishes and reductions are live, for steps of either side.
 pub fn worked_finishes()
     ensures { (pivot : Quant) → WorkedFinishes pivot }
 {}

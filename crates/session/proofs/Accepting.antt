@@ -1,5 +1,5 @@
 -- Replies to changes of the formula.
-use Rattle.std.proofs.Common.{◌≡◌, ℕ, Bool, true, false, not, ◌||◌, List, [], ◌∷◌, Option, Some, None, Result, Ok, Err, refl, sym, ap, subst, ◌∙◌}
+use Rattle.std.proofs.Common.{◌≡◌, ◌≤◌, ℕ, ℤ, Bool, true, false, not, ◌||◌, List, [], ◌∷◌, Option, Some, None, Result, Ok, Err, refl, sym, ap, arith, subst, ◌∙◌}
 use Rattle.std.specs.Prelude.{◌+◌, ◌==◌, nat_lt, length, ◌-◌, ◌^◌, min, IfSome, IsOk, IsOkUnless, MatchOption, MatchResult, OnErr, OnOk, is_some, if◌then◌else◌}
 use Rattle.std.specs.Option.{option_and_then, option_map}
 use Rattle.prefix.specs.declared.quant.Quant.{Quant}
@@ -9,12 +9,13 @@ use Rattle.prefix.specs.Refusals.{scope_refusal, variable_refusal}
 use Rattle.prefix.specs.Scopes.{Scope, level_of}
 use Rattle.frames.specs.declared.refusal.FrameRefusal.{FrameRefusal}
 use Rattle.frames.specs.declared.refusal.FrameRefusal.TheVariants.{AssumptionsHeld, NoMemory as NoSpace}
-use Rattle.frames.specs.Commands.{AddScope, AddVariable, Command as FrameCommand, first_of, formula_after, is_empty, prefix_refusals, refusal_of}
+use Rattle.frames.specs.Commands.{AddClause, AddScope, AddVariable, Assume, Command as FrameCommand, Pop, Push, Solve as Decide, first_of, formula_after, is_empty, prefix_refusals, refusal_of}
 use Rattle.frames.specs.Fold.{ScriptState, accepted, counted, state_after, unless_refused, verdict_after}
 use Rattle.frames.specs.Refusal.{number_of}
 use Rattle.frames.specs.State.{OpenFormula}
 use Rattle.qrp_trace.proofs.Pieces.{nothing}
-use Rattle.engine.specs.State.{EngineState, VerdictState}
+use Rattle.engine.specs.Counting.{with_clause}
+use Rattle.engine.specs.State.{EngineState, VerdictState, changed}
 use Rattle.qscript.specs.declared.command.Command.{Command}
 use Rattle.session.specs.declared.reply.Reply.{Reply}
 use Rattle.session.specs.declared.reply.Reply.TheVariants.{Refused, Silent}
@@ -103,19 +104,68 @@ pub always : (r : Result (Unit {0}) FrameRefusal) → IsOk r → (x : FrameRefus
 always (Ok u) h x e = absurd (cc)
 always (Err y) h x e = absurd (cc)
 
+-- how many clauses were accepted after a change
+abbrev pub clauses_after : ℕ → FrameCommand → ℕ
+clauses_after n (AddScope quant at) = n
+clauses_after n (AddVariable var scope) = n
+clauses_after n (AddClause clause) = n + 1
+clauses_after n Push = n
+clauses_after n Pop = n
+clauses_after n (Assume lit) = n
+clauses_after n (Decide answer) = n
+
+no_fewer : (m n : ℕ) (change : FrameCommand) → m ≤ n → clauses_after m change ≤ clauses_after n change
+no_fewer m n (AddScope quant at) le = le
+no_fewer m n (AddVariable var scope) le = le
+no_fewer m n (AddClause clause) le = omega (arith, le)
+no_fewer m n Push le = le
+no_fewer m n Pop le = le
+no_fewer m n (Assume lit) le = le
+no_fewer m n (Decide answer) le = le
+
 -- what an accepted change leaves of the engine
 pub record HasChanged (change : FrameCommand) (before e : EngineState) : Type 0 where
   pub formula : e.formula ≡ formula_after before.formula change
   pub verdict : e.verdict ≡ None
+  pub clauses : e.counts.clauses ≤ clauses_after before.counts.clauses change
   pub solves : e.counts.solves ≡ before.counts.solves
+  pub budget : e.counts.budget ≡ before.counts.budget
+  pub vars : e.counts.vars ≡ before.counts.vars
+
+pub has_changed : (change : FrameCommand) (before e : EngineState) → e ≡ changed before change
+    → clauses_after before.counts.clauses change ≡ before.counts.clauses → HasChanged change before e
+has_changed change before e same none_more = record {
+  formula = ap (λ (f : EngineState). f.formula) same;
+  verdict = ap (λ (f : EngineState). f.verdict) same;
+  clauses = let count = ap (λ (f : EngineState). f.counts.clauses) same in omega (arith, count, none_more);
+  solves = ap (λ (f : EngineState). f.counts.solves) same;
+  budget = ap (λ (f : EngineState). f.counts.budget) same;
+  vars = ap (λ (f : EngineState). f.counts.vars) same;
+}
+
+pub has_clause : (clause : List ℤ) (before e : EngineState)
+    → e ≡ record (changed before (AddClause clause)) { counts = with_clause before.counts }
+    → HasChanged (AddClause clause) before e
+has_clause clause before e same = record {
+  formula = ap (λ (f : EngineState). f.formula) same;
+  verdict = ap (λ (f : EngineState). f.verdict) same;
+  clauses =
+      let count : e.counts.clauses ≡ min (before.counts.clauses + 1) (2 ^ 64 - 1) =
+      ap (λ (f : EngineState). f.counts.clauses) same in omega (arith, count);
+  solves = ap (λ (f : EngineState). f.counts.solves) same;
+  budget = ap (λ (f : EngineState). f.counts.budget) same;
+  vars = ap (λ (f : EngineState). f.counts.vars) same;
+}
 
 module _ {S : Type 0} (written flushed : S → Option (List ℕ)) (faults : S → ℕ) (has_room : S → ℕ → Type 0)
     (budget : ℕ) (command : Command) (change : FrameCommand) (s : Standing) (before e : EngineState)
-    (holds : Holds before s) (number : refusal_number s command ≡ no_change s.script.formula change)
+    (holds : Holds budget before s) (number : refusal_number s command ≡ no_change s.script.formula change)
     (changes : (out : Output) (after : Standing) → Changes s change out after
     → IsAccepted budget s command out after) (left : left_by command s ≡ s)
     (drops : verdict_after s.script.formula change ≡ None)
     (same_solves : (counted s.script change).solves ≡ s.script.solves)
+    (same_clauses : (counted s.script change).clauses ≡ clauses_after s.script.clauses change)
+    (same_greatest : (counted s.script change).greatest ≡ s.script.greatest)
     (numbered : (f : OpenFormula) → HasNumber (refusal_of f change)) where
   abbrev next : Standing
   next = record s { script = state_after s.script change }
@@ -132,16 +182,27 @@ module _ {S : Type 0} (written flushed : S → Option (List ℕ)) (faults : S �
   no_state : (w : VerdictState) {P : Type 0} → e.verdict ≡ None → e.verdict ≡ Some w → P
   no_state w none some = absurd (let both : None ≡ Some w = sym none ∙ some in cc)
 
-  holds_next : refusal_of before.formula change ≡ None → HasChanged change before e → Holds e next
-  holds_next none changed = record {
+  holds_next : refusal_of before.formula change ≡ None → HasChanged change before e → Holds budget e next
+  holds_next none leaves = record {
     formula = ap (λ (t : ScriptState). t.formula) (state_is none) ∙ ap (λ f. formula_after f change) holds.formula
-        ∙ sym changed.formula;
+        ∙ sym leaves.formula;
     verdict = ap (λ (t : ScriptState). t.verdict) (state_is none) ∙ drops
-        ∙ sym (ap (option_map given_of) changed.verdict);
-    proof = λ w some. no_state w changed.verdict some;
-    values = λ w some. no_state w changed.verdict some;
-    solves = changed.solves ∙ holds.solves ∙ sym (ap (λ m. min m (2 ^ 64 - 1))
+        ∙ sym (ap (option_map given_of) leaves.verdict);
+    proof = λ w some. no_state w leaves.verdict some;
+    values = λ w some. no_state w leaves.verdict some;
+    solves = leaves.solves ∙ holds.solves ∙ sym (ap (λ m. min m (2 ^ 64 - 1))
         (ap (λ (t : ScriptState). t.solves) (state_is none) ∙ same_solves));
+    clauses =
+        let few = leaves.clauses in
+        let more = no_fewer before.counts.clauses s.script.clauses change holds.clauses in
+        let all = ap (λ (t : ScriptState). t.clauses) (state_is none) ∙ same_clauses in
+        omega (arith, few, more, all);
+    budgets = let same = leaves.budget in let low = holds.budgets in omega (arith, same, low);
+    variables =
+        let same = leaves.vars in
+        let low = holds.variables in
+        let all = ap (λ (t : ScriptState). t.greatest) (state_is none) ∙ same_greatest in
+        omega (arith, same, low, all);
   }
 
   abbrev Goal : S → S → Result Reply SessionStop → Type 0
@@ -149,7 +210,7 @@ module _ {S : Type 0} (written flushed : S → Option (List ℕ)) (faults : S �
 
   silent : (old new : S) (result : Result Reply SessionStop) → refusal_of before.formula change ≡ None
       → HasChanged change before e → result ≡ Ok Silent → new ≡ old → Goal old new result
-  silent old new result none changed is same =
+  silent old new result none leaves is same =
       subst (Goal old new) (sym is) (subst (λ n. Goal old n (Ok Silent)) (sym same) (
         [],
         next,
@@ -157,7 +218,7 @@ module _ {S : Type 0} (written flushed : S → Option (List ℕ)) (faults : S �
             (changes (says []) next (record { silent = refl; state = refl })),
         refl,
         nothing written flushed faults has_room old,
-        holds_next none changed,
+        holds_next none leaves,
       ))
 
   wants : (old new : S) (result : Result Reply SessionStop) → e ≡ before → result ≡ Err NoMemory → new ≡ old
@@ -165,7 +226,7 @@ module _ {S : Type 0} (written flushed : S → Option (List ℕ)) (faults : S �
   wants old new result kept is same =
       subst (Goal old new) (sym is) (subst (λ n. Goal old n (Err NoMemory)) (sym same) (
         nothing written flushed faults has_room old,
-        subst (λ t. Holds e t) (sym left) (subst (λ f. Holds f s) (sym kept) holds),
+        subst (λ t. Holds budget e t) (sym left) (subst (λ f. Holds budget f s) (sym kept) holds),
       ))
 
   refused : (old new : S) (result : Result Reply SessionStop) (x : FrameRefusal) (n : ℕ)
@@ -174,7 +235,7 @@ module _ {S : Type 0} (written flushed : S → Option (List ℕ)) (faults : S �
   refused old new result x n some numbers kept refuses =
       stepped written flushed faults has_room budget command s s old new e (Refused n) (refused_text n) result
       (subst (λ m. IsReplyWith m budget s command (says (refused_text n)) s)
-      (sym (number_is (Some x) some ∙ numbers)) (refl, refl)) refl (subst (λ f. Holds f s) (sym kept) holds)
+      (sym (number_is (Some x) some ∙ numbers)) (refl, refl)) refl (subst (λ f. Holds budget f s) (sym kept) holds)
       (subst (λ m. Refuses written flushed faults has_room m old new result) numbers refuses)
 
   pub accepts : (P : Type 0) (r : Result (Unit {0}) FrameRefusal) (old new : S) (result : Result Reply SessionStop)

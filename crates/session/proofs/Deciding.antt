@@ -1,6 +1,6 @@
 -- Replies to solves.
 use Rattle.std.proofs.Common.{◌≡◌, ◌<◌, ℕ, ◌+◌, ◌-◌, ◌*◌, ◌^◌, Bool, true, false, [], Some, None, refl, sym, ap, ap₂, subst, ◌∙◌, arith, inl, inr}
-use Rattle.std.specs.Prelude.{IfSome, min, option_map}
+use Rattle.std.specs.Prelude.{◌≤◌, IfSome, max, min, option_map}
 use Rattle.std.proofs.lemmas.Bool.Decides.{nat_tests}
 use Rattle.prefix.specs.Scopes.{quantifier_at}
 use Rattle.steps.specs.Counter.{Counter, step_limit}
@@ -32,17 +32,33 @@ use Rattle.session.specs.Steps.{HasText, IsDecided, answered, reply_of, told_by}
 pub one_more_solve : (a most : ℕ) → min (min a most + 1) most ≡ min (a + 1) most
 one_more_solve a most = grind (arith, nat_tests)
 
-module _ (budget : ℕ) (s : Standing) (before e : EngineState) (holds : Holds before s) where
+module _ (budget : ℕ) (s : Standing) (before e : EngineState) (holds : Holds budget before s) where
   counted : (n : ℕ) → e.counts ≡ with_solve budget n before.counts
       → e.counts.solves ≡ min (s.script.solves + 1) (2 ^ 64 - 1)
   counted n counts = ap (λ c. c.solves) counts ∙ ap (λ m. min (m + 1) (2 ^ 64 - 1)) holds.solves
       ∙ one_more_solve s.script.solves (2 ^ 64 - 1)
 
+  module _ (counts : e.counts ≡ with_solve budget (size_of before.formula.scopes) before.counts) where
+    no_more_clauses : e.counts.clauses ≤ s.script.clauses
+    no_more_clauses = let same = ap (λ c. c.clauses) counts in let low = holds.clauses in omega (arith, same, low)
+
+    no_greater_budget : e.counts.budget ≤ budget
+    no_greater_budget =
+        let same : e.counts.budget ≡ max before.counts.budget budget = ap (λ c. c.budget) counts in
+        let low = holds.budgets in omega (arith, same, low)
+
+    no_more_variables : e.counts.vars ≤ max s.script.greatest (size_of s.script.formula.scopes)
+    no_more_variables =
+        let same : e.counts.vars ≡ max before.counts.vars (size_of before.formula.scopes) = ap (λ c. c.vars) counts in
+        let size : size_of s.script.formula.scopes ≡ size_of before.formula.scopes =
+        ap (λ (f : OpenFormula). size_of f.scopes) holds.formula in
+        let low = holds.variables in omega (arith, same, size, low)
+
   module _ (v : Verdict) (t : Bool) (same : v.truth ≡ t)
       (truth : v.truth ≡ truth_under before.formula.assumptions before.formula.scopes
       (clauses_in before.formula.frames)) (proof : HasProof before.formula v e.verdict)
-      (emptied : e.formula ≡ record before.formula { assumptions = [] }) (n : ℕ)
-      (counts : e.counts ≡ with_solve budget n before.counts) (plays : IfSome e.verdict (PlaysFirst e.formula)) where
+      (emptied : e.formula ≡ record before.formula { assumptions = [] })
+      (counts : e.counts ≡ with_solve budget (size_of before.formula.scopes) before.counts) (plays : IfSome e.verdict (PlaysFirst e.formula)) where
     abbrev state : VerdictState
     state = proof.state
 
@@ -55,7 +71,7 @@ module _ (budget : ℕ) (s : Standing) (before e : EngineState) (holds : Holds b
     is_state : (w : VerdictState) → e.verdict ≡ Some w → state ≡ w
     is_state w some = let both : Some state ≡ Some w = sym proof.there ∙ some in cc
 
-    held : Holds e after
+    held : Holds budget e after
     held = record {
       formula = ap (λ (f : OpenFormula). record f { assumptions = [] }) holds.formula ∙ sym emptied;
       verdict = ap₂ (λ (b : Bool) (f : OpenFormula). Some (record { truth = b; assumptions = f.assumptions }))
@@ -64,7 +80,10 @@ module _ (budget : ℕ) (s : Standing) (before e : EngineState) (holds : Holds b
           ∙ sym (ap (option_map given_of) proof.there);
       proof = λ w some. ap (λ (v : VerdictState). v.proof) (is_state w some);
       values = λ w some. ap (first_values e.formula) (is_state w some);
-      solves = counted n counts;
+      clauses = no_more_clauses counts;
+      solves = counted (size_of before.formula.scopes) counts;
+      budgets = no_greater_budget counts;
+      variables = no_more_variables counts;
     }
 
     first : quantifier_at before.formula.scopes 1 ≡ Some (winner_of t)
@@ -150,11 +169,16 @@ module _ (budget : ℕ) (s : Standing) (before e : EngineState) (holds : Holds b
         verdict = sym (ap (option_map given_of) none);
         proof = λ w some. none_is w some;
         values = λ w some. none_is w some;
-        solves = counted (size_of before.formula.scopes)
-            (subst (λ b. e.counts ≡ with_solve b (size_of before.formula.scopes) before.counts) whole counts);
+        clauses = no_more_clauses same_counts;
+        solves = counted (size_of before.formula.scopes) same_counts;
+        budgets = no_greater_budget same_counts;
+        variables = no_more_variables same_counts;
       };
     }
       where
+        same_counts : e.counts ≡ with_solve budget (size_of before.formula.scopes) before.counts
+        same_counts = subst (λ b. e.counts ≡ with_solve b (size_of before.formula.scopes) before.counts) whole counts
+
         at : IsStopAt budget (size_of before.formula.scopes) stopped
         at = record {
           budget = stop.stops.budget ∙ whole;

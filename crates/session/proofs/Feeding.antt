@@ -140,6 +140,8 @@ module _ (scopes : List Scope) (clauses : List (List Literal)) (valid : IsPrefix
         let longer : length (take (i + 1) clauses) ≡ i + 1 = length-take-le (i + 1) clauses (omega (arith, low)) in
         omega (arith, count, long, longer, holds.counted);
     unsolved = ap (λ (e : EngineState). e.counts.solves) is_new ∙ holds.unsolved;
+    unbudgeted = ap (λ (e : EngineState). e.counts.budget) is_new ∙ holds.unbudgeted;
+    unsized = ap (λ (e : EngineState). e.counts.vars) is_new ∙ holds.unsized;
   }
 
 -- one more variable of a scope
@@ -154,6 +156,8 @@ module _ (scopes : List Scope) (q : Quant) (vs : List ℕ) (i n v : ℕ) (low : 
     undecided = ap (λ (e : EngineState). e.verdict) is_new;
     counted = subst (λ n. n ≤ 0) (sym (ap (λ (e : EngineState). e.counts.clauses) is_new)) holds.counted;
     unsolved = ap (λ (e : EngineState). e.counts.solves) is_new ∙ holds.unsolved;
+    unbudgeted = ap (λ (e : EngineState). e.counts.budget) is_new ∙ holds.unbudgeted;
+    unsized = ap (λ (e : EngineState). e.counts.vars) is_new ∙ holds.unsized;
   }
 
 -- a scope without variables
@@ -163,6 +167,8 @@ scope_fed old new q holds is_new = record {
   undecided = ap (λ (e : EngineState). e.verdict) is_new;
   counted = subst (λ n. n ≤ 0) (sym (ap (λ (e : EngineState). e.counts.clauses) is_new)) holds.counted;
   unsolved = ap (λ (e : EngineState). e.counts.solves) is_new ∙ holds.unsolved;
+  unbudgeted = ap (λ (e : EngineState). e.counts.budget) is_new ∙ holds.unbudgeted;
+  unsized = ap (λ (e : EngineState). e.counts.vars) is_new ∙ holds.unsized;
 }
 
 -- The scopes of a prefix one after another.

@@ -121,7 +121,7 @@ module _ {S : Type 0} (written flushed : S → Option (List ℕ)) (faults : S �
   Replied result old new first last = Answers budget s script (IsLeftAt result)
       (λ text. IsSentAt written flushed faults has_room old new text result) (first, last)
 
-  pub begun : (e : EngineState) (sink : S) (stops : List Account) → Holds e s → UnderWay script e sink sink stops stops
+  pub begun : (e : EngineState) (sink : S) (stops : List Account) → Holds budget e s → UnderWay script e sink sink stops stops
   begun e sink stops holds = record {
     so_far = record {
       commands = [];
@@ -142,7 +142,7 @@ module _ {S : Type 0} (written flushed : S → Option (List ℕ)) (faults : S �
   pub gone_on : (before after : Option Script) (c : Command) (e f : EngineState) (old middle new : S)
       (first between last : List Account) → (way : UnderWay before e old middle first between)
       → IsFirst c before after
-      → ((t : Standing) → Holds e t → Goes written flushed faults has_room budget c t middle new f (between, last)
+      → ((t : Standing) → Holds budget e t → Goes written flushed faults has_room budget c t middle new f (between, last)
       (Ok tt)) → UnderWay after f old new first last
   gone_on before after c e f old middle new first between last way is goes =
       let far = way.so_far in
@@ -218,7 +218,7 @@ module _ {S : Type 0} (written flushed : S → Option (List ℕ)) (faults : S �
   pub failed_at : (before after : Option Script) (c : Command) (e f : EngineState) (old middle new : S)
       (first between last : List Account) → (way : UnderWay before e old middle first between)
       → IsFirst c before after → (ending : Ending)
-      → ((t : Standing) → Holds e t → Goes written flushed faults has_room budget c t middle new f (between, last)
+      → ((t : Standing) → Holds budget e t → Goes written flushed faults has_room budget c t middle new f (between, last)
       (Err ending)) → Replied (Err ending) old new first last
   failed_at before after c e f old middle new first between last way is WriteFault goes =
       let far = way.so_far in

@@ -1,6 +1,6 @@
 -- Replies to jobs on one formula.
 use Rattle.std.proofs.Common.{◌≡◌, ◌<◌, ℕ, ◌+◌, ◌*◌, ◌-◌, Bool, true, false, List, [], ◌∷◌, ◌++◌, length, codes, Option, Some, None, Result, Ok, Err, refl, sym, ap, subst, ◌∙◌, arith, append-nil, inl, inr, ⊎_elim}
-use Rattle.std.specs.Prelude.{◌≤◌, IfErr, IfOk, IfSome, IsErrOf, IsOk, OnOk, option_map}
+use Rattle.std.specs.Prelude.{◌≤◌, max, IfErr, IfOk, IfSome, IsErrOf, IsOk, MatchResult, OnOk, option_map}
 use Rattle.std.specs.Io.KnownBytes.{Appends, Keeps}
 use Rattle.std.proofs.KnownBytes.{Appends-kept}
 use Rattle.ports.specs.Bytes.{AllFlushed}
@@ -12,7 +12,9 @@ use Rattle.truth.specs.Truth.{truth, truth_under}
 use Rattle.trail.specs.State.{Account}
 use Rattle.calculus.specs.Rows.{Row}
 use Rattle.calculus.specs.Search.{IsRefuted}
-use Rattle.frames.specs.Fold.{Given}
+use Rattle.calculus.specs.Limits.{weight_bound}
+use Rattle.frames.specs.Commands.{Solve as Decide, Verdict as Found}
+use Rattle.frames.specs.Fold.{Given, ScriptState, state_after}
 use Rattle.frames.specs.State.{OpenFormula, clauses_in}
 use Rattle.search.specs.Counting.{size_of}
 use Rattle.engine.specs.State.{EngineState, VerdictState}
@@ -25,14 +27,14 @@ use Rattle.session.specs.declared.answer.Answer.TheVariants.{Sat, Unsat, Unknown
 use Rattle.session.specs.declared.ending.Ending.{Ending}
 use Rattle.session.specs.declared.ending.Ending.TheVariants.{Done, Refused, Limit, ReadFault, WriteFault, NoMemory}
 use Rattle.session.specs.declared.ending.Job.{Job}
-use Rattle.session.specs.declared.ending.Job.TheVariants.{Solve, Trace, Cert}
+use Rattle.session.specs.declared.ending.Job.TheVariants.{Solve, Qdo, Trace, Cert}
 use Rattle.session.specs.declared.reply.Reply.{Reply}
 use Rattle.session.specs.declared.reply.SessionStop.{SessionStop}
 use Rattle.session.specs.declared.reply.SessionStop.TheVariants.{WriteFault as Unwritten, NoMemory as NoRoomLeft}
 use Rattle.session.specs.Endings.{IsUnread, ending_at, ending_with}
 use Rattle.session.specs.Feeding.{HoldsFormula}
-use Rattle.session.specs.Jobs.{HasVerdictFor, HasVerdictText, IsAnsweredBy, IsJobText, IsReplyTo, IsUntouched, IsVerdict, LeavesOutput, RepliesTo, RoomForJob, WritesJob, built, opened, unassumed}
-use Rattle.session.specs.Replies.{Decides, GivesUp, IsAccepted, IsCertText, IsReply, IsReplyWith, IsTraceText, Output, Text, no_verdict, says, verdict_text}
+use Rattle.session.specs.Jobs.{HasVerdictFor, HasVerdictText, IsAnsweredBy, IsJobText, IsReplyTo, IsUntouched, IsVerdict, LeavesOutput, IsHeaderOf, RepliesTo, RoomForJob, WritesJob, answer_with, built, gates_for, opened, solution_line, unassumed, unknown_text, value_line, value_lines}
+use Rattle.session.specs.Replies.{Decides, GivesUp, IsAccepted, IsCertText, IsReply, IsReplyWith, IsTraceText, Output, Text, gates_after, no_verdict, says, verdict_text}
 use Rattle.session.specs.Solve.{IsAnswerTo, IsDone, IsEnding, Solves, answer_line}
 use Rattle.session.specs.Standing.{IsWitness, Standing}
 use Rattle.session.specs.State.{Holds, given_of}
@@ -41,21 +43,19 @@ use Rattle.session.proofs.Scripting.{flushed_kept, front_all, some_map}
 use Rattle.session.specs.Stops.{AddsEntry, IsStopAt}
 
 -- an engine that holds a formula holds what the commands come to that build it
-pub built_held : (f : Formula) (e : EngineState) → HoldsFormula f.prefix f.clauses e → Holds e (built f)
-built_held f e holds = record {
+pub built_held : (budget : ℕ) (f : Formula) (e : EngineState) → HoldsFormula f.prefix f.clauses e → Holds budget e (built f)
+built_held budget f e holds = record {
   formula = sym holds.formula;
   verdict = sym (ap (option_map given_of) holds.undecided);
   proof = λ v some. absurd (let g : None ≡ Some v = sym holds.undecided ∙ some in cc);
   values = λ v some. absurd (let g : None ≡ Some v = sym holds.undecided ∙ some in cc);
+  clauses = holds.counted;
   solves = holds.unsolved;
+  budgets = let none = holds.unbudgeted in omega (arith, none);
+  variables = let none = holds.unsized in omega (arith, none);
 }
 
--- the answer of a truth
-abbrev answer_of : Bool → Answer
-answer_of true = Sat
-answer_of false = Unsat
-
-line_is : (a : Answer) (t : Bool) → answer_line a ≡ verdict_text t → a ≡ answer_of t
+line_is : (a : Answer) (t : Bool) → answer_line a ≡ verdict_text t → a ≡ answer_with t
 line_is Sat true e = refl
 line_is Sat false e = absurd (let n : 4 ≡ 6 = ap length e in omega (arith, n))
 line_is Unsat true e = absurd (let n : 6 ≡ 4 = ap length e in omega (arith, n))
@@ -76,28 +76,37 @@ pub record Decided (budget : ℕ) (f : Formula) (a : Answer) (told : List Accoun
 
 module _ (plain : (scopes : _) (clauses : List Row) → truth_under [] scopes clauses ≡ truth scopes clauses)
     (budget : ℕ) (f : Formula) where
+  size : max 0 (size_of f.prefix) ≡ size_of f.prefix
+  size = omega arith
+
   by_truth : (t : Bool) (after : Standing) (told : List Account) → told ≡ []
       → truth_under [] f.prefix (clauses_in (opened f).frames) ≡ t
-      → IsWitness (opened f) (unassumed t) after.witness → after.script.formula ≡ opened f
-      → after.script.verdict ≡ Some (unassumed t) → Decided budget f (answer_of t) told after
-  by_truth t after told none right witness formula verdict = record {
-    is = record { formula = formula; verdict = of t verdict witness };
+      → IsWitness (opened f) (unassumed t) after.witness
+      → after.script ≡ state_after (built f).script (Decide (Found t)) → Decided budget f (answer_with t) told after
+  by_truth t after told none right witness state = record {
+    is = record {
+      formula = ap (λ (s : ScriptState). s.formula) state;
+      clauses = ap (λ (s : ScriptState). s.clauses) state;
+      solves = ap (λ (s : ScriptState). s.solves) state;
+      greatest = ap (λ (s : ScriptState). s.greatest) state ∙ size;
+      verdict = of t (ap (λ (s : ScriptState). s.verdict) state) witness;
+    };
     right = rightly t (sym (plain f.prefix f.clauses)
         ∙ ap (truth_under [] f.prefix) (sym (append-nil f.clauses)) ∙ right);
     entry = λ old. none_told t old (ap (λ l. old ++ l) none ∙ append-nil old);
   }
     where
       of : (t : Bool) → after.script.verdict ≡ Some (unassumed t) → IsWitness (opened f) (unassumed t) after.witness
-          → HasVerdictFor f (answer_of t) after
+          → HasVerdictFor f (answer_with t) after
       of true v w = (v, w)
       of false v w = (v, w)
 
-      rightly : (t : Bool) → truth f.prefix f.clauses ≡ t → IsAnswerTo budget f (answer_of t)
+      rightly : (t : Bool) → truth f.prefix f.clauses ≡ t → IsAnswerTo budget f (answer_with t)
       rightly true e = e
       rightly false e = e
 
       none_told : (t : Bool) (old : List Account) → old ++ told ≡ old
-          → AddsEntry (IsStopAt budget (size_of f.prefix)) old (old ++ told) (answer_of t)
+          → AddsEntry (IsStopAt budget (size_of f.prefix)) old (old ++ told) (answer_with t)
       none_told true old e = e
       none_told false old e = e
 
@@ -110,13 +119,19 @@ module _ (plain : (scopes : _) (clauses : List Row) → truth_under [] scopes cl
       found h = subst (λ a. Decided budget f a (told_by reply) d.after)
           (sym (line_is (answered reply) h.truth (ap (λ (o : Output). o.text) h.says_truth)))
           (by_truth h.truth d.after (told_by reply) (ap (λ (o : Output). o.stops) h.says_truth) h.right h.witness
-          (ap (λ s. s.formula) h.state) (ap (λ s. s.verdict) h.state))
+          h.state)
 
       gave_up : GivesUp budget (built f) (record { text = answer_line (answered reply); stops = told_by reply }) d.after
           → Decided budget f (answered reply) (told_by reply) d.after
       gave_up h = subst (λ a. Decided budget f a (told_by reply) d.after)
           (sym (unknown_is (answered reply) (ap (λ (o : Output). o.text) h.says_unknown))) (record {
-            is = record { formula = ap (λ (s : Standing). s.script.formula) h.state; verdict = tt };
+            is = record {
+              formula = ap (λ (s : Standing). s.script.formula) h.state;
+              clauses = ap (λ (s : Standing). s.script.clauses) h.state;
+              solves = ap (λ (s : Standing). s.script.solves) h.state;
+              greatest = ap (λ (s : Standing). s.script.greatest) h.state ∙ size;
+              verdict = tt;
+            };
             right = record {
               limit = h.short;
               propagation = λ refuted. h.slow refl
@@ -143,7 +158,7 @@ module _ (budget : ℕ) (f : Formula) (s after : Standing) (out : Output) where
 
   trace_of : (t : Bool) → s.script.formula ≡ opened f → s.script.verdict ≡ Some (unassumed t)
       → IsWitness (opened f) (unassumed t) s.witness → IsReply budget s TraceCommand out after
-      → HasVerdictText Trace f t out.text
+      → HasVerdictText Trace budget f t out.text
   trace_of t formula verdict witness reply =
       let tells = told_with budget TraceCommand s after out (unassumed t) verdict reply in
       let told = subst (λ o. IfSome o (λ given. IsTraceText s.script.formula.scopes given.truth s.witness.proof
@@ -155,43 +170,55 @@ module _ (budget : ℕ) (f : Formula) (s after : Standing) (out : Output) where
             (subst (λ (g : OpenFormula). IsTraceText g.scopes t s.witness.proof tells.text) formula told);
       }
 
-  circuit_of : (t : Bool) → s.script.formula ≡ opened f → s.script.verdict ≡ Some (unassumed t)
+  circuit_of : (t : Bool) → gates_after budget s.script ≡ gates_for budget f → s.script.formula ≡ opened f
+      → s.script.verdict ≡ Some (unassumed t)
       → IsWitness (opened f) (unassumed t) s.witness → IsReply budget s CertCommand out after
-      → HasVerdictText Cert f t out.text
-  circuit_of t formula verdict witness reply =
+      → HasVerdictText Cert budget f t out.text
+  circuit_of t gates formula verdict witness reply =
       let tells = told_with budget CertCommand s after out (unassumed t) verdict reply in
-      let told = subst (λ o. IfSome o (λ given. IsCertText s.script.formula given s.witness.values tells.text)) verdict
-      tells.told in
+      let told = subst (λ o. IfSome o (λ given. IsCertText s.script.formula given s.witness.values
+      (gates_after budget s.script) tells.text)) verdict tells.told in
       record {
         witness = s.witness;
         is_witness = witness;
-        says = subst (IsCertText (opened f) (unassumed t) s.witness.values)
+        says = subst (IsCertText (opened f) (unassumed t) s.witness.values (gates_for budget f))
             (sym (same_text tells.text tells.says_text))
-            (subst (λ g. IsCertText g (unassumed t) s.witness.values tells.text) formula told);
+            (subst (λ n. IsCertText (opened f) (unassumed t) s.witness.values n tells.text) gates
+            (subst (λ g. IsCertText g (unassumed t) s.witness.values (gates_after budget s.script) tells.text) formula
+            told));
       }
 
+  gates_are : (a : Answer) → IsAnsweredBy f a s → gates_after budget s.script ≡ gates_for budget f
+  gates_are a is =
+      ap (λ c. weight_bound c s.script.solves budget s.script.greatest) is.clauses
+      ∙ ap (λ k. weight_bound (length f.clauses) k budget s.script.greatest) is.solves
+      ∙ ap (weight_bound (length f.clauses) 1 budget) is.greatest
+
   pub traced : (a : Answer) → IsVerdict a → IsAnsweredBy f a s → IsReply budget s TraceCommand out after
-      → IsJobText Trace f a out.text
+      → IsJobText Trace budget f a out.text
   traced Sat there is reply = trace_of true is.formula is.verdict.0 is.verdict.1 reply
   traced Unsat there is reply = trace_of false is.formula is.verdict.0 is.verdict.1 reply
   traced Unknown there is reply = absurd there
 
   pub certified : (a : Answer) → IsVerdict a → IsAnsweredBy f a s → IsReply budget s CertCommand out after
-      → IsJobText Cert f a out.text
-  certified Sat there is reply = circuit_of true is.formula is.verdict.0 is.verdict.1 reply
-  certified Unsat there is reply = circuit_of false is.formula is.verdict.0 is.verdict.1 reply
+      → IsJobText Cert budget f a out.text
+  certified Sat there is reply = circuit_of true (gates_are Sat is) is.formula is.verdict.0 is.verdict.1 reply
+  certified Unsat there is reply = circuit_of false (gates_are Unsat is) is.formula is.verdict.0 is.verdict.1 reply
   certified Unknown there is reply = absurd there
 
--- the line of an answer is the text of a solve, and of each job where the answer is unknown
-pub solved : (f : Formula) (a : Answer) (s : Standing) → IsAnsweredBy f a s → IsJobText Solve f a (answer_line a)
-solved f Sat s is = record { witness = s.witness; is_witness = is.verdict.1; says = refl }
-solved f Unsat s is = record { witness = s.witness; is_witness = is.verdict.1; says = refl }
-solved f Unknown s is = refl
+-- the line of a verdict is the text of a solve
+pub solved : (budget : ℕ) (f : Formula) (a : Answer) (s : Standing) → IsAnsweredBy f a s
+    → IsJobText Solve budget f a (answer_line a)
+solved budget f Sat s is = record { witness = s.witness; is_witness = is.verdict.1; says = refl }
+solved budget f Unsat s is = record { witness = s.witness; is_witness = is.verdict.1; says = refl }
+solved budget f Unknown s is = refl
 
-pub unknown_told : (job : Job) (f : Formula) (a : Answer) → a ≡ Unknown → IsJobText job f a (answer_line a)
-unknown_told job f Sat e = absurd (cc)
-unknown_told job f Unsat e = absurd (cc)
-unknown_told job f Unknown e = refl
+-- an answer that is unknown has the same line for each job but one
+pub unknown_line : (job : Job) (f : Formula) → (job ≡ Qdo → ⊥) → answer_line Unknown ≡ unknown_text job f
+unknown_line Solve f apart = refl
+unknown_line Qdo f apart = absurd (apart refl)
+unknown_line Trace f apart = refl
+unknown_line Cert f apart = refl
 
 -- an answer that isn't unknown is a verdict
 pub is_verdict : (a : Answer) → (a ≡ Unknown → ⊥) → IsVerdict a
@@ -200,29 +227,65 @@ is_verdict Unsat apart = tt
 is_verdict Unknown apart = absurd (apart refl)
 
 module _ {S : Type 0} (written flushed : S → Option (List ℕ)) (faults : S → ℕ) (has_room : S → ℕ → Type 0) where
+  -- the lines of a result are written, or a front of them before a fault
+  pub result_sent : (budget : ℕ) (f : Formula) (a : Answer) (s : Standing) (old new : S) (r : Result (Unit {0}) Failed)
+      → IsVerdict a → IsAnsweredBy f a s → ((truth : Bool) → s.script.formula ≡ opened f
+      → s.script.verdict ≡ Some (unassumed truth) → a ≡ answer_with truth
+      → Writes written flushed faults has_room old new
+      (solution_line a f ++ value_lines f.prefix truth s.witness.values) r)
+      → MatchResult r (λ _. WritesJob written flushed faults has_room Qdo budget f a old new (Ok tt))
+      (λ _. WritesJob written flushed faults has_room Qdo budget f a old new (Err WriteFault))
+  result_sent budget f Sat s old new r there is writes = by r (writes true is.formula is.verdict.0 refl)
+    where
+      text : Text
+      text = solution_line Sat f ++ value_lines f.prefix true s.witness.values
+
+      says : HasVerdictText Qdo budget f true text
+      says = record { witness = s.witness; is_witness = is.verdict.1; says = refl }
+
+      by : (r : Result (Unit {0}) Failed) → Writes written flushed faults has_room old new text r
+          → MatchResult r (λ _. WritesJob written flushed faults has_room Qdo budget f Sat old new (Ok tt))
+          (λ _. WritesJob written flushed faults has_room Qdo budget f Sat old new (Err WriteFault))
+      by (Ok u) w = (text, says, w)
+      by (Err e) w = (text, says, w)
+  result_sent budget f Unsat s old new r there is writes = by r (writes false is.formula is.verdict.0 refl)
+    where
+      text : Text
+      text = solution_line Unsat f ++ value_lines f.prefix false s.witness.values
+
+      says : HasVerdictText Qdo budget f false text
+      says = record { witness = s.witness; is_witness = is.verdict.1; says = refl }
+
+      by : (r : Result (Unit {0}) Failed) → Writes written flushed faults has_room old new text r
+          → MatchResult r (λ _. WritesJob written flushed faults has_room Qdo budget f Unsat old new (Ok tt))
+          (λ _. WritesJob written flushed faults has_room Qdo budget f Unsat old new (Err WriteFault))
+      by (Ok u) w = (text, says, w)
+      by (Err e) w = (text, says, w)
+  result_sent budget f Unknown s old new r there is writes = absurd there
+
   -- a line is written
-  pub line_sent : (job : Job) (f : Formula) (a : Answer) (text : Text) (old new : S)
-      → IsJobText job f a text → Wrote written flushed faults has_room old new text
-      → WritesJob written flushed faults has_room job f a old new (Ok tt)
-  line_sent job f a text old new is wrote = (text, is, wrote)
+  pub line_sent : (job : Job) (budget : ℕ) (f : Formula) (a : Answer) (text : Text) (old new : S)
+      → IsJobText job budget f a text → Wrote written flushed faults has_room old new text
+      → WritesJob written flushed faults has_room job budget f a old new (Ok tt)
+  line_sent job budget f a text old new is wrote = (text, is, wrote)
 
   -- an answer to a question is written, or not
-  pub job_sent : (job : Job) (f : Formula) (a : Answer) (budget : ℕ) (command : Command) (s : Standing) (old new : S)
+  pub job_sent : (job : Job) (budget : ℕ) (f : Formula) (a : Answer) (command : Command) (s : Standing) (old new : S)
       (e : EngineState) (reply : Reply)
-      → ((out : Output) (after : Standing) → IsReply budget s command out after → IsJobText job f a out.text)
+      → ((out : Output) (after : Standing) → IsReply budget s command out after → IsJobText job budget f a out.text)
       → Steps written flushed faults has_room budget command s old new e (Ok reply)
-      → WritesJob written flushed faults has_room job f a old new (Ok tt)
-  job_sent job f a budget command s old new e reply is steps =
+      → WritesJob written flushed faults has_room job budget f a old new (Ok tt)
+  job_sent job budget f a command s old new e reply is steps =
       (steps.0, is (record { text = steps.0; stops = told_by reply }) steps.1 steps.2, steps.4)
 
-  pub job_failed : (job : Job) (f : Formula) (a : Answer) (budget : ℕ) (command : Command) (s : Standing)
+  pub job_failed : (job : Job) (budget : ℕ) (f : Formula) (a : Answer) (command : Command) (s : Standing)
       (old new : S) (e : EngineState) (stop : SessionStop) → IsVerdict a
-      → ((out : Output) (after : Standing) → IsReply budget s command out after → IsJobText job f a out.text)
+      → ((out : Output) (after : Standing) → IsReply budget s command out after → IsJobText job budget f a out.text)
       → Steps written flushed faults has_room budget command s old new e (Err stop)
-      → WritesJob written flushed faults has_room job f a old new (Err (ending_at stop))
-  job_failed job f a budget command s old new e (Unwritten told) there is steps =
+      → WritesJob written flushed faults has_room job budget f a old new (Err (ending_at stop))
+  job_failed job budget f a command s old new e (Unwritten told) there is steps =
       (steps.0, is (record { text = steps.0; stops = listed told }) steps.1 steps.2, steps.3)
-  job_failed job f a budget command s old new e NoRoomLeft there is steps = (there, steps.0)
+  job_failed job budget f a command s old new e NoRoomLeft there is steps = (there, steps.0)
 
   -- What a job leaves where its text was not written.
   untouched : (old new : S) → Wrote written flushed faults has_room old new [] → IsUntouched written faults old new
@@ -241,14 +304,14 @@ module _ {S : Type 0} (written flushed : S → Option (List ℕ)) (faults : S �
 
   module _ (job : Job) (budget : ℕ) (f : Formula) (a : Answer) (told : List Account) (s : Standing)
       (d : Decided budget f a told s) (old : S) (before after : List Account) (entries : after ≡ before ++ told) where
-    reply_is : (text : Text) → IsJobText job f a text → IsReplyTo job budget f (before, after) a text
+    reply_is : (text : Text) → IsJobText job budget f a text → IsReplyTo job budget f (before, after) a text
     reply_is text says = record {
       right = d.right;
       says = says;
       told = subst (λ l. AddsEntry (IsStopAt budget (size_of f.prefix)) before l a) (sym entries) (d.entry before);
     }
 
-    pub reply_failed : (new : S) (e : Ending) → WritesJob written flushed faults has_room job f a old new (Err e)
+    pub reply_failed : (new : S) (e : Ending) → WritesJob written flushed faults has_room job budget f a old new (Err e)
         → RepliesTo written flushed faults has_room job budget f old new (before, after) (Err e)
     reply_failed new WriteFault w = (
       a,
@@ -271,7 +334,7 @@ module _ {S : Type 0} (written flushed : S → Option (List ℕ)) (faults : S �
     reply_failed new (Limit quantity line) w = absurd w
     reply_failed new ReadFault w = absurd w
 
-    module _ (middle new : S) (w : WritesJob written flushed faults has_room job f a old middle (Ok tt))
+    module _ (middle new : S) (w : WritesJob written flushed faults has_room job budget f a old middle (Ok tt))
         (kept : Keeps (written middle) (written new)) where
       pub reply_flushed : AllFlushed (written new) (flushed middle) (flushed new) → faults new ≡ faults middle
           → RepliesTo written flushed faults has_room job budget f old new (before, after) (Ok a)

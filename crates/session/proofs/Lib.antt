@@ -4,7 +4,9 @@ pub mod Circuits
 pub mod Telling
 pub mod Deciding
 pub mod Accepting
+pub mod Gates
 pub mod Going
 pub mod Jobs
+pub mod Outermost
 pub mod Scripting
 pub mod Working

@@ -1,12 +1,13 @@
 -- Replies that are sent.
-use Rattle.std.proofs.Common.{◌≡◌, ℕ, Bool, true, false, not, List, [], ◌∷◌, ◌++◌, Option, Some, None, Result, Ok, Err, refl, sym, ap, subst, ◌∙◌}
-use Rattle.std.specs.Prelude.{IfSome, MatchOption, if◌then◌else◌, option_map, unwrap_or}
+use Rattle.std.proofs.Common.{◌≡◌, ◌≤◌, ◌-◌, ◌^◌, arith, length, ℕ, Bool, true, false, not, List, [], ◌∷◌, ◌++◌, Option, Some, None, Result, Ok, Err, refl, sym, ap, subst, ◌∙◌}
+use Rattle.std.specs.Prelude.{IfSome, MatchOption, if◌then◌else◌, min, option_map, unwrap_or}
 use Rattle.ports.specs.declared.failed.Failed.{Failed}
 use Rattle.prefix.specs.declared.quant.Quant.{Quant}
 use Rattle.prefix.specs.Literal.{Literal}
 use Rattle.prefix.specs.Scopes.{Scope, level_of, quantifier_at, variables_at}
 use Rattle.prefix.specs.Sides.{is_of}
 use Rattle.calculus.specs.Derivations.{Inference}
+use Rattle.calculus.specs.Limits.{weight_bound}
 use Rattle.calculus.specs.Plays.{literals_of}
 use Rattle.calculus.specs.Rows.{Assignment, Row}
 use Rattle.calculus.specs.Verdicts.{IsProof, relevant_of}
@@ -29,7 +30,8 @@ use Rattle.session.specs.declared.reply.Reply.{Reply}
 use Rattle.session.specs.declared.reply.Reply.TheVariants.{Written}
 use Rattle.session.specs.declared.reply.SessionStop.{SessionStop}
 use Rattle.session.specs.declared.reply.SessionStop.TheVariants.{NoMemory, WriteFault}
-use Rattle.session.specs.Replies.{IsAccepted, IsCertText, IsReply, IsReplyWith, IsTraceText, Tells, Text, last_row, no_first, no_value, no_verdict, relevant_text, says, value_in, value_text}
+use Rattle.session.proofs.Gates.{weight_grows}
+use Rattle.session.specs.Replies.{gates_after, IsAccepted, IsCertText, IsReply, IsReplyWith, IsTraceText, Tells, Text, last_row, no_first, no_value, no_verdict, relevant_text, says, value_in, value_text}
 use Rattle.engine.proofs.FirstScope.{first_among, level_is, literal_among, value_among}
 use Rattle.session.specs.Standing.{Standing}
 use Rattle.session.specs.State.{Holds, given_of}
@@ -47,7 +49,7 @@ module _ {S : Type 0} (written flushed : S → Option (List ℕ)) (faults : S �
   pub stepped : (budget : ℕ) (command : Command) (s after : Standing) (old new : S) (e : EngineState) (reply : Reply)
       (text : Text) (result : Result Reply SessionStop)
       → IsReply budget s command (record { text = text; stops = told_by reply }) after → HasText reply text
-      → Holds e after → Sends written flushed faults has_room reply text old new result
+      → Holds budget e after → Sends written flushed faults has_room reply text old new result
       → Steps written flushed faults has_room budget command s old new e result
   stepped budget command s after old new e reply text (Ok given) is has holds sends = (
     text,
@@ -69,7 +71,7 @@ module _ {S : Type 0} (written flushed : S → Option (List ℕ)) (faults : S �
   -- the answer to a question
   pub tells : (budget : ℕ) (command : Command) (s : Standing) (old new : S) (e : EngineState) (text : Text)
       (r : Result (Unit {0}) Failed) (result : Result Reply SessionStop)
-      → IsReply budget s command (says text) s → Holds e s
+      → IsReply budget s command (says text) s → Holds budget e s
       → Writes written flushed faults has_room old new text r → IsSent Written r result
       → Steps written flushed faults has_room budget command s old new e result
   tells budget command s old new e text r result is holds writes is_sent =
@@ -88,9 +90,10 @@ outer_of_none true b e = refl
 outer_of_none false b e = absurd (cc)
 
 -- the first scope's outputs have the values of the play
-cert_text : (f : OpenFormula) (v : VerdictState) (strategy : Strategy) (text : Text) → IsAagText text strategy
-    → IsCertificateOf f v strategy → IsCertText f (given_of v) (first_values f v) text
-cert_text f v strategy text denotes is = record {
+cert_text : (f : OpenFormula) (v : VerdictState) (strategy : Strategy) (bound : ℕ) (text : Text)
+    → IsAagText text strategy → IsCertificateOf f v strategy → length strategy.aig.gates ≤ bound
+    → IsCertText f (given_of v) (first_values f v) bound text
+cert_text f v strategy bound text denotes is few = record {
   strategy = strategy;
   denotes = denotes;
   winner = is.winner;
@@ -102,6 +105,7 @@ cert_text f v strategy text denotes is = record {
       let place = literal_among (values_of f v) (variables_at f.scopes 1) l listed in
       ap (circuit_values strategy inputs) (sym (ap (λ (m : Literal). m.variable) place.2))
       ∙ is.first first place.0 place.1 inputs ∙ ap (λ (m : Literal). m.positive) place.2;
+  few = few;
 }
 
 none_of_two : (a b : Bool) → (if a then Some NotOutermost else (if b then Some NotWinner else None)) ≡ None
@@ -128,7 +132,7 @@ value_of : (values : Assignment) (scopes : List Scope) (x : ℕ) → is_outermos
 value_of values scopes x outer = ap (λ (o : Option Bool). record { variable = x; positive = unwrap_or o false })
     (value_among values (variables_at scopes 1) x (first_among scopes x (level_is (level_of scopes x) outer)))
 
-module _ (e : EngineState) (s : Standing) (holds : Holds e s) where
+module _ (budget : ℕ) (e : EngineState) (s : Standing) (holds : Holds budget e s) where
   -- where there is a verdict, the standing has it
   verdict_is : (v : VerdictState) → e.verdict ≡ Some v → s.script.verdict ≡ Some (given_of v)
   verdict_is v some = holds.verdict ∙ ap (option_map given_of) some
@@ -150,33 +154,33 @@ module _ (e : EngineState) (s : Standing) (holds : Holds e s) where
   }
 
   -- a question that any verdict answers isn't refused
-  answered : (budget : ℕ) (command : Command) (text : Text) (v : VerdictState) → e.verdict ≡ Some v
+  answered : (command : Command) (text : Text) (v : VerdictState) → e.verdict ≡ Some v
       → IsAccepted budget s command (says text) s
       → IsReplyWith (no_verdict s.script.verdict) budget s command (says text) s
-  answered budget command text v some accepted =
+  answered command text v some accepted =
       subst (λ o. IsReplyWith (no_verdict o) budget s command (says text) s) (sym (verdict_is v some)) accepted
 
-  pub tells_relevant : (budget : ℕ) (list : List Literal) → ask_refusal e ≡ None
+  pub tells_relevant : (list : List Literal) → ask_refusal e ≡ None
       → IfSome e.verdict (λ v. list ≡ relevant_of v.assumptions v.row) → IfSome e.verdict (IsVerdictOf e.formula)
       → IsReply budget s Relevant (says (relevant_text list)) s
-  tells_relevant budget list asked value facts = unless_none e.verdict refl asked (λ v some.
+  tells_relevant list asked value facts = unless_none e.verdict refl asked (λ v some.
       let is = subst (λ o. IfSome o (λ v. list ≡ relevant_of v.assumptions v.row)) some value in
       let fact = subst (λ o. IfSome o (IsVerdictOf e.formula)) some facts in
       let row : last_row s.witness.proof ≡ v.row = ap last_row (holds.proof v some)
       ∙ proof_row _ _ _ _ v.proof fact.proof ∙ fact.last_row in
-      answered budget Relevant (relevant_text list) v some
+      answered Relevant (relevant_text list) v some
       (told_at (λ given text. text ≡ relevant_text (relevant_of given.assumptions (last_row s.witness.proof)))
       (relevant_text list) v some
       (ap relevant_text (is ∙ ap (relevant_of v.assumptions) (sym row)))))
 
-  pub tells_trace : (budget : ℕ) (core : Trace) (scopes : List Scope) → scopes ≡ e.formula.scopes
+  pub tells_trace : (core : Trace) (scopes : List Scope) → scopes ≡ e.formula.scopes
       → ask_refusal e ≡ None → IfSome e.verdict (λ v. core.winner ≡ winner_of v.truth)
       → IfSome e.verdict (λ v. inferences_of core.lines ≡ v.proof) → IsNumbered core.lines
       → IsReply budget s TraceCommand (says (qrp_text scopes core)) s
-  tells_trace budget core scopes same asked winner list numbered = unless_none e.verdict refl asked (λ v some.
+  tells_trace core scopes same asked winner list numbered = unless_none e.verdict refl asked (λ v some.
       let wins = subst (λ o. IfSome o (λ v. core.winner ≡ winner_of v.truth)) some winner in
       let is = subst (λ o. IfSome o (λ v. inferences_of core.lines ≡ v.proof)) some list in
-      answered budget TraceCommand (qrp_text scopes core) v some
+      answered TraceCommand (qrp_text scopes core) v some
       (told_at (λ given text. IsTraceText s.script.formula.scopes given.truth s.witness.proof text)
       (qrp_text scopes core) v some (record {
         core = core;
@@ -186,21 +190,27 @@ module _ (e : EngineState) (s : Standing) (holds : Holds e s) where
         text_of_core = ap (λ f. qrp_text f core) (same ∙ sym (ap (λ (f : OpenFormula). f.scopes) holds.formula));
       })))
 
-  pub tells_circuit : (budget : ℕ) (strategy : Strategy) (text : Text) → IsAagText text strategy
+  pub tells_circuit : (strategy : Strategy) (text : Text) → IsAagText text strategy
       → ask_refusal e ≡ None → IfSome e.verdict (λ v. IsCertificateOf e.formula v strategy)
+      → length strategy.aig.gates ≤ weight_bound e.counts.clauses e.counts.solves e.counts.budget e.counts.vars
       → IsReply budget s Cert (says text) s
-  tells_circuit budget strategy text denotes asked certifies = unless_none e.verdict refl asked (λ v some.
+  tells_circuit strategy text denotes asked certifies few = unless_none e.verdict refl asked (λ v some.
+      let solves : e.counts.solves ≤ s.script.solves = let same = holds.solves in omega (arith, same) in
+      let grown = weight_grows e.counts.clauses s.script.clauses e.counts.solves s.script.solves e.counts.budget budget
+      e.counts.vars s.script.greatest holds.clauses solves holds.budgets holds.variables in
+      let bound : length strategy.aig.gates ≤ gates_after budget s.script = omega (arith, few, grown) in
       let is = subst (λ o. IfSome o (λ v. IsCertificateOf e.formula v strategy)) some certifies in
-      answered budget Cert text v some
-      (told_at (λ given text. IsCertText s.script.formula given s.witness.values text) text v some
-      (subst (λ f. IsCertText f (given_of v) s.witness.values text) (sym holds.formula)
-      (subst (λ l. IsCertText e.formula (given_of v) l text) (sym (holds.values v some))
-      (cert_text e.formula v strategy text denotes is)))))
+      answered Cert text v some
+      (told_at (λ given text. IsCertText s.script.formula given s.witness.values (gates_after budget s.script) text)
+      text v some
+      (subst (λ f. IsCertText f (given_of v) s.witness.values (gates_after budget s.script) text) (sym holds.formula)
+      (subst (λ l. IsCertText e.formula (given_of v) l (gates_after budget s.script) text) (sym (holds.values v some))
+      (cert_text e.formula v strategy (gates_after budget s.script) text denotes is bound)))))
 
-  pub tells_value : (budget x : ℕ) (lit : Literal) → value_refusal e x ≡ None
+  pub tells_value : (x : ℕ) (lit : Literal) → value_refusal e x ≡ None
       → IfSome e.verdict (λ v. lit ≡ record { variable = x; positive = values_of e.formula v x })
       → IsReply budget s (Value x) (says (value_text lit)) s
-  tells_value budget x lit asked value = by e.verdict refl
+  tells_value x lit asked value = by e.verdict refl
     where
       by : (o : Option VerdictState) → e.verdict ≡ o → IsReply budget s (Value x) (says (value_text lit)) s
       by None none = absurd (let f : Some NoVerdict ≡ None =

@@ -19,3 +19,5 @@ pub record HoldsFormula (scopes : List Scope) (clauses : List (List Literal)) (e
   pub undecided : e.verdict ≡ None
   pub counted : e.counts.clauses ≤ length clauses
   pub unsolved : e.counts.solves ≡ 0
+  pub unbudgeted : e.counts.budget ≡ 0
+  pub unsized : e.counts.vars ≡ 0

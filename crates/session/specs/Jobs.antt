@@ -1,13 +1,20 @@
 -- What is written for a formula that is decided, traced or certified.
-use Rattle.std.specs.Prelude.{◌≡◌, ◌≤◌, ℕ, Bool, true, false, List, [], length, Option, Some, None, IfSome, Result, Ok, Err, ⊤}
+use Rattle.std.specs.Prelude.{◌≡◌, ◌≤◌, ℕ, Bool, true, false, if◌then◌else◌, List, [], ◌++◌, length, codes, Option, Some, None, IfSome, Result, Ok, Err, ⊤}
+use Rattle.std.specs.Fmt.{decimal}
+use Rattle.std.specs.List.{flat_map}
 use Rattle.std.specs.Io.KnownBytes.{Appends, Keeps}
 use Rattle.ports.specs.Bytes.{AllFlushed, AppendsFront}
 use Rattle.ports.specs.Causes.{Rose}
+use Rattle.prefix.specs.Literal.{Literal}
+use Rattle.prefix.specs.Scopes.{Scope, quantifier_at}
+use Rattle.prefix.specs.Sides.{is_of}
 use Rattle.truth.specs.declared.formula.Formula.{Formula}
+use Rattle.calculus.specs.Limits.{weight_bound}
 use Rattle.trail.specs.State.{Account}
 use Rattle.search.specs.Counting.{size_of}
 use Rattle.frames.specs.Fold.{Given}
 use Rattle.frames.specs.State.{OpenFormula}
+use Rattle.engine.specs.Refusals.{winner_of}
 use Rattle.qdimacs.specs.Rules.{parsed}
 use Rattle.qdimacs.specs.Reads.{Reads}
 use Rattle.qrp_trace.specs.Writing.{Stops, Wrote}
@@ -16,9 +23,10 @@ use Rattle.session.specs.declared.answer.Answer.TheVariants.{Sat, Unsat, Unknown
 use Rattle.session.specs.declared.ending.Ending.{Ending}
 use Rattle.session.specs.declared.ending.Ending.TheVariants.{Done, Refused, Limit, ReadFault, WriteFault, NoMemory}
 use Rattle.session.specs.declared.ending.Job.{Job}
-use Rattle.session.specs.declared.ending.Job.TheVariants.{Solve, Trace, Cert}
+use Rattle.session.specs.declared.file.Header.{Header}
+use Rattle.session.specs.declared.ending.Job.TheVariants.{Solve, Qdo, Trace, Cert}
 use Rattle.session.specs.Feeding.{formula_with}
-use Rattle.session.specs.Replies.{IsCertText, IsTraceText, Text, verdict_text}
+use Rattle.session.specs.Replies.{IsCertText, IsTraceText, Text, literal_number, verdict_text}
 use Rattle.session.specs.Solve.{IsAnswerTo, OfAnswer, answer_line}
 use Rattle.session.specs.Standing.{IsWitness, Standing, Witness}
 use Rattle.session.specs.Stops.{AddsEntry, IsStopAt}
@@ -38,31 +46,71 @@ built f = record {
   witness = record { proof = []; values = [] };
 }
 
--- The text of a job for a verdict with this witness: its line, the trace of its proof, or the text of a circuit that
--- wins, where the first scope is the winner's with these values.
-abbrev pub IsVerdictText : Job → Formula → Bool → Witness → Text → Type 0
-IsVerdictText Solve f truth witness text = text ≡ verdict_text truth
-IsVerdictText Trace f truth witness text = IsTraceText f.prefix truth witness.proof text
-IsVerdictText Cert f truth witness text = IsCertText (opened f) (unassumed truth) witness.values text
+-- the answer with this truth
+abbrev pub answer_with : Bool → Answer
+answer_with true = Sat
+answer_with false = Unsat
+
+-- an answer as a number: 1 for true, 0 for false, -1 where it is unknown (QDIMACS 1.1, output format: solution line)
+abbrev pub result_number : Answer → Text
+result_number Sat = codes "1"
+result_number Unsat = codes "0"
+result_number Unknown = codes "-1"
+
+-- `s cnf RESULT VARIABLES CLAUSES`, with the two numbers of the formula's header
+abbrev pub solution_line : Answer → Formula → Text
+solution_line answer f = codes "s cnf " ++ (result_number answer ++ (codes " " ++ (decimal f.declared_vars ++ (codes " "
+    ++ (decimal f.declared_clauses ++ codes "\n")))))
+
+-- `V LITERAL 0` (QDIMACS 1.1, output format: certificate)
+abbrev pub value_line : Literal → Text
+value_line l = codes "V " ++ (literal_number l ++ codes " 0\n")
+
+-- a line for each value of the first scope, where this is the winner's
+abbrev pub value_lines : List Scope → Bool → List Literal → Text
+value_lines scopes truth values =
+    if is_of (quantifier_at scopes 1) (winner_of truth) then flat_map value_line values else []
+
+-- how many gates a circuit for the formula may have, after one solve with a budget
+abbrev pub gates_for : ℕ → Formula → ℕ
+gates_for budget f = weight_bound (length f.clauses) 1 budget (size_of f.prefix)
+
+-- The text of a job for a verdict with this witness: its line; the lines of its result, with the values of the first
+-- scope; the trace of its proof; or the text of a circuit that wins, where the first scope is the winner's with these
+-- values.
+abbrev pub IsVerdictText : Job → ℕ → Formula → Bool → Witness → Text → Type 0
+IsVerdictText Solve budget f truth witness text = text ≡ verdict_text truth
+IsVerdictText Qdo budget f truth witness text =
+    text ≡ solution_line (answer_with truth) f ++ value_lines f.prefix truth witness.values
+IsVerdictText Trace budget f truth witness text = IsTraceText f.prefix truth witness.proof text
+IsVerdictText Cert budget f truth witness text =
+    IsCertText (opened f) (unassumed truth) witness.values (gates_for budget f) text
 
 -- the same with some witness
-pub record HasVerdictText (job : Job) (f : Formula) (truth : Bool) (text : Text) : Type 0 where
+pub record HasVerdictText (job : Job) (budget : ℕ) (f : Formula) (truth : Bool) (text : Text) : Type 0 where
   pub witness : Witness
   pub is_witness : IsWitness (opened f) (unassumed truth) witness
-  pub says : IsVerdictText job f truth witness text
+  pub says : IsVerdictText job budget f truth witness text
 
--- The text of a job for an answer to a formula. Where it is unknown, its line stands for any text.
-abbrev pub IsJobText : Job → Formula → Answer → Text → Type 0
-IsJobText job f Sat text = HasVerdictText job f true text
-IsJobText job f Unsat text = HasVerdictText job f false text
-IsJobText job f Unknown text = text ≡ answer_line Unknown
+-- the text of a job where the answer is unknown
+abbrev pub unknown_text : Job → Formula → Text
+unknown_text Solve f = answer_line Unknown
+unknown_text Qdo f = solution_line Unknown f
+unknown_text Trace f = answer_line Unknown
+unknown_text Cert f = answer_line Unknown
+
+-- The text of a job for an answer to a formula.
+abbrev pub IsJobText : Job → ℕ → Formula → Answer → Text → Type 0
+IsJobText job budget f Sat text = HasVerdictText job budget f true text
+IsJobText job budget f Unsat text = HasVerdictText job budget f false text
+IsJobText job budget f Unknown text = text ≡ unknown_text job f
 
 -- The reply of a job to a formula: a right answer, its text, and one more entry of what a search tells that stopped
 -- where the answer is unknown. `stops` is the list of entries before and after.
 pub record IsReplyTo (job : Job) (budget : ℕ) (f : Formula) (stops : List Account × List Account) (answer : Answer)
     (text : Text) : Type 0 where
   pub right : IsAnswerTo budget f answer
-  pub says : IsJobText job f answer text
+  pub says : IsJobText job budget f answer text
   pub told : AddsEntry (IsStopAt budget (size_of f.prefix)) stops.0 stops.1 answer
 
 -- The same to the formula of an input, whose text says it, where it is told.
@@ -90,7 +138,7 @@ LeavesOutput job budget known written stops NoMemory = Keeps written.0 written.1
 -- The output has room for each text that a job may write for the formula of an input.
 abbrev pub RoomForJob : Job → ℕ → Option Text → (ℕ → Type 0) → Type 0
 RoomForJob job budget known has_room = (f : Formula) (answer : Answer) (text : Text)
-    → IfSome known (λ bytes. Reads bytes (parsed f)) → IsAnswerTo budget f answer → IsJobText job f answer text
+    → IfSome known (λ bytes. Reads bytes (parsed f)) → IsAnswerTo budget f answer → IsJobText job budget f answer text
     → has_room (length text)
 
 -- the verdict of an answer to a formula, with its witness; an unknown one has none
@@ -99,10 +147,18 @@ HasVerdictFor f Sat s = (s.script.verdict ≡ Some (unassumed true)) × IsWitnes
 HasVerdictFor f Unsat s = (s.script.verdict ≡ Some (unassumed false)) × IsWitness (opened f) (unassumed false) s.witness
 HasVerdictFor f Unknown s = ⊤
 
--- commands came to this formula, and to its answer
+-- commands came to this formula by as many clauses, and to its answer by one solve
 pub record IsAnsweredBy (f : Formula) (answer : Answer) (s : Standing) : Type 0 where
   pub formula : s.script.formula ≡ opened f
+  pub clauses : s.script.clauses ≡ length f.clauses
+  pub solves : s.script.solves ≡ 1
+  pub greatest : s.script.greatest ≡ size_of f.prefix
   pub verdict : HasVerdictFor f answer s
+
+-- the numbers of a formula's header
+pub record IsHeaderOf (f : Formula) (header : Header) : Type 0 where
+  pub vars : header.vars ≡ f.declared_vars
+  pub clauses : header.clauses ≡ f.declared_clauses
 
 -- there is a verdict
 abbrev pub IsVerdict : Answer → Type 0
@@ -112,17 +168,17 @@ IsVerdict Unknown = ⊥
 
 -- The text of a job is written, or a front of it before a fault; or nothing, for want of memory to tell of a verdict.
 abbrev pub WritesJob : {S : Type 0} → (written flushed : S → Option (List ℕ)) → (S → ℕ) → (S → ℕ → Type 0) → Job
-    → Formula → Answer → S → S → Result (Unit {0}) Ending → Type 0
-WritesJob written flushed faults has_room job f answer old new (Ok u) = (text : Text)
-    × IsJobText job f answer text × Wrote written flushed faults has_room old new text
-WritesJob written flushed faults has_room job f answer old new (Err WriteFault) = (text : Text)
-    × IsJobText job f answer text × Stops written flushed faults has_room old new text
-WritesJob written flushed faults has_room job f answer old new (Err NoMemory) =
+    → ℕ → Formula → Answer → S → S → Result (Unit {0}) Ending → Type 0
+WritesJob written flushed faults has_room job budget f answer old new (Ok u) = (text : Text)
+    × IsJobText job budget f answer text × Wrote written flushed faults has_room old new text
+WritesJob written flushed faults has_room job budget f answer old new (Err WriteFault) = (text : Text)
+    × IsJobText job budget f answer text × Stops written flushed faults has_room old new text
+WritesJob written flushed faults has_room job budget f answer old new (Err NoMemory) =
     IsVerdict answer × Wrote written flushed faults has_room old new []
-WritesJob written flushed faults has_room job f answer old new (Err (Done status)) = ⊥
-WritesJob written flushed faults has_room job f answer old new (Err (Refused number line)) = ⊥
-WritesJob written flushed faults has_room job f answer old new (Err (Limit quantity line)) = ⊥
-WritesJob written flushed faults has_room job f answer old new (Err ReadFault) = ⊥
+WritesJob written flushed faults has_room job budget f answer old new (Err (Done status)) = ⊥
+WritesJob written flushed faults has_room job budget f answer old new (Err (Refused number line)) = ⊥
+WritesJob written flushed faults has_room job budget f answer old new (Err (Limit quantity line)) = ⊥
+WritesJob written flushed faults has_room job budget f answer old new (Err ReadFault) = ⊥
 
 -- a text was written, and all that is written was flushed
 pub record Delivers {S : Type 0} (written flushed : S → Option (List ℕ)) (faults : S → ℕ) (old new : S) (text : Text)

@@ -1,5 +1,5 @@
 -- The replies that commands may have.
-use Rattle.std.specs.Prelude.{◌≡◌, ◌⊎◌, ℕ, ◌+◌, ◌*◌, ◌<◌, not, true, false, Bool, if◌then◌else◌, List, [], ◌∷◌, ◌++◌, filter, codes, Contains, Option, Some, None, IfSome, unwrap_or}
+use Rattle.std.specs.Prelude.{◌≡◌, ◌⊎◌, ℕ, ◌+◌, ◌*◌, ◌<◌, ◌≤◌, length, not, true, false, Bool, if◌then◌else◌, List, [], ◌∷◌, ◌++◌, filter, codes, Contains, Option, Some, None, IfSome, unwrap_or}
 use Rattle.std.specs.Fmt.{decimal}
 use Rattle.std.specs.List.{flat_map}
 use Rattle.std.specs.Option.{option_and_then}
@@ -10,13 +10,14 @@ use Rattle.prefix.specs.Scopes.{Scope, all_variables, quantifier_at, quantifier_
 use Rattle.steps.specs.Counter.{step_limit}
 use Rattle.truth.specs.Truth.{assumed_value, truth_under}
 use Rattle.calculus.specs.Derivations.{Inference}
+use Rattle.calculus.specs.Limits.{weight_bound}
 use Rattle.calculus.specs.Plays.{DependsOnEarlier, Wins}
 use Rattle.calculus.specs.Rows.{Assignment, Row}
 use Rattle.calculus.specs.Search.{IsRefuted}
 use Rattle.calculus.specs.Verdicts.{relevant_of}
 use Rattle.trail.specs.State.{Account}
 use Rattle.frames.specs.Commands.{AddClause, AddScope, AddVariable, Assume as AssumeLiteral, Command as FrameCommand, Pop as PopFrame, Push as PushFrame, Solve as Decide, Stop, Verdict, refusal_of}
-use Rattle.frames.specs.Fold.{Given, state_after}
+use Rattle.frames.specs.Fold.{Given, ScriptState, state_after}
 use Rattle.frames.specs.Refusal.{number_of}
 use Rattle.frames.specs.State.{OpenFormula, clauses_in}
 use Rattle.qrp_trace.specs.Cores.{IsNumbered, Trace as TraceCore, inferences_of}
@@ -124,10 +125,15 @@ pub record IsTraceText (scopes : List Scope) (truth : Bool) (proof : List Infere
 abbrev pub variables_with : Quant → List Scope → List ℕ
 variables_with quant scopes = filter (λ v. is_of (quantifier_of scopes v) quant) (all_variables scopes)
 
+-- how many gates a circuit may have after these commands, each solve of which had this budget
+abbrev pub gates_after : ℕ → ScriptState → ℕ
+gates_after budget s = weight_bound s.clauses s.solves budget s.greatest
+
 -- The text denotes a circuit with all variables of the loser for inputs and all of the winner for outputs, in prefix
 -- order. It wins against all values of the inputs that the assumptions allow, each output depends on inputs of earlier
--- scopes alone, and where the first scope is the winner's its outputs have these values.
-pub record IsCertText (formula : OpenFormula) (given : Given) (values : List Literal) (text : Text) : Type 0 where
+-- scopes alone, and where the first scope is the winner's its outputs have these values. It has so many gates at most.
+pub record IsCertText (formula : OpenFormula) (given : Given) (values : List Literal) (bound : ℕ) (text : Text)
+    : Type 0 where
   pub strategy : Strategy
   pub denotes : IsAagText text strategy
   pub winner : strategy.winner ≡ winner_of given.truth
@@ -138,6 +144,7 @@ pub record IsCertText (formula : OpenFormula) (given : Given) (values : List Lit
   pub earlier : DependsOnEarlier (loser_of given.truth) formula.scopes (values_of strategy)
   pub first_values : quantifier_at formula.scopes 1 ≡ Some (winner_of given.truth) → (l : Literal) →
       Contains values l → (inputs : Assignment) → values_of strategy inputs l.variable ≡ l.positive
+  pub few : length strategy.aig.gates ≤ bound
 
 -- what an accepted command may reply
 
@@ -192,7 +199,8 @@ IsAccepted budget s Relevant out after =
 IsAccepted budget s Trace out after =
     Tells s (λ given text. IsTraceText s.script.formula.scopes given.truth s.witness.proof text) out after
 IsAccepted budget s Cert out after =
-    Tells s (λ given text. IsCertText s.script.formula given s.witness.values text) out after
+    Tells s (λ given text. IsCertText s.script.formula given s.witness.values (gates_after budget s.script) text) out
+    after
 
 -- A refused command says its number, and changes nothing.
 abbrev pub IsReplyWith : Option ℕ → ℕ → Standing → Command → Output → Standing → Type 0

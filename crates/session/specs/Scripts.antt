@@ -108,4 +108,4 @@ pub record Answers (budget : ℕ) (s : Standing) (script : Option Script) (IsRes
 pub record IsUnderWay (budget : ℕ) (s : Standing) (script to_come : Option Script) (e : EngineState)
     (IsSent : Text → Type 0) (stops : List Account × List Account) : Type 0 where
   pub so_far : Answers budget s script (λ rest. to_come ≡ Some rest) IsSent stops
-  pub holds : Holds e so_far.after
+  pub holds : Holds budget e so_far.after

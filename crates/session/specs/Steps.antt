@@ -97,7 +97,7 @@ pub record IsDecided (budget : ℕ) (s : Standing) (reply : Reply) (e : EngineSt
   pub after : Standing
   pub reply_is : IsReply budget s Solve (record { text = answer_line (answered reply); stops = told_by reply }) after
   pub text : HasText reply (answer_line (answered reply))
-  pub holds : Holds e after
+  pub holds : Holds budget e after
 
 -- A command is replied to, and the reply is written; or a front of it is, before a fault; or there is no memory, and
 -- nothing is written. `old` and `new` are the sink, by what sinks of its type tell.
@@ -105,12 +105,12 @@ abbrev pub Steps : {S : Type 0} → (written flushed : S → Option (List ℕ)) 
     → Standing → S → S → EngineState → Result Reply SessionStop → Type 0
 Steps written flushed faults has_room budget command s old new e (Ok reply) = (text : Text) × (after : Standing)
     × IsReply budget s command (record { text = text; stops = told_by reply }) after × HasText reply text
-    × Wrote written flushed faults has_room old new text × Holds e after
+    × Wrote written flushed faults has_room old new text × Holds budget e after
 Steps written flushed faults has_room budget command s old new e (Err (WriteFault told)) = (text : Text)
     × (after : Standing) × IsReply budget s command (record { text = text; stops = listed told }) after
-    × Stops written flushed faults has_room old new text × Holds e after
+    × Stops written flushed faults has_room old new text × Holds budget e after
 Steps written flushed faults has_room budget command s old new e (Err NoMemory) =
-    Wrote written flushed faults has_room old new [] × Holds e (left_by command s)
+    Wrote written flushed faults has_room old new [] × Holds budget e (left_by command s)
 
 -- A command of a script is replied to, and what the reply tells of a search that stopped is listed behind what was;
 -- after a fault too. Without memory nothing is written or listed. `stops` is the list before and after.
@@ -118,7 +118,7 @@ abbrev pub Goes : {S : Type 0} → (written flushed : S → Option (List ℕ)) �
     → Standing → S → S → EngineState → (stops : List Account × List Account) → Result (Unit {0}) Ending → Type 0
 Goes written flushed faults has_room budget command s old new e stops (Ok u) = (out : Output) × (after : Standing)
     × IsReply budget s command out after × Wrote written flushed faults has_room old new out.text
-    × (stops.1 ≡ stops.0 ++ out.stops) × Holds e after
+    × (stops.1 ≡ stops.0 ++ out.stops) × Holds budget e after
 Goes written flushed faults has_room budget command s old new e stops (Err EndsInFault) = (out : Output)
     × (after : Standing) × IsReply budget s command out after
     × Stops written flushed faults has_room old new out.text × (stops.1 ≡ stops.0 ++ out.stops)

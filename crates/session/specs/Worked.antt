@@ -11,8 +11,8 @@ use Rattle.frames.specs.Fold.{new_script, state_after, state_of}
 use Rattle.qscript.specs.declared.command.Command.TheVariants.{Assume, Clause, Pop, Solve, Trace, Value}
 use Rattle.session.specs.declared.answer.Answer.TheVariants.{Sat, Unsat, Unknown}
 use Rattle.session.specs.declared.ending.Ending.TheVariants.{Done, NoMemory, Refused}
-use Rattle.session.specs.declared.ending.Job.TheVariants.{Solve as SolveJob, Trace as TraceJob, Cert as CertJob}
-use Rattle.session.specs.Jobs.{IsJobText, IsReplyTo, LeavesOutput}
+use Rattle.session.specs.declared.ending.Job.TheVariants.{Solve as SolveJob, Qdo as QdoJob, Trace as TraceJob, Cert as CertJob}
+use Rattle.session.specs.Jobs.{IsJobText, IsReplyTo, LeavesOutput, solution_line, value_lines}
 use Rattle.session.specs.Replies.{AllowedReplies, Decides, GivesUp, Output, refusal_number, refused_text, relevant_text, says, value_in, value_text}
 use Rattle.session.specs.Scripts.{IsScriptEnding}
 use Rattle.session.specs.Solve.{IsAnswerTo}
@@ -110,17 +110,27 @@ at_nine = record at_twelve { budget = 9 }
 
 pub record WorkedJobs : Type 0 where
   -- a line for a solve, and no other
-  pub solved : IsJobText SolveJob nothing_fits Unsat (codes "UNSAT\n")
-  pub not_solved : IsJobText SolveJob nothing_fits Unsat (codes "SAT\n") → ⊥
+  pub solved : IsJobText SolveJob 0 nothing_fits Unsat (codes "UNSAT\n")
+  pub not_solved : IsJobText SolveJob 0 nothing_fits Unsat (codes "SAT\n") → ⊥
   -- the trace of the empty clause, which no line of an answer is
-  pub traced : IsJobText TraceJob nothing_fits Unsat (codes "p qrp 0 1\n1 0 0\nr UNSAT\n")
-  pub not_traced : IsJobText TraceJob nothing_fits Unsat (codes "UNSAT\n") → ⊥
+  pub traced : IsJobText TraceJob 0 nothing_fits Unsat (codes "p qrp 0 1\n1 0 0\nr UNSAT\n")
+  pub not_traced : IsJobText TraceJob 0 nothing_fits Unsat (codes "UNSAT\n") → ⊥
   -- a circuit without variables, which is no trace
-  pub certified : IsJobText CertJob anything_fits Sat (codes "aag 0 0 0 0 0\nc\nskolem\n")
-  pub not_certified : IsJobText CertJob anything_fits Sat (codes "p qrp 0 1\n1 0 0\nr SAT\n") → ⊥
-  -- the same line for each job where the answer is unknown
-  pub unknown : IsJobText CertJob nothing_fits Unknown (codes "UNKNOWN\n")
-  pub not_silent : IsJobText TraceJob nothing_fits Unknown [] → ⊥
+  pub certified : IsJobText CertJob 0 anything_fits Sat (codes "aag 0 0 0 0 0\nc\nskolem\n")
+  pub not_certified : IsJobText CertJob 0 anything_fits Sat (codes "p qrp 0 1\n1 0 0\nr SAT\n") → ⊥
+  -- a solution line with the header's numbers, for each answer
+  pub true_line : solution_line Sat (differs Forall Exists) ≡ codes "s cnf 1 2 2\n"
+  pub false_line : solution_line Unsat nothing_fits ≡ codes "s cnf 0 0 1\n"
+  pub unknown_line : IsJobText QdoJob 0 nothing_fits Unknown (codes "s cnf -1 0 1\n")
+  pub not_false_line : IsJobText QdoJob 0 nothing_fits Unknown (codes "s cnf 0 0 1\n") → ⊥
+  -- a line for each value of the first scope, where this is the winner's
+  pub values_won : value_lines (differs Exists Forall).prefix true
+      (record { variable = 1; positive = false } ∷ []) ≡ codes "V -1 0\n"
+  pub values_lost : value_lines (differs Exists Forall).prefix false
+      (record { variable = 1; positive = false } ∷ []) ≡ []
+  -- another line for each other job where the answer is unknown
+  pub unknown : IsJobText CertJob 0 nothing_fits Unknown (codes "UNKNOWN\n")
+  pub not_silent : IsJobText TraceJob 0 nothing_fits Unknown [] → ⊥
   -- a reply with its entry, and none without
   pub told : IsReplyTo SolveJob 9 (differs Forall Exists) ([], at_nine ∷ []) Unknown (codes "UNKNOWN\n")
   pub untold : IsReplyTo SolveJob 9 (differs Forall Exists) ([], []) Unknown (codes "UNKNOWN\n") → ⊥

@@ -1,6 +1,10 @@
 //! The answer to a formula.
-ghost use Rattle.std.specs.Prelude.{◌≡◌};
+ghost use Rattle.std.specs.Prelude.{◌≡◌, Bool};
+ghost use Rattle.engine.specs.Refusals.{winner_of};
+ghost use Rattle.session.specs.Jobs.{answer_with, result_number};
 ghost use Rattle.session.specs.Solve.{answer_status, answer_line};
+
+use prefix::Quant;
 
 /// The answer to a formula.
 #[derive(Clone, Copy, Debug, PartialEq, Eq)]
@@ -33,6 +37,27 @@ impl Answer {
             Self::Sat => "SAT\n",
             Self::Unsat => "UNSAT\n",
             Self::Unknown => "UNKNOWN\n",
+        }
+    }
+
+    // The number in a solution line.
+    pub(crate) fn result(self) -> &'static str
+        ensures { result.now ≡ result_number self }
+    {
+        match self {
+            Self::Sat => "1",
+            Self::Unsat => "0",
+            Self::Unknown => "-1",
+        }
+    }
+
+    // The side that wins where this is a verdict.
+    pub(crate) fn winner(self) -> Quant
+        ensures { (truth : Bool) → self ≡ answer_with truth → result ≡ winner_of truth }
+    {
+        match self {
+            Self::Sat => Quant::Exists,
+            _ => Quant::Forall,
         }
     }
 }

@@ -14,6 +14,9 @@ use steps::NoMemory;
 pub enum Job {
     /// Whether the formula is true.
     Solve,
+    /// The same as a solution line, with the values of the outermost variables where their quantifier wins (QDIMACS 1.1,
+    /// output format).
+    Qdo,
     /// The trace of the verdict's proof, as QRP.
     Trace,
     /// The circuit by which the verdict's winner wins, as AIGER 1.9 in ASCII.

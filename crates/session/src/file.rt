@@ -1,13 +1,20 @@
 //! One formula, read from the chosen input and decided.
-ghost use Rattle.std.specs.Prelude.{◌≡◌, ◌≢◌, ℕ, List, IfOk, IfErr, IfSome, IsErrOf, IsOk, OnOk, [], None, Some};
+ghost use Rattle.std.specs.Prelude.{◌≡◌, ◌≢◌, ◌≤◌, ◌++◌, ℕ, Bool, length, flat_map, List, IfOk, IfErr, IfSome, IsErrOf, IsOk, OnOk, [], None, Some};
 ghost use Rattle.ports.specs.Bytes.{AllFlushed};
 ghost use Rattle.ports.specs.Causes.{IsCounted};
 ghost use Rattle.qdimacs.specs.Reads.{Reads};
 ghost use Rattle.qdimacs.specs.Rules.{parsed};
 ghost use Rattle.session.specs.Feeding.{HoldsFormula};
+ghost use Rattle.qrp_trace.specs.Writing.{Writes};
 ghost use Rattle.session.specs.Endings.{IsUnread, ending_with};
-ghost use Rattle.session.specs.Jobs.{IsAnsweredBy, LeavesOutput, RepliesTo, RoomForJob, WritesJob};
-ghost use Rattle.session.specs.Solve.{HasAnswer, IsDone, IsEnding, Solves};
+ghost use Rattle.engine.specs.Asks.{first_values};
+ghost use Rattle.engine.specs.Refusals.{winner_of};
+ghost use Rattle.engine.specs.State.{VerdictState};
+ghost use Rattle.prefix.specs.Scopes.{quantifier_at};
+ghost use Rattle.prefix.specs.Sides.{is_of};
+ghost use Rattle.qdimacs.specs.Formed.{IsFormed};
+ghost use Rattle.session.specs.Jobs.{IsAnsweredBy, IsHeaderOf, LeavesOutput, RepliesTo, RoomForJob, WritesJob, answer_with, opened, solution_line, unassumed, value_line as line_of_value, value_lines};
+ghost use Rattle.session.specs.Solve.{HasAnswer, IsAnswerTo, IsDone, IsEnding, Solves};
 ghost use Rattle.session.specs.Standing.{Standing};
 ghost use Rattle.session.specs.State.{Holds};
 ghost use Rattle.truth.specs.declared.formula.Formula.{Formula as AnyFormula};
@@ -15,19 +22,29 @@ ghost use Rattle.truth.specs.declared.formula.Formula.{Formula as AnyFormula};
 use crate::answer::Answer;
 use crate::ending::{Ending, Job};
 use crate::feed::feed;
-use crate::lines::write_answer;
+use crate::lines::{write_answer, write_outermost, write_solution};
 use crate::script::put_told;
 use crate::session::{decide, tell_circuit, tell_trace};
 use engine::Engine;
-use ports::{Desk, Sink};
+use ports::{Desk, Failed, Sink};
+use prefix::{Prefix, Quant};
 use qdimacs::read_formula;
 use std::alloc::Global;
+use steps::NoMemory;
 use trail::Stopped;
-use truth::no_assumptions;
+use truth::{Formula, no_assumptions};
+
+// The numbers of a formula's header: of its variables and of its clauses.
+#[derive(Clone, Copy, Debug)]
+pub(crate) struct Header {
+    pub vars: u32,
+    pub clauses: u32,
+}
 
 /// Reads the formula that is left of the chosen input, decides it by search with a budget of that many steps, and
-/// writes what the job asks for: the answer's line, `SAT` or `UNSAT`; the trace of the verdict's proof (QRP); or the
-/// circuit by which its winner wins (AIGER 1.9, ASCII). Where the budget was spent first, it writes `UNKNOWN`.
+/// writes what the job asks for: the answer's line, `SAT` or `UNSAT`; its solution line with the values of outermost
+/// variables (QDIMACS 1.1, output format); the trace of the verdict's proof (QRP); or the circuit by which its winner wins
+/// (AIGER 1.9, ASCII). Where the budget was spent first, it writes `UNKNOWN`, or the solution line of that.
 ///
 /// UNKNOWN comes only where the budget is below the step limit of the formula's variables, and where propagation alone
 /// refutes the clauses only where it is below n * (n + 3), for n variables. What the search that stopped tells is then
@@ -89,14 +106,14 @@ fn answer<D: Desk, S: Sink>(
     ensures content { (n : List ℕ) → D.content desk.new n ≡ D.content desk.old n }
     ensures stays { (n : List ℕ) → D.steady desk.old n → D.steady desk.new n }
 {
-    let mut engine = load(alloc, desk)?;
-    reply(&mut engine, job, budget, sink, stops)
+    let (mut engine, header) = load(alloc, desk)?;
+    reply(&mut engine, header, job, budget, sink, stops)
 }
 
-// An engine that holds the formula of the chosen input.
-fn load<D: Desk>(alloc: Global, desk: &mut D) -> Result<Engine, Ending>
-    ensures formula { IfOk result (λ e. (f : AnyFormula) × HoldsFormula f.prefix f.clauses e
-        × IfSome (D.left desk.old) (λ text. Reads text (parsed f))) }
+// An engine that holds the formula of the chosen input, and the numbers of its header.
+fn load<D: Desk>(alloc: Global, desk: &mut D) -> Result<(Engine, Header), Ending>
+    ensures formula { IfOk result (λ loaded. (f : AnyFormula) × HoldsFormula f.prefix f.clauses loaded.0
+        × IsHeaderOf f loaded.1 × IfSome (D.left desk.old) (λ text. Reads text (parsed f))) }
     ensures ending { IfErr result (λ e. IsUnread e
         × ((budget : ℕ) → IfSome (D.left desk.old) (λ text. IsEnding budget text e))) }
     ensures read { OnOk result (IfSome (D.left desk.old) (λ _. D.left desk.new ≡ Some [])) }
@@ -107,31 +124,58 @@ fn load<D: Desk>(alloc: Global, desk: &mut D) -> Result<Engine, Ending>
     ensures stays { (n : List ℕ) → D.steady desk.old n → D.steady desk.new n }
 {
     let f = read_formula(alloc, desk)?;
+    let engine = engine_with(alloc, &f)?;
+    let header = Header {
+        vars: f.declared_vars,
+        clauses: f.declared_clauses,
+    };
+    Ok((engine, header))
+}
+
+// An engine that holds a formula.
+fn engine_with(alloc: Global, f: &Formula) -> Result<Engine, NoMemory>
+    requires { IsFormed f.now }
+    ensures { IfOk result (HoldsFormula f.now.prefix f.now.clauses) }
+{
     let mut engine = Engine::new(alloc)?;
-    // What was read is refused for want of memory alone.
-    if feed(alloc, &mut engine, &f).is_err() {
-        return Err(Ending::NoMemory);
+    // What is formed is refused for want of memory alone.
+    match feed(alloc, &mut engine, f) {
+        Ok(()) => Ok(engine),
+        Err(_) => Err(NoMemory),
     }
-    Ok(engine)
+}
+
+/// Decides a formula by search with a budget of that many steps. UNKNOWN comes only where the budget is below the step
+/// limit of the formula's variables, and where propagation alone refutes the clauses only where it is below n * (n + 3),
+/// for n variables. It fails for want of memory alone.
+pub fn decide_formula(alloc: Global, f: &Formula, budget: u64) -> Result<Answer, NoMemory>
+    requires { IsFormed f.now }
+    ensures { IfOk result (IsAnswerTo budget f.now) }
+{
+    no_assumptions();
+    let mut engine = engine_with(alloc, f)?;
+    let reply = decide(&mut engine, budget)?;
+    Ok(reply.answer())
 }
 
 // Decides the formula that an engine holds, replies, and flushes.
 fn reply<S: Sink>(
     engine: &mut Engine,
+    header: Header,
     job: Job,
     budget: u64,
     sink: &mut S,
     stops: &mut Vec<Stopped>,
 ) -> Result<Answer, Ending>
-    ensures { (f : AnyFormula) → HoldsFormula f.prefix f.clauses engine.old → RepliesTo S.written S.flushed
-        S.faults S.has_room job budget f sink.old sink.new (stops.old.items, stops.new.items) result }
+    ensures { (f : AnyFormula) → HoldsFormula f.prefix f.clauses engine.old → IsHeaderOf f header → RepliesTo S.written
+        S.flushed S.faults S.has_room job budget f sink.old sink.new (stops.old.items, stops.new.items) result }
 {
     no_assumptions();
     stops.reserve(1)?;
     let reply = decide(engine, budget)?;
     let answer = reply.answer();
     put_told(stops, reply.into_stopped());
-    write_reply(engine, job, answer, sink)?;
+    write_reply(engine, header, job, answer, sink)?;
     sink.flush()?;
     Ok(answer)
 }
@@ -139,32 +183,48 @@ fn reply<S: Sink>(
 // Writes what the job asks for, where a formula was decided with this answer.
 fn write_reply<S: Sink>(
     engine: &Engine,
+    header: Header,
     job: Job,
     answer: Answer,
     sink: &mut S,
 ) -> Result<(), Ending>
-    ensures { (f : AnyFormula) (s : Standing) → Holds engine.now s → IsAnsweredBy f answer s → WritesJob S.written
-        S.flushed S.faults S.has_room job f answer sink.old sink.new result }
+    ensures { (budget : ℕ) (f : AnyFormula) (s : Standing) → Holds budget engine.now s → IsHeaderOf f header
+        → IsAnsweredBy f answer s → WritesJob S.written S.flushed S.faults S.has_room job budget f answer sink.old
+        sink.new result }
 {
     match answer {
-        Answer::Unknown => Ok(write_answer(answer, sink)?),
-        _ => write_verdict(engine, job, answer, sink),
+        Answer::Unknown => write_unknown(header, job, sink),
+        _ => write_verdict(engine, header, job, answer, sink),
+    }
+}
+
+// The same where the budget was spent.
+fn write_unknown<S: Sink>(header: Header, job: Job, sink: &mut S) -> Result<(), Ending>
+    ensures { (budget : ℕ) (f : AnyFormula) → IsHeaderOf f header → WritesJob S.written S.flushed S.faults S.has_room
+        job budget f Answer.Unknown sink.old sink.new result }
+{
+    match job {
+        Job::Qdo => Ok(write_solution(Answer::Unknown, header, sink)?),
+        _ => Ok(write_answer(Answer::Unknown, sink)?),
     }
 }
 
 // The same where it was decided with a verdict.
 fn write_verdict<S: Sink>(
     engine: &Engine,
+    header: Header,
     job: Job,
     answer: Answer,
     sink: &mut S,
 ) -> Result<(), Ending>
     requires { answer ≢ Answer.Unknown }
-    ensures { (f : AnyFormula) (s : Standing) → Holds engine.now s → IsAnsweredBy f answer s → WritesJob S.written
-        S.flushed S.faults S.has_room job f answer sink.old sink.new result }
+    ensures { (budget : ℕ) (f : AnyFormula) (s : Standing) → Holds budget engine.now s → IsHeaderOf f header
+        → IsAnsweredBy f answer s → WritesJob S.written S.flushed S.faults S.has_room job budget f answer sink.old
+        sink.new result }
 {
     match job {
         Job::Solve => Ok(write_answer(answer, sink)?),
+        Job::Qdo => Ok(write_result(engine, header, answer, sink)?),
         Job::Trace => {
             let _trace = tell_trace(engine, sink)?;
             Ok(())
@@ -174,4 +234,50 @@ fn write_verdict<S: Sink>(
             Ok(())
         }
     }
+}
+
+// Writes the solution line of a verdict, and the values of the first scope where this is the winner's.
+fn write_result<S: Sink>(
+    engine: &Engine,
+    header: Header,
+    answer: Answer,
+    sink: &mut S,
+) -> Result<(), Failed>
+    ensures { (budget : ℕ) (f : AnyFormula) (s : Standing) (truth : Bool) → Holds budget engine.now s → IsHeaderOf f header
+        → s.script.formula ≡ opened f → s.script.verdict ≡ Some (unassumed truth) → answer ≡ answer_with truth
+        → Writes S.written S.flushed S.faults S.has_room sink.old sink.new
+        (solution_line answer f ++ value_lines f.prefix truth s.witness.values) result }
+{
+    write_solution(answer, header, sink)?;
+    if !is_won_first(engine.prefix(), answer.winner()) {
+        return Ok(());
+    }
+    write_values(engine, sink)
+}
+
+// Whether the first scope is of the side that wins.
+fn is_won_first(prefix: &Prefix, winner: Quant) -> bool
+    ensures { result ≡ is_of (quantifier_at prefix.now 1) winner }
+{
+    match prefix.scope_quant(1) {
+        Some(quant) => quant == winner,
+        None => false,
+    }
+}
+
+// Writes the values of the first scope, where this is the winner's.
+fn write_values<S: Sink>(engine: &Engine, sink: &mut S) -> Result<(), Failed>
+    requires { 1 ≤ length engine.now.formula.scopes }
+    ensures { (v : VerdictState) → engine.now.verdict ≡ Some v
+        → quantifier_at engine.now.formula.scopes 1 ≡ Some (winner_of v.truth) → Writes S.written S.flushed S.faults
+        S.has_room sink.old sink.new (flat_map line_of_value (first_values engine.now.formula v)) result }
+{
+    for var in engine.prefix().vars_of(1) {
+        // Each variable of the first scope has a value where this is the winner's.
+        let Ok(lit) = engine.value(var.number() as u64) else {
+            return Ok(());
+        };
+        write_outermost(lit, sink)?;
+    }
+    Ok(())
 }

@@ -1,8 +1,8 @@
 //! Files of formulas, decided, and scripts of commands, replied to.
 //!
 //! A formula is read, fed to an engine and solved. `specs/Solve` says what the answer to a text is, `specs/Jobs` what is
-//! written for it, and `specs/Stops` what is told of a search that stopped. `specs/Replies` says what the commands of a script may reply, `specs/Scripts`
-//! what the work on a script comes to.
+//! written for it, and `specs/Stops` what is told of a search that stopped. `specs/Replies` says what the commands of a
+//! script may reply, `specs/Scripts` what the work on a script comes to.
 #![tactic(auto)]
 
 mod answer;
@@ -17,7 +17,7 @@ mod worked;
 
 pub use answer::Answer;
 pub use ending::{Ending, Job};
-pub use file::run_file;
+pub use file::{decide_formula, run_file};
 pub use reply::{Reply, SessionStop};
 pub use script::run_script;
 pub use session::Session;

@@ -7,9 +7,12 @@ ghost use Rattle.aig.specs.Strategies.{IsStrategy};
 ghost use Rattle.qrp_trace.specs.Texts.{literal_word, qrp_text};
 ghost use Rattle.qrp_trace.specs.Writing.{Writes};
 ghost use Rattle.session.specs.Replies.{Text, refused_text, relevant_text, value_text};
+ghost use Rattle.session.specs.Jobs.{IsHeaderOf, solution_line, value_line as line_of_value};
 ghost use Rattle.session.specs.Solve.{answer_line};
+ghost use Rattle.truth.specs.declared.formula.Formula.{Formula};
 
 use crate::answer::Answer;
+use crate::file::Header;
 use aig::Strategy;
 use aiger_out::{circuits_have_one_text, write_aag};
 use arrayvec::ArrayString;
@@ -50,6 +53,25 @@ pub(crate) fn write_relevant<S: Sink>(lits: &[Lit], sink: &mut S) -> Result<(), 
     write(b"relevant ", sink)?;
     write_literals(lits, sink)?;
     write(b"0\n", sink)
+}
+
+// Writes the solution line of an answer, with the numbers of a header.
+pub(crate) fn write_solution<S: Sink>(
+    answer: Answer,
+    header: Header,
+    sink: &mut S,
+) -> Result<(), Failed>
+    ensures { (f : Formula) → IsHeaderOf f header → Writes S.written S.flushed S.faults S.has_room sink.old sink.new
+        (solution_line answer f) result }
+{
+    write(solution(answer, header).as_str().as_bytes(), sink)
+}
+
+// Writes the line of an outermost variable's value.
+pub(crate) fn write_outermost<S: Sink>(lit: Lit, sink: &mut S) -> Result<(), Failed>
+    ensures { Writes S.written S.flushed S.faults S.has_room sink.old sink.new (line_of_value lit) result }
+{
+    write(outermost_line(lit).as_str().as_bytes(), sink)
 }
 
 // Writes a trace.
@@ -99,6 +121,35 @@ fn value_line(lit: Lit) -> Line
     line
 }
 
+// The solution line of an answer.
+fn solution(answer: Answer, header: Header) -> Line
+    ensures { (f : Formula) → IsHeaderOf f header → result.bytes ≡ solution_line answer f }
+{
+    let mut line = Line::new();
+    line.push_str("s cnf ");
+    line.push_str(answer.result());
+    line.push(' ');
+    push_digits(&mut line, header.vars);
+    line.push(' ');
+    push_digits(&mut line, header.clauses);
+    line.push('\n');
+    line
+}
+
+// The line of an outermost variable's value.
+fn outermost_line(lit: Lit) -> Line
+    ensures { result.bytes ≡ line_of_value lit }
+{
+    let mut line = Line::new();
+    line.push_str("V ");
+    if !lit.is_positive() {
+        line.push_str("-");
+    }
+    push_digits(&mut line, lit.var().number());
+    line.push_str(" 0\n");
+    line
+}
+
 // Puts a number behind what the line has, and ends it.
 fn push_number(line: &mut Line, n: u32)
     requires room { array_string_len line.old + 41 ≤ 64 }
@@ -107,4 +158,14 @@ fn push_number(line: &mut Line, n: u32)
     let mut buffer = itoa::Buffer::new();
     line.push_str(buffer.format(n));
     line.push('\n');
+}
+
+// Puts a number behind what the line has.
+fn push_digits(line: &mut Line, n: u32)
+    requires room { array_string_len line.old + 10 ≤ 64 }
+    ensures bytes { line.new.bytes ≡ line.old.bytes ++ decimal n }
+    ensures longer { array_string_len line.new ≤ array_string_len line.old + 10 }
+{
+    let mut buffer = itoa::Buffer::new();
+    line.push_str(buffer.format(n));
 }

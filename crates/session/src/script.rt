@@ -93,7 +93,7 @@ fn answer_and_flush<D: Desk, S: Sink>(
     sink: &mut S,
     stops: &mut Vec<Stopped>,
 ) -> Result<(), Ending>
-    requires holds { Holds session.old.engine start }
+    requires holds { Holds session.old.budget session.old.engine start }
     requires ready { reader.old.failed ≡ false }
     requires fresh { reader.old.ahead ≡ None }
     requires script { (text : List ℕ) (commands : List AnyCommand) (e : ScriptEnding) → ReadsScript text commands e →
@@ -130,7 +130,7 @@ fn answer_commands<D: Desk, S: Sink>(
     requires ready { reader.old.failed ≡ false }
     requires end { EndsWith reader.old.ahead (D.left desk.old) }
     requires telling { is_fault reader.old.ahead ≡ false }
-    ensures replied { (s : Standing) → Holds session.old.engine s → Answers session.old.budget s
+    ensures replied { (s : Standing) → Holds session.old.budget session.old.engine s → Answers session.old.budget s
         (upcoming reader.old (D.left desk.old)) (IsLeftAt result)
         (λ text. IsSentAt S.written S.flushed S.faults S.has_room sink.old sink.new text result)
         (stops.old.items, stops.new.items) }
@@ -156,9 +156,9 @@ fn answer<S: Sink>(
 ) -> Result<(), Ending>
     ensures budget { session.new.budget ≡ session.old.budget }
     ensures unread { ¬ IsErrOf result Ending.ReadFault }
-    ensures goes { (s : Standing) → Holds session.old.engine s → Goes S.written S.flushed S.faults S.has_room
-        session.old.budget command.now s sink.old sink.new session.new.engine (stops.old.items, stops.new.items)
-        result }
+    ensures goes { (s : Standing) → Holds session.old.budget session.old.engine s → Goes S.written S.flushed S.faults
+        S.has_room session.old.budget command.now s sink.old sink.new session.new.engine
+        (stops.old.items, stops.new.items) result }
 {
     stops.reserve(1)?;
     match session.step(command, sink) {

@@ -39,7 +39,7 @@ impl Session {
     pub fn new(alloc: Global, budget: u64) -> Result<Self, NoMemory>
         ensures made { IsOk result }
         ensures budget { IfOk result (λ s. s.budget ≡ budget) }
-        ensures holds { IfOk result (λ s. Holds s.engine start) }
+        ensures holds { IfOk result (λ s. Holds budget s.engine start) }
     {
         Ok(Self {
             budget,
@@ -54,8 +54,8 @@ impl Session {
     /// written; a solve leaves the formula and the assumptions, and no verdict, and any other command all as it was.
     pub fn step<S: Sink>(&mut self, command: &Command, sink: &mut S) -> Result<Reply, SessionStop>
         ensures budget { self.new.budget ≡ self.old.budget }
-        ensures steps { (s : Standing) → Holds self.old.engine s → StepsOf S.written S.flushed S.faults S.has_room
-            self.old.budget command.now s sink.old sink.new self.new.engine result }
+        ensures steps { (s : Standing) → Holds self.old.budget self.old.engine s → StepsOf S.written S.flushed S.faults
+            S.has_room self.old.budget command.now s sink.old sink.new self.new.engine result }
     {
         match command {
             Command::Scope { quant, at } => accept(self.engine.scope(*quant, *at), sink),
@@ -107,7 +107,7 @@ fn send(written: Result<(), Failed>, reply: Reply) -> Result<Reply, SessionStop>
 
 // Decides the open formula, and writes the answer.
 fn solve<S: Sink>(engine: &mut Engine, budget: u64, sink: &mut S) -> Result<Reply, SessionStop>
-    ensures { (s : Standing) → Holds engine.old s → StepsOf S.written S.flushed S.faults S.has_room budget
+    ensures { (s : Standing) → Holds budget engine.old s → StepsOf S.written S.flushed S.faults S.has_room budget
         Command.Solve s sink.old sink.new engine.new result }
 {
     let reply = decide(engine, budget)?;
@@ -116,8 +116,9 @@ fn solve<S: Sink>(engine: &mut Engine, budget: u64, sink: &mut S) -> Result<Repl
 
 // The reply to a solve of the open formula.
 pub(crate) fn decide(engine: &mut Engine, budget: u64) -> Result<Reply, NoMemory>
-    ensures ok { (s : Standing) → Holds engine.old s → IfOk result (λ reply. IsDecided budget s reply engine.new) }
-    ensures err { (s : Standing) → Holds engine.old s → OnErr result (Holds engine.new (left_by Command.Solve s)) }
+    ensures ok { (s : Standing) → Holds budget engine.old s → IfOk result (λ reply. IsDecided budget s reply engine.new) }
+    ensures err { (s : Standing) → Holds budget engine.old s → OnErr result (Holds budget engine.new
+        (left_by Command.Solve s)) }
 {
     match engine.solve(&mut Steps::new(budget)) {
         Ok(verdict) => Ok(told(engine, verdict)),
@@ -142,7 +143,7 @@ fn told(engine: &Engine, verdict: Verdict) -> Reply
 
 // Tells the winner's value of a variable of the first scope.
 fn tell_value<S: Sink>(engine: &Engine, var: u64, sink: &mut S) -> Result<Reply, SessionStop>
-    ensures { (budget : ℕ) (s : Standing) → Holds engine.now s → StepsOf S.written S.flushed S.faults S.has_room budget
+    ensures { (budget : ℕ) (s : Standing) → Holds budget engine.now s → StepsOf S.written S.flushed S.faults S.has_room budget
         (Command.Value var) s sink.old sink.new engine.now result }
 {
     match engine.value(var) {
@@ -153,7 +154,7 @@ fn tell_value<S: Sink>(engine: &Engine, var: u64, sink: &mut S) -> Result<Reply,
 
 // Tells the assumptions that the verdict rests on.
 fn tell_relevant<S: Sink>(engine: &Engine, sink: &mut S) -> Result<Reply, SessionStop>
-    ensures { (budget : ℕ) (s : Standing) → Holds engine.now s → StepsOf S.written S.flushed S.faults S.has_room budget
+    ensures { (budget : ℕ) (s : Standing) → Holds budget engine.now s → StepsOf S.written S.flushed S.faults S.has_room budget
         Command.Relevant s sink.old sink.new engine.now result }
 {
     match engine.relevant() {
@@ -164,7 +165,7 @@ fn tell_relevant<S: Sink>(engine: &Engine, sink: &mut S) -> Result<Reply, Sessio
 
 // Tells the verdict's trace.
 pub(crate) fn tell_trace<S: Sink>(engine: &Engine, sink: &mut S) -> Result<Reply, SessionStop>
-    ensures { (budget : ℕ) (s : Standing) → Holds engine.now s → StepsOf S.written S.flushed S.faults S.has_room budget
+    ensures { (budget : ℕ) (s : Standing) → Holds budget engine.now s → StepsOf S.written S.flushed S.faults S.has_room budget
         Command.Trace s sink.old sink.new engine.now result }
 {
     match engine.trace_core() {
@@ -175,7 +176,7 @@ pub(crate) fn tell_trace<S: Sink>(engine: &Engine, sink: &mut S) -> Result<Reply
 
 // Tells the verdict's circuit.
 pub(crate) fn tell_circuit<S: Sink>(engine: &Engine, sink: &mut S) -> Result<Reply, SessionStop>
-    ensures { (budget : ℕ) (s : Standing) → Holds engine.now s → StepsOf S.written S.flushed S.faults S.has_room budget
+    ensures { (budget : ℕ) (s : Standing) → Holds budget engine.now s → StepsOf S.written S.flushed S.faults S.has_room budget
         Command.Cert s sink.old sink.new engine.now result }
 {
     match engine.certificate() {

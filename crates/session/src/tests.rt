@@ -114,6 +114,42 @@ fn jobs_write_what_they_ask_for(rt: HostRuntime) -> Result<(), Fail> {
             written: "p qrp 1 2\ne 1 0\n1 1 0 0\n2 0 1 0\nr SAT\n",
         },
         Row {
+            job: Job::Qdo,
+            text: "p cnf 1 1\ne 1 0\n1 0\n",
+            budget: 32,
+            ending: Ending::Done(10),
+            written: "s cnf 1 1 1\nV 1 0\n",
+        },
+        Row {
+            job: Job::Qdo,
+            text: "p cnf 3 2\na 1 0\ne 2 0\n1 2 0\n1 -2 0\n",
+            budget: 96,
+            ending: Ending::Done(20),
+            written: "s cnf 0 3 2\nV -1 0\n",
+        },
+        // No values for the loser's variables.
+        Row {
+            job: Job::Qdo,
+            text: DIFFERS,
+            budget: 96,
+            ending: Ending::Done(10),
+            written: "s cnf 1 2 2\n",
+        },
+        Row {
+            job: Job::Qdo,
+            text: FALSE,
+            budget: 96,
+            ending: Ending::Done(20),
+            written: "s cnf 0 2 2\n",
+        },
+        Row {
+            job: Job::Qdo,
+            text: DIFFERS,
+            budget: 0,
+            ending: Ending::Done(0),
+            written: "s cnf -1 2 2\n",
+        },
+        Row {
             job: Job::Trace,
             text: DIFFERS,
             budget: 0,

@@ -1,7 +1,7 @@
 use Rattle.std.proofs.Common.{List, map, string_bytes, subst}
 use Rattle.clap.specs.Words.{Text}
 use Rattle.command.specs.Account.{IsFoundAs}
-use Rattle.command.proofs.AccountLemmas.{account_of, asked, explains_error, explains_form, fault_is}
+use Rattle.command.proofs.AccountLemmas.{account_of, asked_by, explains_error, explains_form, fault_is}
 use Rattle.command.proofs.read.read_command.Goals as goal
 
 pub returns-in-Some-clause-asked : goal.returns-in-Some-clause-asked
@@ -10,7 +10,7 @@ returns-in-Some-clause-asked c =
     let fine = c.in-Ok.ensures in
     let account = account_of _ words c.in-Ok.matches c.in_ok-program.ensures fine.kinds fine.ok.2 in
     let some = c.in-Some.ensures.some in
-    asked words c.in-Some.command account.0 some.0 (subst (IsFoundAs c.in-Some.command) account.1 some.1)
+    asked_by words c.in-Some.command account.0 some.0 (subst (IsFoundAs c.in-Some.command) account.1 some.1)
 
 pub returns-in-Some-clause-account : goal.returns-in-Some-clause-account
 returns-in-Some-clause-account c =

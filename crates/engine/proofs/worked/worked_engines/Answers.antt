@@ -19,5 +19,8 @@ returns c = record {
   whole = refl;
   finish = refl;
   cube_finish = refl;
+  removals = refl;
+  finishes = refl;
+  reductions = refl;
   none = λ f v p. apart p.state p.there;
 }

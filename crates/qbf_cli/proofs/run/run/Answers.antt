@@ -1,10 +1,11 @@
-use Rattle.std.proofs.Common.{Option, map, sym, subst}
+use Rattle.std.proofs.Common.{Option, map, sym, subst, ◌∙◌}
 use Rattle.std.specs.Prelude.{string_bytes}
 use Rattle.command.specs.Forms.{Text}
 use Rattle.session.specs.Solve.{HasAnswer}
 use Rattle.qbf_cli.specs.Run.{IsVerdict, line_of}
 use Rattle.qbf_cli.specs.Told.{IsOutput}
 use Rattle.qbf_cli.proofs.Endings as by
+use Rattle.qbf_cli.proofs.Completing.{Complete, complete}
 use Rattle.qbf_cli.proofs.run.run.Goals as goal
 
 pub returns-clause-statuses : goal.returns-clause-statuses
@@ -41,3 +42,54 @@ returns-clause-error g c = record {
   front = c.report.ensures.front;
   whole = c.report.ensures.whole;
 }
+
+pub returns-clause-complete : goal.returns-clause-complete
+returns-clause-complete g c valid reads writes = subst Complete (sym c.report.ensures.status)
+    (complete c.each_text_has_one_outcome.ensures.one c.each_script_has_one_reading.ensures.one _ _ _ _ _ valid
+    c.ending_of-ending.result c.ending_of-ending.ensures.carried
+    (λ is. reads (c.ending_of-ending.ensures.read_fault.rose is))
+    (λ is. writes (c.ending_of-ending.ensures.write_fault.rose is)))
+
+pub returns-clause-read_fault : goal.returns-clause-read_fault
+returns-clause-read_fault g c =
+    let counted = c.ending_of-ending.ensures.read_fault in
+    let e = c.ending_of-ending.result in
+    record {
+      later = counted.later;
+      rose = λ is. counted.rose (by.is_read_fault (map string_bytes c.args.words.now) (g.D.Desk.content c.args.desk.now)
+          (g.D.Desk.left c.ending_of-ending.new.desk) (g.O.Sink.written c.args.out.now, g.O.Sink.written c.ending_of-ending.new.out)
+          (c.args.stops.now.items, c.ending_of-ending.new.stops.items) e c.ending_of-ending.ensures.carried
+          (sym c.report.ensures.status ∙ is));
+      kept = λ h. counted.kept (by.answered e (subst HasAnswer c.report.ensures.status h));
+    }
+
+pub returns-clause-write_fault : goal.returns-clause-write_fault
+returns-clause-write_fault g c =
+    let counted = c.ending_of-ending.ensures.write_fault in
+    let e = c.ending_of-ending.result in
+    record {
+      later = counted.later;
+      rose = λ is. counted.rose (by.is_write_fault (map string_bytes c.args.words.now) (g.D.Desk.content c.args.desk.now)
+          (g.D.Desk.left c.ending_of-ending.new.desk) (g.O.Sink.written c.args.out.now, g.O.Sink.written c.ending_of-ending.new.out)
+          (c.args.stops.now.items, c.ending_of-ending.new.stops.items) e c.ending_of-ending.ensures.carried
+          (sym c.report.ensures.status ∙ is));
+      kept = λ h. counted.kept (by.answered e (subst HasAnswer c.report.ensures.status h));
+    }
+
+pub returns-clause-steady : goal.returns-clause-steady
+returns-clause-steady g c steady is = c.ending_of-ending.ensures.steady steady
+    (by.is_read_fault (map string_bytes c.args.words.now) (g.D.Desk.content c.args.desk.now)
+    (g.D.Desk.left c.ending_of-ending.new.desk) (g.O.Sink.written c.args.out.now, g.O.Sink.written c.ending_of-ending.new.out)
+    (c.args.stops.now.items, c.ending_of-ending.new.stops.items) c.ending_of-ending.result c.ending_of-ending.ensures.carried
+    (sym c.report.ensures.status ∙ is))
+
+pub returns-clause-room : goal.returns-clause-room
+returns-clause-room g c room is = c.ending_of-ending.ensures.room room
+    (by.is_write_fault (map string_bytes c.args.words.now) (g.D.Desk.content c.args.desk.now)
+    (g.D.Desk.left c.ending_of-ending.new.desk) (g.O.Sink.written c.args.out.now, g.O.Sink.written c.ending_of-ending.new.out)
+    (c.args.stops.now.items, c.ending_of-ending.new.stops.items) c.ending_of-ending.result c.ending_of-ending.ensures.carried
+    (sym c.report.ensures.status ∙ is))
+
+pub returns-clause-flushed : goal.returns-clause-flushed
+returns-clause-flushed g c h = c.ending_of-ending.ensures.flushed
+    (by.answered c.ending_of-ending.result (subst HasAnswer c.report.ensures.status h))

@@ -1,12 +1,10 @@
-use Rattle.engine.proofs.Changing.{on_ok_at}
-use Rattle.session.specs.Feeding.{HoldsFormula}
+use Rattle.std.proofs.Common.{refl}
 use Rattle.session.proofs.file.load.Goals as goal
 
 pub returns-clause-formula : goal.returns-clause-formula
-returns-clause-formula g c =
-    let f = c.in_ok-f.f in (
-      f,
-      on_ok_at c.feed.result (HoldsFormula f.prefix f.clauses c.feed.new.engine) c.if-is_err.ensures.negation
-          c.feed.ensures.ok,
-      c.in_ok-f.ensures.outcome,
-    )
+returns-clause-formula g c = (
+  c.in_ok-f.f,
+  c.in_ok-engine.ensures,
+  record { vars = refl; clauses = refl },
+  c.in_ok-f.ensures.outcome,
+)

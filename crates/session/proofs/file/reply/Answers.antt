@@ -7,11 +7,11 @@ use Rattle.session.proofs.Jobs.{Decided, built_held, decided, flush_failed, repl
 use Rattle.session.proofs.file.reply.Goals as goal
 
 pub returns-in_err-write_reply : goal.returns-in_err-write_reply
-returns-in_err-write_reply g c f holds =
+returns-in_err-write_reply g c f holds header =
     let p = err_from_is_err_and c.from_residual-in_err-write_reply.result
     c.from_residual-in_err-write_reply.ensures.1 in
     let reply = c.in_ok-reply.reply in
-    let is = c.in_ok-reply.ensures.ok (built f) (built_held f c.args.engine.now holds) in
+    let is = c.in_ok-reply.ensures.ok (built f) (built_held c.args.budget f c.args.engine.now holds) in
     let found : Decided c.args.budget f c.answer-answer.result (told_by reply) is.after =
     subst (λ a. Decided c.args.budget f a (told_by reply) is.after) (sym c.answer-answer.ensures)
     (decided c.no_assumptions.ensures c.args.budget f reply c.decide.new.engine is) in
@@ -23,13 +23,13 @@ returns-in_err-write_reply g c f holds =
     (reply_failed g.S.Sink.written g.S.Sink.flushed g.S.Sink.faults g.S.Sink.has_room c.args.job c.args.budget f
     c.answer-answer.result (told_by reply) is.after found c.args.sink.now c.args.stops.now.items
     c.put_told.new.stops.items entries c.write_reply.new.sink c.in_err-write_reply.field-0.0
-    (c.in_err-write_reply.ensures f is.after is.holds found.is))
+    (c.in_err-write_reply.ensures c.args.budget f is.after is.holds header found.is))
 
 pub returns-in_err-flush : goal.returns-in_err-flush
-returns-in_err-flush g c f holds =
+returns-in_err-flush g c f holds header =
     let p = err_from_is_err_and c.from_residual-in_err-flush.result c.from_residual-in_err-flush.ensures.1 in
     let reply = c.in_ok-reply.reply in
-    let is = c.in_ok-reply.ensures.ok (built f) (built_held f c.args.engine.now holds) in
+    let is = c.in_ok-reply.ensures.ok (built f) (built_held c.args.budget f c.args.engine.now holds) in
     let found : Decided c.args.budget f c.answer-answer.result (told_by reply) is.after =
     subst (λ a. Decided c.args.budget f a (told_by reply) is.after) (sym c.answer-answer.ensures)
     (decided c.no_assumptions.ensures c.args.budget f reply c.decide.new.engine is) in
@@ -41,13 +41,13 @@ returns-in_err-flush g c f holds =
     (flush_failed g.S.Sink.written g.S.Sink.flushed g.S.Sink.faults g.S.Sink.has_room c.args.job c.args.budget f
     c.answer-answer.result (told_by reply) is.after found c.args.sink.now c.args.stops.now.items
     c.put_told.new.stops.items entries c.write_reply.new.sink c.flush.new.self
-    (c.in_ok-write_reply.ensures f is.after is.holds found.is) c.flush.ensures.bytes c.flush.ensures.cause.later
+    (c.in_ok-write_reply.ensures c.args.budget f is.after is.holds header found.is) c.flush.ensures.bytes c.flush.ensures.cause.later
     c.in_err-flush.ensures.cause.failed (λ n room. false≢true (c.in_err-flush.ensures.room n room).0))
 
 pub returns : goal.returns
-returns g c f holds =
+returns g c f holds header =
     let reply = c.in_ok-reply.reply in
-    let is = c.in_ok-reply.ensures.ok (built f) (built_held f c.args.engine.now holds) in
+    let is = c.in_ok-reply.ensures.ok (built f) (built_held c.args.budget f c.args.engine.now holds) in
     let found : Decided c.args.budget f c.answer-answer.result (told_by reply) is.after =
     subst (λ a. Decided c.args.budget f a (told_by reply) is.after) (sym c.answer-answer.ensures)
     (decided c.no_assumptions.ensures c.args.budget f reply c.decide.new.engine is) in
@@ -57,5 +57,5 @@ returns g c f holds =
     reply_flushed g.S.Sink.written g.S.Sink.flushed g.S.Sink.faults g.S.Sink.has_room c.args.job c.args.budget f
     c.answer-answer.result (told_by reply) is.after found c.args.sink.now c.args.stops.now.items
     c.put_told.new.stops.items entries c.write_reply.new.sink c.flush.new.self
-    (c.in_ok-write_reply.ensures f is.after is.holds found.is) c.flush.ensures.bytes c.in_ok-flush.ensures.flushed
+    (c.in_ok-write_reply.ensures c.args.budget f is.after is.holds header found.is) c.flush.ensures.bytes c.in_ok-flush.ensures.flushed
     c.in_ok-flush.ensures.cause.kept

@@ -1,5 +1,6 @@
-use Rattle.std.proofs.Common.{rules, Err, subst, arith, refl, ◌∙◌}
+use Rattle.std.proofs.Common.{rules, Err, subst, sym, arith, refl, ◌∙◌}
 use Rattle.qscript.specs.State.{upcoming}
+use Rattle.session.specs.State.{Holds}
 use Rattle.session.specs.Steps.{Goes}
 use Rattle.std.proofs.lemmas.Result.{err_from_is_err_and}
 use Rattle.session.proofs.Going.{begun, ended, failed_at, goes_itself, goes_on, gone_on, no_command, refused_at}
@@ -79,7 +80,8 @@ returns-in_err-answer-clause-replied g c = λ s holds.
     c.in_err-answer.field-0.0
     (λ t held. subst (λ budget. Goes written flushed faults has_room budget c.in-Some.command t c.loop-command.sink
     c.answer.new.sink c.answer.new.session.engine (c.loop-command.stops.items, c.answer.new.stops.items)
-    (Err c.in_err-answer.field-0.0)) c.loop-command.invariant.budget (c.in_err-answer.ensures.goes t held)))
+    (Err c.in_err-answer.field-0.0)) c.loop-command.invariant.budget (c.in_err-answer.ensures.goes t
+    (subst (λ b. Holds b c.loop-command.session.engine t) (sym c.loop-command.invariant.budget) held))))
 
 -- src/script.rt:105:9
 pub returns-in_err-answer-clause-read_fault : goal.returns-in_err-answer-clause-read_fault

@@ -1,5 +1,4 @@
 use Rattle.std.proofs.Common.{refl, sym, ap, subst}
-use Rattle.search.specs.Counting.{size_of}
 use Rattle.session.proofs.Deciding.{found, gave_up}
 use Rattle.session.specs.Steps.{IsDecided}
 use Rattle.session.proofs.session.decide.Goals as goal
@@ -12,7 +11,7 @@ returns-in-Ok-clause-ok c s holds =
     let e_counts = rw c.new.ensures at c.in-Ok.ensures.counts in
     subst (λ r. IsDecided c.args.budget s r e) (sym c.told.ensures.truth)
     (found c.args.budget s before e holds v v.truth refl c.in-Ok.ensures.truth c.in-Ok.ensures.proof
-    c.in-Ok.ensures.emptied (size_of before.formula.scopes) e_counts c.told.ensures.first)
+    c.in-Ok.ensures.emptied e_counts c.told.ensures.first)
 
 pub returns-in-Err-Spent-clause-ok : goal.returns-in-Err-Spent-clause-ok
 returns-in-Err-Spent-clause-ok c s holds =

@@ -9,5 +9,5 @@ returns-in-Ok g c budget s holds =
     let text = c.write_circuit.ensures.0 in
     tells g.S.Sink.written g.S.Sink.flushed g.S.Sink.faults g.S.Sink.has_room budget Cert s c.args.sink.now
     c.write_circuit.new.sink e text c.write_circuit.result c.send.result
-    (tells_circuit e s holds budget strategy text c.write_circuit.ensures.1 (unrefused _ _ c.certificate.result strategy
-    c.in-Ok.is c.certificate.ensures.refused) c.in-Ok.ensures.certifies) holds c.write_circuit.ensures.2 c.send.ensures
+    (tells_circuit budget e s holds strategy text c.write_circuit.ensures.1 (unrefused _ _ c.certificate.result strategy
+    c.in-Ok.is c.certificate.ensures.refused) c.in-Ok.ensures.certifies c.in-Ok.ensures.few) holds c.write_circuit.ensures.2 c.send.ensures

@@ -9,6 +9,6 @@ returns-in-Ok g c budget s holds =
     let lits = c.in-Ok.lits in
     tells g.S.Sink.written g.S.Sink.flushed g.S.Sink.faults g.S.Sink.has_room budget Relevant s c.args.sink.now
     c.write_relevant.new.sink e (relevant_text lits.now) c.write_relevant.result c.send.result
-    (tells_relevant e s holds budget lits.now (unrefused _ _ c.relevant.result lits c.in-Ok.is
+    (tells_relevant budget e s holds lits.now (unrefused _ _ c.relevant.result lits c.in-Ok.is
     c.relevant.ensures.refused) c.in-Ok.ensures.value c.relevant.ensures.verdict) holds c.write_relevant.ensures
     c.send.ensures

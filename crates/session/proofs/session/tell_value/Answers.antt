@@ -9,5 +9,5 @@ returns-in-Ok g c budget s holds =
     let lit = c.in-Ok.lit in
     tells g.S.Sink.written g.S.Sink.flushed g.S.Sink.faults g.S.Sink.has_room budget (Value c.args.var) s c.args.sink.now
     c.write_value.new.sink e (value_text lit) c.write_value.result c.send.result
-    (tells_value e s holds budget c.args.var lit (unrefused _ _ c.value.result lit c.in-Ok.is c.value.ensures.refused)
+    (tells_value budget e s holds c.args.var lit (unrefused _ _ c.value.result lit c.in-Ok.is c.value.ensures.refused)
     c.in-Ok.ensures.value) holds c.write_value.ensures c.send.ensures

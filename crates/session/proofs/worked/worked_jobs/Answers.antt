@@ -26,14 +26,14 @@ numbered = record {
   used = λ k low high. absurd (omega (arith, low, high));
 }
 
-unsat : (text : List ℕ) → text ≡ codes "UNSAT\n" → IsJobText Solve nothing_fits Unsat text
+unsat : (text : List ℕ) → text ≡ codes "UNSAT\n" → IsJobText Solve 0 nothing_fits Unsat text
 unsat text is = record {
   witness = record { proof = record { row = []; reason = ByInput } ∷ []; values = [] };
   is_witness = record { proof = empty_proof; values = λ e. absurd (let f : None ≡ Some Forall = e in cc) };
   says = is;
 }
 
-trace : IsJobText Trace nothing_fits Unsat (codes "p qrp 0 1\n1 0 0\nr UNSAT\n")
+trace : IsJobText Trace 0 nothing_fits Unsat (codes "p qrp 0 1\n1 0 0\nr UNSAT\n")
 unfolding digits
 trace = record {
   witness = record { proof = record { row = []; reason = ByInput } ∷ []; values = [] };
@@ -67,7 +67,7 @@ first_byte : List ℕ → ℕ
 first_byte text = slice_index_or text 0 0
 
 pub returns : goal.returns
-unfolding no_gates first_byte
+unfolding no_gates first_byte digits
 returns c = record {
   solved = unsat (codes "UNSAT\n") refl;
   not_solved = λ h. absurd (let f : 83 ≡ 85 = ap first_byte h.says in omega (arith, f));
@@ -98,9 +98,16 @@ returns c = record {
       wins = λ inputs allowed. (refl, λ x b e. absurd (let f : None ≡ Some b = e in cc));
       earlier = λ x i. absurd (contains_nil x i);
       first_values = λ e. absurd (let f : None ≡ Some Exists = e in cc);
+      few = omega arith;
     };
   };
   not_certified = λ h. absurd (let f : 112 ≡ 97 = ap first_byte h.says.denotes.lines in omega (arith, f));
+  true_line = refl;
+  false_line = refl;
+  unknown_line = refl;
+  not_false_line = λ e. absurd (let f : codes "s cnf 0 0 1\n" ≡ codes "s cnf -1 0 1\n" = e in cc);
+  values_won = refl;
+  values_lost = refl;
   unknown = refl;
   not_silent = λ e. absurd (let f : [] ≡ codes "UNKNOWN\n" = e in cc);
   told = record {

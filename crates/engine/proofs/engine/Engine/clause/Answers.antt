@@ -1,8 +1,11 @@
 use Rattle.std.proofs.Common.{◌∙◌, ap, ap₂, sym, Option}
 use Rattle.std.proofs.lemmas.Result.{err_from_is_err_and}
+use Rattle.clean.specs.Turns.{reductions_in}
 use Rattle.frames.specs.State.{OpenFormula}
+use Rattle.search.proofs.Reducing.{reductions_same}
 use Rattle.engine.specs.declared.counts.Counts.{Counts}
 use Rattle.engine.specs.State.{VerdictState}
+use Rattle.engine.proofs.Bounding.{clause_counted}
 use Rattle.engine.proofs.Changing.{finishes_kept, held_kept, verdict_kept}
 use Rattle.engine.proofs.engine.Engine.clause.Goals as goal
 
@@ -16,6 +19,9 @@ invariant_of-self c =
       finishes = finishes_kept c.self.inside.search.derivation c.put_clause.new.search.derivation e.same
           c.self.inside.verdict c.self.invariant.finishes;
       cubes = λ none. c.put_clause.ensures.cubes (c.self.invariant.cubes none);
+      reductions = rw (reductions_same c.self.inside.search.derivation c.put_clause.new.search.derivation e.same)
+          c.self.invariant.reductions;
+      variables = rw e.err c.self.invariant.variables;
     }
 
 pub returns-in_err-put_clause-clause-err : goal.returns-in_err-put_clause-clause-err
@@ -36,4 +42,9 @@ invariant_of-self-2 c = record {
   cubes = λ none. c.forget_outcome.ensures.cubes
       (c.put_clause.ensures.cubes (c.self.invariant.cubes
       (ap (λ (n : Counts). n.solves) (sym c.with_clause-self-inside.ensures) ∙ none)));
+  reductions = rw c.with_clause-self-inside.ensures (clause_counted c.self.inside.counts
+      (reductions_in c.self.inside.search.derivation) (reductions_in c.forget_outcome.new.search.derivation)
+      (rw c.forget_outcome.ensures.reductions c.put_clause.ensures.reductions) c.forget_outcome.ensures.fit
+      c.self.invariant.reductions);
+  variables = tt;
 }

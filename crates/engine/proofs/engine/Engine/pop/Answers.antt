@@ -1,4 +1,4 @@
-use Rattle.std.proofs.Common.{ℕ, ap, ◌∙◌, subst, not}
+use Rattle.std.proofs.Common.{ℕ, ap, arith, ◌∙◌, subst, not}
 use Rattle.std.specs.Prelude.{filter, ◌==◌}
 use Rattle.derive.specs.State.{OpenClause, clauses_of}
 use Rattle.frames.specs.State.{FramesState}
@@ -25,4 +25,7 @@ invariant_of-self-2 c = record {
   held = tt;
   finishes = c.forget_outcome.ensures.finishes;
   cubes = λ none. c.forget_outcome.ensures.cubes (c.drop_top.ensures.cubes (c.self.invariant.cubes none));
+  reductions = let most = c.self.invariant.reductions in let less = c.drop_top.ensures.reductions in
+      let same = c.forget_outcome.ensures.reductions in omega (arith, most, less, same);
+  variables = tt;
 }

@@ -13,4 +13,6 @@ invariant_of-self-2 c = record {
   held = tt;
   finishes = c.forget_outcome.ensures.finishes;
   cubes = λ none. c.forget_outcome.ensures.cubes (c.self.invariant.cubes none);
+  reductions = rw c.forget_outcome.ensures.reductions c.self.invariant.reductions;
+  variables = tt;
 }

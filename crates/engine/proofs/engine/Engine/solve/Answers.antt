@@ -1,16 +1,18 @@
-use Rattle.std.proofs.Common.{◌≡◌, List, sym, ap, ap₂, ◌∙◌, arith, subst}
+use Rattle.std.proofs.Common.{◌≡◌, length, List, sym, ap, ap₂, ◌∙◌, arith, subst}
 use Rattle.std.proofs.lemmas.Result.{err_from_is_err_and}
 use Rattle.prefix.specs.Literal.{Literal}
-use Rattle.prefix.specs.Scopes.{IsAscending}
+use Rattle.prefix.specs.Scopes.{IsAscending, Scope, all_variables}
 use Rattle.calculus.specs.Rows.{Row, variables_in}
 use Rattle.calculus.specs.Search.{IsRefuted}
 use Rattle.calculus.specs.Verdicts.{relevant_of}
 use Rattle.derive.specs.State.{State, row_of}
+use Rattle.clean.specs.Turns.{reductions_in}
 use Rattle.frames.specs.State.{clauses_in}
-use Rattle.engine.specs.declared.counts.Counts.{Counts}
+use Rattle.search.specs.Counting.{size_of}
 use Rattle.engine.specs.declared.verdict.Held.{Held}
 use Rattle.engine.specs.Kept.{IsFound}
 use Rattle.engine.specs.State.{EngineState}
+use Rattle.engine.proofs.Bounding.{solve_counted, some_solves, undecided, unsolved_counted}
 use Rattle.engine.proofs.Framing.{same_rows}
 use Rattle.engine.proofs.Changing.{found_without, without_assumptions}
 use Rattle.engine.proofs.Telling.{end_ascends, has_proof, stops}
@@ -68,19 +70,60 @@ invariant_of-self-2 c =
     let f = c.self.inside.frames.formula in
     let d = c.decide.new.search.derivation in
     let v = c.in_ok-verdict.verdict in
+    let e = c.in_ok-verdict.ensures in
     let assumed : c.from_vec.result ≡ f.assumptions = c.from_vec.ensures ∙ c.in_ok-assumed.ensures
     ∙ c.assumptions.ensures.value in
-    let solves = ap (λ (n : Counts). n.solves) c.with_solve-self-inside.ensures in
-    rw c.clear_assumptions.ensures (record {
+    let vars : c.len.result ≡ size_of f.scopes = c.len.ensures.value
+    ∙ ap (λ (ss : List Scope). length (all_variables ss)) c.prefix.ensures.value in
+    rw (c.clear_assumptions.ensures, c.with_solve-self-inside.ensures, c.budget.ensures.value, vars) (record {
       tied = without_assumptions f c.decide.new.search c.decide.ensures.tied;
       held = record {
         found = found_without f d c.from_vec.result v
-            (subst (λ (a : List Literal). IsFound f d a v) (sym assumed) c.in_ok-verdict.ensures.found);
+            (subst (λ (a : List Literal). IsFound f d a v) (sym assumed) e.found);
         relevant = c.from_vec-2.ensures ∙ c.keep_mentioned.ensures
             ∙ ap₂ (λ (a : List Literal) (row : Row). relevant_of a row)
             (c.in_ok-relevant.ensures ∙ c.assumptions-2.ensures.value ∙ sym assumed)
             (c.lits.ensures ∙ ap (λ (s : State). row_of s v.end) c.derivation.ensures);
       };
-      finishes = c.in_ok-verdict.ensures.finishes;
-      cubes = λ none. absurd (omega (arith, solves, none));
+      finishes = e.finishes;
+      cubes = λ none. absurd (some_solves c.self.inside.counts none);
+      reductions = solve_counted c.self.inside.counts c.args.steps.now c.decide.new.steps (size_of f.scopes)
+          (reductions_in c.self.inside.search.derivation) (reductions_in c.forget_outcome.new.search.derivation)
+          (reductions_in d) c.forget_outcome.ensures.reductions e.reductions e.fit e.few e.within e.budget
+          c.self.invariant.reductions;
+      variables = omega arith;
     })
+
+-- solves without a verdict
+
+pub invariant_of-self : goal.invariant_of-self
+invariant_of-self c =
+    let e = c.forget_outcome.ensures in
+    rw c.with_solve-self-inside.ensures (undecided c.self.inside.frames.formula c.forget_outcome.new.search
+    c.self.inside.counts c.budget.result c.len.result e.tied e.finishes
+    (unsolved_counted c.self.inside.counts c.budget.result c.len.result
+    (reductions_in c.self.inside.search.derivation) (reductions_in c.forget_outcome.new.search.derivation)
+    e.reductions e.fit c.self.invariant.reductions))
+
+pub invariant_of-self-in_err-relevant : goal.invariant_of-self-in_err-relevant
+invariant_of-self-in_err-relevant c =
+    let e = c.forget_outcome.ensures in
+    rw c.with_solve-self-inside.ensures (undecided c.self.inside.frames.formula c.forget_outcome.new.search
+    c.self.inside.counts c.budget.result c.len.result e.tied e.finishes
+    (unsolved_counted c.self.inside.counts c.budget.result c.len.result
+    (reductions_in c.self.inside.search.derivation) (reductions_in c.forget_outcome.new.search.derivation)
+    e.reductions e.fit c.self.invariant.reductions))
+
+pub invariant_of-self-in_err-verdict : goal.invariant_of-self-in_err-verdict
+invariant_of-self-in_err-verdict c =
+    let f = c.self.inside.frames.formula in
+    let d = c.decide.new.search.derivation in
+    let e = c.in_err-verdict.ensures in
+    let vars : c.len.result ≡ size_of f.scopes = c.len.ensures.value
+    ∙ ap (λ (ss : List Scope). length (all_variables ss)) c.prefix.ensures.value in
+    rw (c.with_solve-self-inside.ensures, c.budget.ensures.value, vars) (undecided f c.decide.new.search
+    c.self.inside.counts c.args.steps.now.budget (size_of f.scopes) e.tied e.unfinished
+    (solve_counted c.self.inside.counts c.args.steps.now c.decide.new.steps (size_of f.scopes)
+    (reductions_in c.self.inside.search.derivation) (reductions_in c.forget_outcome.new.search.derivation)
+    (reductions_in d) c.forget_outcome.ensures.reductions e.reductions e.fit e.few e.within e.budget
+    c.self.invariant.reductions))

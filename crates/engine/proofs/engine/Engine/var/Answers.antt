@@ -23,4 +23,6 @@ invariant_of-self-2 c = record {
   cubes = λ none. c.forget_outcome.ensures.cubes
       (cubes_kept c.self.inside.search c.reserve.new.self c.reserve.ensures.watched c.reserve.ensures.derivation
       (c.self.invariant.cubes none));
+  reductions = rw (c.forget_outcome.ensures.reductions, c.reserve.ensures.derivation) c.self.invariant.reductions;
+  variables = tt;
 }

@@ -1,10 +1,12 @@
-use Rattle.std.proofs.Common.{List, Contains, sym, subst}
+use Rattle.std.proofs.Common.{List, Contains, ap, sym, subst, ◌∙◌}
 use Rattle.derive.specs.Dropping.{finishes}
 use Rattle.derive.specs.State.{OpenClause}
 use Rattle.search.specs.Forcing.{HasNoCubes}
-use Rattle.search.specs.State.{IsResting}
+use Rattle.clean.specs.Turns.{reductions_in}
+use Rattle.search.specs.State.{IsResting, SearchState}
 use Rattle.search.specs.contracts.search.Search.{the_view}
 use Rattle.search.proofs.Dropping.{no_cubes_left, resting_left, step_unfinished}
+use Rattle.search.proofs.Reducing.{reductions_alike}
 use Rattle.search.proofs.search.Search.drop_finish.Goals as goal
 
 pub returns-clause-resting : goal.returns-clause-resting
@@ -28,3 +30,8 @@ pub returns-clause-cubes : goal.returns-clause-cubes
 returns-clause-cubes c = λ none.
     no_cubes_left c.args.prefix.now (the_view c.self.inside) c.drop_finish.new.self finishes c.drop_finish.ensures.drops
     (subst HasNoCubes (sym c.self.view_is) none)
+
+pub returns-clause-reductions : goal.returns-clause-reductions
+returns-clause-reductions c =
+    reductions_alike c.self.inside.derivation c.drop_finish.new.self c.drop_finish.ensures.steps
+    ∙ ap (λ (s : SearchState). reductions_in s.derivation) c.self.view_is

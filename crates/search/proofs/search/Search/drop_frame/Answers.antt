@@ -1,10 +1,12 @@
-use Rattle.std.proofs.Common.{sym, ap, subst, ◌∙◌}
+use Rattle.std.proofs.Common.{sym, ap, subst, ◌∙◌, arith}
 use Rattle.std.proofs.lemmas.Bool.{false≢true}
 use Rattle.search.specs.State.{IsResting, SearchState, rows_of}
 use Rattle.search.specs.contracts.search.Search.{the_view}
 use Rattle.search.proofs.Dropping.{clauses_in_frames, resting_left}
 use Rattle.search.proofs.Listing.{resting_detached}
 use Rattle.search.proofs.Marks.{not_attached}
+use Rattle.search.proofs.Reducing.{reductions_left, reductions_same}
+use Rattle.clean.specs.Turns.{reductions_in}
 use Rattle.derive.specs.Dropping.{has_tag}
 use Rattle.search.proofs.search.Search.drop_frame.Goals as goal
 
@@ -22,3 +24,11 @@ returns-clause-resting c =
     c.holding_laws.ensures c.agreeing_laws.ensures resting
     (c.drop_frame.ensures.legal scopes resting.intact.legal)
     (λ side id a. absurd (false≢true (sym (not_attached side (rows_of s) id (none id)) ∙ a)))
+
+pub returns-clause-reductions : goal.returns-clause-reductions
+returns-clause-reductions c =
+    let few = reductions_left (has_tag c.args.frame) c.self.inside.derivation c.drop_frame.new.self
+    c.drop_frame.ensures.drops in
+    let same = reductions_same c.args.self.now.derivation c.detach_all.new.self.derivation c.detach_all.ensures.steps in
+    let is = ap (λ (s : SearchState). reductions_in s.derivation) c.self.view_is in
+    omega (arith, few, same, is)

@@ -1,10 +1,12 @@
-use Rattle.std.proofs.Common.{◌≡◌, ◌<◌, ◌∷◌, ◌++◌, [], ℕ, List, is_ok, vec_len, vec_capacity, arith, sym, ap, subst, ◌∙◌}
+use Rattle.std.proofs.Common.{◌≡◌, ◌<◌, ◌≤◌, ◌+◌, ◌∷◌, ◌++◌, [], ℕ, List, is_ok, vec_len, vec_capacity, arith, sym, ap, subst, ◌∙◌}
 use Rattle.std.proofs.lemmas.Bool.{cond-true}
 use Rattle.search.specs.Forcing.{HasNoCubes}
 use Rattle.search.specs.State.{IsResting, SearchState}
 use Rattle.search.specs.contracts.search.Search.{the_view}
 use Rattle.search.specs.Finishes.{GainsNoFinish}
 use Rattle.search.proofs.Finishing.{finishes_input}
+use Rattle.search.proofs.Reducing.{reductions_input}
+use Rattle.clean.specs.Turns.{reductions_in}
 use Rattle.search.proofs.Inputs.{Inputs, no_cubes_input, resting_input}
 use Rattle.search.proofs.search.Search.input.Goals as goal
 
@@ -54,4 +56,10 @@ pub returns-clause-finishes : goal.returns-clause-finishes
 returns-clause-finishes c =
     subst (λ (s : SearchState). GainsNoFinish s.derivation c.input_clause.new.self) c.self.view_is
     (finishes_input c.args.prefix.now c.self.inside.derivation c.input_clause.new.self c.in_ok-id.field-0-0
+    c.in_ok-id.id c.args.frame c.args.lits.now c.in_ok-id.ensures.ok)
+
+pub returns-clause-reductions : goal.returns-clause-reductions
+returns-clause-reductions c =
+    subst (λ (s : SearchState). reductions_in c.input_clause.new.self ≤ reductions_in s.derivation + 1) c.self.view_is
+    (reductions_input c.args.prefix.now c.self.inside.derivation c.input_clause.new.self c.in_ok-id.field-0-0
     c.in_ok-id.id c.args.frame c.args.lits.now c.in_ok-id.ensures.ok)

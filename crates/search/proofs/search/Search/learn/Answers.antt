@@ -1,4 +1,4 @@
-use Rattle.std.proofs.Common.{◌≡◌, Err, sym, ap, subst, ◌∙◌}
+use Rattle.std.proofs.Common.{◌≡◌, Err, sym, ap, subst, ◌∙◌, arith}
 use Rattle.std.proofs.lemmas.Result.{err_from_is_err_and}
 use Rattle.steps.specs.declared.stop.Stop.TheVariants.{Spent as spent}
 use Rattle.analyse.specs.declared.lesson.Lesson.{Lesson}
@@ -26,3 +26,11 @@ pub returns-in_ok-backjump-in-Learn-clause-go : goal.returns-in_ok-backjump-in-L
 returns-in_ok-backjump-in-Learn-clause-go c = λ is.
     advances_later c.args.prefix.now c.args.self.now c.analysed.new.self c.backjump.new.self c.args.steps.now
     c.analysed.new.steps c.backjump.new.steps c.in_ok-row.ensures.ok c.in_ok-backjump-in-Learn.ensures.ok
+
+pub returns-in_ok-backjump-in-Learn-clause-fewer : goal.returns-in_ok-backjump-in-Learn-clause-fewer
+returns-in_ok-backjump-in-Learn-clause-fewer c = λ is.
+    let few = c.in_ok-row.ensures.reductions in
+    let first = c.in_ok-row.ensures.ok.rises in
+    let same = c.backjump.ensures.reductions in
+    let one = c.in_ok-backjump-in-Learn.ensures.ok.rises in
+    omega (arith, few, first, same, one)

@@ -40,6 +40,8 @@ turns-preserved c =
       rises = omega arith;
       forced = λ none refuted. c.in_ok-end.ensures.forced c.args.steps.now.spent (i.forced none refuted)
           (ap Ok c.in_default.is);
+      reductions = let more = i.reductions in let paid = c.in_ok-end.ensures.paid (ap Ok c.in_default.is) in
+          omega arith;
       matrix = matrix_moves c.turns.self.derivation c.turn.new.self.derivation c.args.matrix.now adv.clauses i.matrix;
     }
 
@@ -52,8 +54,7 @@ returns-in_err-assume-clause-refuted c = λ none refuted is.
 
 pub returns-in_err-end-clause-bounded : goal.returns-in_err-end-clause-bounded
 returns-in_err-end-clause-bounded c =
-    let p = err_from_is_err_and c.from_residual-in_err-end.result c.from_residual-in_err-end.ensures.1 in
-    rw p.1 (c.in_err-end.ensures.err.bounded c.args.steps.now.spent c.turns.invariant.counted)
+    c.in_err-end.ensures.err.bounded c.args.steps.now.spent c.turns.invariant.counted
 
 pub returns-in_err-end-clause-due : goal.returns-in_err-end-clause-due
 returns-in_err-end-clause-due c = λ is.
@@ -62,3 +63,23 @@ returns-in_err-end-clause-due c = λ is.
     let i = c.turns.invariant in
     due_at_stop c.args.prefix.now c.args.self.now.derivation c.turns.self c.turn.new.self c.args.assumptions.now
     c.args.steps.now i.clauses i.assumed (c.in_err-end.ensures.due (ap Err (sym p.2 ∙ same)))
+
+pub returns-in_err-end-clause-reductions : goal.returns-in_err-end-clause-reductions
+returns-in_err-end-clause-reductions c =
+    let i = c.turns.invariant in
+    let before = i.reductions in
+    let one = i.rises in
+    let halts = c.in_err-end.ensures.err in
+    let two = halts.rises in
+    let more = c.in_err-end.ensures.reductions in
+    omega arith
+
+pub returns-in-Some-clause-reductions : goal.returns-in-Some-clause-reductions
+returns-in-Some-clause-reductions c =
+    let i = c.turns.invariant in
+    let before = i.reductions in
+    let one = i.rises in
+    let ends = rw c.in-Some.is at c.in_ok-end.ensures.end in
+    let two = ends.rises in
+    let more = c.in_ok-end.ensures.reductions in
+    omega arith

@@ -3,7 +3,7 @@ use Rattle.calculus.specs.Limits.{assignment_limit}
 use Rattle.calculus.specs.Search.{AreTheAssumptions, IsRefuted}
 use Rattle.trail.specs.declared.allowed.Allowed.TheVariants.{Anything}
 use Rattle.derive.specs.State.{clauses_of}
-use Rattle.search.specs.Counting.{IsCounted, size_of}
+use Rattle.search.specs.Counting.{IsCounted, ReducesFew, size_of}
 use Rattle.search.specs.Forcing.{IsRefuting, NoCubeAttached}
 use Rattle.search.specs.Moves.{IsMatrix}
 use Rattle.search.specs.State.{IsSearching}
@@ -18,6 +18,7 @@ invariant-turns l = record {
   clauses : clauses_of l.self.derivation ≡ clauses_of l.fn.self.derivation;
   budget : l.steps.budget ≡ l.fn.steps.budget;
   rises : l.fn.steps.spent ≤ l.steps.spent;
+  reductions : ReducesFew 0 l.fn.self.derivation l.self.derivation l.fn.steps l.steps;
   forced : NoCubeAttached l.fn.self → IsRefuted l.prefix l.matrix l.assumptions
       → IsRefuting l.prefix l.matrix l.fn.steps.spent l.self l.steps;
   matrix : IsMatrix l.self.derivation l.matrix;

@@ -1,4 +1,4 @@
-use Rattle.std.proofs.Common.{◌≡◌, IsTrue, refl, sym, ap, subst, ◌∙◌}
+use Rattle.std.proofs.Common.{◌≡◌, ◌≤◌, ◌+◌, arith, IsTrue, refl, sym, ap, subst, ◌∙◌}
 use Rattle.prefix.specs.declared.quant.Quant.TheVariants.{Forall}
 use Rattle.prefix.specs.declared.quant.Quant.{Quant}
 use Rattle.calculus.specs.Rows.{reduce}
@@ -7,6 +7,9 @@ use Rattle.truth.specs.Matrix.{clause_true}
 use Rattle.derive.specs.State.{State, row_of, side_at}
 use Rattle.search.specs.State.{IsSearching, SearchState}
 use Rattle.search.proofs.Covering.{bad_reduced, quiet_true}
+use Rattle.derive.specs.Adding.{cube_note}
+use Rattle.clean.specs.Turns.{reductions_in}
+use Rattle.search.proofs.Reducing.{reductions_added, reductions_by}
 use Rattle.search.proofs.Learning.{either_way, if_ok, on_ok_with, searching_gained}
 use Rattle.search.proofs.search.Search.solution.Goals as goal
 
@@ -66,3 +69,13 @@ returns-clause-bad c =
     (λ id is. subst (IsBadRow Forall c.args.prefix.now values) (sym (is.has_row ∙ reduced_is c))
     (bad_reduced c.args.prefix.now values covers.row c.reductions_keep_unit.ensures covers.cover.bad))
     c.reduce.ensures.step
+
+pub returns-clause-reductions : goal.returns-clause-reductions
+returns-clause-reductions c =
+    let covers = c.in_ok-cube.ensures.ok in
+    let cube = reductions_added c.self.inside.derivation c.cover.new.derivation c.in_ok-cube.cube cube_note covers.row
+    covers.adds in
+    let most = reductions_by c.reduce.result c.cover.new.derivation c.reduce.new.self c.in_ok-cube.cube _
+    c.reduce.ensures.ok c.reduce.ensures.err in
+    subst (λ (s : SearchState). reductions_in c.reduce.new.self ≤ reductions_in s.derivation + 1) c.self.view_is
+    (omega (arith, cube, most))

@@ -1,7 +1,6 @@
-use Rattle.std.proofs.Common.{Err, ap, ◌∙◌}
-use Rattle.search.proofs.Ending.{due_first, is_spent}
-use Rattle.steps.specs.declared.stop.Stop.TheVariants.{Spent as spent}
-use Rattle.search.proofs.Learning.{on_err_at}
+use Rattle.std.proofs.Common.{Err, ap, arith, ◌∙◌}
+use Rattle.search.proofs.Ending.{due_first, is_spent, steps_few}
+use Rattle.search.proofs.Reducing.{reductions_same}
 use Rattle.search.proofs.Following.{matrix_moves}
 use Rattle.search.proofs.search.Search.solve.Goals as goal
 
@@ -23,5 +22,29 @@ returns-in-Err-Spent-clause-stop c =
     c.run.new.self.trail c.stop.result e.paused.intact.trail (e.spent is) e.budget
     (due_first c.args.prefix.now c.args.self.now.derivation c.attach_all.new.self.derivation c.args.assumptions.now
     c.args.steps.now c.run.new.self.trail.assigned c.attach_all.ensures.steps.clauses (e.due is))
-    (on_err_at c.run.result spent is (λ b. b) e.bounded)
+    e.bounded
     c.stop.ensures.stopped
+
+pub returns-in-Ok-clause-reductions : goal.returns-in-Ok-clause-reductions
+returns-in-Ok-clause-reductions c =
+    let first = reductions_same c.args.self.now.derivation c.attach_all.new.self.derivation c.attach_all.ensures.steps in
+    let more = c.run.ensures.reductions in
+    let last = c.conclude.ensures.reductions in
+    omega (arith, first, more, last)
+
+pub returns-in-Err-Spent-clause-reductions : goal.returns-in-Err-Spent-clause-reductions
+returns-in-Err-Spent-clause-reductions c =
+    let first = reductions_same c.args.self.now.derivation c.attach_all.new.self.derivation c.attach_all.ensures.steps in
+    let more = c.run.ensures.reductions in
+    let last = c.stop.ensures.reductions in
+    omega (arith, first, more, last)
+
+pub returns-in-Ok-clause-few : goal.returns-in-Ok-clause-few
+returns-in-Ok-clause-few c =
+    steps_few c.args.prefix.now c.args.steps.now.spent c.run.new.self.trail c.run.new.steps
+    c.run.ensures.paused.intact.trail c.run.ensures.bounded
+
+pub returns-in-Err-NoMemory-clause-few : goal.returns-in-Err-NoMemory-clause-few
+returns-in-Err-NoMemory-clause-few c =
+    steps_few c.args.prefix.now c.args.steps.now.spent c.run.new.self.trail c.run.new.steps
+    c.run.ensures.paused.intact.trail c.run.ensures.bounded

@@ -8,49 +8,40 @@ use Rattle.frames.specs.declared.refusal.FrameRefusal.TheVariants.{AssumeClash, 
 use Rattle.frames.specs.Commands.{AddClause, AddScope, AddVariable, Assume, Pop, Push, clashes_with, is_beyond, is_known, is_outermost, max_pushed}
 use Rattle.frames.specs.State.{clauses_in, depth}
 use Rattle.qscript.specs.declared.command.Command.TheVariants as command
-use Rattle.session.proofs.Accepting.{accepts, always, one_numbered, scope_numbered, three_numbered, two_numbered, unless_memory, variable_numbered}
+use Rattle.session.proofs.Accepting.{accepts, always, has_changed, has_clause, one_numbered, scope_numbered, three_numbered, two_numbered, unless_memory, variable_numbered}
 use Rattle.session.proofs.session.Session.step.Goals as goal
 
 pub returns-in-Scope-clause-steps : goal.returns-in-Scope-clause-steps
 returns-in-Scope-clause-steps g c = rw (← c.self.view_is, c.in-Scope.is) (λ s holds.
     accepts g.S.Sink.written g.S.Sink.flushed g.S.Sink.faults g.S.Sink.has_room c.self.inside.budget
     (command.Scope c.in-Scope.quant c.in-Scope.at) (AddScope c.in-Scope.quant c.in-Scope.at) s c.self.inside.engine c.scope.new.self holds refl
-    (λ out after h. h) refl refl refl (λ f. scope_numbered f c.in-Scope.quant c.in-Scope.at) _ c.scope.result
+    (λ out after h. h) refl refl refl refl refl (λ f. scope_numbered f c.in-Scope.quant c.in-Scope.at) _ c.scope.result
     c.args.sink.now c.accept.new.sink c.accept.result
-    (on_ok_weaker c.scope.result (λ same. record {
-      formula = ap (λ f. f.formula) same;
-      verdict = ap (λ f. f.verdict) same;
-      solves = ap (λ f. f.counts.solves) same;
-    }) c.scope.ensures.ok) c.scope.ensures.refused (unless_memory c.scope.result) c.scope.ensures.err
+    (on_ok_weaker c.scope.result
+    (λ same. has_changed (AddScope c.in-Scope.quant c.in-Scope.at) c.self.inside.engine c.scope.new.self same refl) c.scope.ensures.ok) c.scope.ensures.refused (unless_memory c.scope.result) c.scope.ensures.err
     c.accept.ensures)
 
 pub returns-in-Var-clause-steps : goal.returns-in-Var-clause-steps
 returns-in-Var-clause-steps g c = rw (← c.self.view_is, c.in-Var.is) (λ s holds.
     accepts g.S.Sink.written g.S.Sink.flushed g.S.Sink.faults g.S.Sink.has_room c.self.inside.budget
     (command.Var c.in-Var.var c.in-Var.scope) (AddVariable c.in-Var.var c.in-Var.scope) s c.self.inside.engine c.var.new.self holds refl
-    (λ out after h. h) refl refl refl (λ f. variable_numbered f c.in-Var.var c.in-Var.scope) _ c.var.result
+    (λ out after h. h) refl refl refl refl refl (λ f. variable_numbered f c.in-Var.var c.in-Var.scope) _ c.var.result
     c.args.sink.now c.accept-in-Var.new.sink c.accept-in-Var.result
-    (on_ok_weaker c.var.result (λ same. record {
-      formula = ap (λ f. f.formula) same;
-      verdict = ap (λ f. f.verdict) same;
-      solves = ap (λ f. f.counts.solves) same;
-    }) c.var.ensures.ok) c.var.ensures.refused (unless_memory c.var.result) c.var.ensures.err
+    (on_ok_weaker c.var.result
+    (λ same. has_changed (AddVariable c.in-Var.var c.in-Var.scope) c.self.inside.engine c.var.new.self same refl) c.var.ensures.ok) c.var.ensures.refused (unless_memory c.var.result) c.var.ensures.err
     c.accept-in-Var.ensures)
 
 pub returns-in-Clause-clause-steps : goal.returns-in-Clause-clause-steps
 returns-in-Clause-clause-steps g c = rw (← c.self.view_is, c.in-Clause.is) (λ s holds.
     accepts g.S.Sink.written g.S.Sink.flushed g.S.Sink.faults g.S.Sink.has_room c.self.inside.budget
     (command.Clause c.in-Clause.lits) (AddClause c.in-Clause.lits) s c.self.inside.engine c.clause.new.self holds refl
-    (λ out after h. h) refl refl refl (λ f. two_numbered
+    (λ out after h. h) refl refl refl refl refl (λ f. two_numbered
     (not (list_all (is_known f.scopes) c.in-Clause.lits))
     (not (is_tautology c.in-Clause.lits) && is_beyond (clauses_in f.frames) (length (variables_of c.in-Clause.lits)))
     UnknownVar Limit refl refl) _ c.clause.result
     c.args.sink.now c.accept-in-Clause.new.sink c.accept-in-Clause.result
-    (on_ok_weaker c.clause.result (λ same. record {
-      formula = ap (λ f. f.formula) same;
-      verdict = ap (λ f. f.verdict) same;
-      solves = ap (λ f. f.counts.solves) same;
-    }) (rw c.numbers.ensures at c.clause.ensures.ok))
+    (on_ok_weaker c.clause.result
+    (λ same. has_clause c.in-Clause.lits c.self.inside.engine c.clause.new.self same) (rw c.numbers.ensures at c.clause.ensures.ok))
     (rw c.numbers.ensures at c.clause.ensures.refused) (unless_memory c.clause.result) c.clause.ensures.err
     c.accept-in-Clause.ensures)
 
@@ -58,26 +49,20 @@ pub returns-in-Push-clause-steps : goal.returns-in-Push-clause-steps
 returns-in-Push-clause-steps g c = rw (← c.self.view_is, c.in-Push.is) (λ s holds.
     accepts g.S.Sink.written g.S.Sink.flushed g.S.Sink.faults g.S.Sink.has_room c.self.inside.budget
     command.Push Push s c.self.inside.engine c.push.new.self holds refl
-    (λ out after h. h) refl refl refl (λ f. one_numbered (depth f.frames == max_pushed) Limit refl) _ c.push.result
+    (λ out after h. h) refl refl refl refl refl (λ f. one_numbered (depth f.frames == max_pushed) Limit refl) _ c.push.result
     c.args.sink.now c.accept-in-Push.new.sink c.accept-in-Push.result
-    (on_ok_weaker c.push.result (λ same. record {
-      formula = ap (λ f. f.formula) same;
-      verdict = ap (λ f. f.verdict) same;
-      solves = ap (λ f. f.counts.solves) same;
-    }) c.push.ensures.ok) c.push.ensures.refused (unless_memory c.push.result) c.push.ensures.err
+    (on_ok_weaker c.push.result
+    (λ same. has_changed Push c.self.inside.engine c.push.new.self same refl) c.push.ensures.ok) c.push.ensures.refused (unless_memory c.push.result) c.push.ensures.err
     c.accept-in-Push.ensures)
 
 pub returns-in-Pop-clause-steps : goal.returns-in-Pop-clause-steps
 returns-in-Pop-clause-steps g c = rw (← c.self.view_is, c.in-Pop.is) (λ s holds.
     accepts g.S.Sink.written g.S.Sink.flushed g.S.Sink.faults g.S.Sink.has_room c.self.inside.budget
     command.Pop Pop s c.self.inside.engine c.pop.new.self holds refl
-    (λ out after h. h) refl refl refl (λ f. one_numbered (depth f.frames == 0) NoFrame refl) _ c.pop.result
+    (λ out after h. h) refl refl refl refl refl (λ f. one_numbered (depth f.frames == 0) NoFrame refl) _ c.pop.result
     c.args.sink.now c.accept-in-Pop.new.sink c.accept-in-Pop.result
-    (on_ok_weaker c.pop.result (λ same. record {
-      formula = ap (λ f. f.formula) same;
-      verdict = ap (λ f. f.verdict) same;
-      solves = ap (λ f. f.counts.solves) same;
-    }) c.pop.ensures.ok) c.pop.ensures.refused (always c.pop.result) c.pop.ensures.err
+    (on_ok_weaker c.pop.result
+    (λ same. has_changed Pop c.self.inside.engine c.pop.new.self same refl) c.pop.ensures.ok) c.pop.ensures.refused (always c.pop.result) c.pop.ensures.err
     c.accept-in-Pop.ensures)
 
 pub returns-in-Assume-clause-steps : goal.returns-in-Assume-clause-steps
@@ -88,15 +73,12 @@ returns-in-Assume-clause-steps g c = rw (← c.self.view_is, c.in-Assume.is) (λ
     let refused = rw same at c.assume.ensures.refused in
     accepts g.S.Sink.written g.S.Sink.flushed g.S.Sink.faults g.S.Sink.has_room c.self.inside.budget
     (command.Assume c.in-Assume.lit) (Assume c.in-Assume.lit) s c.self.inside.engine c.assume.new.self holds refl
-    (λ out after h. h) refl refl refl (λ f. three_numbered
+    (λ out after h. h) refl refl refl refl refl (λ f. three_numbered
     (not (is_known f.scopes c.in-Assume.lit)) (not (is_outermost f.scopes c.in-Assume.lit))
     (clashes_with f.assumptions c.in-Assume.lit) UnknownVar AssumeScope AssumeClash refl refl refl) _ c.assume.result
     c.args.sink.now c.accept-in-Assume.new.sink c.accept-in-Assume.result
-    (on_ok_weaker c.assume.result (λ same. record {
-      formula = ap (λ f. f.formula) same;
-      verdict = ap (λ f. f.verdict) same;
-      solves = ap (λ f. f.counts.solves) same;
-    }) ok) refused (unless_memory c.assume.result) c.assume.ensures.err
+    (on_ok_weaker c.assume.result
+    (λ same. has_changed (Assume c.in-Assume.lit) c.self.inside.engine c.assume.new.self same refl) ok) refused (unless_memory c.assume.result) c.assume.ensures.err
     c.accept-in-Assume.ensures)
 
 pub returns-in-Solve-clause-steps : goal.returns-in-Solve-clause-steps

@@ -1,6 +1,6 @@
 use Rattle.std.proofs.Common.{rules, option_map}
-use Rattle.command.proofs.AccountLemmas.{if_none, no_budget, other_budget, other_name, values}
-use Rattle.command.proofs.read.values_of.Goals as goal
+use Rattle.command.proofs.ValueLemmas.{if_none, no_budget, other_budget, other_name, values}
+use Rattle.command.proofs.values.input_of.Goals as goal
 
 pub returns-in_err-get_str-clause-none : goal.returns-in_err-get_str-clause-none
 returns-in_err-get_str-clause-none c =

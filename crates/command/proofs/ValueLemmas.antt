@@ -1,0 +1,91 @@
+-- The values that `clap` found for a command, as the code reads them.
+use Rattle.std.proofs.Common.{◌≡◌, ◌∙◌, ◌<◌, ◌≤◌, ◌^◌, ℕ, List, [], Option, Some, None, IfSome, IfNone, false, codes, decimal, unwrap_or, sym, ap, subst}
+use Rattle.std.specs.Option.{option_map_or}
+use Rattle.std.specs.Str.{bytes_eq}
+use Rattle.clap.specs.Words.{Row, Text, first_value, found_of, rows_of}
+use Rattle.clap.specs.declared.ArgMatches.{ArgMatches}
+use Rattle.clap.proofs.WalkLemmas.{first_value-rows}
+use Rattle.command.specs.Account.{AreInput, AreValues, HasNoHyphen, IsNumberAt, is_set}
+use Rattle.command.specs.Forms.{word_of}
+use Rattle.command.specs.declared.command.Command.{Command}
+use Rattle.command.specs.declared.command.Command.TheVariants.{Cert, Demo, Gen, Script, Solve, Trace}
+
+pub if_none : {X : Type 0} (o : Option X) (P : Type 0) → P → IfNone o P
+if_none None P p = p
+if_none (Some x) P p = tt
+
+module _ (m : ArgMatches) (n : ℕ) (given : Option Text) where
+  abbrev budget_found : Option Text
+  budget_found = first_value (found_of m) (codes "budget")
+
+  abbrev name_found : Option Text
+  name_found = first_value (found_of m) (codes "name")
+
+  abbrev Found : Type 0
+  Found = AreInput (rows_of (found_of m)) n given
+
+  pub no_budget : None ≡ budget_found → Found → ⊥
+  no_budget is v = let bad = is ∙ first_value-rows (found_of m) (codes "budget") ∙ v.1 in absurd cc
+
+  pub other_budget : (t : Text) → Some t ≡ budget_found → ((k : ℕ) → k < 2 ^ 64 → t ≡ decimal k → ⊥) → Found → ⊥
+  other_budget t is none v =
+      none n v.0 (ap (λ o. unwrap_or o []) (is ∙ first_value-rows (found_of m) (codes "budget") ∙ v.1))
+
+  pub other_name : (o : Option Text) → o ≡ name_found → (HasNoHyphen o → ⊥) → Found → ⊥
+  other_name o is bad v =
+      let same = sym v.2 ∙ sym (first_value-rows (found_of m) (codes "name")) ∙ sym is in
+      bad (subst HasNoHyphen same v.3)
+
+  pub values : (t : Text) → n < 2 ^ 64 → Some t ≡ budget_found → t ≡ decimal n → given ≡ name_found
+      → HasNoHyphen given → Found
+  values t small budget_at text name_at fine = (
+    small,
+    sym (first_value-rows (found_of m) (codes "budget")) ∙ sym budget_at ∙ ap (λ x. Some x) text,
+    sym (first_value-rows (found_of m) (codes "name")) ∙ sym name_at,
+    fine,
+  )
+
+-- whether `--qdo` is given
+pub set_is : (m : ArgMatches) (o : Option Text) → o ≡ first_value (found_of m) (codes "qdo")
+    → option_map_or (λ text. bytes_eq text (codes "true")) o false ≡ is_set (rows_of (found_of m))
+set_is m o e = ap (λ p. option_map_or (λ text. bytes_eq text (codes "true")) p false)
+    (e ∙ first_value-rows (found_of m) (codes "qdo"))
+
+-- ---- a number of a command
+
+module _ (m : ArgMatches) (id : Text) (least most : ℕ) where
+  abbrev number_found : Option Text
+  number_found = first_value (found_of m) id
+
+  abbrev FoundAt : ℕ → Type 0
+  FoundAt n = IsNumberAt id least most (rows_of (found_of m)) n
+
+  pub no_number : None ≡ number_found → (n : ℕ) → FoundAt n → ⊥
+  no_number is n v = let bad = is ∙ first_value-rows (found_of m) id ∙ v.0 in absurd cc
+
+  module _ (t : Text) (is : Some t ≡ number_found) where
+    pub number_is : (o : Option ℕ) → IfSome o (λ n. (t ≡ decimal n) × (least ≤ n) × (n ≤ most)) → IfSome o FoundAt
+    number_is None h = tt
+    number_is (Some n) h = (sym (first_value-rows (found_of m) id) ∙ sym is ∙ ap Some h.0, (h.1, h.2))
+
+    pub other_number : (o : Option ℕ) → IfNone o ((n : ℕ) → least ≤ n → n ≤ most → t ≡ decimal n → ⊥)
+        → IfNone o ((n : ℕ) → FoundAt n → ⊥)
+    other_number (Some n) none = tt
+    other_number None none = λ n v.
+        none n v.1.0 v.1.1 (ap (λ o. unwrap_or o []) (is ∙ first_value-rows (found_of m) id ∙ v.0))
+
+-- ---- a command of another word
+
+module _ (rows : List Row) (word : Text) where
+  abbrev IsNoCommand : Type 0
+  IsNoCommand = (c : Command) → word_of c ≡ word → AreValues rows c → ⊥
+
+  -- without an input there is a command of numbers at most
+  pub no_input : (word ≡ codes "gen" → ⊥) → (word ≡ codes "demo" → ⊥)
+      → ((n : ℕ) (g : Option Text) → AreInput rows n g → ⊥) → IsNoCommand
+  no_input gen demo none (Solve n q g) e v = none n _ v.0
+  no_input gen demo none (Trace n g) e v = none n _ v
+  no_input gen demo none (Cert n g) e v = none n _ v
+  no_input gen demo none (Script n g) e v = none n _ v
+  no_input gen demo none (Gen s v k) e h = gen (sym e)
+  no_input gen demo none (Demo s k) e h = demo (sym e)

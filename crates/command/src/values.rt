@@ -1,0 +1,112 @@
+//! The values that `clap` found for a command.
+ghost use Rattle.std.specs.Prelude.{◌≡◌, ◌≢◌, ◌↔◌, ℕ, Option, IsTrue, option_map, Some, IfSome, IfNone, codes};
+ghost use Rattle.clap.specs.Words.{found_of, rows_of};
+ghost use Rattle.command.specs.Account.{AreDemo, AreGen, AreInput, AreValues, HasNoHyphen, IsNumberAt, is_set};
+ghost use Rattle.command.specs.Forms.{Text, word_of};
+ghost use Rattle.command.specs.declared.command.Command.{Command as CommandSpec};
+
+use super::command::Command;
+use super::form::{
+    GREATEST_CLAUSES, GREATEST_COUNT, GREATEST_SEED, GREATEST_VARS, LEAST_COUNT, LEAST_VARS,
+};
+use super::number::{number_between, number_of};
+use clap::ArgMatches;
+
+// The command of this word with the values in its matches, if there is one and they are in form.
+pub(crate) fn command_found<'a>(word: &str, found: &ArgMatches<'a>) -> Option<Command<'a>>
+    ensures some { IfSome result (λ c. (word_of c ≡ word.now) × AreValues (rows_of (found_of found.now)) c) }
+    ensures none { IfNone result ((c : CommandSpec) → word_of c ≡ word.now
+        → ¬ AreValues (rows_of (found_of found.now)) c) }
+{
+    match word {
+        "gen" => generator(found),
+        "demo" => demonstration(found),
+        _ => input_command(word, found),
+    }
+}
+
+// The command of this word that reads an input, if there is one and its values are in form.
+fn input_command<'a>(word: &str, found: &ArgMatches<'a>) -> Option<Command<'a>>
+    ensures some { IfSome result (λ c. (word_of c ≡ word.now) × AreValues (rows_of (found_of found.now)) c) }
+    ensures none { word.now ≢ codes "gen" → word.now ≢ codes "demo" → IfNone result ((c : CommandSpec)
+        → word_of c ≡ word.now → ¬ AreValues (rows_of (found_of found.now)) c) }
+{
+    let (budget, name) = input_of(found)?;
+    match word {
+        "solve" => Some(Command::Solve {
+            budget,
+            qdo: is_set(found),
+            name,
+        }),
+        "trace" => Some(Command::Trace { budget, name }),
+        "cert" => Some(Command::Cert { budget, name }),
+        "script" => Some(Command::Script { budget, name }),
+        _ => None,
+    }
+}
+
+// Whether `--qdo` is given.
+fn is_set(found: &ArgMatches<'_>) -> bool
+    ensures { result ≡ is_set (rows_of (found_of found.now)) }
+{
+    match found.get_str("qdo") {
+        Some(text) => text == "true",
+        None => false,
+    }
+}
+
+// The budget and the name in the matches of a command, if they are in form.
+fn input_of<'a>(found: &ArgMatches<'a>) -> Option<(u64, Option<&'a str>)>
+    ensures some { IfSome result (λ v. AreInput (rows_of (found_of found.now)) v.0 (option_map (λ s. s.now) v.1)) }
+    ensures none { IfNone result ((n : ℕ) (g : Option Text) → ¬ AreInput (rows_of (found_of found.now)) n g) }
+{
+    let budget = number_of(found.get_str("budget")?)?;
+    let name = found.get_str("name");
+    if !has_no_hyphen(name) {
+        return None;
+    }
+    Some((budget, name))
+}
+
+// Whether a name, if there is one, doesn't begin with `-`.
+fn has_no_hyphen(name: Option<&str>) -> bool
+    ensures { IsTrue result ↔ HasNoHyphen (option_map (λ s. s.now) name.entry) }
+{
+    match name {
+        Some(word) => word.as_bytes().first() != Some(&b'-'),
+        None => true,
+    }
+}
+
+// The command `gen` of its numbers, if they are in form.
+fn generator<'a>(found: &ArgMatches<'a>) -> Option<Command<'a>>
+    ensures some { IfSome result (λ c. (word_of c ≡ codes "gen") × AreValues (rows_of (found_of found.now)) c) }
+    ensures none { IfNone result ((s v k : ℕ) → ¬ AreGen (rows_of (found_of found.now)) s v k) }
+{
+    let seed = number_at(found, "SEED", 0, GREATEST_SEED)?;
+    let vars = number_at(found, "VARS", LEAST_VARS, GREATEST_VARS)?;
+    let clauses = number_at(found, "CLAUSES", 0, GREATEST_CLAUSES)?;
+    Some(Command::Gen {
+        seed,
+        vars,
+        clauses,
+    })
+}
+
+// The command `demo` of its numbers, if they are in form.
+fn demonstration<'a>(found: &ArgMatches<'a>) -> Option<Command<'a>>
+    ensures some { IfSome result (λ c. (word_of c ≡ codes "demo") × AreValues (rows_of (found_of found.now)) c) }
+    ensures none { IfNone result ((s k : ℕ) → ¬ AreDemo (rows_of (found_of found.now)) s k) }
+{
+    let seed = number_at(found, "SEED", 0, GREATEST_SEED)?;
+    let count = number_at(found, "COUNT", LEAST_COUNT, GREATEST_COUNT)?;
+    Some(Command::Demo { seed, count })
+}
+
+// The number of this name, from `least` to `most`, if it is in form.
+fn number_at(found: &ArgMatches<'_>, id: &str, least: u32, most: u32) -> Option<u32>
+    ensures some { IfSome result (IsNumberAt id.now least most (rows_of (found_of found.now))) }
+    ensures none { IfNone result ((n : ℕ) → ¬ IsNumberAt id.now least most (rows_of (found_of found.now)) n) }
+{
+    number_between(found.get_str(id)?, least, most)
+}

@@ -1,0 +1,34 @@
+-- Valid inputs.
+use Rattle.std.specs.Prelude.{◌≡◌, List, Option, IsSomeAnd, ⊤}
+use Rattle.truth.specs.declared.formula.Formula.{Formula}
+use Rattle.qdimacs.specs.Rules.{parsed}
+use Rattle.qdimacs.specs.Reads.{Reads}
+use Rattle.qscript.specs.Reads.{done}
+use Rattle.command.specs.Forms.{Asks, HasNoForm, Text}
+use Rattle.command.specs.declared.command.Command.{Command}
+use Rattle.command.specs.declared.command.Command.TheVariants.{Solve, Trace, Cert, Script, Gen, Demo}
+use Rattle.qbf_cli.specs.Asked.{input_of}
+use Rattle.qbf_cli.specs.Run.{EndsIn}
+
+-- The text is told, and is a formula.
+abbrev pub IsFormula : Option Text → Type 0
+IsFormula known = IsSomeAnd known (λ text. (f : Formula) × Reads text (parsed f))
+
+-- The text is told, and is a script that ends well.
+abbrev pub IsScript : Option Text → Type 0
+IsScript known = IsSomeAnd known (λ text. EndsIn text done)
+
+-- The input of a command is valid: a formula, or a script that ends well; some commands have none.
+abbrev pub IsValidFor : Command → (Text → Option Text) → Type 0
+IsValidFor (Solve budget qdo name) content = IsFormula (content (input_of (Solve budget qdo name)))
+IsValidFor (Trace budget name) content = IsFormula (content (input_of (Trace budget name)))
+IsValidFor (Cert budget name) content = IsFormula (content (input_of (Cert budget name)))
+IsValidFor (Script budget name) content = IsScript (content (input_of (Script budget name)))
+IsValidFor (Gen seed vars clauses) content = ⊤
+IsValidFor (Demo seed count) content = ⊤
+
+-- The words are of a form, and the input that they ask for is valid.
+pub record IsValid (words : List Text) (content : Text → Option Text) : Type 0 where
+  pub command : Command
+  pub asks : Asks words command
+  pub valid : (c : Command) → Asks words c → IsValidFor c content
