@@ -23,6 +23,7 @@ use Rattle.qrp_trace.specs.Cores.{end_row_in, proof_at, step_under}
 use Rattle.frames.specs.State.{OpenFormula}
 use Rattle.search.specs.Finishes.{HasNoFinish, finishes_in}
 use Rattle.search.specs.State.{SearchState}
+use Rattle.search.proofs.Reducing.{count_left}
 use Rattle.engine.specs.declared.counts.Counts.{Counts}
 use Rattle.engine.specs.declared.verdict.Held.{Held}
 use Rattle.engine.specs.Counting.{one_more, with_clause, with_solve}
@@ -222,12 +223,6 @@ removals_named all (s ∷ steps) none =
     ap₂ (λ b n. cond b 1 0 + n) (removal_is all s.why (none s (contains_head s steps)))
     (removals_named all steps (λ t i. none t (contains_tail s steps t i)))
     ∙ sym (sum_by-cons (λ (t : Step). cond (is_reduction t.why) 1 0) s steps)
-
--- of some of the steps
-count_left : (p q : Step → Bool) (steps : List Step) → count_by p (filter q steps) ≤ count_by p steps
-count_left p q steps =
-    let both = sum_by-filter_both q (λ s. not (q s)) (λ s. refl) (λ s. cond (p s) 1 0) steps in
-    omega (arith, both)
 
 finish_few : (assumptions : List Literal) (row : Row) → removals_of (finish_steps assumptions row) ≤ 1
 finish_few assumptions row = by (list_all (is_assumed assumptions) row)

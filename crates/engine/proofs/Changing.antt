@@ -1,8 +1,7 @@
 -- What stays of an engine where its formula changes, or where it doesn't.
 use Rattle.std.proofs.Common.{◌≡◌, ◌≢◌, ◌≤◌, ◌<◌, ◌⊎◌, ℕ, ◌+◌, ◌-◌, Bool, true, false, not, ◌||◌, List, [], ◌∷◌, length, Option, Some, None, Result, Ok, Err, IsTrue, IfSome, arith, refl, sym, ap, ap₂, ◌∙◌, subst, ⊎_elim, inl, inr, ◌++◌, length-append}
 use Rattle.std.specs.Prelude.{Contains, ℤ, filter, ◌==◌, if◌then◌else◌, is_some, MatchOption, IsOk, IsOkUnless, OnOk, is_ok}
-use Rattle.std.specs.List.{filter_map, range_with_len}
-use Rattle.std.specs.Option.{option_and_then, option_map}
+use Rattle.std.specs.Option.{option_map}
 use Rattle.std.proofs.lemmas.List.{length-take-le}
 use Rattle.std.proofs.lemmas.Bool.Decides.{nat_tests}
 use Rattle.std.proofs.lemmas.Bool.{cond-false, cond-true, eqb-true, or_cases}
@@ -18,7 +17,7 @@ use Rattle.calculus.specs.Rows.{Row}
 use Rattle.calculus.specs.Verdicts.{IsEndRow, finished, proof_of, relevant_of}
 use Rattle.calculus.proofs.Lists.{among_at, among_from}
 use Rattle.clauses.specs.Clause.{as_row, is_tautology}
-use Rattle.derive.specs.State.{Note, Notes, OpenClause, State, clauses_of, is_finish, is_live, may_be_antecedent, note_at, note_in, row_of, side_at, side_in, step_at, step_from, steps_of, why_at, why_in}
+use Rattle.derive.specs.State.{Note, Notes, OpenClause, State, clauses_of, is_finish, is_live, may_be_antecedent, note_at, note_in, row_of, side_at, side_in, why_at, why_in}
 use Rattle.frames.specs.declared.refusal.FrameRefusal.{FrameRefusal}
 use Rattle.frames.specs.declared.refusal.FrameRefusal.TheVariants.{AssumptionsHeld, NoFrame, NoMemory}
 use Rattle.frames.specs.State.{Frame, OpenFormula, clauses_in, depth, popped, pushed, with_row}
@@ -29,9 +28,11 @@ use Rattle.search.specs.Finishes.{GainsNoFinish}
 use Rattle.search.specs.Forcing.{HasNoCubes}
 use Rattle.search.specs.Moves.{SameSteps}
 use Rattle.search.specs.State.{HasRoom, IsResting, SearchState}
+use Rattle.search.proofs.Reducing.{steps_same}
+use Rattle.engine.specs.declared.counts.Counts.{Counts}
 use Rattle.engine.specs.declared.verdict.Held.{Held}
 use Rattle.engine.specs.declared.verdict.Verdict.{Verdict}
-use Rattle.engine.specs.Kept.{AreTied, HasFinishesOf, IsFound, IsHeld, framed_in}
+use Rattle.engine.specs.Kept.{AreTied, HasFinishesOf, IsEngine, IsFound, IsHeld, framed_in}
 use Rattle.engine.specs.Verdicts.{told}
 use Rattle.engine.proofs.Framing.{added_clauses, framed_pushed, popped_clauses, rows_with_row, some_with_row}
 
@@ -201,13 +202,6 @@ module _ (d e : State) (same : SameSteps d e) where
   note_kept : (id : ℕ) → note_at e id ≡ note_at d id
   note_kept id = ap (λ (notes : Notes). note_in notes id) same.notes
 
-  steps_kept : steps_of e ≡ steps_of d
-  steps_kept =
-      let step : step_at e ≡ step_at d =
-      λ i id. ap₂ (λ (row : Row) (note : Option Note). option_and_then (step_from id row) note) (same.literals id)
-      (note_kept id) i in
-      ap₂ (λ (step : ℕ → Option Step) (n : ℕ). filter_map step (range_with_len 0 n)) step (ap length same.notes)
-
   under_kept : (id : ℕ) → step_under e id ≡ step_under d id
   under_kept id = ap₂ (λ (row : Row) (note : Option Note).
       record { id = id; side = side_in note; row = row; why = why_in note }) (same.literals id) (note_kept id)
@@ -217,7 +211,7 @@ module _ (d e : State) (same : SameSteps d e) where
       let step : step_under e (end_row_in (why_at e end) end) ≡ step_under d (end_row_in (why_at d end) end)
       = ap (λ note. step_under e (end_row_in (why_in note) end)) (note_kept end)
       ∙ under_kept (end_row_in (why_at d end) end) in
-      ap₂ (λ (steps : List Step) (s : Step). proof_of steps s assumptions) steps_kept step
+      ap₂ (λ (steps : List Step) (s : Step). proof_of steps s assumptions) (steps_same d e same) step
 
   told_kept : (held : Held) → told e held ≡ told d held
   told_kept held =
@@ -275,6 +269,18 @@ pub cubes_kept : (old new : SearchState) → new.watched ≡ old.watched → new
 cubes_kept old new watched derivation none id i live =
     ap (λ (d : State). side_at d id) derivation
     ∙ none id (subst (λ ids. Contains ids id) watched i) (subst (λ (d : State). IsTrue (is_live d id)) derivation live)
+
+-- an engine whose search has more room
+pub roomier : (f : OpenFormula) (old new : SearchState) (v : Option Held) (counts : Counts) → StaysResting old new
+    → new.derivation ≡ old.derivation → new.watched ≡ old.watched → IsEngine f old v counts → IsEngine f new v counts
+roomier f old new v counts stays same watched is = record {
+  tied = reserved f old new stays same is.tied;
+  held = subst (λ (d : State). IfSome v (IsHeld f d)) (sym same) is.held;
+  finishes = subst (HasFinishesOf v) (sym same) is.finishes;
+  cubes = λ none. cubes_kept old new watched same (is.cubes none);
+  reductions = rw same is.reductions;
+  variables = is.variables;
+}
 
 -- the variable that a refusal's absence gives
 pub variable_is : (o : Option FrameRefusal) (r : Result ℕ FrameRefusal) (v var : ℕ) → r ≡ Ok v

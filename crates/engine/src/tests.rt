@@ -4,7 +4,7 @@ mod play;
 mod random;
 
 use crate::Engine;
-use play::{Play, put, put_scope, truth_within};
+use play::{are_frames_right, is_budget_kept, put, put_scope, truth_within};
 use prefix::Quant;
 use std::alloc::Global;
 use std::test::Fail;
@@ -23,42 +23,61 @@ fn whatever(engine: &mut Engine, var: u32) -> Result<(), Fail> {
 }
 
 // Forty existential variables that are decided first, and a contradiction behind a universal one.
-fn contradiction_behind(alloc: Global) -> Result<Engine, Fail> {
-    let mut engine = Engine::new(alloc)?;
-    put_scope(&mut engine, Quant::Exists, 1, 40)?;
-    put_scope(&mut engine, Quant::Forall, 41, 41)?;
-    put_scope(&mut engine, Quant::Exists, 42, 43)?;
+fn put_contradiction_behind(engine: &mut Engine, alloc: Global) -> Result<(), Fail> {
+    put_scope(engine, Quant::Exists, 1, 40)?;
+    put_scope(engine, Quant::Forall, 41, 41)?;
+    put_scope(engine, Quant::Exists, 42, 43)?;
     for var in 1..40 {
-        either(&mut engine, var)?;
+        either(engine, var)?;
     }
     let contradiction = [42, 43, 0, 42, -43, 0, -42, 43, 0, -42, -43, 0];
-    put(alloc, &mut engine, &contradiction)?;
-    Ok(engine)
+    put(alloc, engine, &contradiction)
+}
+
+// Forty universal variables, for which cubes are learned.
+fn put_forty_universal(engine: &mut Engine) -> Result<(), Fail> {
+    put_scope(engine, Quant::Forall, 1, 40)?;
+    put_scope(engine, Quant::Exists, 41, 42)?;
+    for var in 1..=40 {
+        whatever(engine, var)?;
+    }
+    Ok(engine.clause(&[-41, -42])?)
+}
+
+// One of the two formulas above.
+#[derive(Debug, Clone, Copy)]
+enum Large {
+    ContradictionBehind,
+    FortyUniversal,
+}
+
+fn put_large(engine: &mut Engine, alloc: Global, formula: Large) -> Result<(), Fail> {
+    match formula {
+        Large::ContradictionBehind => put_contradiction_behind(engine, alloc),
+        Large::FortyUniversal => put_forty_universal(engine),
+    }
+}
+
+fn decide(engine: &mut Engine, alloc: Global, formula: Large) -> Result<bool, Fail> {
+    put_large(engine, alloc, formula)?;
+    truth_within(engine, 1000)
+}
+
+// The truth that an engine finds in at most a thousand steps.
+fn truth_of(alloc: Global, formula: Large) -> Result<bool, Fail> {
+    let mut engine = Engine::new(alloc)?;
+    decide(&mut engine, alloc, formula)
 }
 
 #[test]
 fn what_comes_first_is_not_tried_again(rt: HostRuntime) -> Result<(), Fail> {
-    let mut engine = contradiction_behind(rt.alloc())?;
-    assert_eq!(rt; truth_within(&mut engine, 1000)?, false);
+    assert!(rt; !truth_of(rt.alloc(), Large::ContradictionBehind)?);
     Ok(())
-}
-
-// Forty universal variables, for which cubes are learned.
-fn forty_universal(alloc: Global) -> Result<Engine, Fail> {
-    let mut engine = Engine::new(alloc)?;
-    put_scope(&mut engine, Quant::Forall, 1, 40)?;
-    put_scope(&mut engine, Quant::Exists, 41, 42)?;
-    for var in 1..=40 {
-        whatever(&mut engine, var)?;
-    }
-    engine.clause(&[-41, -42])?;
-    Ok(engine)
 }
 
 #[test]
 fn cubes_spare_the_values_of_universal_variables(rt: HostRuntime) -> Result<(), Fail> {
-    let mut engine = forty_universal(rt.alloc())?;
-    assert_eq!(rt; truth_within(&mut engine, 1000)?, true);
+    assert!(rt; truth_of(rt.alloc(), Large::FortyUniversal)?);
     Ok(())
 }
 
@@ -66,9 +85,7 @@ fn cubes_spare_the_values_of_universal_variables(rt: HostRuntime) -> Result<(), 
 #[test]
 fn verdicts_are_those_of_the_plain_recursion(rt: HostRuntime) -> Result<(), Fail> {
     for seed in 0..1000 {
-        let mut play = Play::new(rt.alloc(), seed)?;
-        play.go_through_frames()?;
-        assert!(rt; play.is_right(), "seed {seed}");
+        assert!(rt; are_frames_right(rt.alloc(), seed)?, "seed {seed}");
     }
     Ok(())
 }
@@ -79,9 +96,8 @@ fn budgets_are_kept(rt: HostRuntime) -> Result<(), Fail> {
     let enough = (4 * 6 + 4) * 128;
     for seed in 0..300 {
         for budget in [0, 1, 20, enough - 1, enough] {
-            let mut play = Play::new(rt.alloc(), seed)?;
-            play.stop_at(budget, enough)?;
-            assert!(rt; play.is_right(), "seed {seed}, {budget} steps");
+            let is_kept = is_budget_kept(rt.alloc(), seed, budget, enough)?;
+            assert!(rt; is_kept, "seed {seed}, {budget} steps");
         }
     }
     Ok(())

@@ -79,7 +79,7 @@ reductions_finished old new id on row removes =
     removes.cases
 
 -- some of the steps are left
-count_left : (p q : Step → Bool) (steps : List Step) → count_by p (filter q steps) ≤ count_by p steps
+pub count_left : (p q : Step → Bool) (steps : List Step) → count_by p (filter q steps) ≤ count_by p steps
 count_left p q steps =
     let both = sum_by-filter_both q (λ s. not (q s)) (λ s. refl) (λ s. cond (p s) 1 0) steps in
     omega (arith, both)

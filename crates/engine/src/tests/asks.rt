@@ -42,14 +42,12 @@ fn winner(truth: bool) -> Quant {
     if truth { Quant::Exists } else { Quant::Forall }
 }
 
-// An engine that has the formula, with its assumptions.
-fn engine_for(alloc: Global, case: &Case) -> Result<Engine, Fail> {
-    let mut engine = Engine::new(alloc)?;
-    put_scope(&mut engine, case.first, 1, 2)?;
-    put_scope(&mut engine, other(case.first), 3, 3)?;
-    put(alloc, &mut engine, case.clauses)?;
-    assume(&mut engine, case.assumed)?;
-    Ok(engine)
+// Puts the formula into a new engine, with its assumptions.
+fn put_case(engine: &mut Engine, alloc: Global, case: &Case) -> Result<(), Fail> {
+    put_scope(engine, case.first, 1, 2)?;
+    put_scope(engine, other(case.first), 3, 3)?;
+    put(alloc, engine, case.clauses)?;
+    assume(engine, case.assumed)
 }
 
 // Whether 1, 2 and two other numbers are told as they should be.
@@ -126,17 +124,35 @@ fn is_certified(
     has_signs(alloc, &strategy, values)
 }
 
+// Whether the proof's last step is live in the derivation, with so many literals.
+fn is_derived(engine: &Engine, len: usize) -> bool {
+    let derivation = engine.derivation();
+    match engine.verdict() {
+        None => false,
+        Some(verdict) => {
+            derivation.is_live(verdict.end) && derivation.lits(verdict.end).len() == len
+        }
+    }
+}
+
 // Whether a formula is decided, and its verdict answers, as it should.
-fn is_right(alloc: Global, case: &Case) -> Result<bool, Fail> {
-    let mut engine = engine_for(alloc, case)?;
-    let truth = truth_within(&mut engine, u64::MAX)?;
+fn answers(engine: &mut Engine, alloc: Global, case: &Case) -> Result<bool, Fail> {
+    put_case(engine, alloc, case)?;
+    let truth = truth_within(engine, u64::MAX)?;
     Ok(
         truth == case.truth
-            && has_values(&engine, case.values)
-            && is_relevant(&engine, case.relevant)?
-            && is_traced(&engine, winner(truth), case.relevant)?
-            && is_certified(alloc, &engine, winner(truth), case.values)?,
+            && has_values(engine, case.values)
+            && is_derived(engine, case.relevant.len())
+            && is_relevant(engine, case.relevant)?
+            && is_traced(engine, winner(truth), case.relevant)?
+            && is_certified(alloc, engine, winner(truth), case.values)?,
     )
+}
+
+// The same of a new engine.
+fn is_right(alloc: Global, case: &Case) -> Result<bool, Fail> {
+    let mut engine = Engine::new(alloc)?;
+    answers(&mut engine, alloc, case)
 }
 
 // For formulas whose answers are known. The first three are false where 1 holds and true where it doesn't, the others
@@ -216,16 +232,24 @@ fn is_silent(engine: &Engine) -> bool {
         && refusal(engine.certificate()) == Some(50)
 }
 
+// Whether a verdict answers until a change comes.
+fn falls_silent(engine: &mut Engine) -> Result<bool, Fail> {
+    put_scope(engine, Quant::Exists, 1, 2)?;
+    let is_new = is_silent(engine);
+    let truth = truth_within(engine, 10)?;
+    let is_told = number(engine.value(1)) == -1 && engine.relevant()?.len() == 0;
+    engine.push()?;
+    Ok(is_new && truth && is_told && is_silent(engine) && engine.relevant().is_err())
+}
+
+// The same of a new engine.
+fn is_silenced(alloc: Global) -> Result<bool, Fail> {
+    let mut engine = Engine::new(alloc)?;
+    falls_silent(&mut engine)
+}
+
 #[test]
 fn changes_make_verdicts_silent(rt: HostRuntime) -> Result<(), Fail> {
-    let mut engine = Engine::new(rt.alloc())?;
-    put_scope(&mut engine, Quant::Exists, 1, 2)?;
-    assert!(rt; is_silent(&engine));
-    assert!(rt; truth_within(&mut engine, 10)?);
-    assert_eq!(rt; number(engine.value(1)), -1);
-    assert_eq!(rt; engine.relevant()?.len(), 0);
-    engine.push()?;
-    assert!(rt; is_silent(&engine));
-    assert!(rt; engine.relevant().is_err());
+    assert!(rt; is_silenced(rt.alloc())?);
     Ok(())
 }

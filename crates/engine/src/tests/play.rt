@@ -114,67 +114,72 @@ fn quant_of(quants: u32, scope: u64) -> Quant {
     }
 }
 
-// A formula over six variables in three scopes, whose quantifiers are the bits of a number, with the engine that
-// decides it: the clauses of frame 0, those of a frame to be pushed, literals of the first scope to assume, and whether
-// all verdicts were right so far.
+// A formula over six variables in three scopes, whose quantifiers are the bits of a number: the clauses of frame 0,
+// those of a frame to be pushed, and literals of the first scope to assume.
 #[derive(Debug, Drop)]
-pub(crate) struct Play {
+struct Drawn {
     alloc: Global,
     quants: u32,
     clauses: Vec<i64>,
     pushed: Vec<i64>,
     assumed: Vec<i64>,
-    engine: Engine,
-    right: bool,
 }
 
-impl Play {
-    pub(crate) fn new(alloc: Global, seed: u32) -> Result<Self, Fail> {
+impl Drawn {
+    fn new(alloc: Global, seed: u32) -> Result<Self, Fail> {
         let mut random = Random::new(seed);
         let quants = random.below(8);
         let clauses = draw_clauses(alloc, &mut random, 9)?;
         let pushed = draw_clauses(alloc, &mut random, 4)?;
         let mut assumed = Vec::new(alloc);
         draw_row(&mut random, &mut assumed, 2)?;
-        let engine = engine_of(alloc, quants, &clauses)?;
         Ok(Self {
             alloc,
             quants,
             clauses,
             pushed,
             assumed,
-            engine,
-            right: true,
         })
     }
 
-    pub(crate) fn is_right(&self) -> bool {
-        self.right
+    // Puts the scopes and the clauses of frame 0 into a new engine.
+    fn put_into(&self, engine: &mut Engine) -> Result<(), Fail> {
+        for scope in 1..=3 {
+            let quant = quant_of(self.quants, scope);
+            put_scope(engine, quant, 2 * scope - 1, 2 * scope)?;
+        }
+        put(self.alloc, engine, &self.clauses)
     }
 
-    // Verdicts of frame 0, again, under assumptions, with the pushed frame too, under assumptions there, and without
-    // it again.
-    pub(crate) fn go_through_frames(&mut self) -> Result<(), Fail> {
-        self.solve(false, false)?;
-        self.solve(false, false)?;
-        self.solve(false, true)?;
-        self.engine.push()?;
-        put(self.alloc, &mut self.engine, &self.pushed)?;
-        self.solve(true, false)?;
-        self.solve(true, true)?;
-        self.engine.pop()?;
-        self.solve(false, false)
+    // Whether verdicts are right: of frame 0, again, under assumptions, with the pushed frame too, under assumptions
+    // there, and without it again.
+    fn goes_through_frames(&self, engine: &mut Engine) -> Result<bool, Fail> {
+        self.put_into(engine)?;
+        let alone = self.is_right(engine, false, false)?;
+        let again = self.is_right(engine, false, false)?;
+        let assuming = self.is_right(engine, false, true)?;
+        engine.push()?;
+        put(self.alloc, engine, &self.pushed)?;
+        let pushed = self.is_right(engine, true, false)?;
+        let both = self.is_right(engine, true, true)?;
+        engine.pop()?;
+        let popped = self.is_right(engine, false, false)?;
+        Ok(alone && again && assuming && pushed && both && popped)
     }
 
-    // Solves, with the pushed frame where it is, under the assumptions where that is asked for.
-    fn solve(&mut self, is_pushed: bool, is_assuming: bool) -> Result<(), Fail> {
+    // Solves, with the pushed frame where it is, under the assumptions where that is asked for, and compares the
+    // verdict with that of the plain recursion.
+    fn is_right(
+        &self,
+        engine: &mut Engine,
+        is_pushed: bool,
+        is_assuming: bool,
+    ) -> Result<bool, Fail> {
         let plain = self.plain(is_pushed, is_assuming)?;
         if is_assuming {
-            assume(&mut self.engine, &self.assumed)?;
+            assume(engine, &self.assumed)?;
         }
-        let found = truth_within(&mut self.engine, u64::MAX)?;
-        self.right = self.right && found == plain;
-        Ok(())
+        Ok(truth_within(engine, u64::MAX)? == plain)
     }
 
     // The verdict of the plain recursion, where assumed literals are clauses over variables that are tried first.
@@ -190,39 +195,48 @@ impl Play {
         plain_truth(self.alloc, prefix, clauses)
     }
 
-    // A solve with so few steps is right, or spends them all and tells so, which it never does where they are enough;
-    // the next one is right.
-    pub(crate) fn stop_at(&mut self, budget: u64, enough: u64) -> Result<(), Fail> {
+    // Whether a solve with so few steps is right, or spends them all and tells so, which it never does where they are
+    // enough; and the next one is right.
+    fn stops_at(&self, engine: &mut Engine, budget: u64, enough: u64) -> Result<bool, Fail> {
+        self.put_into(engine)?;
         let plain = self.plain(false, false)?;
-        let mut steps = Steps::new(budget);
-        let kept = match self.engine.solve(&mut steps) {
-            Ok(verdict) => verdict.truth == plain,
-            Err(SolveStop::Spent(stopped)) => {
-                stopped.budget() == budget
-                    && stopped.vars() == VARS as usize
-                    && steps.spent() == budget
-                    && budget < enough
-            }
-            Err(SolveStop::NoMemory) => false,
-        };
-        self.right = self.right && kept;
-        self.solve(false, false)
+        let is_kept = keeps_budget(engine, plain, budget, enough);
+        Ok(self.is_right(engine, false, false)? && is_kept)
     }
 }
 
-// An engine with three scopes of two variables, and these clauses.
-fn engine_of(alloc: Global, quants: u32, clauses: &[i64]) -> Result<Engine, Fail> {
-    let mut engine = Engine::new(alloc)?;
-    for scope in 1..=3 {
-        put_scope(
-            &mut engine,
-            quant_of(quants, scope),
-            2 * scope - 1,
-            2 * scope,
-        )?;
+// Whether a solve finds this truth, or spends its budget and tells so, where that isn't enough.
+fn keeps_budget(engine: &mut Engine, truth: bool, budget: u64, enough: u64) -> bool {
+    let mut steps = Steps::new(budget);
+    match engine.solve(&mut steps) {
+        Ok(verdict) => verdict.truth == truth,
+        Err(SolveStop::Spent(stopped)) => {
+            stopped.budget() == budget
+                && stopped.vars() == VARS as usize
+                && steps.spent() == budget
+                && budget < enough
+        }
+        Err(SolveStop::NoMemory) => false,
     }
-    put(alloc, &mut engine, clauses)?;
-    Ok(engine)
+}
+
+// Whether the verdicts of a drawn formula are right where a frame comes and goes.
+pub(crate) fn are_frames_right(alloc: Global, seed: u32) -> Result<bool, Fail> {
+    let drawn = Drawn::new(alloc, seed)?;
+    let mut engine = Engine::new(alloc)?;
+    drawn.goes_through_frames(&mut engine)
+}
+
+// Whether a solve of a drawn formula keeps its budget.
+pub(crate) fn is_budget_kept(
+    alloc: Global,
+    seed: u32,
+    budget: u64,
+    enough: u64,
+) -> Result<bool, Fail> {
+    let drawn = Drawn::new(alloc, seed)?;
+    let mut engine = Engine::new(alloc)?;
+    drawn.stops_at(&mut engine, budget, enough)
 }
 
 // Puts clauses of one literal each at the end of a list.

@@ -1,6 +1,8 @@
-use Rattle.std.proofs.Common.{ℕ, subst}
+use Rattle.std.proofs.Common.{ℕ, sym, subst}
+use Rattle.frames.specs.State.{FramesState}
 use Rattle.search.specs.Changing.{IsRoomy}
-use Rattle.engine.proofs.Changing.{accepted, cubes_kept, on_ok_at, reserved, variable_added, variable_is}
+use Rattle.engine.specs.Kept.{IsEngine}
+use Rattle.engine.proofs.Changing.{accepted, cubes_kept, on_ok_at, reserved, roomier, variable_added, variable_is}
 use Rattle.engine.proofs.engine.Engine.var.Goals as goal
 
 pub forget_outcome-requires : goal.forget_outcome-requires
@@ -26,3 +28,17 @@ invariant_of-self-2 c = record {
   reductions = rw (c.forget_outcome.ensures.reductions, c.reserve.ensures.derivation) c.self.invariant.reductions;
   variables = tt;
 }
+
+pub invariant_of-self : goal.invariant_of-self
+invariant_of-self c =
+    let e = c.reserve.ensures in
+    roomier c.self.inside.frames.formula c.self.inside.search c.reserve.new.self c.self.inside.verdict
+    c.self.inside.counts e.resting e.derivation e.watched c.self.invariant
+
+pub invariant_of-self-in_err-var : goal.invariant_of-self-in_err-var
+invariant_of-self-in_err-var c =
+    let e = c.reserve.ensures in
+    subst (λ (f : FramesState). IsEngine f.formula c.reserve.new.self c.self.inside.verdict c.self.inside.counts)
+    (sym c.in_err-var.ensures.err)
+    (roomier c.self.inside.frames.formula c.self.inside.search c.reserve.new.self c.self.inside.verdict
+    c.self.inside.counts e.resting e.derivation e.watched c.self.invariant)
