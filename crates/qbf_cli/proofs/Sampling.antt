@@ -1,5 +1,5 @@
 -- What is known of the work of a command that makes formulas, by its status.
-use Rattle.std.proofs.Common.{◌≡◌, inr, ℕ, List, [], ◌∷◌, Option, Contains, refl, sym, subst, arith, ◌∙◌}
+use Rattle.std.proofs.Common.{◌≡◌, inr, ℕ, List, [], Option, refl, sym, subst, arith, ◌∙◌}
 use Rattle.trail.specs.State.{Account}
 use Rattle.command.specs.Forms.{Asks, HasNoForm, Text}
 use Rattle.command.specs.declared.command.Command.{Command}

@@ -1,10 +1,10 @@
 -- Valid inputs.
-use Rattle.std.specs.Prelude.{◌≡◌, List, Option, IsSomeAnd, ⊤}
+use Rattle.std.specs.Prelude.{List, Option, IsSomeAnd, ⊤}
 use Rattle.truth.specs.declared.formula.Formula.{Formula}
 use Rattle.qdimacs.specs.Rules.{parsed}
 use Rattle.qdimacs.specs.Reads.{Reads}
 use Rattle.qscript.specs.Reads.{done}
-use Rattle.command.specs.Forms.{Asks, HasNoForm, Text}
+use Rattle.command.specs.Forms.{Asks, Text}
 use Rattle.command.specs.declared.command.Command.{Command}
 use Rattle.command.specs.declared.command.Command.TheVariants.{Solve, Trace, Cert, Script, Gen, Demo}
 use Rattle.qbf_cli.specs.Asked.{input_of}

@@ -1,5 +1,5 @@
 -- Formulas that are made from a seed one after another, and how many of them are true.
-use Rattle.std.specs.Prelude.{◌≡◌, ℕ, ◌+◌, ◌%◌, Bool, not, List, [], ◌++◌, codes, count_by, Option}
+use Rattle.std.specs.Prelude.{◌≡◌, ℕ, ◌+◌, ◌%◌, Bool, not, List, ◌++◌, codes, count_by, Option}
 use Rattle.std.specs.Fmt.{decimal}
 use Rattle.std.specs.List.{range_with_len}
 use Rattle.std.specs.Io.KnownBytes.{Appends, Keeps}

@@ -1,5 +1,5 @@
 -- Replies to jobs on one formula.
-use Rattle.std.proofs.Common.{◌≡◌, ◌<◌, ℕ, ◌+◌, ◌*◌, ◌-◌, Bool, true, false, List, [], ◌∷◌, ◌++◌, length, codes, Option, Some, None, Result, Ok, Err, refl, sym, ap, subst, ◌∙◌, arith, append-nil, inl, inr, ⊎_elim}
+use Rattle.std.proofs.Common.{◌≡◌, ℕ, ◌-◌, Bool, true, false, List, [], ◌++◌, length, codes, Option, Some, None, Result, Ok, Err, refl, sym, ap, subst, ◌∙◌, arith, append-nil, ⊎_elim}
 use Rattle.std.specs.Prelude.{◌≤◌, max, IfErr, IfOk, IfSome, IsErrOf, IsOk, MatchResult, OnOk, option_map}
 use Rattle.std.specs.Io.KnownBytes.{Appends, Keeps}
 use Rattle.std.proofs.KnownBytes.{Appends-kept}
@@ -17,10 +17,10 @@ use Rattle.frames.specs.Commands.{Solve as Decide, Verdict as Found}
 use Rattle.frames.specs.Fold.{Given, ScriptState, state_after}
 use Rattle.frames.specs.State.{OpenFormula, clauses_in}
 use Rattle.search.specs.Counting.{size_of}
-use Rattle.engine.specs.State.{EngineState, VerdictState}
+use Rattle.engine.specs.State.{EngineState}
 use Rattle.qscript.specs.declared.command.Command.{Command}
-use Rattle.qscript.specs.declared.command.Command.TheVariants.{Cert as CertCommand, Solve as SolveCommand, Trace as TraceCommand}
-use Rattle.qrp_trace.specs.Writing.{Stops, Wrote, Writes}
+use Rattle.qscript.specs.declared.command.Command.TheVariants.{Cert as CertCommand, Trace as TraceCommand}
+use Rattle.qrp_trace.specs.Writing.{Wrote, Writes}
 use Rattle.ports.specs.declared.failed.Failed.{Failed}
 use Rattle.session.specs.declared.answer.Answer.{Answer}
 use Rattle.session.specs.declared.answer.Answer.TheVariants.{Sat, Unsat, Unknown}
@@ -33,7 +33,7 @@ use Rattle.session.specs.declared.reply.SessionStop.{SessionStop}
 use Rattle.session.specs.declared.reply.SessionStop.TheVariants.{WriteFault as Unwritten, NoMemory as NoRoomLeft}
 use Rattle.session.specs.Endings.{IsUnread, ending_at, ending_with}
 use Rattle.session.specs.Feeding.{HoldsFormula}
-use Rattle.session.specs.Jobs.{HasVerdictFor, HasVerdictText, IsAnsweredBy, IsJobText, IsReplyTo, IsUntouched, IsVerdict, LeavesOutput, IsHeaderOf, RepliesTo, RoomForJob, WritesJob, answer_with, built, gates_for, opened, solution_line, unassumed, unknown_text, value_line, value_lines}
+use Rattle.session.specs.Jobs.{HasVerdictFor, HasVerdictText, IsAnsweredBy, IsJobText, IsReplyTo, IsUntouched, IsVerdict, LeavesOutput, RepliesTo, RoomForJob, WritesJob, answer_with, built, gates_for, opened, solution_line, unassumed, unknown_text, value_lines}
 use Rattle.session.specs.Replies.{Decides, GivesUp, IsAccepted, IsCertText, IsReply, IsReplyWith, IsTraceText, Output, Text, gates_after, no_verdict, says, verdict_text}
 use Rattle.session.specs.Solve.{IsAnswerTo, IsDone, IsEnding, Solves, answer_line}
 use Rattle.session.specs.Standing.{IsWitness, Standing}

@@ -1,6 +1,5 @@
 -- Endings without an answer.
-use Rattle.std.specs.Prelude.{Option, Result, Ok, Err}
-use Rattle.trail.specs.State.{Account}
+use Rattle.std.specs.Prelude.{Result, Ok, Err}
 use Rattle.qdimacs.specs.declared.refusal.ReadRefusal.{ReadRefusal}
 use Rattle.qdimacs.specs.declared.refusal.ReadRefusal.TheVariants.{Refused as Rejected, Limit as Beyond, ReadFault as Unreadable, NoMemory as NoRoom}
 use Rattle.session.specs.declared.answer.Answer.{Answer}

@@ -1,10 +1,9 @@
-use Rattle.std.proofs.Common.{◌≡◌, ℕ, ◌+◌, ◌%◌, ◌^◌, ◌-◌, ◌<◌, ◌≤◌, subst, ap, ◌∙◌, arith, length}
+use Rattle.std.proofs.Common.{◌≡◌, ◌+◌, ◌%◌, ◌^◌, ◌-◌, ◌<◌, ◌≤◌, subst, ap, ◌∙◌, arith, length}
 use Rattle.std.proofs.lemmas.List.FromFn.{length-range_with_len}
 use Rattle.truth.specs.declared.formula.Formula.{Formula}
 use Rattle.search.specs.Counting.{size_of}
 use Rattle.steps.specs.Counter.{step_limit}
 use Rattle.session.specs.Solve.{IsAnswerTo, IsShort}
-use Rattle.generate.specs.Made.{scopes_over}
 use Rattle.samples.proofs.Counting.{enough, three_more}
 use Rattle.samples.proofs.counts.decide_sample.Goals as goal
 

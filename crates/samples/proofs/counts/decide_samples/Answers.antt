@@ -1,6 +1,6 @@
-use Rattle.std.proofs.Common.{◌≡◌, ◌+◌, ℕ, refl, sym, ap, ◌∙◌, arith}
+use Rattle.std.proofs.Common.{◌≡◌, ◌+◌, refl, sym, ap, ◌∙◌, arith}
 use Rattle.samples.specs.declared.counts.Counts.{Counts}
-use Rattle.samples.specs.Samples.{false_ones, is_true, true_ones}
+use Rattle.samples.specs.Samples.{false_ones, true_ones}
 use Rattle.samples.proofs.Counting.{false_more, false_same, true_more, true_same}
 use Rattle.samples.proofs.counts.decide_samples.Goals.{then-branch, else-branch}
 use Rattle.samples.proofs.counts.decide_samples.Goals as goal

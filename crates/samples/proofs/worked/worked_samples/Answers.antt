@@ -1,4 +1,4 @@
-use Rattle.std.proofs.Common.{◌≡◌, [], ◌∷◌, codes, refl, arith}
+use Rattle.std.proofs.Common.{◌≡◌, [], codes, refl, arith}
 use Rattle.std.specs.Fmt.{digits}
 use Rattle.generate.specs.Draws.{state_at}
 use Rattle.samples.proofs.worked.worked_samples.Goals as goal

@@ -1,7 +1,5 @@
-use Rattle.std.proofs.Common.{◌∙◌, Err, ap, refl, subst, sym}
+use Rattle.std.proofs.Common.{refl}
 use Rattle.std.proofs.lemmas.Result.{err_from_is_err_and}
-use Rattle.std.specs.Prelude.{IfErr, IfSome}
-use Rattle.session.specs.Solve.{IsDone, IsEnding}
 use Rattle.session.proofs.Jobs.{answers_known, counted_known, ending_known, flushed_known, no_read_fault, output_known, room_known, unread_undone}
 use Rattle.session.proofs.file.answer.Goals as goal
 

@@ -1,4 +1,4 @@
-use Rattle.std.proofs.Common.{◌≡◌, ℕ, Some, take}
+use Rattle.std.proofs.Common.{◌≡◌, Some, take}
 use Rattle.std.specs.Prelude.{flat_map}
 use Rattle.prefix.specs.Scopes.{quantifier_at}
 use Rattle.engine.specs.Refusals.{winner_of}

@@ -1,18 +1,18 @@
-use Rattle.std.proofs.Common.{◌≡◌, ◌≤◌, ◌<◌, ℕ, List, [], ◌∷◌, codes, true, false, Some, None, refl, sym, ap, subst, ◌∙◌, arith, lit<}
-use Rattle.std.specs.Prelude.{◌-◌, slice_index_or}
+use Rattle.std.proofs.Common.{◌≡◌, ℕ, List, [], ◌∷◌, codes, Some, None, refl, ap, subst, arith, lit<}
+use Rattle.std.specs.Prelude.{slice_index_or}
 use Rattle.std.specs.Fmt.{digits}
 use Rattle.prefix.specs.declared.quant.Quant.TheVariants.{Exists, Forall}
 use Rattle.calculus.specs.Derivations.Reason.{Input as ByInput}
-use Rattle.calculus.proofs.Lists.{contains_head, contains_nil}
+use Rattle.calculus.proofs.Lists.{contains_nil}
 use Rattle.qrp_trace.specs.declared.listing.Line.{Line}
 use Rattle.qrp_trace.specs.declared.listing.CoreStep.TheVariants.{Input}
 use Rattle.qrp_trace.specs.Cores.{IsNumbered, RestsOnNumber, step_numbered}
 use Rattle.aig.specs.declared.strategy.Strategy.{Strategy}
 use Rattle.calculus.specs.Verdicts.{IsProof}
 use Rattle.session.specs.Jobs.{IsJobText}
-use Rattle.session.specs.Worked.{at_nine, anything_fits, nothing_fits}
-use Rattle.session.specs.declared.answer.Answer.TheVariants.{Sat, Unsat}
-use Rattle.session.specs.declared.ending.Job.TheVariants.{Solve, Trace, Cert}
+use Rattle.session.specs.Worked.{at_nine, nothing_fits}
+use Rattle.session.specs.declared.answer.Answer.TheVariants.{Unsat}
+use Rattle.session.specs.declared.ending.Job.TheVariants.{Solve, Trace}
 use Rattle.session.proofs.Working.{empty_proof}
 use Rattle.session.proofs.worked.worked_jobs.Goals as goal
 

@@ -1,4 +1,4 @@
-use Rattle.std.proofs.Common.{SFits, ap, refl, rules, w64}
+use Rattle.std.proofs.Common.{SFits, refl, rules, w64}
 use Rattle.std.proofs.Math.Facts.{to_z-of_z}
 use Rattle.std.specs.Prelude.{length, not, ◌&&◌, ◌==◌}
 use Rattle.std.specs.List.{list_all}
