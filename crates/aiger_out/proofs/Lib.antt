@@ -2,5 +2,4 @@ pub mod Numerals
 pub mod Reading
 pub mod Same
 pub mod Lines
-pub mod Pieces
 pub mod Texts

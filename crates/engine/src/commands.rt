@@ -42,9 +42,7 @@ impl Engine {
         ensures err { OnErr result (self.new ≡ self.old) }
     {
         let v = variable_for(&self.frames, var, scope)?;
-        if self.search.reserve(v).is_err() {
-            return Err(FrameRefusal::NoMemory);
-        }
+        self.search.reserve(v)?;
         self.frames.var(var, scope)?;
         prefixes_grow();
         resting_grows();

@@ -88,3 +88,11 @@ impl<T: Drop> From<AllocFailed<T>> for FrameRefusal {
         Self::NoMemory
     }
 }
+
+impl From<steps::NoMemory> for FrameRefusal {
+    ghost from_gives = { λ _ e. e ≡ NoMemory };
+
+    fn from(_error: steps::NoMemory) -> Self {
+        Self::NoMemory
+    }
+}

@@ -5,4 +5,3 @@ pub mod Sampling
 pub mod Scripting
 pub mod Solving
 pub mod Statuses
-pub mod Writing

@@ -1,6 +1,5 @@
 pub mod Texts
 pub mod Pieces
-pub mod Writing
 pub mod Writable
 pub mod Theorems
 pub mod Worked

@@ -7,7 +7,7 @@ ghost use Rattle.ports.specs.Bytes.{AppendsFront};
 ghost use Rattle.ports.specs.Causes.{HasCause};
 ghost use Rattle.qdimacs_out.specs.Pieces.{clause_text, closing, scope_text, spaced};
 ghost use Rattle.qdimacs_out.specs.Texts.{formula_text, header_line, line_text, literal_word, quantifier_word};
-ghost use Rattle.qdimacs_out.specs.Writing.{Writes};
+ghost use Rattle.ports.specs.Writing.{Writes};
 
 use crate::words::{self, Words};
 use ports::{Failed, Sink, write_all};

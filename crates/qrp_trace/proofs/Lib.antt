@@ -4,6 +4,5 @@ pub mod Ordering
 pub mod Numbering
 pub mod Used
 pub mod Linking
-pub mod Pieces
 pub mod Scoping
 pub mod Finishing

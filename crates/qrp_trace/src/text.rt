@@ -7,7 +7,7 @@ ghost use Rattle.ports.specs.Bytes.{AppendsFront};
 ghost use Rattle.ports.specs.Causes.{HasCause};
 ghost use Rattle.qrp_trace.specs.Cores.{IsNumbered};
 ghost use Rattle.qrp_trace.specs.Texts.{greatest, header_line, literal_word, number_word, qrp_text, quantifier_word, scope_line, scope_numbered, step_line, variables_line, verdict_line as last_line};
-ghost use Rattle.qrp_trace.specs.Writing.{Writes};
+ghost use Rattle.ports.specs.Writing.{Writes};
 
 use crate::listing::Core;
 use crate::words::{self, Words};

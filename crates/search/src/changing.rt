@@ -60,12 +60,11 @@ impl Search {
         ensures finishes { GainsNoFinish self.old.derivation self.new.derivation }
         ensures reductions { reductions_in self.new.derivation ≤ reductions_in self.old.derivation + 1 }
     {
-        self.watched.reserve(1)?;
         self.detach_all(prefix);
         self.input(prefix, lits, frame)
     }
 
-    // Puts in a clause of a frame where nothing is attached, and there is room for one more row to watch.
+    // Puts in a clause of a frame where nothing is attached.
     fn input(&mut self, prefix: &Prefix, lits: &[Lit], frame: usize) -> Result<(), NoMemory>
         requires resting { IsResting prefix.now self.old }
         requires joined { self.old.joined ≡ false }

@@ -13,7 +13,7 @@ use Rattle.frames.specs.Commands.{AddClause, AddScope, AddVariable, Assume, Comm
 use Rattle.frames.specs.Fold.{ScriptState, accepted, counted, state_after, unless_refused, verdict_after}
 use Rattle.frames.specs.Refusal.{number_of}
 use Rattle.frames.specs.State.{OpenFormula}
-use Rattle.qrp_trace.proofs.Pieces.{nothing}
+use Rattle.ports.proofs.Pieces.{nothing}
 use Rattle.engine.specs.Counting.{with_clause}
 use Rattle.engine.specs.State.{EngineState, VerdictState, changed}
 use Rattle.qscript.specs.declared.command.Command.{Command}

@@ -4,8 +4,8 @@ use Rattle.std.specs.Prelude.{IfSome}
 use Rattle.trail.specs.State.{Account}
 use Rattle.qdimacs.specs.declared.refusal.ReadRefusal.{ReadRefusal}
 use Rattle.qdimacs.specs.declared.refusal.ReadRefusal.TheVariants.{Refused as Malformed, Limit as Beyond, ReadFault as Unreadable, NoMemory as NoRoom}
-use Rattle.qrp_trace.specs.Writing.{Wrote}
-use Rattle.qrp_trace.proofs.Pieces.{nothing, part_then, whole_then}
+use Rattle.ports.specs.Writing.{Wrote}
+use Rattle.ports.proofs.Pieces.{nothing, part_then, whole_then}
 use Rattle.engine.specs.State.{EngineState}
 use Rattle.qscript.specs.declared.command.Command.{Command}
 use Rattle.qscript.specs.declared.words.Item.{Item}

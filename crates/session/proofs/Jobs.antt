@@ -20,7 +20,7 @@ use Rattle.search.specs.Counting.{size_of}
 use Rattle.engine.specs.State.{EngineState}
 use Rattle.qscript.specs.declared.command.Command.{Command}
 use Rattle.qscript.specs.declared.command.Command.TheVariants.{Cert as CertCommand, Trace as TraceCommand}
-use Rattle.qrp_trace.specs.Writing.{Wrote, Writes}
+use Rattle.ports.specs.Writing.{Wrote, Writes}
 use Rattle.ports.specs.declared.failed.Failed.{Failed}
 use Rattle.session.specs.declared.answer.Answer.{Answer}
 use Rattle.session.specs.declared.answer.Answer.TheVariants.{Sat, Unsat, Unknown}

@@ -7,7 +7,7 @@ use Rattle.std.proofs.lemmas.List.{take_all}
 use Rattle.ports.specs.Bytes.{AllFlushed, AppendsFront}
 use Rattle.ports.specs.Causes.{Rose, HasCause, IsCounted}
 use Rattle.trail.specs.State.{Account}
-use Rattle.qrp_trace.specs.Writing.{Wrote}
+use Rattle.ports.specs.Writing.{Wrote}
 use Rattle.qscript.specs.declared.command.Command.{Command}
 use Rattle.qscript.specs.Reads.{Ending as ScriptEnding, ReadsScript, done, limit, refused}
 use Rattle.qscript.specs.Run.{Script, stopped}

@@ -18,7 +18,7 @@ use Rattle.aig.specs.declared.strategy.Strategy.{Strategy}
 use Rattle.aiger_out.specs.Aag.{IsAagText}
 use Rattle.qrp_trace.specs.Cores.{IsNumbered, Trace, inferences_of}
 use Rattle.qrp_trace.specs.Texts.{qrp_text}
-use Rattle.qrp_trace.specs.Writing.{Writes}
+use Rattle.ports.specs.Writing.{Writes}
 use Rattle.engine.specs.declared.refusal.AskRefusal.{AskRefusal}
 use Rattle.engine.specs.declared.refusal.AskRefusal.TheVariants.{NoVerdict, NotOutermost, NotWinner}
 use Rattle.engine.specs.Asks.{IsCertificateOf, IsVerdictOf, first_values, values_of}

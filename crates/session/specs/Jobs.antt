@@ -17,7 +17,7 @@ use Rattle.frames.specs.State.{OpenFormula}
 use Rattle.engine.specs.Refusals.{winner_of}
 use Rattle.qdimacs.specs.Rules.{parsed}
 use Rattle.qdimacs.specs.Reads.{Reads}
-use Rattle.qrp_trace.specs.Writing.{Stops, Wrote}
+use Rattle.ports.specs.Writing.{Stops, Wrote}
 use Rattle.session.specs.declared.answer.Answer.{Answer}
 use Rattle.session.specs.declared.answer.Answer.TheVariants.{Sat, Unsat, Unknown}
 use Rattle.session.specs.declared.ending.Ending.{Ending}

@@ -5,7 +5,7 @@ use Rattle.ports.specs.Bytes.{AppendsFront}
 use Rattle.trail.specs.State.{Account}
 use Rattle.qdimacs.specs.declared.refusal.Quantity.TheVariants.{Bytes}
 use Rattle.qscript.specs.declared.command.Command.{Command}
-use Rattle.qrp_trace.specs.Writing.{Stops, Wrote}
+use Rattle.ports.specs.Writing.{Stops, Wrote}
 use Rattle.engine.specs.State.{EngineState}
 use Rattle.qscript.specs.Run.{Script, stopped}
 use Rattle.qscript.specs.Reads.{Ending as ScriptEnding, ReadsScript, done, limit, refused}

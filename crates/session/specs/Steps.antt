@@ -3,7 +3,7 @@ use Rattle.std.specs.Prelude.{◌≡◌, ℕ, Bool, true, false, List, [], ◌�
 use Rattle.trail.specs.State.{Account}
 use Rattle.frames.specs.Commands.{Solve as Decide, Stop}
 use Rattle.frames.specs.Fold.{state_after}
-use Rattle.qrp_trace.specs.Writing.{Stops, Wrote}
+use Rattle.ports.specs.Writing.{Stops, Wrote}
 use Rattle.engine.specs.State.{EngineState}
 use Rattle.qscript.specs.declared.command.Command.{Command}
 use Rattle.qscript.specs.declared.command.Command.TheVariants.{Scope as ScopeCommand, Var, Clause, Push, Pop, Assume, Solve, Value, Relevant, Trace, Cert}

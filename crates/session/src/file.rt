@@ -5,7 +5,7 @@ ghost use Rattle.ports.specs.Causes.{IsCounted};
 ghost use Rattle.qdimacs.specs.Reads.{Reads};
 ghost use Rattle.qdimacs.specs.Rules.{parsed};
 ghost use Rattle.session.specs.Feeding.{HoldsFormula};
-ghost use Rattle.qrp_trace.specs.Writing.{Writes};
+ghost use Rattle.ports.specs.Writing.{Writes};
 ghost use Rattle.session.specs.Endings.{IsUnread, ending_with};
 ghost use Rattle.engine.specs.Asks.{first_values};
 ghost use Rattle.engine.specs.Refusals.{winner_of};

@@ -5,7 +5,7 @@ ghost use Rattle.arrayvec.specs.ArrayString.{array_string_len};
 ghost use Rattle.aiger_out.specs.Aag.{IsAagText};
 ghost use Rattle.aig.specs.Strategies.{IsStrategy};
 ghost use Rattle.qrp_trace.specs.Texts.{literal_word, qrp_text};
-ghost use Rattle.qrp_trace.specs.Writing.{Writes};
+ghost use Rattle.ports.specs.Writing.{Writes};
 ghost use Rattle.session.specs.Replies.{Text, refused_text, relevant_text, value_text};
 ghost use Rattle.session.specs.Jobs.{IsHeaderOf, solution_line, value_line as line_of_value};
 ghost use Rattle.session.specs.Solve.{answer_line};

@@ -1,6 +1,6 @@
 use Rattle.std.proofs.Common.{◌≡◌, ◌∙◌, codes}
 use Rattle.std.specs.Fmt.{decimal}
-use Rattle.qbf_cli.proofs.Writing.{front_more, front_then, ok_then}
+use Rattle.ports.proofs.Pieces.{front_more, front_then, ok_then}
 use Rattle.qbf_cli.proofs.ending.write_placed.Goals as goal
 
 pub returns-in_err-write_all-clause-front : goal.returns-in_err-write_all-clause-front

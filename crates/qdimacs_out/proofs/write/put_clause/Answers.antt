@@ -3,7 +3,7 @@ use Rattle.std.specs.List.{flat_map}
 use Rattle.qdimacs_out.specs.Pieces.{closing, spaced}
 use Rattle.qdimacs_out.specs.Texts.{literal_word}
 use Rattle.qdimacs_out.proofs.Lines.{clause_is}
-use Rattle.qdimacs_out.proofs.Writes.{part_more, writes_err, writes_then}
+use Rattle.ports.proofs.Pieces.{part_more, writes_err, writes_then}
 use Rattle.qdimacs_out.proofs.write.put_clause.Goals as goal
 
 pub returns-in_err-put_literals : goal.returns-in_err-put_literals

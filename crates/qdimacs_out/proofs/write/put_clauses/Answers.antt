@@ -1,6 +1,6 @@
 use Rattle.std.proofs.Common.{◌≤◌, suc, length, ap, sym, ◌∙◌, arith}
 use Rattle.qdimacs_out.specs.Pieces.{clause_text}
-use Rattle.qdimacs_out.proofs.Writes.{each_more, each_stops}
+use Rattle.ports.proofs.Pieces.{each_more, each_stops}
 use Rattle.qdimacs_out.proofs.write.put_clauses.Goals as goal
 
 pub loop-clause-preserved : goal.loop-clause-preserved

@@ -2,9 +2,9 @@ use Rattle.std.proofs.Common.{◌++◌, ap, subst, sym}
 use Rattle.std.specs.List.{flat_map}
 use Rattle.qdimacs_out.specs.Pieces.{clause_text, scope_text}
 use Rattle.qdimacs_out.specs.Texts.{header_line, line_text}
-use Rattle.qdimacs_out.specs.Writing.{Stops, Wrote, Writes}
+use Rattle.ports.specs.Writing.{Stops, Wrote, Writes}
 use Rattle.qdimacs_out.proofs.Lines.{text_is}
-use Rattle.qdimacs_out.proofs.Writes.{part_more, part_then, writes_err, writes_then}
+use Rattle.ports.proofs.Pieces.{part_more, part_then, writes_err, writes_then}
 use Rattle.qdimacs_out.proofs.write.put_formula.Goals as goal
 
 pub returns-in_err-put_words : goal.returns-in_err-put_words

@@ -1,7 +1,7 @@
 use Rattle.std.proofs.Common.{◌≤◌, suc, length, ap, sym, ◌∙◌, arith}
 use Rattle.qdimacs_out.specs.Pieces.{spaced}
 use Rattle.qdimacs_out.specs.Texts.{literal_word}
-use Rattle.qdimacs_out.proofs.Writes.{each_more, each_stops}
+use Rattle.ports.proofs.Pieces.{each_more, each_stops}
 use Rattle.qdimacs_out.proofs.write.put_literals.Goals as goal
 
 pub loop-lit-preserved : goal.loop-lit-preserved

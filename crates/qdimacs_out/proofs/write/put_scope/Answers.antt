@@ -4,7 +4,7 @@ use Rattle.std.specs.List.{flat_map}
 use Rattle.qdimacs_out.specs.Pieces.{closing, spaced}
 use Rattle.qdimacs_out.specs.Texts.{quantifier_word}
 use Rattle.qdimacs_out.proofs.Lines.{scope_is}
-use Rattle.qdimacs_out.proofs.Writes.{part_more, part_then, writes_err, writes_then}
+use Rattle.ports.proofs.Pieces.{part_more, part_then, writes_err, writes_then}
 use Rattle.qdimacs_out.proofs.write.put_scope.Goals as goal
 
 pub returns-in_err-put_quantifier : goal.returns-in_err-put_quantifier

@@ -2,7 +2,7 @@ use Rattle.std.proofs.Common.{◌≤◌, suc, length, arith, ap}
 use Rattle.prefix.specs.Scopes.{Scope}
 use Rattle.qdimacs_out.specs.Pieces.{scope_text}
 use Rattle.qdimacs_out.proofs.Numbered.{scope_found}
-use Rattle.qdimacs_out.proofs.Writes.{each_more, each_stops}
+use Rattle.ports.proofs.Pieces.{each_more, each_stops}
 use Rattle.qdimacs_out.proofs.write.put_scopes.Goals as goal
 
 pub loop-s-preserved : goal.loop-s-preserved

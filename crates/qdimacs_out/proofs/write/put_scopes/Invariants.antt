@@ -1,7 +1,7 @@
 use Rattle.std.proofs.Common.{take}
 use Rattle.std.specs.List.{flat_map}
 use Rattle.qdimacs_out.specs.Pieces.{scope_text}
-use Rattle.qdimacs_out.specs.Writing.{Wrote}
+use Rattle.ports.specs.Writing.{Wrote}
 use Rattle.qdimacs_out.proofs.write.put_scopes.Given as goal
 
 abbrev pub invariant-loop-s : goal.invariant-loop-s

@@ -1,7 +1,7 @@
 use Rattle.std.proofs.Common.{◌≤◌, suc, length, ap, sym, ◌∙◌, arith}
 use Rattle.std.specs.Fmt.{decimal}
 use Rattle.qdimacs_out.specs.Pieces.{spaced}
-use Rattle.qdimacs_out.proofs.Writes.{each_more, each_stops}
+use Rattle.ports.proofs.Pieces.{each_more, each_stops}
 use Rattle.qdimacs_out.proofs.write.put_variables.Goals as goal
 
 pub loop-v-preserved : goal.loop-v-preserved

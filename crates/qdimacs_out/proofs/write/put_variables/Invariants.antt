@@ -2,7 +2,7 @@ use Rattle.std.proofs.Common.{take}
 use Rattle.std.specs.List.{flat_map}
 use Rattle.std.specs.Fmt.{decimal}
 use Rattle.qdimacs_out.specs.Pieces.{spaced}
-use Rattle.qdimacs_out.specs.Writing.{Wrote}
+use Rattle.ports.specs.Writing.{Wrote}
 use Rattle.qdimacs_out.proofs.write.put_variables.Given as goal
 
 abbrev pub invariant-loop-v : goal.invariant-loop-v

@@ -1,5 +1,5 @@
 use Rattle.qdimacs_out.specs.Texts.{formula_text}
-use Rattle.qdimacs_out.proofs.Writes.{cause_of, front_of, kept_of, on_ok, room_of}
+use Rattle.ports.proofs.Pieces.{cause_of, front_of, kept_of, on_ok, room_of}
 use Rattle.qdimacs_out.proofs.write.write_formula.Goals as goal
 
 pub returns-clause-ok : goal.returns-clause-ok

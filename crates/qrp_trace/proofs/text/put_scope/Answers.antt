@@ -1,6 +1,6 @@
 use Rattle.std.proofs.Common.{◌++◌, codes, sym, ◌∙◌}
 use Rattle.std.specs.List.{flat_map}
-use Rattle.qrp_trace.proofs.Pieces.{part_more, part_then, writes_err, writes_then}
+use Rattle.ports.proofs.Pieces.{part_more, part_then, writes_err, writes_then}
 use Rattle.qrp_trace.specs.Texts.{number_word, quantifier_word, scope_numbered}
 use Rattle.qrp_trace.proofs.Scoping.{line_some, quantifier_found, variables_is}
 use Rattle.qrp_trace.proofs.text.put_scope.Goals as goal

@@ -1,7 +1,7 @@
 use Rattle.std.proofs.Common.{take}
 use Rattle.std.specs.List.{flat_map}
 use Rattle.qrp_trace.specs.Texts.{scope_line}
-use Rattle.qrp_trace.specs.Writing.{Wrote}
+use Rattle.ports.specs.Writing.{Wrote}
 use Rattle.qrp_trace.proofs.text.put_scopes.Given as goal
 
 abbrev pub invariant-loop-s : goal.invariant-loop-s

@@ -1,6 +1,6 @@
 use Rattle.std.proofs.Common.{◌++◌, codes}
 use Rattle.std.specs.List.{flat_map}
-use Rattle.qrp_trace.proofs.Pieces.{part_more, part_then, writes_err, writes_then}
+use Rattle.ports.proofs.Pieces.{part_more, part_then, writes_err, writes_then}
 use Rattle.qrp_trace.specs.Cores.{core_rows, row_numbered, step_numbered}
 use Rattle.qrp_trace.specs.Texts.{antecedents_of, literal_word, number_word}
 use Rattle.qrp_trace.proofs.text.put_step.Goals as goal

@@ -1,7 +1,7 @@
 use Rattle.std.proofs.Common.{◌≡◌, ◌≤◌, ◌+◌, ◌++◌, suc, take, drop, get_or, length, arith, ap, ◌∙◌}
 use Rattle.std.specs.List.{flat_map, range_with_len}
 use Rattle.std.proofs.lemmas.List.{take_all}
-use Rattle.qrp_trace.proofs.Pieces.{flat_more, flat_split, nothing, part_more, part_then, whole_then, writes_err}
+use Rattle.ports.proofs.Pieces.{flat_more, flat_split, nothing, part_more, part_then, whole_then, writes_err}
 use Rattle.qrp_trace.specs.Texts.{step_line}
 use Rattle.qrp_trace.proofs.Scoping.{range_at, range_length}
 use Rattle.qrp_trace.proofs.text.put_steps.Goals as goal

@@ -1,7 +1,7 @@
 use Rattle.std.proofs.Common.{take, length}
 use Rattle.std.specs.List.{flat_map, range_with_len}
 use Rattle.qrp_trace.specs.Texts.{step_line}
-use Rattle.qrp_trace.specs.Writing.{Wrote}
+use Rattle.ports.specs.Writing.{Wrote}
 use Rattle.qrp_trace.proofs.text.put_steps.Given as goal
 
 abbrev pub invariant-loop-i : goal.invariant-loop-i

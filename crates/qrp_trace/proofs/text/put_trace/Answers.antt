@@ -1,6 +1,6 @@
 use Rattle.std.proofs.Common.{◌++◌, length}
 use Rattle.std.specs.List.{flat_map, range_with_len}
-use Rattle.qrp_trace.proofs.Pieces.{part_more, part_then, writes_err, writes_then}
+use Rattle.ports.proofs.Pieces.{part_more, part_then, writes_err, writes_then}
 use Rattle.prefix.specs.Scopes.{all_variables}
 use Rattle.qrp_trace.specs.Texts.{greatest, header_line, scope_line, step_line, verdict_line}
 use Rattle.qrp_trace.proofs.text.put_trace.Goals as goal

@@ -1,6 +1,6 @@
 use Rattle.std.proofs.Common.{◌≡◌, ◌≤◌, ◌+◌, ◌++◌, suc, take, drop, get_or, length, arith, ap, sym}
 use Rattle.std.specs.List.{flat_map}
-use Rattle.qrp_trace.proofs.Pieces.{flat_more, flat_split, nothing, part_more, part_then, whole_then, writes_err}
+use Rattle.ports.proofs.Pieces.{flat_more, flat_split, nothing, part_more, part_then, whole_then, writes_err}
 use Rattle.qrp_trace.specs.Texts.{literal_word}
 use Rattle.qrp_trace.proofs.text.write_literals.Goals as goal
 

@@ -1,5 +1,5 @@
 use Rattle.qrp_trace.specs.Texts.{qrp_text}
-use Rattle.qrp_trace.proofs.Pieces.{cause_of, front_of, kept_of, on_ok, room_of}
+use Rattle.ports.proofs.Pieces.{cause_of, front_of, kept_of, on_ok, room_of}
 use Rattle.qrp_trace.proofs.text.write_trace.Goals as goal
 
 pub returns-clause-ok : goal.returns-clause-ok

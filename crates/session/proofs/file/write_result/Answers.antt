@@ -4,8 +4,8 @@ use Rattle.prefix.specs.Scopes.{quantifier_at}
 use Rattle.prefix.specs.Sides.{is_of}
 use Rattle.frames.specs.State.{OpenFormula}
 use Rattle.engine.specs.Refusals.{winner_of}
-use Rattle.qrp_trace.proofs.Pieces.{part_more, writes_err, writes_then}
-use Rattle.qrp_trace.specs.Writing.{Writes}
+use Rattle.ports.proofs.Pieces.{part_more, writes_err, writes_then}
+use Rattle.ports.specs.Writing.{Writes}
 use Rattle.engine.specs.Asks.{first_values}
 use Rattle.session.specs.Jobs.{solution_line, unassumed, value_line, value_lines}
 use Rattle.session.specs.Replies.{Text}

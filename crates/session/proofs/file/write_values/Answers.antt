@@ -3,8 +3,8 @@ use Rattle.std.specs.Prelude.{IfSome, flat_map}
 use Rattle.std.proofs.lemmas.List.{get_or_default, take_all}
 use Rattle.prefix.specs.Scopes.{is_among, variables_at}
 use Rattle.qdimacs.proofs.Building.{among_get}
-use Rattle.qrp_trace.proofs.Pieces.{flat_more, flat_split, nothing, part_more, part_then, whole_then, writes_err}
-use Rattle.qrp_trace.specs.Writing.{Wrote, Writes}
+use Rattle.ports.proofs.Pieces.{flat_more, flat_split, nothing, part_more, part_then, whole_then, writes_err}
+use Rattle.ports.specs.Writing.{Wrote, Writes}
 use Rattle.engine.specs.Asks.{first_values, values_of}
 use Rattle.session.specs.Jobs.{value_line}
 use Rattle.session.proofs.Outermost.{lines_at, not_refused, value_at, value_told}

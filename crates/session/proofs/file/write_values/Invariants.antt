@@ -3,7 +3,7 @@ use Rattle.std.specs.Prelude.{flat_map}
 use Rattle.prefix.specs.Scopes.{quantifier_at}
 use Rattle.engine.specs.Refusals.{winner_of}
 use Rattle.engine.specs.State.{VerdictState}
-use Rattle.qrp_trace.specs.Writing.{Wrote}
+use Rattle.ports.specs.Writing.{Wrote}
 use Rattle.session.proofs.Outermost.{value_at}
 use Rattle.session.proofs.file.write_values.Given as goal
 

@@ -1,4 +1,4 @@
-use Rattle.qrp_trace.proofs.Pieces.{writes_all}
+use Rattle.ports.proofs.Pieces.{writes_all}
 use Rattle.session.proofs.Circuits.{appended_whole}
 use Rattle.session.proofs.lines.write_circuit.Goals as goal
 

@@ -1,6 +1,6 @@
 use Rattle.std.proofs.Common.{◌++◌, codes}
 use Rattle.std.specs.List.{flat_map}
-use Rattle.qrp_trace.proofs.Pieces.{part_more, part_then, writes_err, writes_then}
+use Rattle.ports.proofs.Pieces.{part_more, part_then, writes_err, writes_then}
 use Rattle.qrp_trace.specs.Texts.{literal_word}
 use Rattle.session.proofs.lines.write_relevant.Goals as goal
 

@@ -1,6 +1,6 @@
 use Rattle.std.proofs.Common.{◌≡◌, ◌≤◌, ℕ, false, List}
 use Rattle.qscript.specs.State.{EndsWith, GoesOn, is_fault, most_to_come, upcoming}
-use Rattle.qrp_trace.specs.Writing.{Wrote}
+use Rattle.ports.specs.Writing.{Wrote}
 use Rattle.session.specs.Scripts.{IsUnderWay}
 use Rattle.session.specs.Standing.{Standing}
 use Rattle.session.specs.State.{Holds}

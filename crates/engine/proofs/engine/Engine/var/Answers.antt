@@ -12,8 +12,7 @@ forget_outcome-requires c =
     let new = c.reserve.new.self in
     let tied = reserved c.self.inside.frames.formula c.self.inside.search new c.reserve.ensures.resting
     c.reserve.ensures.derivation c.self.invariant.tied in
-    let roomy = on_ok_at c.reserve.result (IsRoomy c.in_ok-v.v new) c.if-is_err.ensures.negation c.reserve.ensures.ok in
-    let room = subst (λ (v : ℕ). IsRoomy v new) same roomy in
+    let room = subst (λ (v : ℕ). IsRoomy v new) same c.in_ok-reserve.ensures.ok in
     rw c.in_ok-var.ensures.ok (variable_added c.self.inside.frames.formula new c.args.var c.args.scope tied room
     accepts c.prefixes_grow.ensures c.resting_grows.ensures)
 

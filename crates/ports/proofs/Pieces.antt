@@ -3,19 +3,13 @@ use Rattle.std.proofs.Common.{◌≡◌, ℕ, zero, suc, ◌+◌, ◌-◌, ◌�
 use Rattle.std.specs.Prelude.{OnOk, IsOk, IsErrAnd}
 use Rattle.std.specs.List.{flat_map}
 use Rattle.std.specs.Io.KnownBytes.{Appends, Keeps}
-use Rattle.std.proofs.KnownBytes.{Appends-nil, Appends-trans}
+use Rattle.std.proofs.KnownBytes.{Appends-nil, Appends-trans, Keeps-refl, Keeps-trans}
 use Rattle.std.proofs.lemmas.Bool.{false≢true}
 use Rattle.std.proofs.lemmas.Result.{err_from_is_err_and}
-use Rattle.std.proofs.lemmas.List.{append-nil, append_assoc, take_all}
+use Rattle.std.proofs.lemmas.List.{append-nil, append_assoc, take_all, take-append-le}
 use Rattle.ports.specs.Bytes.{AppendsFront}
 use Rattle.ports.specs.Causes.{HasCause, Rose}
-use Rattle.ports.proofs.Appending.{keeps_on}
-use Rattle.qrp_trace.specs.Writing.{Wrote, Stops, Writes}
-
-take_within : (n : ℕ) (xs ys : List ℕ) → n ≤ length xs → take n (xs ++ ys) ≡ take n xs
-take_within zero xs ys le = refl
-take_within (suc n) [] ys le = absurd (omega arith)
-take_within (suc n) (x ∷ xs) ys le = ap (λ r. x ∷ r) (take_within n xs ys (omega arith))
+use Rattle.ports.specs.Writing.{Wrote, Stops, Writes}
 
 take_past : (xs ys : List ℕ) (n : ℕ) → take (length xs + n) (xs ++ ys) ≡ xs ++ take n ys
 take_past [] ys n = ap (λ m. take m ys) (let e : 0 + n ≡ n = omega arith in e)
@@ -23,14 +17,16 @@ take_past (x ∷ xs) ys n =
     ap (λ m. take m (x ∷ (xs ++ ys))) (let e : suc (length xs) + n ≡ suc (length xs + n) = omega arith in e)
     ∙ ap (λ r. x ∷ r) (take_past xs ys n)
 
-front_more : (a b : Option (List ℕ)) (xs ys : List ℕ) → AppendsFront a b xs → AppendsFront a b (xs ++ ys)
+-- a front of the first piece is a front of all
+pub front_more : (a b : Option (List ℕ)) (xs ys : List ℕ) → AppendsFront a b xs → AppendsFront a b (xs ++ ys)
 front_more a b xs ys f = record {
   count = f.count;
   within = omega (arith, f.within, length-append xs ys);
-  appended = subst (Appends a b) (sym (take_within f.count xs ys f.within)) f.appended;
+  appended = subst (Appends a b) (sym (take-append-le f.count xs ys f.within)) f.appended;
 }
 
-front_then : (a b c : Option (List ℕ)) (xs ys : List ℕ) → Appends a b xs → AppendsFront b c ys
+-- the first piece and a front of the others
+pub front_then : (a b c : Option (List ℕ)) (xs ys : List ℕ) → Appends a b xs → AppendsFront b c ys
     → AppendsFront a c (xs ++ ys)
 front_then a b c xs ys h f = record {
   count = length xs + f.count;
@@ -39,9 +35,31 @@ front_then a b c xs ys h f = record {
       (Appends-trans a b c xs (take f.count ys) h f.appended);
 }
 
-keeps_itself : (a : Option (List ℕ)) → Keeps a a
-keeps_itself None = tt
-keeps_itself (Some x) = refl
+-- the first piece and, where it succeeds, the others
+pub ok_then : {T E : Type 0} (r : Result T E) (a b c : Option (List ℕ)) (xs ys : List ℕ) → Appends a b xs
+    → OnOk r (Appends b c ys) → OnOk r (Appends a c (xs ++ ys))
+ok_then (Ok x) a b c xs ys h k = Appends-trans a b c xs ys h k
+ok_then (Err e) a b c xs ys h k = tt
+
+-- one element more, and the elements after it
+
+pub flat_more : {X : Type 0} (f : X → List ℕ) (xs : List X) (i : ℕ) (d : X) → suc i ≤ length xs
+    → flat_map f (take (i + 1) xs) ≡ flat_map f (take i xs) ++ f (get_or xs i d)
+flat_more f [] i d below = absurd (omega arith)
+flat_more f (x ∷ xs) zero d below = append-nil (f x)
+flat_more f (x ∷ xs) (suc i) d below =
+    let e : suc i + 1 ≡ suc (i + 1) = omega arith in
+    rw e (ap (λ t. f x ++ t) (flat_more f xs i d (omega arith))
+    ∙ sym (append_assoc (f x) (flat_map f (take i xs)) (f (get_or xs i d))))
+
+pub flat_split : {X : Type 0} (f : X → List ℕ) (xs : List X) (i : ℕ) (d : X) → suc i ≤ length xs
+    → flat_map f xs ≡ flat_map f (take i xs) ++ (f (get_or xs i d) ++ flat_map f (drop (i + 1) xs))
+flat_split f [] i d below = absurd (omega arith)
+flat_split f (x ∷ xs) zero d below = refl
+flat_split f (x ∷ xs) (suc i) d below =
+    let e : suc i + 1 ≡ suc (i + 1) = omega arith in
+    rw e (ap (λ t. f x ++ t) (flat_split f xs i d (omega arith))
+    ∙ sym (append_assoc (f x) (flat_map f (take i xs)) (f (get_or xs i d) ++ flat_map f (drop (i + 1) xs))))
 
 module _ {S : Type 0} (written flushed : S → Option (List ℕ)) (faults : S → ℕ) (has_room : S → ℕ → Type 0) where
   abbrev pub Whole : S → S → List ℕ → Type 0
@@ -53,7 +71,7 @@ module _ {S : Type 0} (written flushed : S → Option (List ℕ)) (faults : S �
   pub nothing : (a : S) → Whole a a []
   nothing a = record {
     appended = Appends-nil (written a);
-    kept = keeps_itself (flushed a);
+    kept = Keeps-refl (flushed a);
     no_fault = refl;
     room = λ n le r. subst (has_room a) (let e : n ≡ n - 0 = omega arith in e) r;
   }
@@ -61,7 +79,7 @@ module _ {S : Type 0} (written flushed : S → Option (List ℕ)) (faults : S �
   pub whole_then : (a b c : S) (t u : List ℕ) → Whole a b t → Whole b c u → Whole a c (t ++ u)
   whole_then a b c t u h k = record {
     appended = Appends-trans (written a) (written b) (written c) t u h.appended k.appended;
-    kept = keeps_on (flushed a) (flushed b) (flushed c) h.kept k.kept;
+    kept = Keeps-trans (flushed a) (flushed b) (flushed c) h.kept k.kept;
     no_fault = k.no_fault ∙ h.no_fault;
     room = λ n le r.
         let sum = length-append t u in
@@ -81,7 +99,7 @@ module _ {S : Type 0} (written flushed : S → Option (List ℕ)) (faults : S �
   pub part_then : (a b c : S) (t u : List ℕ) → Whole a b t → Part b c u → Part a c (t ++ u)
   part_then a b c t u h k = record {
     front = front_then (written a) (written b) (written c) t u h.appended k.front;
-    kept = keeps_on (flushed a) (flushed b) (flushed c) h.kept k.kept;
+    kept = Keeps-trans (flushed a) (flushed b) (flushed c) h.kept k.kept;
     later = let l = k.later in let e = h.no_fault in omega arith;
     rose = subst (λ n. Rose n (faults c)) h.no_fault k.rose;
     no_room = λ n le r. let sum = length-append t u in
@@ -145,22 +163,24 @@ module _ {S : Type 0} (written flushed : S → Option (List ℕ)) (faults : S �
   room_of (Ok x) a b t h n le room = (refl, h.room n le room)
   room_of (Err e) a b t h n le room = absurd (h.no_room n le room)
 
--- one element more, and the elements after it
+  -- the texts of a list one after another
 
-pub flat_more : {X : Type 0} (f : X → List ℕ) (xs : List X) (i : ℕ) (d : X) → suc i ≤ length xs
-    → flat_map f (take (i + 1) xs) ≡ flat_map f (take i xs) ++ f (get_or xs i d)
-flat_more f [] i d below = absurd (omega arith)
-flat_more f (x ∷ xs) zero d below = append-nil (f x)
-flat_more f (x ∷ xs) (suc i) d below =
-    let e : suc i + 1 ≡ suc (i + 1) = omega arith in
-    rw e (ap (λ t. f x ++ t) (flat_more f xs i d (omega arith))
-    ∙ sym (append_assoc (f x) (flat_map f (take i xs)) (f (get_or xs i d))))
+  pub each_more : {X : Type 0} (f : X → List ℕ) (xs : List X) (i : ℕ) (d : X) (a b c : S) (t : List ℕ)
+      → suc i ≤ length xs → f (get_or xs i d) ≡ t → Whole a b (flat_map f (take i xs)) → Whole b c t
+      → Whole a c (flat_map f (take (i + 1) xs))
+  each_more f xs i d a b c t below is before now =
+      rw (flat_more f xs i d below, is) (whole_then a b c (flat_map f (take i xs)) t before now)
 
-pub flat_split : {X : Type 0} (f : X → List ℕ) (xs : List X) (i : ℕ) (d : X) → suc i ≤ length xs
-    → flat_map f xs ≡ flat_map f (take i xs) ++ (f (get_or xs i d) ++ flat_map f (drop (i + 1) xs))
-flat_split f [] i d below = absurd (omega arith)
-flat_split f (x ∷ xs) zero d below = refl
-flat_split f (x ∷ xs) (suc i) d below =
-    let e : suc i + 1 ≡ suc (i + 1) = omega arith in
-    rw e (ap (λ t. f x ++ t) (flat_split f xs i d (omega arith))
-    ∙ sym (append_assoc (f x) (flat_map f (take i xs)) (f (get_or xs i d) ++ flat_map f (drop (i + 1) xs))))
+  pub each_stops : {X T E : Type 0} (f : X → List ℕ) (xs : List X) (i : ℕ) (d : X) (a b c : S) (t : List ℕ)
+      (Q : E → Type 0) (r : Result T E) → suc i ≤ length xs → f (get_or xs i d) ≡ t
+      → Whole a b (flat_map f (take i xs)) → Part b c t → IsErrAnd r Q
+      → Writes written flushed faults has_room a c (flat_map f xs) r
+  each_stops f xs i d a b c t Q r below is before now err =
+      rw (flat_split f xs i d below, is)
+      (writes_err Q r a c (flat_map f (take i xs) ++ (t ++ flat_map f (drop (i + 1) xs))) err
+      (part_then a b c (flat_map f (take i xs)) (t ++ flat_map f (drop (i + 1) xs)) before
+      (part_more b c t (flat_map f (drop (i + 1) xs)) now)))
+
+  pub each_done : {X : Type 0} (f : X → List ℕ) (xs : List X) (i : ℕ) (a b : S) → length xs ≤ i
+      → Whole a b (flat_map f (take i xs)) → Whole a b (flat_map f xs)
+  each_done f xs i a b all h = rw (take_all i xs all) at h
