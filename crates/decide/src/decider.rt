@@ -4,7 +4,7 @@ ghost use Rattle.prefix.specs.Scopes.{Scope, level_of};
 ghost use Rattle.calculus.specs.Search.{literals_on, value_on};
 ghost use Rattle.trail.specs.Open.{AreAssigned, IsFirstOpen};
 ghost use Rattle.trail.specs.State.{IsTrailFor};
-ghost use Rattle.decide.specs.Memory.{phase_of, saved, sign_of, with_phase};
+ghost use Rattle.decide.specs.Memory.{phase_of, saved, with_phase};
 ghost use Rattle.decide.specs.Decision.{IsDecision, IsOpenIn};
 
 use super::waiting::{Waiting, WaitingList};
@@ -24,6 +24,8 @@ use trail::Trail;
 pub struct Decider {
     // The sign that each variable had last, at its number less 1.
     phases: Vec<Option<bool>>,
+    // How many more counted literals of each variable were positive than negative, at its number less 1.
+    tallies: Vec<i64>,
     // The variables that wait, each at its number less 1, with their priorities.
     waiting: WaitingList,
 }
@@ -46,6 +48,7 @@ impl Decider {
     {
         Self {
             phases: Vec::new(alloc),
+            tallies: Vec::new(alloc),
             waiting: WaitingList::new(alloc),
         }
     }
@@ -62,9 +65,19 @@ impl Decider {
         if count < vars {
             let more = vars.max(2 * count);
             self.waiting.reserve(more)?;
+            self.tallies.resize(more, 0)?;
             self.phases.resize(more, None)?;
         }
         Ok(())
+    }
+
+    /// Counts the literals of a clause, for the signs that variables have at first. This takes no memory.
+    pub fn count(&mut self, lits: &[Lit])
+        ensures { self.new ≡ self.old }
+    {
+        for lit in lits {
+            self.count_one(*lit);
+        }
     }
 
     /// Raises the priority of a variable, by more the more often `decay` was called. This takes no memory.
@@ -93,13 +106,14 @@ impl Decider {
     }
 
     /// The next decision: none exactly where every variable is assigned; else a literal over an unassigned variable
-    /// of the first scope that has one, with the sign that the variable had last, or at first false for an
-    /// existential and true for a universal one. The prefix is that of the trail's calls. This takes no memory.
+    /// of the first scope that has one, with the sign that the variable had last, if it had one. At first an
+    /// existential variable has the sign that most of its counted literals have, or false, and a universal one has the
+    /// other sign, or true. The prefix is that of the trail's calls. This takes no memory.
     pub fn next_decision(&mut self, trail: &Trail, prefix: &Prefix) -> Option<Lit>
         requires { IsTrailFor prefix.now trail.now }
         ensures none { IsNone result ↔ AreAssigned prefix.now trail.now.placed }
         ensures decision { IfSome result (λ l. IsDecision prefix.now trail.now.placed l.variable) }
-        ensures sign { IfSome result (λ l. l.positive ≡ sign_of prefix.now self.old l.variable) }
+        ensures sign { IfSome result (λ l. IfSome (phase_of self.old l.variable) (λ last. l.positive ≡ last)) }
         ensures phases { self.new ≡ self.old }
     {
         let scope = trail.first_open(prefix)?;
@@ -166,11 +180,30 @@ impl Decider {
 
     // The sign that a decision over a variable has.
     fn sign(&self, v: Var, prefix: &Prefix) -> bool
-        ensures { result ≡ sign_of prefix.now self.now v }
+        ensures { IfSome (phase_of self.now v) (λ last. result ≡ last) }
     {
         match self.phase(v) {
-            Some(sign) => sign,
-            None => prefix.quant(v) == Some(Quant::Forall),
+            Some(last) => last,
+            None => self.is_mostly_positive(v) != (prefix.quant(v) == Some(Quant::Forall)),
+        }
+    }
+
+    // Whether more counted literals of a variable were positive than negative.
+    fn is_mostly_positive(&self, v: Var) -> bool {
+        match self.tallies.get(v.index()) {
+            Some(tally) => *tally > 0,
+            None => false,
+        }
+    }
+
+    // Counts a literal.
+    fn count_one(&mut self, lit: Lit)
+        ensures { self.new ≡ self.old }
+    {
+        let i = lit.var().index();
+        if i < self.tallies.len() {
+            let more = if lit.is_positive() { 1 } else { -1 };
+            self.tallies[i] = self.tallies[i].saturating_add(more);
         }
     }
 

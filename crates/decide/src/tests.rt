@@ -79,6 +79,13 @@ impl Game {
         Ok(())
     }
 
+    // Counts a clause of one literal.
+    fn count(&mut self, number: u32, positive: bool) -> Result<(), Fail> {
+        let v = Var::new(number).ok_or("range")?;
+        self.decider.count(&[Lit::new(v, positive)]);
+        Ok(())
+    }
+
     // Undoes all: who was assigned waits then.
     fn undo(&mut self) {
         self.decider.undoing(&self.trail, &self.prefix, 0);
@@ -95,6 +102,23 @@ fn decisions_go_from_scope_to_scope(rt: HostRuntime) -> Result<(), Fail> {
     assert_eq!(rt;
         game.decide_four(false)?,
         [-2, 1, 3, 0],
+        "with the saved signs"
+    );
+    Ok(())
+}
+
+#[test]
+fn the_first_signs_are_by_what_was_counted(rt: HostRuntime) -> Result<(), Fail> {
+    let mut game = Game::new(rt.alloc(), 3)?;
+    game.count(1, true)?;
+    game.count(2, true)?;
+    game.count(2, false)?;
+    game.count(3, true)?;
+    assert_eq!(rt; game.decide_four(false)?, [-2, 1, -3, 0]);
+    game.undo();
+    assert_eq!(rt;
+        game.decide_four(false)?,
+        [-2, 1, -3, 0],
         "with the saved signs"
     );
     Ok(())

@@ -82,6 +82,7 @@ impl Search {
         growth_laws();
         self.watched.reserve(1)?;
         let (_, id) = self.derivation.input_clause(prefix, lits, frame)?;
+        self.decider.count(lits);
         let _ = self.watched.push(id);
         Ok(())
     }

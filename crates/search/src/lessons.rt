@@ -24,7 +24,7 @@ use crate::search::Search;
 use analyse::{Lesson, analyse};
 use clean::reason_laws;
 use decide::Decider;
-use derive::{Derivation, StepId};
+use derive::{Derivation, Step, StepId};
 use prefix::{Clauses, Cubes, Lit, Prefix, Quant};
 use steps::{Spent, Steps, Stop};
 use trail::{Trail, Why};
@@ -89,6 +89,7 @@ impl Search {
         agreeing_laws();
         bump(&mut self.decider, self.derivation.lits(row));
         self.decider.decay();
+        let first = self.derivation.next_id();
         let lesson = lesson_of(
             &mut self.derivation,
             &mut self.trail,
@@ -97,6 +98,7 @@ impl Search {
             row,
             steps,
         );
+        bump_resolved(&mut self.decider, &self.derivation, first);
         // The counter is within its budget.
         let _budget = steps.budget();
         lesson
@@ -227,6 +229,39 @@ fn lesson_of(
     match side {
         Quant::Exists => analyse::<Clauses>(derivation, trail, prefix, row, steps),
         Quant::Forall => analyse::<Cubes>(derivation, trail, prefix, row, steps),
+    }
+}
+
+// Raises the priorities of the variables of the rows below an id that the steps from there on were resolved from.
+fn bump_resolved(decider: &mut Decider, derivation: &Derivation, first: StepId)
+    requires { IsTrue (has_rows derivation.now) }
+    ensures { decider.new ≡ decider.old }
+{
+    for id in first..derivation.next_id() {
+        bump_antecedents(decider, derivation, first, id);
+    }
+}
+
+// The same for one of the steps, if it is live.
+fn bump_antecedents(decider: &mut Decider, derivation: &Derivation, first: StepId, id: StepId)
+    requires { IsTrue (has_rows derivation.now) }
+    ensures { decider.new ≡ decider.old }
+{
+    if derivation.is_live(id) {
+        if let Step::Resolved { a, b, pivot: _ } = derivation.step(id) {
+            bump_below(decider, derivation, first, a);
+            bump_below(decider, derivation, first, b);
+        }
+    }
+}
+
+// Raises the priorities of the variables of a live row below an id.
+fn bump_below(decider: &mut Decider, derivation: &Derivation, first: StepId, id: StepId)
+    requires { IsTrue (has_rows derivation.now) }
+    ensures { decider.new ≡ decider.old }
+{
+    if id < first && derivation.is_live(id) {
+        bump(decider, derivation.lits(id));
     }
 }
 

@@ -34,7 +34,7 @@ new c = record {
   clauses =
       c.self.inside.clauses;
   cubes = c.self.inside.cubes;
-  signs = c.decay.new.self;
+  signs = c.bump_resolved.new.decider;
   watched =
       c.self.inside.watched.items;
   joined = c.self.inside.joined;
@@ -48,7 +48,7 @@ searching_new : (c : goal.After-budget-budget) (made : ℕ) → MarksMore (old c
 searching_new c made marks =
     let e = c.lesson_of-lesson.ensures in
     searching_analysed c.args.prefix.now (old c) (new c) made c.holding_laws.ensures c.agreeing_laws.ensures
-    (searching_old c) e.gains e.legal refl refl refl (c.decay.ensures ∙ c.bump.ensures) e.trail marks e.reasons
+    (searching_old c) e.gains e.legal refl refl refl (c.bump_resolved.ensures ∙ (c.decay.ensures ∙ c.bump.ensures)) e.trail marks e.reasons
 
 pub returns-clause-ok : goal.returns-clause-ok
 returns-clause-ok c =

@@ -1,5 +1,6 @@
 use Rattle.std.proofs.Common.{◌≡◌, ◌<◌, ◌≤◌, ◌+◌, ◌∷◌, ◌++◌, [], ℕ, List, is_ok, vec_len, vec_capacity, arith, sym, ap, subst, ◌∙◌}
 use Rattle.std.proofs.lemmas.Bool.{cond-true}
+use Rattle.decide.specs.Memory.{Memory}
 use Rattle.search.specs.Forcing.{HasNoCubes}
 use Rattle.search.specs.State.{IsResting, SearchState}
 use Rattle.search.specs.contracts.search.Search.{the_view}
@@ -36,12 +37,21 @@ returns-clause-resting c =
     let s = the_view c.self.inside in
     let scopes = c.args.prefix.now in
     let resting = subst (IsResting scopes) (sym c.self.view_is) c.requires.resting in
-    resting_input c.growth_laws.ensures scopes s c.input_clause.new.self c.in_ok-id.field-0-0 c.in_ok-id.id
+    subst (λ (signs : Memory). IsResting scopes (record {
+      derivation = c.input_clause.new.self;
+      trail = s.trail;
+      clauses = s.clauses;
+      cubes = s.cubes;
+      signs = signs;
+      watched = c.push.new.self.items;
+      joined = s.joined;
+    })) (sym c.count.ensures)
+    (resting_input c.growth_laws.ensures scopes s c.input_clause.new.self c.in_ok-id.field-0-0 c.in_ok-id.id
     c.args.frame c.args.lits.now (inputs c) c.push.new.self.items (more c) resting.intact.watched
     c.holding_laws.ensures c.agreeing_laws.ensures resting
     (ap (λ (t : SearchState). t.joined) c.self.view_is ∙ c.requires.joined)
     c.input_clause.ensures.rows
-    (c.in_ok-id.ensures.legal c.requires.row resting.intact.legal)
+    (c.in_ok-id.ensures.legal c.requires.row resting.intact.legal))
 
 pub returns-clause-cubes : goal.returns-clause-cubes
 returns-clause-cubes c = λ none.
