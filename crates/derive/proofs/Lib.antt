@@ -8,4 +8,5 @@ pub mod Inputs
 pub mod Legality
 pub mod Listing
 pub mod Removals
+pub mod Sweeps
 pub mod Tags

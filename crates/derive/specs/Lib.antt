@@ -5,5 +5,6 @@ pub mod Growing
 pub mod Kept
 pub mod Missing
 pub mod State
+pub mod Sweeping
 pub mod Theorems
 pub mod Told

@@ -1,5 +1,5 @@
 //! Derivations.
-ghost use Rattle.std.specs.Prelude.{◌≡◌, ◌<◌, ◌⊎◌, ℕ, false, IsTrue, IsFalse, Some, None, IfOk, OnOk, OnErr, List, [], ◌∷◌, ◌++◌, filter, max, not, nat_lt, ◌==◌, if◌then◌else◌, length, slice_index_or, slice_set};
+ghost use Rattle.std.specs.Prelude.{◌≡◌, ◌<◌, ◌⊎◌, ℕ, false, IsTrue, IsFalse, Some, None, IfOk, OnOk, OnErr, List, [], ◌∷◌, ◌++◌, filter, max, not, nat_lt, ◌==◌, if◌then◌else◌, length, slice_index_or, slice_set, Contains};
 ghost use Rattle.prefix.specs.Scopes.{Scope, IsAscending};
 ghost use Rattle.prefix.specs.declared.quant.Quant.TheVariants.{Exists as exists, Forall as forall};
 ghost use Rattle.rows.specs.Arena.{Arena, literals_at};
@@ -11,12 +11,14 @@ ghost use Rattle.derive.specs.State.{State, IsStepOf, SameStep, OpenClause, next
 ghost use Rattle.derive.specs.Antecedents.{Fits, IsAntecedentIn, AreSupported, IsSupportedAt, IsGreatestFrame};
 ghost use Rattle.derive.specs.Adding.{Adds, AddsBoth, AddsClause, AreResolvable, InputsClause, IsOver, IsReductionOf, Removes, cube_note, finish_at, reduction_at, resolvent_at, resolvent_note};
 ghost use Rattle.derive.specs.Growing.{AreUnlinked, GainsSteps};
-ghost use Rattle.derive.specs.Dropping.{Drops, has_tag, is_initial_cube, finishes, is_from, is_root, unless_finish};
+ghost use Rattle.derive.specs.Dropping.{Drops, StepTest, has_tag, is_initial_cube, finishes, is_from, is_root, unless_finish};
+ghost use Rattle.derive.specs.Sweeping.{Sweeps};
 ghost use Rattle.derive.specs.Told.{told, why_of};
 
 use super::dropping::{Roots, drop_roots};
 use super::note::Note;
 use super::removal::{push_assumed, reduce_of};
+use super::sweeping::{sweep_all, widen_marks};
 use super::{Step, StepId};
 use prefix::{Lit, Prefix, Quant, Var};
 use reduce::{Row, resolve};
@@ -43,6 +45,8 @@ pub struct Derivation {
     cubes_from: StepId,
     // No finish is live under an id before this one.
     finishes_from: StepId,
+    // Places for a mark of each id.
+    marks: Vec<bool>,
 }
 
 impl Model for Derivation {
@@ -50,11 +54,13 @@ impl Model for Derivation {
 
     ghost Value = { State };
 
+    ghost use Rattle.std.specs.Prelude.{◌≤◌, length};
     ghost use Rattle.derive.specs.Kept.{BelongTogether};
 
     ghost view = { λ d. record { notes = d.notes.items; rows = d.rows } };
 
-    ghost invariant = { λ d. BelongTogether d.notes.items d.rows d.frames_from.items d.cubes_from d.finishes_from };
+    ghost invariant = { λ d. BelongTogether d.notes.items d.rows d.frames_from.items d.cubes_from d.finishes_from
+        × (length d.notes.items ≤ length d.marks.items) };
 }
 
 impl Derivation {
@@ -69,6 +75,7 @@ impl Derivation {
             frames_from: Vec::new(alloc),
             cubes_from: 0,
             finishes_from: 0,
+            marks: Vec::new(alloc),
         }
     }
 
@@ -297,6 +304,20 @@ impl Derivation {
         self.drop_all(first, Roots::From(first));
     }
 
+    /// Keeps the input clauses, the steps with these ids, and all that these rest on, and drops every other step. Then
+    /// the rows are moved together. This looks at each id given so far twice, and takes no memory.
+    pub fn sweep(&mut self, keep: &[StepId])
+        requires rows { IsTrue (has_rows self.old) }
+        requires live { (id : ℕ) → Contains keep.now id → IsTrue (is_live self.old id) }
+        ensures sweeps { Sweeps keep.now self.old self.new }
+        ensures drops { (test : StepTest) × Drops test self.old self.new }
+        ensures kept { (id : ℕ) → Contains keep.now id → SameStep self.old self.new id }
+        ensures clauses { clauses_of self.new ≡ clauses_of self.old }
+        ensures legal { (scopes : List Scope) → IsLegalFor scopes self.old → IsLegalFor scopes self.new }
+    {
+        sweep_all(&mut self.notes, self.rows.as_mut().unwrap(), &mut self.marks, keep);
+    }
+
     /// Hands out the rows. Then only `step`, `is_live`, `tag` and `next_id` are called, until they are put back. This
     /// takes no memory.
     pub fn take_rows(&mut self) -> Rows
@@ -351,6 +372,7 @@ impl Derivation {
         ensures err { OnErr result (self.new ≡ self.old) }
     {
         self.notes.reserve(1)?;
+        widen_marks(&mut self.marks, self.notes.len() + 1)?;
         widen(&mut self.frames_from, note.tag(), self.notes.len())?;
         let id = self.rows.as_mut().unwrap().add(lits)?;
         let _ = self.notes.push(Some(note));
@@ -421,6 +443,7 @@ impl Derivation {
         ensures err { OnErr result (self.new ≡ self.old) }
     {
         self.notes.reserve(2)?;
+        widen_marks(&mut self.marks, self.notes.len() + 2)?;
         widen(&mut self.frames_from, frame, self.notes.len())?;
         let (first, second) = self.rows.as_mut().unwrap().add_pair(lits, row)?;
         let input = Note::new(Quant::Exists, Step::InputClause, frame);

@@ -8,6 +8,7 @@ mod laws;
 mod note;
 mod removal;
 mod step;
+mod sweeping;
 
 pub use derivation::Derivation;
 pub use laws::{

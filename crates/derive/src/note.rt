@@ -1,9 +1,11 @@
 //! What is kept of a step beside its row.
-ghost use Rattle.std.specs.Prelude.{◌≡◌, is_none};
+ghost use Rattle.std.specs.Prelude.{◌≡◌, ◌<◌, ◌==◌, ◌||◌, ℕ, false, is_none, length, slice_index_or};
+ghost use Rattle.calculus.specs.Derivations.{RestsOn, rests_on};
 ghost use Rattle.derive.specs.State.{is_finish as finish, note_in};
 ghost use Rattle.derive.specs.Dropping.{is_cube};
 ghost use Rattle.derive.specs.Told.{told, why_of};
 ghost use Rattle.derive.specs.Missing.{misses_antecedent};
+ghost use Rattle.derive.specs.Sweeping.{is_input_clause};
 
 use super::{Step, StepId};
 use prefix::Quant;
@@ -63,10 +65,33 @@ impl Note {
         matches!(self.step, Step::InputCube)
     }
 
+    pub(crate) fn is_input_clause(&self) -> bool
+        ensures { result ≡ is_input_clause self.now.side self.now.why }
+    {
+        matches!(self.step, Step::InputClause)
+    }
+
     pub(crate) fn is_finish(&self) -> bool
         ensures { result ≡ finish self.now.why }
     {
         matches!(self.step, Step::Finished(_))
+    }
+
+    // Marks the ids that it rests on.
+    pub(crate) fn mark_antecedents(&self, marks: &mut Vec<bool>)
+        requires { (on : ℕ) → RestsOn self.now.why on → on < length marks.old.items }
+        ensures value { (x : ℕ) → slice_index_or marks.new.items x false ≡ (slice_index_or marks.old.items x false
+            || rests_on self.now.why x) }
+        ensures count { length marks.new.items ≡ length marks.old.items }
+    {
+        match self.step {
+            Step::InputClause | Step::InputCube => (),
+            Step::Reduced(a) | Step::Finished(a) => set_mark(marks, a),
+            Step::Resolved { a, b, .. } => {
+                set_mark(marks, a);
+                set_mark(marks, b);
+            }
+        }
     }
 
     // Whether no step is live any more under an id that it rests on.
@@ -79,6 +104,15 @@ impl Note {
             Step::Resolved { a, b, .. } => is_gone(notes, a) || is_gone(notes, b),
         }
     }
+}
+
+// Marks an id.
+fn set_mark(marks: &mut Vec<bool>, id: StepId)
+    requires { id < length marks.old.items }
+    ensures value { (x : ℕ) → slice_index_or marks.new.items x false ≡ (slice_index_or marks.old.items x false || id == x) }
+    ensures count { length marks.new.items ≡ length marks.old.items }
+{
+    marks[id] = true;
 }
 
 // Whether no step is live under an id.

@@ -1,11 +1,16 @@
 -- Lemmas on what a contract sees of an arena, for this crate and its callers.
-use Rattle.std.proofs.Common.{◌≡◌, ◌≢◌, ℕ, zero, suc, ◌<◌, List, [], ◌∷◌, length, get_or, set, Option, Some, None, is_some, IsTrue, sym, ap, ◌∙◌, inl, inr, arith}
-use Rattle.std.proofs.lemmas.List.{get_or-set_same, get_or-set_other, get_or_past, map-set}
-use Rattle.std.proofs.lemmas.Bool.{cases_eq}
+use Rattle.std.proofs.Common.{◌≡◌, ◌≢◌, ℕ, zero, suc, ◌+◌, ◌<◌, ◌≤◌, List, [], ◌∷◌, ◌++◌, length, map, replicate, get_or, set, Option, Some, None, is_some, IsTrue, refl, sym, ap, ap₂, ◌∙◌, subst, ◌⊎◌, false, inl, inr, arith}
+use Rattle.std.proofs.lemmas.List.{get_or-set_same, get_or-set_other, get_or_past, get_or_at, get_or_append_left, length-append, length-set, length-map, map-append, same_lists, get_or_default}
+use Rattle.std.proofs.lemmas.Bool.{cases_eq, cases_lt}
 use Rattle.std.specs.Option.{option_map}
-use Rattle.rows.specs.declared.rows.Row.{Row}
-use Rattle.rows.specs.Arena.{StoredRow, Arena, row_at, is_live, literals_of, links_of, with_link, set_link_of, ChangesAt, ChangesLink}
-use Rattle.rows.specs.Stored.{stored, arena_of}
+use Rattle.prefix.specs.Literal.{Literal}
+use Rattle.rows.specs.declared.places.Place.{Place}
+use Rattle.rows.specs.declared.blocks.Block.{Block}
+use Rattle.rows.specs.Arena.{StoredRow, Arena, row_at, is_live, literals_of, links_of, new_row, with_row, with_link, set_link_of, ChangesAt, ChangesLink}
+use Rattle.rows.specs.Places.{AreSpread, KeepsParts, Reblocks, blocks_of, part, part_in, place_at}
+use Rattle.rows.specs.Blocks.{LosesBlock, block_at, block_in, links_in}
+use Rattle.rows.specs.Stored.{arena_of, stored}
+use Rattle.rows.proofs.Parts.{map_at, none_some, some_same, some_is, place_given, part_append, part_end}
 
 -- a live id is one that was given
 pub is_live-given : (arena : Arena) (id : ℕ) → IsTrue (is_live arena id) → id < length arena
@@ -18,18 +23,6 @@ ChangesAt-set arena id row live =
       there = get_or-set_same arena id row None (is_live-given arena id live);
       elsewhere = λ other differs. get_or-set_other arena id other row None differs;
     }
-
--- what is read under a live id is what contracts see there
-pub row_at-found : (rows : List (Option Row)) (id : ℕ) (found : Option Row) → found ≡ get_or rows id found → IsTrue (is_live (arena_of rows) id) → row_at (arena_of rows) id ≡ option_map stored found
-row_at-found [] id found is live = absurd (cc)
-row_at-found (row ∷ rows) zero found is live = ap (option_map stored) (sym is)
-row_at-found (row ∷ rows) (suc id) found is live = row_at-found rows id found is live
-
--- a row whose link field was written, put back under its id
-pub with_link-kept : (rows : List (Option Row)) (id k : ℕ) (value : Option ℕ) (row new : Row) → row_at (arena_of rows) id ≡ Some (stored row) → new ≡ record { lits = row.lits; links = set row.links k value } → arena_of (set rows id (Some new)) ≡ with_link (arena_of rows) id k value
-with_link-kept rows id k value row new there is_new =
-    map-set (option_map stored) rows id (Some new)
-    ∙ ap (set (arena_of rows) id) (ap (λ (r : Row). Some (stored r)) is_new ∙ sym (ap (option_map (set_link_of k value)) there))
 
 -- what a write of a link field changes
 pub ChangesLink-with_link : (arena : Arena) (id k : ℕ) (value : Option ℕ) (row : StoredRow) → IsTrue (is_live arena id) → row_at arena id ≡ Some row → k < length row.links → ChangesLink arena (with_link arena id k value) id k value
@@ -58,3 +51,195 @@ ChangesLink-with_link arena id k value row live at within =
 
     elsewhere : (other : ℕ) → other ≢ id → row_at (with_link arena id k value) other ≡ row_at arena other
     elsewhere other differs = get_or-set_other arena id other (option_map (set_link_of k value) (row_at arena id)) None differs
+
+-- the row of an id
+
+pub row_at_place : (literals : List Literal) (blocks : List Block) (places : List (Option Place)) (i : ℕ) → row_at (arena_of literals blocks places) i ≡ option_map (stored literals blocks) (place_at places i)
+row_at_place literals blocks places i = map_at (stored literals blocks) places i
+
+is_some_map : {A B : Type 0} (f : A → B) (o : Option A) → is_some (option_map f o) ≡ is_some o
+is_some_map f None = refl
+is_some_map f (Some x) = refl
+
+pub live_place : (literals : List Literal) (blocks : List Block) (places : List (Option Place)) (i : ℕ) → is_live (arena_of literals blocks places) i ≡ is_some (place_at places i)
+live_place literals blocks places i = ap is_some (row_at_place literals blocks places i) ∙ is_some_map (stored literals blocks) (place_at places i)
+
+pub block_place : (places : List (Option Place)) (i : ℕ) (p : Place) → place_at places i ≡ Some p → block_in (blocks_of places) i ≡ Some p.block
+block_place places i p e = map_at (λ (q : Place). q.block) places i ∙ ap (option_map (λ (q : Place). q.block)) e
+
+-- arenas with the same rows
+
+pub same_arena : (old new : Arena) → length new ≡ length old → ((i : ℕ) → row_at new i ≡ row_at old i) → new ≡ old
+same_arena old new long rows = same_lists new old long (λ k d h. at k d h)
+  where
+    at : (k : ℕ) (d : Option StoredRow) → k < length new → get_or new k d ≡ get_or old k d
+    at k d h = get_or_at_default new k d None h ∙ rows k ∙ get_or_at_default old k None d (rw (← long) h)
+      where
+        get_or_at_default : (xs : Arena) (k : ℕ) (d e : Option StoredRow) → k < length xs → get_or xs k d ≡ get_or xs k e
+        get_or_at_default xs k d e h = get_or_default xs k d e h
+
+-- rows whose parts are kept, with the same blocks
+pub parts_arena : (old new : List Literal) (blocks : List Block) (places new_places : List (Option Place)) → KeepsParts old places new new_places → arena_of new blocks new_places ≡ arena_of old blocks places
+parts_arena old new blocks places new_places kept =
+    same_arena (arena_of old blocks places) (arena_of new blocks new_places)
+    (length-map new_places (option_map (stored new blocks)) ∙ same_length ∙ sym (length-map places (option_map (stored old blocks))))
+    (λ i. row_at_place new blocks new_places i ∙ same_row (place_at places i) (place_at new_places i) (kept.parts i) (block i) ∙ sym (row_at_place old blocks places i))
+  where
+    same_length : length new_places ≡ length places
+    same_length =
+        sym (length-map new_places (option_map (λ (p : Place). p.block)))
+        ∙ ap length kept.blocks
+        ∙ length-map places (option_map (λ (p : Place). p.block))
+
+    block : (i : ℕ) → option_map (λ (p : Place). p.block) (place_at new_places i) ≡ option_map (λ (p : Place). p.block) (place_at places i)
+    block i = sym (map_at (λ (p : Place). p.block) new_places i) ∙ ap (λ bs. block_in bs i) kept.blocks ∙ map_at (λ (p : Place). p.block) places i
+
+    same_row : (o n : Option Place) → part_in new n ≡ part_in old o → option_map (λ (p : Place). p.block) n ≡ option_map (λ (p : Place). p.block) o → option_map (stored new blocks) n ≡ option_map (stored old blocks) o
+    same_row None None parts b = refl
+    same_row None (Some q) parts b = absurd (cc)
+    same_row (Some p) None parts b = absurd (cc)
+    same_row (Some p) (Some q) parts b =
+        let f : Some q.block ≡ Some p.block = b in
+        let g : q.block ≡ p.block = cc in
+        ap₂ (λ l k. Some (record { literals = l; links = links_in blocks k })) parts g
+
+-- one more row
+pub arena_more : (literals row : List Literal) (blocks : List Block) (places : List (Option Place)) → AreSpread (length literals) places → arena_of (literals ++ row) blocks (places ++ Some (record { start = length literals; len = length row; block = None }) ∷ []) ≡ with_row (arena_of literals blocks places) row
+arena_more literals row blocks places spread =
+    map-append (option_map (stored (literals ++ row) blocks)) places (Some one ∷ [])
+    ∙ ap₂ (λ a (r : List Literal). a ++ Some (record { literals = r; links = replicate 8 None }) ∷ []) front (part_end literals row None)
+  where
+    one : Place
+    one = record { start = length literals; len = length row; block = None }
+
+    front : arena_of (literals ++ row) blocks places ≡ arena_of literals blocks places
+    front = parts_arena literals (literals ++ row) blocks places places (record { parts = λ i. same i (place_at places i) refl; blocks = refl })
+      where
+        same : (i : ℕ) (o : Option Place) → place_at places i ≡ o → part_in (literals ++ row) o ≡ part_in literals o
+        same i None e = refl
+        same i (Some p) e = part_append literals row p (spread.within i p e)
+
+-- a row of an arena by its place
+pub stored_place : (literals : List Literal) (blocks : List Block) (places : List (Option Place)) (i : ℕ) (p : Place) → place_at places i ≡ Some p → row_at (arena_of literals blocks places) i ≡ Some (stored literals blocks p)
+stored_place literals blocks places i p e = row_at_place literals blocks places i ∙ ap (option_map (stored literals blocks)) e
+
+-- rows that stand where they stood, with the same links
+same_stored : (literals : List Literal) (blocks new_blocks : List Block) (p q : Place) → q.start ≡ p.start → q.len ≡ p.len → links_in new_blocks q.block ≡ links_in blocks p.block → stored literals new_blocks q ≡ stored literals blocks p
+same_stored literals blocks new_blocks p q s l k = λ i. record { literals = part literals (record { start = s i; len = l i; block = q.block }); links = k i }
+
+-- a row whose link field is written
+pub arena_linked : (literals : List Literal) (blocks middle new : List Block) (places new_places : List (Option Place)) (id b k : ℕ) (value : Option ℕ) → IsTrue (is_some (place_at places id)) → Reblocks places new_places
+    → block_in (blocks_of new_places) id ≡ Some (Some b)
+    → ((i : ℕ) (b c : Option ℕ) → block_in (blocks_of places) i ≡ Some b → block_in (blocks_of new_places) i ≡ Some c → links_in middle c ≡ links_in blocks b)
+    → links_in new (Some b) ≡ set (links_in middle (Some b)) k value
+    → ((i : ℕ) (o : Option ℕ) → i ≢ id → block_in (blocks_of new_places) i ≡ Some o → links_in new o ≡ links_in middle o)
+    → arena_of literals new new_places ≡ with_link (arena_of literals blocks places) id k value
+arena_linked literals blocks middle new places new_places id b k value live same there kept here others =
+    same_arena (with_link (arena_of literals blocks places) id k value) (arena_of literals new new_places)
+    (length-map new_places (option_map (stored literals new)) ∙ same.count ∙ sym (length-map places (option_map (stored literals blocks))) ∙ sym (length-set (arena_of literals blocks places) id (option_map (set_link_of k value) (row_at (arena_of literals blocks places) id))))
+    (λ i. row i)
+  where
+    arena : Arena
+    arena = arena_of literals blocks places
+
+    was_live : IsTrue (is_live arena id)
+    was_live = live_place literals blocks places id ∙ live
+
+    row : (i : ℕ) → row_at (arena_of literals new new_places) i ≡ row_at (with_link arena id k value) i
+    row i =
+        elim (cases_eq i id) [
+          | inl is ↦
+              rw is
+              (let o = some_is (place_at places id) live in
+              let n = some_is (place_at new_places id) (same.live id ∙ live) in
+              let s = same.same id o.0 n.0 o.1 n.1 in
+              let nb : n.0.block ≡ Some b = (let f : Some n.0.block ≡ Some (Some b) = sym (block_place new_places id n.0 n.1) ∙ there in cc) in
+              stored_place literals new new_places id n.0 n.1
+              ∙ ap Some (λ j. record {
+                literals = part literals (record { start = s.0 j; len = s.1 j; block = n.0.block });
+                links = (ap (links_in new) nb ∙ here ∙ ap (λ l. set l k value) (kept id o.0.block (Some b) (block_place places id o.0 o.1) there)) j;
+              })
+              ∙ sym (get_or-set_same arena id (option_map (set_link_of k value) (row_at arena id)) None (is_live-given arena id was_live)
+              ∙ ap (option_map (set_link_of k value)) (stored_place literals blocks places id o.0 o.1)))
+          | inr differs ↦ other i differs (place_at places i) refl ∙ sym (get_or-set_other arena id i (option_map (set_link_of k value) (row_at arena id)) None differs)
+        ]
+      where
+        other : (i : ℕ) → i ≢ id → (o : Option Place) → place_at places i ≡ o → row_at (arena_of literals new new_places) i ≡ row_at arena i
+        other i differs None e = row_at_place literals new new_places i ∙ ap (option_map (stored literals new)) (gone (place_at new_places i) (same.live i ∙ ap is_some e)) ∙ sym (row_at_place literals blocks places i ∙ ap (option_map (stored literals blocks)) e)
+          where
+            gone : (n : Option Place) → is_some n ≡ false → n ≡ None
+            gone None h = refl
+            gone (Some q) h = absurd (cc)
+        other i differs (Some p) e =
+            let n = some_is (place_at new_places i) (same.live i ∙ ap is_some e) in
+            let s = same.same i p n.0 e n.1 in
+            let l = others i n.0.block differs (block_place new_places i n.0 n.1) ∙ kept i p.block n.0.block (block_place places i p e) (block_place new_places i n.0 n.1) in
+            stored_place literals new new_places i n.0 n.1
+            ∙ ap Some (same_stored literals blocks new p n.0 s.0 s.1 l)
+            ∙ sym (stored_place literals blocks places i p e)
+
+-- a row that goes
+pub arena_less : (literals : List Literal) (blocks new : List Block) (places new_places : List (Option Place)) (id : ℕ) → Reblocks (set places id None) new_places → LosesBlock (blocks_of places) blocks (blocks_of new_places) new id → arena_of literals new new_places ≡ set (arena_of literals blocks places) id None
+arena_less literals blocks new places new_places id same loses =
+    same_arena (set arena id None) (arena_of literals new new_places)
+    (length-map new_places (option_map (stored literals new)) ∙ same.count ∙ length-set places id None ∙ sym (length-map places (option_map (stored literals blocks))) ∙ sym (length-set arena id None))
+    (λ i. row i)
+  where
+    arena : Arena
+    arena = arena_of literals blocks places
+
+    none_from : (n : Option Place) → option_map (λ (p : Place). p.block) n ≡ None → n ≡ None
+    none_from None h = refl
+    none_from (Some q) h = absurd (cc)
+
+    row : (i : ℕ) → row_at (arena_of literals new new_places) i ≡ row_at (set arena id None) i
+    row i =
+        elim (cases_eq i id) [
+          | inl is ↦
+              rw is
+              (row_at_place literals new new_places id
+              ∙ ap (option_map (stored literals new)) (none_from (place_at new_places id) (sym (map_at (λ (p : Place). p.block) new_places id) ∙ loses.gone))
+              ∙ sym (gone_row (cases_lt id (length arena))))
+          | inr differs ↦ other i differs (place_at places i) refl ∙ sym (get_or-set_other arena id i None None differs)
+        ]
+      where
+        gone_row : (id < length arena) ⊎ (length arena ≤ id) → row_at (set arena id None) id ≡ None
+        gone_row (inl h) = get_or-set_same arena id None None h
+        gone_row (inr h) = get_or_past (set arena id None) id None (let l = length-set arena id None in omega arith)
+
+        other : (i : ℕ) → i ≢ id → (o : Option Place) → place_at places i ≡ o → row_at (arena_of literals new new_places) i ≡ row_at arena i
+        other i differs None e =
+            row_at_place literals new new_places i
+            ∙ ap (option_map (stored literals new)) (gone (place_at new_places i) (same.live i ∙ ap is_some (get_or-set_other places id i None None differs ∙ e)))
+            ∙ sym (row_at_place literals blocks places i ∙ ap (option_map (stored literals blocks)) e)
+          where
+            gone : (n : Option Place) → is_some n ≡ false → n ≡ None
+            gone None h = refl
+            gone (Some q) h = absurd (cc)
+        other i differs (Some p) e =
+            let f = get_or-set_other places id i None None differs ∙ e in
+            let n = some_is (place_at new_places i) (same.live i ∙ ap is_some f) in
+            let s = same.same i p n.0 f n.1 in
+            let l = loses.links i p.block n.0.block differs (block_place places i p e) (block_place new_places i n.0 n.1) in
+            stored_place literals new new_places i n.0 n.1
+            ∙ ap Some (same_stored literals blocks new p n.0 s.0 s.1 l)
+            ∙ sym (stored_place literals blocks places i p e)
+
+pub arena_put : (lits row new_lits : List Literal) (blocks : List Block) (places new_places : List (Option Place)) → new_lits ≡ lits ++ row → new_places ≡ places ++ Some (record { start = length lits; len = length row; block = None }) ∷ [] → AreSpread (length lits) places → arena_of new_lits blocks new_places ≡ with_row (arena_of lits blocks places) row
+arena_put lits row new_lits blocks places new_places e1 e2 spread =
+    ap₂ (λ (ls : List Literal) (ps : List (Option Place)). arena_of ls blocks ps) e1 e2 ∙ arena_more lits row blocks places spread
+
+-- one more row changes the id that comes next alone
+pub ChangesAt-more : (arena : Arena) (row : List Literal) (id : ℕ) → id ≡ length arena → ChangesAt arena (with_row arena row) id (Some (new_row row))
+ChangesAt-more arena row id next =
+    record {
+      there = ap (row_at (with_row arena row)) next ∙ get_or_at arena (Some (new_row row)) [] None (length arena) refl;
+      elsewhere =
+          λ other differs.
+          elim (cases_lt other (length arena)) [
+            | inl h ↦ get_or_append_left arena (Some (new_row row) ∷ []) None other h
+            | inr h ↦
+                get_or_past (with_row arena row) other None (let l = length-append arena (Some (new_row row) ∷ []) in omega arith)
+                ∙ sym (get_or_past arena other None h)
+          ];
+    }

@@ -1,1 +1,4 @@
 pub mod Arenas
+pub mod Blocking
+pub mod Parts
+pub mod Storing

@@ -1,2 +1,4 @@
 pub mod Arena
+pub mod Blocks
+pub mod Places
 pub mod Stored

@@ -1,6 +1,8 @@
 //! An arena of rows (clauses and cubes) with ids that are never given twice and eight link fields a row.
 #![tactic(auto)]
 
+mod blocks;
+mod places;
 mod rows;
 
 pub use rows::{RowId, Rows};
@@ -74,6 +76,23 @@ mod tests {
         }
         rows.set_link(row, 3, None);
         assert_eq!(rt; rows.link(row, 3), None);
+        Ok(())
+    }
+
+    #[test]
+    fn rows_stay_where_one_between_them_goes(rt: HostRuntime) -> Result<(), Fail> {
+        let mut rows = Rows::new(rt.alloc());
+        let first = rows.add(&[lit(1)?])?;
+        let second = rows.add(&[lit(2)?, lit(3)?])?;
+        let third = rows.add(&[lit(4)?])?;
+        rows.set_link(second, 1, Some(7));
+        rows.set_link(third, 2, Some(9));
+        rows.free(second);
+        rows.compact();
+        assert_eq!(rt; rows.lits(first), [lit(1)?].as_slice());
+        assert_eq!(rt; rows.lits(third), [lit(4)?].as_slice());
+        assert_eq!(rt; (rows.link(third, 2), rows.link(third, 1)), (Some(9), None));
+        assert!(rt; !rows.is_live(second));
         Ok(())
     }
 }

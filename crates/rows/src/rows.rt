@@ -1,8 +1,9 @@
 //! The arena.
 ghost use Rattle.std.specs.Prelude.{◌≡◌, ◌↔◌, ◌<◌, ◌+◌, [], ◌∷◌, IsTrue, Some, None, IfOk, OnOk, OnErr, length, slice_set};
 ghost use Rattle.rows.specs.Arena.{ChangesAt, ChangesLink, next_id, row_at, is_live, literals_at, link_at, new_row, with_row, without_row, with_link};
-ghost use Rattle.rows.specs.Stored.{stored};
 
+use super::blocks::{Block, block_for, forget, read, write};
+use super::places::{Place, place_of, put, slide};
 use prefix::Lit;
 use std::alloc::Global;
 use std::marker::Model;
@@ -11,56 +12,38 @@ use steps::NoMemory;
 /// The id of a row, from 0. It is never given twice.
 pub type RowId = usize;
 
-// How many link fields a row has.
-const LINKS: usize = 8;
-
-// A row with its link fields.
-#[derive(Debug, Drop)]
-struct Row {
-    lits: Vec<Lit>,
-    links: [Option<usize>; LINKS],
-}
-
-impl Row {
-    // A row with a copy of these literals and no links.
-    fn new(alloc: Global, lits: &[Lit]) -> Result<Self, NoMemory>
-        ensures { IfOk result (λ row. stored row ≡ new_row lits.now) }
-    {
-        Ok(Self {
-            lits: lits.to_vec(alloc)?,
-            links: [None; LINKS],
-        })
-    }
-
-    // Writes a link field.
-    fn set_link(&mut self, k: usize, value: Option<usize>)
-        requires { k < 8 }
-        ensures row { self.new ≡ record { lits = self.old.lits; links = slice_set self.old.links k value } }
-        ensures count { length self.old.links ≡ 8 }
-    {
-        self.links[k] = value;
-    }
-}
-
 /// An arena of rows, clauses and cubes alike. Contracts see it as the list that has, for each id given so far, the
 /// row that is live under it.
 ///
 /// Each row has its literals, which never change, and eight link fields, numbered from 0, for lists that are threaded
-/// through the rows. Every call takes constant time, but `add`, which copies the literals.
+/// through the rows. Every call takes constant time, but `add`, which copies the literals, and `compact`.
+///
+/// The literals of all rows stand in one list. A row that goes leaves a hole there, until `compact` moves the others
+/// together. Link fields take memory only for rows that have had a link.
 #[derive(Debug, Drop)]
 pub struct Rows {
-    // The row of each id, if it is live.
-    rows: Vec<Option<Row>>,
+    // The literals of the rows, in the order of their ids.
+    lits: Vec<Lit>,
+    // Where the row of each id stands, if it is live.
+    places: Vec<Option<Place>>,
+    // The link fields of the rows that have had a link, with room for those of all live rows.
+    blocks: Vec<Block>,
+    // How many rows are live.
+    live: usize,
 }
 
 impl Model for Rows {
+    ghost use Rattle.std.specs.Prelude.{length, vec_capacity};
     ghost use Rattle.rows.specs.Arena.{Arena};
 
     ghost Value = { Arena };
 
-    ghost use Rattle.rows.specs.Stored.{arena_of};
+    ghost use Rattle.rows.specs.Stored.{AreStored, arena_of};
 
-    ghost view = { λ a. arena_of a.rows.items };
+    ghost view = { λ a. arena_of a.lits.items a.blocks.items a.places.items };
+
+    ghost invariant = { λ a. AreStored (length a.lits.items) a.places.items a.blocks.items a.live
+        (vec_capacity a.blocks) };
 }
 
 impl Rows {
@@ -69,7 +52,10 @@ impl Rows {
         ensures { result ≡ [] }
     {
         Self {
-            rows: Vec::new(alloc),
+            lits: Vec::new(alloc),
+            places: Vec::new(alloc),
+            blocks: Vec::new(alloc),
+            live: 0,
         }
     }
 
@@ -77,14 +63,14 @@ impl Rows {
     pub fn next_id(&self) -> RowId
         ensures { result ≡ next_id self.now }
     {
-        self.rows.len()
+        self.places.len()
     }
 
     /// Whether a row is live under an id, which may be any number.
     pub fn is_live(&self, id: RowId) -> bool
         ensures { result ≡ is_live self.now id }
     {
-        matches!(self.rows.get(id), Some(Some(_)))
+        matches!(self.places.get(id), Some(Some(_)))
     }
 
     /// The literals of a live row, in the order in which they came.
@@ -92,7 +78,8 @@ impl Rows {
         requires { IsTrue (is_live self.now id) }
         ensures { result.now ≡ literals_at self.now id }
     {
-        &self.row(id).lits
+        let place = place_of(&self.places, id);
+        &self.lits[place.start..place.start + place.len]
     }
 
     /// A link field of a live row.
@@ -101,7 +88,7 @@ impl Rows {
         requires field { k < 8 }
         ensures { result ≡ link_at self.now id k }
     {
-        self.row(id).links[k]
+        read(&self.blocks, place_of(&self.places, id).block, k)
     }
 
     /// Writes a link field of a live row, and changes nothing else.
@@ -112,7 +99,8 @@ impl Rows {
         ensures rest { ChangesLink self.old self.new id k value }
         ensures next { next_id self.new ≡ next_id self.old }
     {
-        self.rows[id].as_mut().unwrap().set_link(k, value);
+        let block = block_for(&mut self.places, &mut self.blocks, id);
+        write(&mut self.blocks, block, k, value);
     }
 
     /// Puts in a row with a copy of these literals and no links, under the id that comes next. With no memory the
@@ -123,9 +111,12 @@ impl Rows {
         ensures fresh { IfOk result (λ id. (row_at self.old id ≡ None) × (next_id self.new ≡ id + 1)) }
         ensures err { OnErr result (self.new ≡ self.old) }
     {
-        let id = self.rows.len();
-        let row = Row::new(*self.rows.allocator(), lits)?;
-        self.rows.push(Some(row))?;
+        let id = self.places.len();
+        self.places.reserve(1)?;
+        self.blocks.reserve(self.live + 1 - self.blocks.len())?;
+        self.lits.reserve(lits.len())?;
+        put(&mut self.lits, &mut self.places, lits);
+        self.live += 1;
         Ok(id)
     }
 
@@ -135,12 +126,13 @@ impl Rows {
         ensures arena { OnOk result (self.new ≡ with_row (with_row self.old first.now) second.now) }
         ensures err { OnErr result (self.new ≡ self.old) }
     {
-        let id = self.rows.len();
-        self.rows.reserve(2)?;
-        let first = Row::new(*self.rows.allocator(), first)?;
-        let second = Row::new(*self.rows.allocator(), second)?;
-        let _ = self.rows.push(Some(first));
-        let _ = self.rows.push(Some(second));
+        let id = self.places.len();
+        self.places.reserve(2)?;
+        self.blocks.reserve(self.live + 2 - self.blocks.len())?;
+        self.lits.reserve(first.len() + second.len())?;
+        put(&mut self.lits, &mut self.places, first);
+        put(&mut self.lits, &mut self.places, second);
+        self.live += 2;
         Ok((id, id + 1))
     }
 
@@ -151,7 +143,8 @@ impl Rows {
         ensures rest { ChangesAt self.old self.new id None }
         ensures next { next_id self.new ≡ next_id self.old }
     {
-        self.rows[id] = None;
+        self.live -= 1;
+        forget(&mut self.places, &mut self.blocks, id);
     }
 
     /// Moves what is live together. Every live id keeps its literals and its links, and a freed id stays free. This
@@ -159,14 +152,6 @@ impl Rows {
     pub fn compact(&mut self)
         ensures { self.new ≡ self.old }
     {
-        // Each row owns its literals, so nothing has to move.
-    }
-
-    // The row that is live under an id.
-    fn row(&self, id: RowId) -> &Row
-        requires { IsTrue (is_live self.now id) }
-        ensures { row_at self.now id ≡ Some (stored result.now) }
-    {
-        self.rows[id].as_ref().unwrap()
+        slide(&mut self.lits, &mut self.places);
     }
 }

@@ -1,7 +1,8 @@
-use Rattle.std.proofs.Common.{◌≡◌, ◌<◌, ◌++◌, ◌∷◌, [], ◌∙◌, ap, sym, subst, Some, length, get_or, arith}
+use Rattle.std.proofs.Common.{◌≡◌, ◌<◌, ◌≤◌, ◌++◌, ◌∷◌, [], ◌∙◌, ap, sym, subst, Some, length, get_or, arith}
 use Rattle.std.specs.Option.{option_copied_mut}
 use Rattle.std.specs.Prelude.{vec_len, vec_capacity}
 use Rattle.std.proofs.lemmas.Bool.{cond-true}
+use Rattle.std.proofs.lemmas.List.{length_push}
 use Rattle.derive.specs.State.{Notes}
 use Rattle.derive.specs.Kept.{BelongTogether}
 use Rattle.derive.proofs.Additions.{kept_add, kept_widened, adds_of}
@@ -20,14 +21,24 @@ here c = sym c.as_mut.ensures.value ∙ ap option_copied_mut c.unwrap.ensures
 -- a frame without a place has one now
 wide : (c : goal.After-push) → BelongTogether c.self.inside.notes.items c.self.inside.rows c.widen.new.frames_from.items c.self.inside.cubes_from c.self.inside.finishes_from
 wide c =
-    let len : c.len.result ≡ length c.self.inside.notes.items = c.len.ensures ∙ c.reserve.new.self.ok.0 ∙ ap (λ (ns : Notes). length ns) c.reserve.ensures.items in
-    kept_widened _ _ _ _ _ _ (λ f. subst (λ n. get_or c.widen.new.frames_from.items f n ≡ get_or c.self.inside.frames_from.items f n) len (c.widen.ensures.same f)) c.self.invariant
+    let len : c.len-2.result ≡ length c.self.inside.notes.items = c.len-2.ensures ∙ c.reserve.new.self.ok.0 ∙ ap (λ (ns : Notes). length ns) c.reserve.ensures.items in
+    kept_widened _ _ _ _ _ _ (λ f. subst (λ n. get_or c.widen.new.frames_from.items f n ≡ get_or c.self.inside.frames_from.items f n) len (c.widen.ensures.same f)) c.self.invariant.0
+
+marked : (c : goal.After-push) → length c.push.new.self.items ≤ length c.widen_marks.new.marks.items
+marked c =
+    let n = ap length (pushed c) in
+    let l = length_push c.self.inside.notes.items (Some c.args.note) in
+    let h = c.in_ok-widen_marks.ensures.ok in
+    let e = c.len.ensures in
+    let k = c.reserve.new.self.ok.0 in
+    let s = ap length c.reserve.ensures.items in
+    omega arith
 
 pub invariant_of-self-2 : goal.invariant_of-self-2
-invariant_of-self-2 c = kept_add c.self.inside.notes.items _ _ _ _ c.args.note c.args.lits.now _ _ _ (rw c.tag.ensures at c.in_ok-widen.ensures.ok) (here c) (pushed c) c.in_ok-id.ensures.arena.1 (rw (← c.self.view_is) at c.requires.support) (wide c)
+invariant_of-self-2 c = (kept_add c.self.inside.notes.items _ _ _ _ c.args.note c.args.lits.now _ _ _ (rw c.tag.ensures at c.in_ok-widen.ensures.ok) (here c) (pushed c) c.in_ok-id.ensures.arena.1 (rw (← c.self.view_is) at c.requires.support) (wide c), marked c)
 
 pub returns-clause-ok : goal.returns-clause-ok
-returns-clause-ok c = adds_of _ _ _ _ _ _ c.args.note c.args.lits.now _ _ _ _ c.self.view_is (here c) (pushed c) c.in_ok-id.ensures.arena.1 c.in_ok-id.ensures.arena.0 c.self.invariant
+returns-clause-ok c = adds_of _ _ _ _ _ _ c.args.note c.args.lits.now _ _ _ _ c.self.view_is (here c) (pushed c) c.in_ok-id.ensures.arena.1 c.in_ok-id.ensures.arena.0 c.self.invariant.0
 
 pub returns-clause-unlinked : goal.returns-clause-unlinked
-returns-clause-unlinked c = adds_unlinked _ c.self.inside.notes.items c.push.new.self.items c.self.inside.rows _ _ c.args.lits.now c.self.view_is (here c) c.in_ok-id.ensures.arena.1 (c.self.invariant.fits c.unwrap.result.now (here c))
+returns-clause-unlinked c = adds_unlinked _ c.self.inside.notes.items c.push.new.self.items c.self.inside.rows _ _ c.args.lits.now c.self.view_is (here c) c.in_ok-id.ensures.arena.1 (c.self.invariant.0.fits c.unwrap.result.now (here c))

@@ -1,7 +1,8 @@
-use Rattle.std.proofs.Common.{◌≡◌, ◌<◌, ◌++◌, ◌∷◌, [], ◌∙◌, ap, ap₂, sym, subst, Some, length, get_or, arith}
+use Rattle.std.proofs.Common.{◌≡◌, ◌<◌, ◌≤◌, ◌++◌, ◌∷◌, [], ◌∙◌, ap, ap₂, sym, subst, Some, length, get_or, arith}
 use Rattle.std.specs.Option.{option_copied_mut}
 use Rattle.std.specs.Prelude.{vec_len, vec_capacity, IsOk}
 use Rattle.std.proofs.lemmas.Bool.{cond-true}
+use Rattle.std.proofs.lemmas.List.{length_push}
 use Rattle.prefix.specs.declared.quant.Quant.TheVariants.{Exists}
 use Rattle.calculus.specs.Derivations.Why.{ReducedFrom}
 use Rattle.derive.specs.State.{Note, Notes}
@@ -31,11 +32,11 @@ here c = sym c.as_mut.ensures.value ∙ ap option_copied_mut c.unwrap.ensures
 -- a frame without a place has one now
 wide : (c : goal.After-push-2) → BelongTogether c.self.inside.notes.items c.self.inside.rows c.widen.new.frames_from.items c.self.inside.cubes_from c.self.inside.finishes_from
 wide c =
-    let len : c.len.result ≡ length c.self.inside.notes.items = c.len.ensures ∙ c.reserve.new.self.ok.0 ∙ ap (λ (ns : Notes). length ns) c.reserve.ensures.items in
-    kept_widened _ _ _ _ _ _ (λ f. subst (λ n. get_or c.widen.new.frames_from.items f n ≡ get_or c.self.inside.frames_from.items f n) len (c.widen.ensures.same f)) c.self.invariant
+    let len : c.len-2.result ≡ length c.self.inside.notes.items = c.len-2.ensures ∙ c.reserve.new.self.ok.0 ∙ ap (λ (ns : Notes). length ns) c.reserve.ensures.items in
+    kept_widened _ _ _ _ _ _ (λ f. subst (λ n. get_or c.widen.new.frames_from.items f n ≡ get_or c.self.inside.frames_from.items f n) len (c.widen.ensures.same f)) c.self.invariant.0
 
 first_is : (c : goal.After-push-2) → c.in_ok-first.first ≡ length c.self.inside.notes.items
-first_is c = c.in_ok-first.ensures.ids.0 ∙ (c.self.invariant.fits c.unwrap.result.now (here c)).same_next
+first_is c = c.in_ok-first.ensures.ids.0 ∙ (c.self.invariant.0.fits c.unwrap.result.now (here c)).same_next
 
 pushed : (c : goal.After-push-2) → c.push-2.new.self.items ≡ (c.self.inside.notes.items ++ Some (clause_note c.args.frame) ∷ []) ++ Some (record { side = Exists; why = ReducedFrom (length c.self.inside.notes.items); tag = c.args.frame }) ∷ []
 pushed c =
@@ -44,11 +45,22 @@ pushed c =
     (c.push.ensures.items ∙ cond-true _ _ _ (first_fits c) ∙ ap₂ (λ (notes : Notes) (note : Note). notes ++ Some note ∷ []) c.reserve.ensures.items c.new-input.ensures)
     (c.new-reduction.ensures ∙ ap (λ k. record { side = Exists; why = ReducedFrom k; tag = c.args.frame }) (first_is c))
 
+marked : (c : goal.After-push-2) → length c.push-2.new.self.items ≤ length c.widen_marks.new.marks.items
+marked c =
+    let n = ap length (pushed c) in
+    let l = length_push c.self.inside.notes.items (Some (clause_note c.args.frame)) in
+    let l2 = length_push (c.self.inside.notes.items ++ Some (clause_note c.args.frame) ∷ []) (Some (record { side = Exists; why = ReducedFrom (length c.self.inside.notes.items); tag = c.args.frame })) in
+    let h = c.in_ok-widen_marks.ensures.ok in
+    let e = c.len.ensures in
+    let k = c.reserve.new.self.ok.0 in
+    let s = ap length c.reserve.ensures.items in
+    omega arith
+
 pub invariant_of-self-2 : goal.invariant_of-self-2
-invariant_of-self-2 c = kept_both c.self.inside.notes.items _ _ _ _ c.args.frame c.args.lits.now c.args.row.now _ _ _ c.in_ok-widen.ensures.ok (here c) (pushed c) c.in_ok-first.ensures.arena (wide c)
+invariant_of-self-2 c = (kept_both c.self.inside.notes.items _ _ _ _ c.args.frame c.args.lits.now c.args.row.now _ _ _ c.in_ok-widen.ensures.ok (here c) (pushed c) c.in_ok-first.ensures.arena (wide c), marked c)
 
 pub returns-clause-ok : goal.returns-clause-ok
 returns-clause-ok c = adds_both _ _ _ _ _ _ c.args.frame c.args.lits.now c.args.row.now _ _ _ _ _ c.in_ok-widen.ensures.ok c.self.view_is (here c) (pushed c) c.in_ok-first.ensures.arena c.in_ok-first.ensures.ids.0 c.in_ok-first.ensures.ids.1 (wide c)
 
 pub returns-clause-unlinked : goal.returns-clause-unlinked
-returns-clause-unlinked c = pair_unlinked _ c.self.inside.notes.items c.push-2.new.self.items c.self.inside.rows _ _ c.args.lits.now c.args.row.now c.self.view_is (here c) c.in_ok-first.ensures.arena (c.self.invariant.fits c.unwrap.result.now (here c))
+returns-clause-unlinked c = pair_unlinked _ c.self.inside.notes.items c.push-2.new.self.items c.self.inside.rows _ _ c.args.lits.now c.args.row.now c.self.view_is (here c) c.in_ok-first.ensures.arena (c.self.invariant.0.fits c.unwrap.result.now (here c))

@@ -12,7 +12,7 @@ pub returns-clause-clauses : goal.returns-clause-clauses
 returns-clause-clauses c = ap clauses_of c.self.view_is ∙ clauses_same _ _ _ c.drop_all-2.ensures.drops (λ clause. refl)
 
 pub invariant_of-self : goal.invariant_of-self
-invariant_of-self c = kept_cubes _ _ _ _ _ _ _ _ c.drop_all-2.ensures.drops c.self.view_is (c.len-self-inside.ensures ∙ c.self.inside.notes.ok.0) c.self.invariant
+invariant_of-self c = (kept_cubes _ _ _ _ _ _ _ _ c.drop_all-2.ensures.drops c.self.view_is (c.len-self-inside.ensures ∙ c.self.inside.notes.ok.0) c.self.invariant.0, c.self.invariant.1)
 
 pub returns-clause-kept : goal.returns-clause-kept
 returns-clause-kept c id note there side = ap (λ (d : State). note_at d id) c.self.view_is ∙ clause_side_stays _ _ c.drop_all-2.ensures.supported c.drop_all-2.ensures.drops id note there side

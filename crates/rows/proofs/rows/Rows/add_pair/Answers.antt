@@ -1,34 +1,59 @@
-use Rattle.std.proofs.Common.{◌≡◌, ◌<◌, ◌++◌, [], ◌∷◌, ◌∙◌, ap, Some, arith}
-use Rattle.std.specs.Prelude.{vec_len, vec_capacity, IsOk}
-use Rattle.std.specs.Option.{option_map}
-use Rattle.std.proofs.lemmas.Bool.{cond-true}
-use Rattle.std.proofs.lemmas.List.{map_push}
+use Rattle.std.proofs.Common.{◌≡◌, ◌+◌, ◌-◌, ◌≤◌, ℕ, List, [], ◌∷◌, ◌++◌, length, Option, Some, None, ap, ap₂, sym, subst, ◌∙◌, arith}
+use Rattle.std.specs.Prelude.{vec_len, vec_capacity}
+use Rattle.prefix.specs.Literal.{Literal}
+use Rattle.rows.specs.declared.places.Place.{Place}
+use Rattle.rows.specs.declared.blocks.Block.{Block}
 use Rattle.rows.specs.Arena.{Arena, with_row}
-use Rattle.rows.specs.Stored.{stored, arena_of}
+use Rattle.rows.specs.Stored.{AreStored, arena_of}
+use Rattle.rows.proofs.Arenas.{arena_put}
+use Rattle.rows.proofs.Storing.{blocks_few, stored_put}
 use Rattle.rows.proofs.rows.Rows.add_pair.Goals as goal
 
-first_fits : (c : goal.Joined-push-3) → IsOk c.push.result
-first_fits c =
-    let room = c.in_ok-reserve.ensures.ok in
-    let has : vec_len c.reserve.new.self < vec_capacity c.reserve.new.self = omega arith in
-    c.push.ensures.succeeds has
+pub overflow_sub-self-inside : goal.overflow_sub-self-inside
+overflow_sub-self-inside c =
+    let few = blocks_few (length c.self.inside.lits.items) c.self.inside.places.items c.self.inside.blocks.items c.self.inside.live (vec_capacity c.self.inside.blocks) c.self.invariant in
+    let is = c.len.ensures in
+    let ok = c.self.inside.blocks.ok.0 in
+    omega arith
 
-second_fits : (c : goal.Joined-push-3) → IsOk c.push-2.result
-second_fits c =
-    let room = c.in_ok-reserve.ensures.ok in
-    let more = c.push.ensures.upper_bound in
-    let same = c.push.ensures.capacity in
-    let has : vec_len c.push.new.self < vec_capacity c.push.new.self = omega arith in
-    c.push-2.ensures.succeeds has
+pub invariant_of-self-2 : goal.invariant_of-self-2
+invariant_of-self-2 c =
+    let lits = c.self.inside.lits.items in
+    let places = c.self.inside.places.items in
+    let first = c.args.first.now in
+    let second = c.args.second.now in
+    let e1 : c.put.new.all.items ≡ lits ++ first = c.put.ensures.lits ∙ ap (λ (ls : List Literal). ls ++ first) c.reserve-3.ensures.items in
+    let e2 : c.put.new.places.items ≡ places ++ Some (record { start = length lits; len = length first; block = None }) ∷ [] = c.put.ensures.places ∙ ap₂ (λ (ps : List (Option Place)) (ls : List Literal). ps ++ Some (record { start = length ls; len = length first; block = None }) ∷ []) c.reserve.ensures.items c.reserve-3.ensures.items in
+    let few = blocks_few (length lits) places c.self.inside.blocks.items c.self.inside.live (vec_capacity c.self.inside.blocks) c.self.invariant in
+    let is = c.len.ensures in
+    let ok = c.self.inside.blocks.ok.0 in
+    let same = c.reserve-2.ensures.len in
+    let room = c.in_ok-reserve-2.ensures.ok in
+    let fits : (c.self.inside.live + 1) + 1 ≤ vec_capacity c.reserve-2.new.self = omega arith in
+    let fits_one : c.self.inside.live + 1 ≤ vec_capacity c.reserve-2.new.self = omega arith in
+    let two : (c.self.inside.live + 1) + 1 ≡ c.self.inside.live + 2 = omega arith in
+    let one = stored_put lits first c.put.new.all.items places c.put.new.places.items c.self.inside.blocks.items c.self.inside.live (vec_capacity c.self.inside.blocks) (vec_capacity c.reserve-2.new.self) e1 e2 c.self.invariant fits_one in
+    let both = stored_put c.put.new.all.items second c.put-2.new.all.items c.put.new.places.items c.put-2.new.places.items c.self.inside.blocks.items (c.self.inside.live + 1) (vec_capacity c.reserve-2.new.self) (vec_capacity c.reserve-2.new.self) c.put-2.ensures.lits c.put-2.ensures.places one fits in
+    let P : List Block → Type 0 = λ bs. AreStored (length c.put-2.new.all.items) c.put-2.new.places.items bs ((c.self.inside.live + 1) + 1) (vec_capacity c.reserve-2.new.self) in
+    let Q : ℕ → Type 0 = λ n. AreStored (length c.put-2.new.all.items) c.put-2.new.places.items c.reserve-2.new.self.items n (vec_capacity c.reserve-2.new.self) in
+    subst Q two (subst P (sym c.reserve-2.ensures.items) both)
 
 pub returns-clause-arena : goal.returns-clause-arena
 returns-clause-arena c =
-    let with_first : arena_of c.push.new.self.items ≡ with_row c.args.self.now c.args.first.now =
-    ap arena_of (c.push.ensures.items ∙ cond-true _ _ _ (first_fits c) ∙ ap (λ rows. rows ++ Some c.in_ok-first.first ∷ []) c.reserve.ensures.items)
-    ∙ map_push (option_map stored) _ _
-    ∙ ap (λ row. arena_of c.self.inside.rows.items ++ Some row ∷ []) c.in_ok-first.ensures
-    ∙ ap (λ (a : Arena). with_row a c.args.first.now) c.self.view_is in
-    ap arena_of (c.push-2.ensures.items ∙ cond-true _ _ _ (second_fits c))
-    ∙ map_push (option_map stored) _ _
-    ∙ ap (λ row. arena_of c.push.new.self.items ++ Some row ∷ []) c.in_ok-second.ensures
-    ∙ ap (λ (a : Arena). with_row a c.args.second.now) with_first
+    let lits = c.self.inside.lits.items in
+    let places = c.self.inside.places.items in
+    let blocks = c.self.inside.blocks.items in
+    let first = c.args.first.now in
+    let second = c.args.second.now in
+    let e1 : c.put.new.all.items ≡ lits ++ first = c.put.ensures.lits ∙ ap (λ (ls : List Literal). ls ++ first) c.reserve-3.ensures.items in
+    let e2 : c.put.new.places.items ≡ places ++ Some (record { start = length lits; len = length first; block = None }) ∷ [] = c.put.ensures.places ∙ ap₂ (λ (ps : List (Option Place)) (ls : List Literal). ps ++ Some (record { start = length ls; len = length first; block = None }) ∷ []) c.reserve.ensures.items c.reserve-3.ensures.items in
+    let few = blocks_few (length lits) places blocks c.self.inside.live (vec_capacity c.self.inside.blocks) c.self.invariant in
+    let is = c.len.ensures in
+    let ok = c.self.inside.blocks.ok.0 in
+    let same = c.reserve-2.ensures.len in
+    let room = c.in_ok-reserve-2.ensures.ok in
+    let fits_one : c.self.inside.live + 1 ≤ vec_capacity c.reserve-2.new.self = omega arith in
+    let one = stored_put lits first c.put.new.all.items places c.put.new.places.items blocks c.self.inside.live (vec_capacity c.self.inside.blocks) (vec_capacity c.reserve-2.new.self) e1 e2 c.self.invariant fits_one in
+    ap (λ (bs : List Block). arena_of c.put-2.new.all.items bs c.put-2.new.places.items) c.reserve-2.ensures.items
+    ∙ arena_put c.put.new.all.items second c.put-2.new.all.items blocks c.put.new.places.items c.put-2.new.places.items c.put-2.ensures.lits c.put-2.ensures.places one.spread
+    ∙ ap (λ (a : Arena). with_row a second) (arena_put lits first c.put.new.all.items blocks places c.put.new.places.items e1 e2 c.self.invariant.spread ∙ ap (λ (a : Arena). with_row a first) c.self.view_is)

@@ -1,0 +1,15 @@
+use Rattle.std.proofs.Common.{◌<◌, length, arith, ◌∙◌}
+use Rattle.std.specs.Prelude.{vec_len, vec_capacity}
+use Rattle.std.proofs.lemmas.Bool.{cond-true}
+use Rattle.rows.specs.Places.{blocks_of}
+use Rattle.rows.proofs.Blocking.{count_less}
+use Rattle.rows.proofs.blocks.give_block.Goals as goal
+
+pub returns-clause-blocks : goal.returns-clause-blocks
+returns-clause-blocks c =
+    let fewer = count_less (blocks_of c.args.places.now.items) c.args.id c.requires.live in
+    let count = c.requires.blocks.counted in
+    let room = c.requires.room in
+    let len = c.args.blocks.now.ok.0 in
+    let has : vec_len c.args.blocks.now < vec_capacity c.args.blocks.now = omega arith in
+    c.push.ensures.items ∙ cond-true _ _ _ (c.push.ensures.succeeds has)

@@ -1,0 +1,47 @@
+-- Where rows stand.
+use Rattle.std.specs.Prelude.{◌≡◌, ℕ, ◌+◌, ◌<◌, ◌≤◌, List, [], length, map, take, drop, Option, None, Some, is_some, slice_index_or}
+use Rattle.std.specs.Option.{option_map}
+use Rattle.prefix.specs.Literal.{Literal}
+use Rattle.rows.specs.declared.places.Place.{Place}
+
+-- where the row under an id stands, if it is live
+abbrev pub place_at : List (Option Place) → ℕ → Option Place
+place_at places id = slice_index_or places id None
+
+-- the literals that stand at a place
+abbrev pub part : List Literal → Place → List Literal
+part literals place = take place.len (drop place.start literals)
+
+-- the same of a row that may not be live
+abbrev pub part_in : List Literal → Option Place → List Literal
+part_in literals None = []
+part_in literals (Some place) = part literals place
+
+-- the block of each live row, which it may not have
+abbrev pub blocks_of : List (Option Place) → List (Option (Option ℕ))
+blocks_of places = map (option_map (λ (p : Place). p.block)) places
+
+-- the rows stand within so many literals, one behind the other in the order of their ids
+pub record AreSpread (size : ℕ) (places : List (Option Place)) : Type 0 where
+  pub within : (i : ℕ) (p : Place) → place_at places i ≡ Some p → p.start + p.len ≤ size
+  pub apart : (i j : ℕ) (p q : Place) → i < j → place_at places i ≡ Some p → place_at places j ≡ Some q
+      → p.start + p.len ≤ q.start
+
+-- the rows before an id stand before a place, the others from it on
+pub record AreMoving (size : ℕ) (places : List (Option Place)) (id to : ℕ) : Type 0 where
+  pub spread : AreSpread size places
+  pub below : (i : ℕ) (p : Place) → i < id → place_at places i ≡ Some p → p.start + p.len ≤ to
+  pub above : (i : ℕ) (p : Place) → id ≤ i → place_at places i ≡ Some p → to ≤ p.start
+  pub fits : to ≤ size
+
+-- the same ids are live with the same literals and blocks
+pub record KeepsParts (old : List Literal) (old_places : List (Option Place)) (new : List Literal)
+    (new_places : List (Option Place)) : Type 0 where
+  pub parts : (i : ℕ) → part_in new (place_at new_places i) ≡ part_in old (place_at old_places i)
+  pub blocks : blocks_of new_places ≡ blocks_of old_places
+
+-- rows stand where they stood, and may have other blocks
+pub record Reblocks (old new : List (Option Place)) : Type 0 where
+  pub count : length new ≡ length old
+  pub same : (i : ℕ) (p q : Place) → place_at old i ≡ Some p → place_at new i ≡ Some q → (q.start ≡ p.start) × (q.len ≡ p.len)
+  pub live : (i : ℕ) → is_some (place_at new i) ≡ is_some (place_at old i)

@@ -1,0 +1,116 @@
+//! Blocks of link fields, for the rows that have links.
+ghost use Rattle.std.specs.Prelude.{◌≡◌, ◌≢◌, ℕ, ◌+◌, ◌<◌, ◌≤◌, ◌∷◌, ◌++◌, [], None, Option, Some, IsTrue, is_some, count_by, length, replicate, slice_index_or, slice_set, vec_len, vec_capacity};
+ghost use Rattle.rows.specs.Places.{AreSpread, Reblocks, blocks_of, place_at};
+ghost use Rattle.rows.specs.Blocks.{AreBlocks, LosesBlock, block_at, block_in, has_block, links_in};
+
+use super::places::{Place, place_of, set_block};
+use super::rows::RowId;
+
+// How many link fields a row has.
+const LINKS: usize = 8;
+
+// The link fields of a row.
+#[derive(Clone, Copy, Debug)]
+pub(crate) struct Block {
+    owner: RowId,
+    links: [Option<usize>; LINKS],
+}
+
+impl Block {
+    // Writes a link field.
+    fn set(&mut self, k: usize, value: Option<usize>)
+        requires { k < 8 }
+        ensures links { self.new ≡ record { owner = self.old.owner; links = slice_set self.old.links k value } }
+        ensures eight { length self.old.links ≡ 8 }
+    {
+        self.links[k] = value;
+    }
+}
+
+// Reads a link field of a row with this block, if it has one.
+pub(crate) fn read(blocks: &Vec<Block>, block: Option<usize>, k: usize) -> Option<usize>
+    requires field { k < 8 }
+    requires block { (b : ℕ) → block ≡ Some b → b < length blocks.now.items }
+    ensures { result ≡ slice_index_or (links_in blocks.now.items block) k None }
+{
+    match block {
+        None => None,
+        Some(block) => blocks[block].links[k],
+    }
+}
+
+// Writes a link field of a block.
+pub(crate) fn write(blocks: &mut Vec<Block>, block: usize, k: usize, value: Option<usize>)
+    requires field { k < 8 }
+    requires block { block < length blocks.old.items }
+    ensures items { blocks.new.items ≡ slice_set blocks.old.items block (record {
+      owner = (block_at blocks.old.items block).owner;
+      links = slice_set (block_at blocks.old.items block).links k value;
+    }) }
+    ensures room { vec_capacity blocks.new ≡ vec_capacity blocks.old }
+    ensures eight { length (block_at blocks.old.items block).links ≡ 8 }
+{
+    blocks[block].set(k, value);
+}
+
+// The block of a live row. Where it has none it gets one, for which there is room.
+pub(crate) fn block_for(places: &mut Vec<Option<Place>>, blocks: &mut Vec<Block>, id: RowId) -> usize
+    requires live { IsTrue (is_some (place_at places.old.items id)) }
+    requires blocks { AreBlocks (blocks_of places.old.items) blocks.old.items }
+    requires room { count_by is_some (blocks_of places.old.items) ≤ vec_capacity blocks.old }
+    ensures block { block_in (blocks_of places.new.items) id ≡ Some (Some result) }
+    ensures blocks { AreBlocks (blocks_of places.new.items) blocks.new.items }
+    ensures same { Reblocks places.old.items places.new.items }
+    ensures live { count_by is_some (blocks_of places.new.items) ≡ count_by is_some (blocks_of places.old.items) }
+    ensures links { (i : ℕ) (b c : Option ℕ) → block_in (blocks_of places.old.items) i ≡ Some b →
+        block_in (blocks_of places.new.items) i ≡ Some c → links_in blocks.new.items c ≡ links_in blocks.old.items b }
+    ensures room { vec_capacity blocks.old ≤ vec_capacity blocks.new }
+{
+    match place_of(places, id).block {
+        Some(block) => block,
+        None => give_block(places, blocks, id),
+    }
+}
+
+// Gives a row that has none a block, for which there is room.
+fn give_block(places: &mut Vec<Option<Place>>, blocks: &mut Vec<Block>, id: RowId) -> usize
+    requires live { block_in (blocks_of places.old.items) id ≡ Some None }
+    requires blocks { AreBlocks (blocks_of places.old.items) blocks.old.items }
+    requires room { count_by is_some (blocks_of places.old.items) ≤ vec_capacity blocks.old }
+    ensures result { result ≡ length blocks.old.items }
+    ensures block { blocks_of places.new.items ≡ slice_set (blocks_of places.old.items) id (Some (Some result)) }
+    ensures blocks { blocks.new.items ≡ blocks.old.items ++ (record { owner = id; links = replicate 8 None }) ∷ [] }
+    ensures same { Reblocks places.old.items places.new.items }
+    ensures room { vec_capacity blocks.old ≤ vec_capacity blocks.new }
+{
+    let block = blocks.len();
+    // There is room for it.
+    let _ = blocks.push(Block {
+        owner: id,
+        links: [None; LINKS],
+    });
+    set_block(places, id, Some(block));
+    block
+}
+
+// Takes a live row out. Where it has a block, the last block comes into its place.
+pub(crate) fn forget(places: &mut Vec<Option<Place>>, blocks: &mut Vec<Block>, id: RowId)
+    requires live { IsTrue (is_some (place_at places.old.items id)) }
+    requires blocks { AreBlocks (blocks_of places.old.items) blocks.old.items }
+    ensures loses { LosesBlock (blocks_of places.old.items) blocks.old.items (blocks_of places.new.items)
+        blocks.new.items id }
+    ensures same { Reblocks (slice_set places.old.items id None) places.new.items }
+    ensures live { count_by is_some (blocks_of places.new.items) + 1 ≡ count_by is_some (blocks_of places.old.items) }
+    ensures room { vec_capacity blocks.new ≡ vec_capacity blocks.old }
+{
+    let place = place_of(places, id);
+    places[id] = None;
+    let Some(block) = place.block else {
+        return;
+    };
+    let _ = blocks.swap_remove(block);
+    if block < blocks.len() {
+        let owner = blocks[block].owner;
+        set_block(places, owner, Some(block));
+    }
+}

@@ -1,0 +1,99 @@
+//! Where rows stand.
+ghost use Rattle.std.specs.Prelude.{◌≡◌, ◌+◌, ◌<◌, ◌≤◌, ◌∷◌, ◌++◌, [], None, Some, IsTrue, is_some, length, slice_set, vec_len, vec_capacity};
+ghost use Rattle.rows.specs.Places.{AreMoving, AreSpread, KeepsParts, Reblocks, blocks_of, place_at};
+
+use super::rows::RowId;
+use prefix::Lit;
+
+// Where the literals of a row stand, and which block of link fields it has, if it has one.
+#[derive(Clone, Copy, Debug)]
+pub(crate) struct Place {
+    pub start: usize,
+    pub len: usize,
+    pub block: Option<usize>,
+}
+
+// The place of a live row.
+pub(crate) fn place_of(places: &Vec<Option<Place>>, id: RowId) -> Place
+    requires { IsTrue (is_some (place_at places.now.items id)) }
+    ensures { place_at places.now.items id ≡ Some result }
+{
+    match places[id] {
+        Some(place) => place,
+        None => unreachable!(),
+    }
+}
+
+// Gives a row another block, or none.
+pub(crate) fn set_block(places: &mut Vec<Option<Place>>, id: RowId, block: Option<usize>)
+    requires { IsTrue (is_some (place_at places.old.items id)) }
+    ensures blocks { blocks_of places.new.items ≡ slice_set (blocks_of places.old.items) id (Some block) }
+    ensures same { Reblocks places.old.items places.new.items }
+{
+    let place = place_of(places, id);
+    places[id] = Some(Place { block, ..place });
+}
+
+// Puts a row in behind all others, where there is room for it.
+pub(crate) fn put(all: &mut Vec<Lit>, places: &mut Vec<Option<Place>>, lits: &[Lit])
+    requires lits { length all.old.items + length lits.now ≤ vec_capacity all.old }
+    requires place { vec_len places.old < vec_capacity places.old }
+    ensures lits { all.new.items ≡ all.old.items ++ lits.now }
+    ensures places { places.new.items ≡ places.old.items
+        ++ Some (record { start = length all.old.items; len = length lits.now; block = None }) ∷ [] }
+    ensures room { vec_capacity all.old ≤ vec_capacity all.new }
+    ensures spots { vec_capacity places.old ≤ vec_capacity places.new }
+{
+    let place = Place {
+        start: all.len(),
+        len: lits.len(),
+        block: None,
+    };
+    // There is room for both.
+    let _ = all.extend_from_slice(lits);
+    let _ = places.push(Some(place));
+}
+
+// Moves the literals of all rows together, down to the front.
+pub(crate) fn slide(lits: &mut Vec<Lit>, places: &mut Vec<Option<Place>>)
+    requires { AreSpread (length lits.old.items) places.old.items }
+    ensures spread { AreSpread (length lits.new.items) places.new.items }
+    ensures kept { KeepsParts lits.old.items places.old.items lits.new.items places.new.items }
+{
+    let mut to = 0;
+    for id in 0..places.len() {
+        to = settle(lits, places, id, to);
+    }
+    lits.truncate(to);
+}
+
+// Moves the literals of a row, if it is live, down to a place that no row before it reaches, and answers the place
+// behind them.
+fn settle(lits: &mut Vec<Lit>, places: &mut Vec<Option<Place>>, id: RowId, to: usize) -> usize
+    requires given { id < length places.old.items }
+    requires moving { AreMoving (length lits.old.items) places.old.items id to }
+    ensures moving { AreMoving (length lits.new.items) places.new.items (id + 1) result }
+    ensures kept { KeepsParts lits.old.items places.old.items lits.new.items places.new.items }
+{
+    match places[id] {
+        None => to,
+        Some(place) => {
+            move_down(lits, places, id, place, to);
+            to + place.len
+        }
+    }
+}
+
+// Moves the literals of a row down.
+fn move_down(lits: &mut Vec<Lit>, places: &mut Vec<Option<Place>>, id: RowId, place: Place, to: usize)
+    requires place { place_at places.old.items id ≡ Some place }
+    requires moving { AreMoving (length lits.old.items) places.old.items id to }
+    ensures moving { AreMoving (length lits.new.items) places.new.items (id + 1) (to + place.len) }
+    ensures kept { KeepsParts lits.old.items places.old.items lits.new.items places.new.items }
+{
+    if to == place.start {
+        return;
+    }
+    lits.copy_within(place.start..place.start + place.len, to);
+    places[id] = Some(Place { start: to, ..place });
+}
