@@ -1,7 +1,7 @@
 -- The laws of the weight of a trail.
 use Rattle.std.proofs.Common.{◌≡◌, ℕ, suc, zero, ◌+◌, ◌-◌, ◌*◌, ◌^◌, ◌<◌, ◌≤◌, Bool, true, false, List, [], ◌∷◌, ◌++◌, length, arith, length-append, pow_pos, pow-suc, add-one}
 use Rattle.calculus.specs.Weights.{Search, trail_weight}
-use Rattle.calculus.specs.Weights.Search.{starts, assigns, turns}
+use Rattle.calculus.specs.Weights.Search.{starts, assigns, turns, begins_anew}
 use Rattle.std.proofs.lemmas.List.{length-map}
 use Rattle.prefix.specs.Scopes.{Scope, all_variables}
 use Rattle.calculus.specs.Search.{Placed, Trail, IsOrderedTrail, decisions_on, is_decision}
@@ -50,23 +50,34 @@ weight_turns n (d ∷ front) back fits =
     let later : trail_weight (n - 1) (front ++ true ∷ back) < trail_weight (n - 1) (front ++ false ∷ []) = weight_turns (n - 1) front back (omega arith) in
     omega (arith, later)
 
-search_fits : {n : ℕ} {trail : List Bool} {assigned : ℕ} → Search n trail assigned → length trail ≤ n
+search_fits : {n restarts : ℕ} {trail : List Bool} {assigned : ℕ} → Search n restarts trail assigned → length trail ≤ n
 search_fits starts = omega arith
 search_fits {n} (assigns {trail} s d below) = simp length-append (omega arith)
 search_fits {n} (turns front back s) = let h = search_fits s in let all : length (front ++ true ∷ back) ≡ length front + suc (length back) = length-append front (true ∷ back) in simp length-append (omega arith)
+search_fits {n} (begins_anew front back s) = let h = search_fits s in let all : length (front ++ back) ≡ length front + length back = length-append front back in omega arith
 
-search_weight : {n : ℕ} {trail : List Bool} {assigned : ℕ} → Search n trail assigned → assigned ≤ trail_weight n trail
+one_round : (restarts size : ℕ) → suc restarts * size ≡ restarts * size + size
+one_round restarts size = omega arith
+
+-- each round adds at most its greatest weight
+search_weight : {n restarts : ℕ} {trail : List Bool} {assigned : ℕ} → Search n restarts trail assigned → assigned ≤ restarts * 2 ^ suc n + trail_weight n trail
 search_weight starts = omega arith
-search_weight {n} (assigns {trail} {assigned} s d below) = let h : assigned ≤ trail_weight n trail = search_weight s in let r : trail_weight n trail < trail_weight n (trail ++ d ∷ []) = weight_rises n trail d in omega arith
-search_weight {n} (turns {assigned} front back s) = let h : assigned ≤ trail_weight n (front ++ true ∷ back) = search_weight s in let r : trail_weight n (front ++ true ∷ back) < trail_weight n (front ++ false ∷ []) = weight_turns n front back (search_fits s) in omega arith
+search_weight {n} {restarts} (assigns {trail} {assigned} s d below) = let h : assigned ≤ restarts * 2 ^ suc n + trail_weight n trail = search_weight s in let r : trail_weight n trail < trail_weight n (trail ++ d ∷ []) = weight_rises n trail d in omega arith
+search_weight {n} {restarts} (turns {assigned} front back s) = let h : assigned ≤ restarts * 2 ^ suc n + trail_weight n (front ++ true ∷ back) = search_weight s in let r : trail_weight n (front ++ true ∷ back) < trail_weight n (front ++ false ∷ []) = weight_turns n front back (search_fits s) in omega arith
+search_weight {n} (begins_anew {restarts} {assigned} front back s) =
+    let h : assigned ≤ restarts * 2 ^ suc n + trail_weight n (front ++ back) = search_weight s in
+    let b : trail_weight n (front ++ back) + 2 ≤ 2 ^ suc n = weight_below n (front ++ back) (search_fits s) in
+    let e = one_round restarts (2 ^ suc n) in
+    rw e (omega arith)
 
--- a search makes fewer than 2 ^ (n + 1) assignments
-pub search_bound : (n : ℕ) (trail : List Bool) (assigned : ℕ) → Search n trail assigned → assigned + 1 < 2 ^ (n + 1)
-search_bound n trail assigned s =
-    let a : assigned ≤ trail_weight n trail = search_weight s in
+-- a search makes fewer than 2 ^ (n + 1) assignments a round
+pub search_bound : (n restarts : ℕ) (trail : List Bool) (assigned : ℕ) → Search n restarts trail assigned → assigned + 1 < (restarts + 1) * 2 ^ (n + 1)
+search_bound n restarts trail assigned s =
+    let a : assigned ≤ restarts * 2 ^ suc n + trail_weight n trail = search_weight s in
     let b : trail_weight n trail + 2 ≤ 2 ^ suc n = weight_below n trail (search_fits s) in
     let e : n + 1 ≡ suc n = omega arith in
-    rw e (omega arith)
+    let f : restarts + 1 ≡ suc restarts = omega arith in
+    rw (e, f, one_round restarts (2 ^ suc n)) (omega arith)
 
 -- the weight of an ordered trail
 pub light_trail : (scopes : List Scope) (trail : Trail) → IsOrderedTrail scopes trail → trail_weight (length (all_variables scopes)) (decisions_on trail) + 2 ≤ 2 ^ (length (all_variables scopes) + 1)

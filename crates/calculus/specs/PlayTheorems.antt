@@ -68,6 +68,6 @@ GatesAreFew = (pivot : Quant) (scopes : List Scope) (clauses : List Row) (assump
 -- So with few removals a proof's gates are within the weight bound.
 abbrev pub GatesAreBounded : Type 0
 GatesAreBounded = (pivot : Quant) (scopes : List Scope) (clauses : List Row) (assumptions : List Literal)
-    (steps : List Inference) (accepted solves budget n : ℕ) → IsProof pivot scopes clauses assumptions steps
-    → length (all_variables scopes) ≤ n → removals_of steps ≤ removal_bound accepted solves budget n
-    → gate_weight steps ≤ weight_bound accepted solves budget n
+    (steps : List Inference) (accepted solves budget restarts n : ℕ) → IsProof pivot scopes clauses assumptions steps
+    → length (all_variables scopes) ≤ n → removals_of steps ≤ removal_bound accepted solves budget restarts n
+    → gate_weight steps ≤ weight_bound accepted solves budget restarts n

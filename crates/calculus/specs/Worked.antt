@@ -10,7 +10,7 @@ use Rattle.calculus.specs.Derivations.Reason.{Input, One, Two}
 use Rattle.calculus.specs.Verdicts.{IsProof, relevant_of, finish_steps}
 use Rattle.calculus.specs.Plays.{played, first_forced, total}
 use Rattle.steps.specs.Counter.{step_limit}
-use Rattle.calculus.specs.Limits.{assignment_limit, restarted_step_limit, gate_weight, removal_bound, weight_bound}
+use Rattle.calculus.specs.Limits.{assignment_limit, gate_weight, propagation_limit, removal_bound, weight_bound}
 use Rattle.calculus.specs.Weights.{trail_weight}
 use Rattle.truth.specs.Matrix.{matrix_true}
 
@@ -178,13 +178,15 @@ pub record WorkedUnused : Type 0 where
 -- limits for up to four variables; the removals of 3 clauses and 2 solves over one variable, with a budget below its
 -- step limit and one above; and the gates of the first
 pub record WorkedLimits : Type 0 where
-  pub one : step_limit 1 ≡ 32
-  pub two : step_limit 2 ≡ 96
-  pub three : step_limit 3 ≡ 256
-  pub four : step_limit 4 ≡ 640
+  pub one : step_limit 0 1 ≡ 64
+  pub two : step_limit 0 2 ≡ 192
+  pub three : step_limit 0 3 ≡ 512
+  pub four : step_limit 0 4 ≡ 1280
+  pub twice_anew : step_limit 2 4 ≡ 3840
+  pub propagation : propagation_limit 3 ≡ 36
   pub assigned : assignment_limit 0 3 ≡ 16
   pub assigned_twice_anew : assignment_limit 2 3 ≡ 48
-  pub once_anew : restarted_step_limit 1 2 ≡ 192
-  pub removals : removal_bound 3 2 5 1 ≡ 16
-  pub capped : removal_bound 3 2 50 1 ≡ 70
-  pub weight : weight_bound 3 2 5 1 ≡ 32
+  pub removals : removal_bound 3 2 5 0 1 ≡ 16
+  pub capped : removal_bound 3 2 100 0 1 ≡ 134
+  pub uncapped : removal_bound 3 2 100 1 1 ≡ 206
+  pub weight : weight_bound 3 2 5 0 1 ≡ 32

@@ -7,17 +7,18 @@ pub fn weight_laws()
     ensures { WeightLaws }
 {}
 
-/// A search over n variables makes fewer assignments than the assignment limit, also where it begins anew.
+/// A search over n variables makes fewer assignments than the assignment limit of as often as it began anew.
 pub fn searches_end()
     ensures { SearchesEnd }
 {}
 
-/// With at most n resolutions to clean each reason, and 2 n for each lesson, the steps are few.
+/// With at most n resolutions to clean each reason, and 2 n for each lesson, and a reduction for each of these and for
+/// an initial cube, the steps are few.
 pub fn steps_are_few()
     ensures { StepsAreFew }
 {}
 
-/// So with few assignments the steps stay below the step limit, and below that of so many restarts.
+/// So with few assignments the steps stay below the step limit.
 pub fn limits_suffice()
     ensures { LimitsSuffice }
 {}

@@ -21,7 +21,7 @@ use Rattle.clean.specs.Reasons.{HaveReasons}
 use Rattle.clean.specs.Turns.{Resolves, StopsAfter}
 use Rattle.clean.proofs.Framing.{frames_less}
 use Rattle.clean.proofs.Fronts.{place_some}
-use Rattle.clean.proofs.Keeping.{after_more, after_none, resolves_more, resolves_none}
+use Rattle.clean.proofs.Keeping.{after_both, after_more, after_none, resolves_more, resolves_none}
 use Rattle.clean.proofs.Moving.{caused, marked_own, marks_more, places, same_literals}
 
 -- marks, one after the other
@@ -33,6 +33,7 @@ marks_none t = record {
   long = refl;
   finished = refl;
   assigned = refl;
+  restarts = refl;
   room = refl;
   allowed = refl;
   stay = λ x on. (on, refl);
@@ -51,6 +52,7 @@ marks_twice a b c m n first second = record {
   long = second.long ∙ first.long;
   finished = second.finished ∙ first.finished;
   assigned = second.assigned ∙ first.assigned;
+  restarts = second.restarts ∙ first.restarts;
   room = second.room ∙ first.room;
   allowed = second.allowed ∙ first.allowed;
   stay = λ x on. let one = first.stay x on in let two = second.stay x one.0 in (two.0, two.1 ∙ one.1);
@@ -187,9 +189,10 @@ pub record IsUnderWay (pivot : Quant) (scopes : List Scope) (old now : State) (t
     (before spent : Counter) (first stack : List Frame) : Type 0 where
   pub made : ℕ
   pub taken : ℕ
+  pub reduced : ℕ
   pub marks : MarksMore t0 t made
-  pub counted : spent ≡ after before taken
-  pub resolves : Resolves scopes old now taken
+  pub counted : spent ≡ after before (taken + reduced)
+  pub resolves : Resolves scopes old now taken reduced
   pub few : taken + lefts stack ≤ made * length t0.placed + spots t.placed stack
   pub reasons : KeepsReasons scopes old now t0 t
   pub legal : IsLegalFor scopes now
@@ -280,9 +283,10 @@ module _ (pivot : Quant) (scopes : List Scope) (old now new : State) (t0 t next 
         record {
           made = is.made + 1;
           taken = is.taken;
+          reduced = is.reduced;
           marks = marks_twice t0 t next is.made 1 is.marks one;
           counted = m.uncounted ∙ is.counted;
-          resolves = subst (λ (d : State). Resolves scopes old d is.taken) (sym m.same) is.resolves;
+          resolves = subst (λ (d : State). Resolves scopes old d is.taken is.reduced) (sym m.same) is.resolves;
           few = omega arith;
           reasons = λ side have. reasons side (is.reasons side have);
           legal = legal;
@@ -348,9 +352,10 @@ module _ (pivot : Quant) (scopes : List Scope) (old now new : State) (t0 t next 
         record {
           made = is.made;
           taken = is.taken;
+          reduced = is.reduced;
           marks = subst (λ (s : TrailState). MarksMore t0 s is.made) (sym w.same_trail) is.marks;
           counted = w.uncounted ∙ is.counted;
-          resolves = subst (λ (d : State). Resolves scopes old d is.taken) (sym w.same) is.resolves;
+          resolves = subst (λ (d : State). Resolves scopes old d is.taken is.reduced) (sym w.same) is.resolves;
           few = omega arith;
           reasons = λ side have. reasons side (is.reasons side have);
           legal = legal;
@@ -386,9 +391,10 @@ module _ (pivot : Quant) (scopes : List Scope) (old now new : State) (t0 t next 
         record {
           made = is.made;
           taken = is.taken + 1;
+          reduced = is.reduced + r.reduced;
           marks = subst (λ (s : TrailState). MarksMore t0 s is.made) (sym r.same_trail) is.marks;
-          counted = r.counted ∙ (ap (λ (c : Counter). after c 1) is.counted ∙ after_more before is.taken 1);
-          resolves = resolves_more scopes old now new is.taken 1 is.resolves r.resolves;
+          counted = after_both before spent later is.taken 1 is.reduced r.reduced is.counted r.counted;
+          resolves = resolves_more scopes old now new is.taken 1 is.reduced r.reduced is.resolves r.resolves;
           few = omega arith;
           reasons = λ side have. reasons side (is.reasons side have);
           legal = legal;
@@ -427,6 +433,7 @@ starts_under_way pivot scopes d t c (g ∷ h ∷ fs) rows legal trail have frame
 starts_under_way pivot scopes d t c (f ∷ []) rows legal trail have frames one = record {
   made = 0;
   taken = 0;
+  reduced = 0;
   marks = marks_none t;
   counted = after_none c;
   resolves = resolves_none scopes d rows;
@@ -454,6 +461,7 @@ pub ends_clean : (pivot : Quant) (scopes : List Scope) (old now : State) (t0 t :
 ends_clean pivot scopes old now t0 t before spent first is = record {
   made = is.made;
   taken = is.taken;
+  reduced = is.reduced;
   marks = is.marks;
   few = (let few = is.few in omega arith);
   counted = is.counted;
@@ -489,22 +497,26 @@ stops_clean pivot scopes old now new t0 t next before spent later first stack is
     let square = under_square pivot scopes old now t0 t before spent first stack is due in
     let few = stops.few in
     let fewer = stops.fewer in
+    let no_more = is.resolves.fewer in
     record {
       made = is.made;
-      taken = is.taken + stops.taken;
+      taken = (is.taken + is.reduced) + stops.taken;
       came = is.taken + stops.came;
+      reduced = is.reduced + stops.reduced;
       marks = subst (λ (s : TrailState). MarksMore t0 s is.made) (sym same) is.marks;
       few = omega arith;
       fewer = omega arith;
       counted = stops.counted ∙ (ap (λ (c : Counter). after c stops.taken) is.counted
-          ∙ after_more before is.taken stops.taken);
-      resolves = resolves_more scopes old now new is.taken stops.came is.resolves stops.resolves;
+          ∙ after_more before (is.taken + is.reduced) stops.taken);
+      resolves = resolves_more scopes old now new is.taken stops.came is.reduced stops.reduced is.resolves
+          stops.resolves;
     }
 
-pub spent_under : (before spent : Counter) (taken most : ℕ) → spent ≡ after before taken → spent.spent ≡ spent.budget
-    → taken + 1 ≤ most → left before < most
-spent_under before spent taken most e full few =
-    let s : spent.spent ≡ before.spent + taken = ap (λ (c : Counter). c.spent) e in
+-- fewer than two steps are left
+pub spent_under : (before spent : Counter) (taken reduced most : ℕ) → spent ≡ after before (taken + reduced)
+    → reduced ≤ taken → left spent < 2 → taken + 1 ≤ most → left before < 2 * most
+spent_under before spent taken reduced most e fewer full few =
+    let s : spent.spent ≡ before.spent + (taken + reduced) = ap (λ (c : Counter). c.spent) e in
     let b : spent.budget ≡ before.budget = ap (λ (c : Counter). c.budget) e in
     omega arith
 
@@ -546,6 +558,7 @@ pub cleans_none : (scopes : List Scope) (d : State) (t : TrailState) (c : Counte
 cleans_none scopes d t c rows = record {
   made = 0;
   taken = 0;
+  reduced = 0;
   marks = marks_none t;
   few = omega arith;
   counted = after_none c;
@@ -558,6 +571,7 @@ stops_none scopes d t c most rows = record {
   made = 0;
   taken = 0;
   came = 0;
+  reduced = 0;
   marks = marks_none t;
   few = omega arith;
   fewer = omega arith;

@@ -23,9 +23,9 @@ unlinked_now d here fits = by d.rows refl
     by None e = absurd (let gone = ap is_some e in false≢true (sym gone ∙ here))
     by (Some arena) e = same_unlinked d arena e (fits arena e)
 
-gained : (scopes : List Scope) (old new : State) (n : ℕ) → AreUnlinked old old → Resolves scopes old new n
+gained : (scopes : List Scope) (old new : State) (n r : ℕ) → AreUnlinked old old → Resolves scopes old new n r
     → GainsSteps old new
-gained scopes old new n dead resolves = record {
+gained scopes old new n r dead resolves = record {
   grows = resolves.grows;
   has_rows = resolves.has_rows;
   unlinked = resolves.unlinked dead;
@@ -39,17 +39,17 @@ module _ {A E : Type 0} (scopes : List Scope) (old new : State) (t now : TrailSt
     (few most : ℕ) where
   pub gains_on : (r : Result A E) → AreUnlinked old old → OnOk r (CleansReasons scopes old new t now before later few)
       → OnErr r (StopsCleaning scopes old new t now before later most) → GainsSteps old new
-  gains_on (Ok x) dead cleans stops = gained scopes old new cleans.taken dead cleans.resolves
-  gains_on (Err e) dead cleans stops = gained scopes old new stops.came dead stops.resolves
+  gains_on (Ok x) dead cleans stops = gained scopes old new cleans.taken cleans.reduced dead cleans.resolves
+  gains_on (Err e) dead cleans stops = gained scopes old new stops.came stops.reduced dead stops.resolves
 
   pub rises_on : (r : Result A E) → OnOk r (CleansReasons scopes old new t now before later few)
       → OnErr r (StopsCleaning scopes old new t now before later most) → before.spent ≤ later.spent
-  rises_on (Ok x) cleans stops = after_rises before later cleans.taken cleans.counted
+  rises_on (Ok x) cleans stops = after_rises before later (cleans.taken + cleans.reduced) cleans.counted
   rises_on (Err e) cleans stops = after_rises before later stops.taken stops.counted
 
 -- the bound in the trail's length alone
-pub under_limit : (t : TrailState) (n more : ℕ) → n < marks_left t * length t.placed + more
-    → more ≤ 2 * length t.placed → n < (length t.placed + 2) * length t.placed
+pub under_limit : (t : TrailState) (n more : ℕ) → n < 2 * (marks_left t * length t.placed + more)
+    → more ≤ 2 * length t.placed → n < 2 * ((length t.placed + 2) * length t.placed)
 under_limit t n more below few =
     let long = length t.placed in
     let most = times_most (marks_left t) (length t.placed) (length t.placed) (omega arith) in

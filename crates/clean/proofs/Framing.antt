@@ -22,6 +22,7 @@ use Rattle.clean.proofs.Fronts.{before_take, place_some}
 use Rattle.clean.proofs.Keeping.{reduced_stays, row_stays, step_row}
 use Rattle.clean.proofs.Moving.{cause_else, caused, front_literals, front_values, marked_else, places, same_literals, values, way_moves}
 use Rattle.clean.proofs.Ways.{IsTurned, clean_on_front, front_whole, one_turn, place_on_front, starts_on, way_assigned, way_bad, way_ends, way_within}
+use Rattle.steps.specs.Counter.{Counter}
 
 -- the place below which the next one stands
 abbrev pub lowest : TrailState → ℕ → List Frame → ℕ
@@ -185,9 +186,10 @@ module _ (pivot : Quant) (scopes : List Scope) (d : State) (t : TrailState) (f :
     }
 
     -- the same reason with its new row
-    pub frame_turns : (new : State) (next : Frame) → Turns pivot scopes d new f.row b id next.row → next.var ≡ f.var
+    pub frame_turns : (new : State) (before now : Counter) (next : Frame)
+        → Turns pivot scopes d new before now f.row b id next.row → next.var ≡ f.var
         → next.left ≡ place_on t.placed b.variable → IsFrame pivot scopes new t next
-    frame_turns new next turns same left = let result = turns.result in
+    frame_turns new before now next turns same left = let result = turns.result in
         let front : front_of t next.var ≡ front_of t f.var = ap (front_of t) same in
         record {
           bad = is.bad;

@@ -78,11 +78,12 @@ pub step_row : (scopes : List Scope) (d : State) (id : ℕ) → IsLegalFor scope
     → IsRow scopes (row_of d id)
 step_row scopes d id legal step = legal.rows _ (listed_told d id step)
 
-pub resolves_more : (scopes : List Scope) (a b c : State) (m n : ℕ) → Resolves scopes a b m → Resolves scopes b c n
-    → Resolves scopes a c (m + n)
-resolves_more scopes a b c m n first second =
-    let r = first.resolvents in let s = second.resolvents in
+pub resolves_more : (scopes : List Scope) (a b c : State) (m n r s : ℕ) → Resolves scopes a b m r
+    → Resolves scopes b c n s → Resolves scopes a c (m + n) (r + s)
+resolves_more scopes a b c m n r s first second =
+    let x = first.resolvents in let y = second.resolvents in
     let p = first.reductions in let q = second.reductions in
+    let f = first.fewer in let g = second.fewer in
     record {
       grows = grows_twice a b c first.grows second.grows;
       has_rows = second.has_rows;
@@ -91,11 +92,12 @@ resolves_more scopes a b c m n first second =
       clauses = second.clauses ∙ first.clauses;
       resolvents = omega arith;
       reductions = omega arith;
+      fewer = omega arith;
       legal = λ l. second.legal (first.legal l);
     }
 
 -- nothing came in yet
-pub resolves_none : (scopes : List Scope) (d : State) → IsTrue (has_rows d) → Resolves scopes d d 0
+pub resolves_none : (scopes : List Scope) (d : State) → IsTrue (has_rows d) → Resolves scopes d d 0 0
 resolves_none scopes d rows = record {
   grows = grows_itself d;
   has_rows = rows;
@@ -103,6 +105,7 @@ resolves_none scopes d rows = record {
   clauses = refl;
   resolvents = omega arith;
   reductions = omega arith;
+  fewer = omega arith;
   legal = λ l. l;
 }
 
@@ -113,3 +116,10 @@ after_none c = ap (λ n. record { spent = n; budget = c.budget }) (let e : c.spe
 pub after_more : (c : Counter) (m n : ℕ) → after (after c m) n ≡ after c (m + n)
 after_more c m n = ap (λ k. record { spent = k; budget = c.budget })
     (let e : (c.spent + m) + n ≡ c.spent + (m + n) = omega arith in e)
+
+-- two of two kinds
+pub after_both : (c d e : Counter) (m n r s : ℕ) → d ≡ after c (m + r) → e ≡ after d (n + s)
+    → e ≡ after c ((m + n) + (r + s))
+after_both c d e m n r s first second =
+    second ∙ (ap (λ (k : Counter). after k (n + s)) first ∙ (after_more c (m + r) (n + s)
+    ∙ ap (after c) (let same : (m + r) + (n + s) ≡ (m + n) + (r + s) = omega arith in same)))

@@ -17,7 +17,7 @@ use Rattle.clean.specs.Blockers.{IsBlocked, IsLatestBlocker}
 use Rattle.clean.specs.Marks.{CleansReasons, KeepsReasons, StopsCleaning, marks_left}
 use Rattle.clean.specs.Reasons.{IsOnTheWay, IsReducedStep}
 use Rattle.clean.proofs.Circling.{cleans_none, marks_size, marks_twice, same_placed, times_sum}
-use Rattle.clean.proofs.Keeping.{after_more, resolves_more, step_row}
+use Rattle.clean.proofs.Keeping.{after_both, after_more, resolves_more, step_row}
 use Rattle.clean.proofs.Moving.{clean_moves, front_literals, front_values, places, way_moves}
 use Rattle.clean.proofs.Replacing.{few_made}
 use Rattle.clean.proofs.Ways.{blocker_cause, clean_on_front, one_turn, starts_on, way_bad, way_ends, way_within}
@@ -35,11 +35,12 @@ cleans_more scopes a b c t u v x y z m n first second =
     record {
       made = first.made + second.made;
       taken = first.taken + second.taken;
+      reduced = first.reduced + second.reduced;
       marks = marks_twice t u v first.made second.made first.marks second.marks;
       few = omega arith;
-      counted = second.counted ∙ (ap (λ (k : Counter). after k second.taken) first.counted
-          ∙ after_more x first.taken second.taken);
-      resolves = resolves_more scopes a b c first.taken second.taken first.resolves second.resolves;
+      counted = after_both x y z first.taken second.taken first.reduced second.reduced first.counted second.counted;
+      resolves = resolves_more scopes a b c first.taken second.taken first.reduced second.reduced first.resolves
+          second.resolves;
     }
 
 -- a stop after them
@@ -58,21 +59,25 @@ module _ (scopes : List Scope) (a b c : State) (t u v : TrailState) (x y z : Cou
       → StopsCleaning scopes a c t v x z (marks_left t * length t.placed + (m + n))
   stops_more second =
       let one = first.few in let two = second.few in let fewer = second.fewer in let most = both_left in
+      let no_more = first.resolves.fewer in
       record {
         made = first.made + second.made;
-        taken = first.taken + second.taken;
+        taken = (first.taken + first.reduced) + second.taken;
         came = first.taken + second.came;
+        reduced = first.reduced + second.reduced;
         marks = marks_twice t u v first.made second.made first.marks second.marks;
         few = omega arith;
         fewer = omega arith;
         counted = second.counted ∙ (ap (λ (k : Counter). after k second.taken) first.counted
-            ∙ after_more x first.taken second.taken);
-        resolves = resolves_more scopes a b c first.taken second.came first.resolves second.resolves;
+            ∙ after_more x (first.taken + first.reduced) second.taken);
+        resolves = resolves_more scopes a b c first.taken second.came first.reduced second.reduced first.resolves
+            second.resolves;
       }
 
-  pub spent_more : left y < marks_left u * length u.placed + n → left x < marks_left t * length t.placed + (m + n)
-  spent_more below = let one = first.few in let most = both_left in
-      let s : y.spent ≡ x.spent + first.taken = ap (λ (k : Counter). k.spent) first.counted in
+  pub spent_more : left y < 2 * (marks_left u * length u.placed + n)
+      → left x < 2 * (marks_left t * length t.placed + (m + n))
+  spent_more below = let one = first.few in let most = both_left in let no_more = first.resolves.fewer in
+      let s : y.spent ≡ x.spent + (first.taken + first.reduced) = ap (λ (k : Counter). k.spent) first.counted in
       let e : y.budget ≡ x.budget = ap (λ (k : Counter). k.budget) first.counted in
       omega arith
 
@@ -143,6 +148,7 @@ module _ (pivot : Quant) (scopes : List Scope) (kept : Option Literal) (end : �
           cleans = record {
             made = is.cleans.made;
             taken = is.cleans.taken;
+            reduced = is.cleans.reduced;
             marks = is.cleans.marks;
             few = omega arith;
             counted = is.cleans.counted;

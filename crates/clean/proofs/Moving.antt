@@ -183,6 +183,7 @@ module _ (t : TrailState) (x id was : ℕ) (cause : cause_on t.placed x ≡ Some
     long = length-set t.marks (place_on t.placed x) true;
     finished = refl;
     assigned = refl;
+    restarts = refl;
     room = refl;
     allowed = refl;
     stay = λ y on.

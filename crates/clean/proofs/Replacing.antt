@@ -21,7 +21,7 @@ use Rattle.clean.specs.Marks.{CleansReasons, MarksMore, StopsCleaning, marks_in,
 use Rattle.clean.specs.Reasons.{HaveReasons, IsReason}
 use Rattle.clean.specs.Turns.{IsResolvable, StopsAfter, Turns}
 use Rattle.clean.proofs.Circling.{few_marks, same_placed, spent_under, times_most}
-use Rattle.clean.proofs.Keeping.{after_more, reduced_stays, resolves_more, row_stays, step_row}
+use Rattle.clean.proofs.Keeping.{after_both, after_more, reduced_stays, resolves_more, row_stays, step_row}
 use Rattle.clean.proofs.Moving.{clean_moves, values}
 use Rattle.clean.proofs.Ways.{clean_on_front, front_whole}
 
@@ -46,6 +46,7 @@ stops_weaker (Err e) scopes old new t now before later few most fits stops = let
       made = stops.made;
       taken = stops.taken;
       came = stops.came;
+      reduced = stops.reduced;
       marks = stops.marks;
       few = omega arith;
       fewer = stops.fewer;
@@ -61,6 +62,7 @@ stops_wider scopes old new t now before later few most fits stops = let was = st
       made = stops.made;
       taken = stops.taken;
       came = stops.came;
+      reduced = stops.reduced;
       marks = stops.marks;
       few = omega arith;
       fewer = stops.fewer;
@@ -76,28 +78,30 @@ pub stops_later : (scopes : List Scope) (old middle new : State) (t now : TrailS
 stops_later scopes old middle new t now before spent later most cleans long stops =
     let made = few_made t now cleans.made long cleans.marks in
     let square = times_most cleans.made (marks_left t) (length t.placed) made in
-    let few = cleans.few in let one = stops.few in let fewer = stops.fewer in
+    let few = cleans.few in let one = stops.few in let fewer = stops.fewer in let no_more = cleans.resolves.fewer in
     record {
       made = cleans.made;
-      taken = cleans.taken + stops.taken;
+      taken = (cleans.taken + cleans.reduced) + stops.taken;
       came = cleans.taken + stops.came;
+      reduced = cleans.reduced + stops.reduced;
       marks = cleans.marks;
       few = omega arith;
       fewer = omega arith;
       counted = stops.counted ∙ (ap (λ (c : Counter). after c stops.taken) cleans.counted
-          ∙ after_more before cleans.taken stops.taken);
-      resolves = resolves_more scopes old middle new cleans.taken stops.came cleans.resolves stops.resolves;
+          ∙ after_more before (cleans.taken + cleans.reduced) stops.taken);
+      resolves = resolves_more scopes old middle new cleans.taken stops.came cleans.reduced stops.reduced
+          cleans.resolves stops.resolves;
     }
 
 pub spent_later : (scopes : List Scope) (old middle : State) (t now : TrailState) (before spent : Counter) (most : ℕ)
     → CleansReasons scopes old middle t now before spent most → length t.marks ≡ length t.placed
-    → spent.spent ≡ spent.budget → left before < marks_left t * length t.placed + (most + 1)
+    → left spent < 2 → left before < 2 * (marks_left t * length t.placed + (most + 1))
 spent_later scopes old middle t now before spent most cleans long full =
     let made = few_made t now cleans.made long cleans.marks in
     let square = times_most cleans.made (marks_left t) (length t.placed) made in
     let few = cleans.few in
-    spent_under before spent cleans.taken (marks_left t * length t.placed + (most + 1)) cleans.counted full
-    (omega arith)
+    spent_under before spent cleans.taken cleans.reduced (marks_left t * length t.placed + (most + 1)) cleans.counted
+    cleans.resolves.fewer full (omega arith)
 
 module _ (pivot : Quant) (scopes : List Scope) (old middle : State) (t now : TrailState) (before spent : Counter)
     (row : ℕ) (f : Literal) (id : ℕ) (may : MayReplace pivot scopes old t row f)
@@ -141,9 +145,10 @@ module _ (pivot : Quant) (scopes : List Scope) (old middle : State) (t now : Tra
             is_reason;
       }
 
-  pub replaces : (new : State) (later : Counter) (result : ℕ) → Turns pivot scopes middle new row f id result
-      → later ≡ after spent 1 → Replaces pivot scopes t now old new before later row f result
-  replaces new later result turned counted = let few = cleans.few in
+  pub replaces : (new : State) (later : Counter) (result : ℕ)
+      → Turns pivot scopes middle new spent later row f id result
+      → Replaces pivot scopes t now old new before later row f result
+  replaces new later result turned = let few = cleans.few in
       record {
         reason = row_of middle id;
         is_row = step_row scopes middle id legal reason.step.step;
@@ -151,10 +156,13 @@ module _ (pivot : Quant) (scopes : List Scope) (old middle : State) (t now : Tra
         cleans = record {
           made = cleans.made;
           taken = cleans.taken + 1;
+          reduced = cleans.reduced + turned.reduced;
           marks = cleans.marks;
           few = omega arith;
-          counted = counted ∙ (ap (λ (c : Counter). after c 1) cleans.counted ∙ after_more before cleans.taken 1);
-          resolves = resolves_more scopes old middle new cleans.taken 1 cleans.resolves turned.resolves;
+          counted = after_both before spent later cleans.taken 1 cleans.reduced turned.reduced cleans.counted
+              turned.counted;
+          resolves = resolves_more scopes old middle new cleans.taken 1 cleans.reduced turned.reduced cleans.resolves
+              turned.resolves;
         };
         step = record {
           step = turned.step;

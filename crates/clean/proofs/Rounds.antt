@@ -10,7 +10,7 @@ use Rattle.calculus.proofs.RowLemmas.{same_from}
 use Rattle.clean.proofs.Fronts.{before_take, place_some}
 use Rattle.prefix.specs.Literal.{Literal, negation}
 use Rattle.prefix.specs.Scopes.{Scope, quantifier_of}
-use Rattle.steps.specs.Counter.{Counter, after}
+use Rattle.steps.specs.Counter.{Counter}
 use Rattle.calculus.specs.Rows.{IsRow, Row, is_pivot}
 use Rattle.calculus.specs.Search.{Trail, before_on, cause_on, is_bad_if, is_bad_now, place_on, value_on}
 use Rattle.calculus.specs.Search.Cause.{Propagated}
@@ -157,11 +157,12 @@ module _ (pivot : Quant) (scopes : List Scope) (d : State) (t : TrailState) (ite
     pub turns_resolvable : IsResolvable pivot scopes d f.row b id
     turns_resolvable = frame_resolvable pivot scopes d t f top legal b now_turns.0 id reason now_turns.1
 
-    module _ (new : State) (next : Frame) (then : List Frame) (turned : Turns pivot scopes d new f.row b id next.row)
+    module _ (new : State) (c e : Counter) (next : Frame) (then : List Frame)
+        (turned : Turns pivot scopes d new c e f.row b id next.row)
         (pushed : then ≡ rest ++ next ∷ []) (variable : next.var ≡ f.var)
         (left : next.left ≡ place_on t.placed b.variable) where
-      pub turns_turn : (c e : Counter) → e ≡ after c 1 → IsTurn pivot scopes d new t t items then c e
-      turns_turn c e counted = turns turns_due (record {
+      pub turns_turn : IsTurn pivot scopes d new t t items then c e
+      turns_turn = turns turns_due (record {
         rest = rest;
         top = f;
         next = next;
@@ -170,8 +171,9 @@ module _ (pivot : Quant) (scopes : List Scope) (d : State) (t : TrailState) (ite
         same_variable = variable;
         fewer = (let below = blocker_left pivot scopes d t f top legal b now_turns.0 in omega arith);
         same_trail = refl;
+        reduced = turned.reduced;
         resolves = turned.resolves;
-        counted = counted;
+        counted = turned.counted;
       })
 
       pub turns_frames : AreFrames pivot scopes new t (length t.placed) then
@@ -183,7 +185,7 @@ module _ (pivot : Quant) (scopes : List Scope) (d : State) (t : TrailState) (ite
           (λ g later was. (was.propagated, was.unmarked)) low parts.0 in
           subst (AreFrames pivot scopes new t (length t.placed)) (sym pushed)
           (frames_more pivot scopes new t (length t.placed) rest next others
-          (frame_turns pivot scopes d t f top legal b now_turns.0 id reason now_turns.1 new next turned variable
+          (frame_turns pivot scopes d t f top legal b now_turns.0 id reason now_turns.1 new c e next turned variable
           left) (omega arith))
 
 -- the ways out
@@ -196,6 +198,7 @@ pub stops_at_once : (scopes : List Scope) (d : State) (c : Counter) → IsTrue (
 stops_at_once scopes d c rows = record {
   taken = 0;
   came = 0;
+  reduced = 0;
   few = omega arith;
   fewer = omega arith;
   counted = after_none c;

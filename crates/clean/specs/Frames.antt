@@ -1,5 +1,5 @@
 -- The list of reasons on the way to be cleaned.
-use Rattle.std.specs.Prelude.{◌≡◌, ℕ, ◌<◌, ◌≤◌, ⊤, IsTrue, IsFalse, List, [], ◌∷◌, ◌++◌, take, Some}
+use Rattle.std.specs.Prelude.{◌≡◌, ℕ, ◌+◌, ◌<◌, ◌≤◌, ⊤, IsTrue, IsFalse, List, [], ◌∷◌, ◌++◌, take, Some}
 use Rattle.prefix.specs.declared.quant.Quant.{Quant}
 use Rattle.prefix.specs.Literal.{Literal, negation}
 use Rattle.prefix.specs.Scopes.{Scope}
@@ -93,7 +93,7 @@ pub record WaitsFor (old new : State) (t now : TrailState) (stack then : List Fr
   pub same : new ≡ old
   pub uncounted : after_it ≡ before
 
--- the last one's row was resolved once
+-- the last one's row was resolved once, and reduced
 pub record TurnsTop (scopes : List Scope) (old new : State) (t now : TrailState) (stack then : List Frame)
     (before after_it : Counter) : Type 0 where
   pub rest : List Frame
@@ -104,8 +104,9 @@ pub record TurnsTop (scopes : List Scope) (old new : State) (t now : TrailState)
   pub same_variable : next.var ≡ top.var
   pub fewer : next.left < top.left
   pub same_trail : now ≡ t
-  pub resolves : Resolves scopes old new 1
-  pub counted : after_it ≡ after before 1
+  pub reduced : ℕ
+  pub resolves : Resolves scopes old new 1 reduced
+  pub counted : after_it ≡ after before (1 + reduced)
 
 -- one turn of the list: the last one isn't blocked and is marked, or it waits for another one, or is resolved
 pub data IsTurn (pivot : Quant) (scopes : List Scope) (old new : State) (t now : TrailState) (stack then : List Frame)

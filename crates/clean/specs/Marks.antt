@@ -38,6 +38,7 @@ pub record MarksMore (old new : TrailState) (made : ℕ) : Type 0 where
   pub long : length new.marks ≡ length old.marks
   pub finished : new.finished ≡ old.finished
   pub assigned : new.assigned ≡ old.assigned
+  pub restarts : new.restarts ≡ old.restarts
   pub room : new.room ≡ old.room
   pub allowed : new.allowed ≡ old.allowed
   pub stay : (x : ℕ) → IsTrue (is_marked old x)
@@ -45,29 +46,31 @@ pub record MarksMore (old new : TrailState) (made : ℕ) : Type 0 where
   pub others : (x : ℕ) → IsFalse (is_marked new x) → cause_on new.placed x ≡ cause_on old.placed x
   pub marked : marks_in new.marks ≡ marks_in old.marks + made
 
--- reasons were made clean, each with at most as many steps as the trail has literals; beside them at most that many
--- steps were taken, and for each step one resolvent came in
+-- reasons were made clean, each with at most as many resolvents as the trail has literals; beside them at most that many
+-- came in; and a step was counted for each of them, and for each reduction that came in with them
 pub record CleansReasons (scopes : List Scope) (old new : State) (trail now : TrailState) (before later : Counter)
     (most : ℕ) : Type 0 where
   pub made : ℕ
   pub taken : ℕ
+  pub reduced : ℕ
   pub marks : MarksMore trail now made
   pub few : taken ≤ made * length trail.placed + most
-  pub counted : later ≡ after before taken
-  pub resolves : Resolves scopes old new taken
+  pub counted : later ≡ after before (taken + reduced)
+  pub resolves : Resolves scopes old new taken reduced
 
 -- what is left after a stop: reasons that were made clean stay, each step that was live is live, and what came in is
--- legal, at most one resolvent for each of the steps that were counted, which are at most that many
+-- legal, at most one resolvent or reduction for each of the steps that were counted, which are at most twice that many
 pub record StopsCleaning (scopes : List Scope) (old new : State) (trail now : TrailState) (before later : Counter)
     (most : ℕ) : Type 0 where
   pub made : ℕ
   pub taken : ℕ
   pub came : ℕ
+  pub reduced : ℕ
   pub marks : MarksMore trail now made
-  pub few : taken ≤ most
-  pub fewer : came ≤ taken
+  pub few : taken ≤ 2 * most
+  pub fewer : came + reduced ≤ taken
   pub counted : later ≡ after before taken
-  pub resolves : Resolves scopes old new came
+  pub resolves : Resolves scopes old new came reduced
 
 -- what reasons the trail had it has, those of either side
 abbrev pub KeepsReasons : List Scope → State → State → TrailState → TrailState → Type 0

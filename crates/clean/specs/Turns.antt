@@ -1,5 +1,5 @@
 -- Resolutions with reasons, and what they count.
-use Rattle.std.specs.Prelude.{◌≡◌, ℕ, ◌+◌, ◌≤◌, Bool, true, false, IsTrue, IsFalse, Contains, List, count_by}
+use Rattle.std.specs.Prelude.{◌≡◌, ℕ, ◌+◌, ◌*◌, ◌≤◌, Bool, true, false, IsTrue, IsFalse, Contains, List, count_by}
 use Rattle.prefix.specs.declared.quant.Quant.{Quant}
 use Rattle.prefix.specs.Literal.{Literal, negation}
 use Rattle.prefix.specs.Scopes.{Scope}
@@ -34,15 +34,16 @@ reductions_in d = count_by (λ (s : Step). is_reduction s.why) (steps_of d)
 abbrev pub resolvents_in : State → ℕ
 resolvents_in d = count_by (λ (s : Step). is_resolvent s.why) (steps_of d)
 
--- that many resolvents came in, with no more reductions than resolvents, and nothing else: what was live stays as it
+-- that many resolvents came in and that many reductions, no more of these, and nothing else: what was live stays as it
 -- was, the open clauses are the same, a row that came in has no links, and what was legal is
-pub record Resolves (scopes : List Scope) (old new : State) (count : ℕ) : Type 0 where
+pub record Resolves (scopes : List Scope) (old new : State) (count reduced : ℕ) : Type 0 where
   pub grows : Grows old new
   pub has_rows : IsTrue (has_rows new)
   pub unlinked : AreUnlinked old old → AreUnlinked old new
   pub clauses : clauses_of new ≡ clauses_of old
   pub resolvents : resolvents_in new ≡ resolvents_in old + count
-  pub reductions : reductions_in new ≤ reductions_in old + count
+  pub reductions : reductions_in new ≡ reductions_in old + reduced
+  pub fewer : reduced ≤ count
   pub legal : IsLegalFor scopes old → IsLegalFor scopes new
 
 -- a row may be resolved on one of its literals with another row of its side, which holds the opposite literal
@@ -60,31 +61,27 @@ pub record IsResolvable (pivot : Quant) (scopes : List Scope) (d : State) (row :
 -- that resolvent came in
 pub record AddsResolvent (pivot : Quant) (scopes : List Scope) (old new : State) (row : ℕ) (literal : Literal)
     (reason id : ℕ) : Type 0 where
-  pub resolves : Resolves scopes old new 1
-  pub none_reduced : reductions_in new ≡ reductions_in old
+  pub resolves : Resolves scopes old new 1 0
   pub step : IsTrue (is_step new id)
   pub of_side : side_at new id ≡ pivot
   pub result : row_of new id ≡ resolved_with (row_of old row) (row_of old reason) literal
 
--- that resolvent came in, and its reduction
-pub record Turns (pivot : Quant) (scopes : List Scope) (old new : State) (row : ℕ) (literal : Literal)
-    (reason id : ℕ) : Type 0 where
-  pub resolves : Resolves scopes old new 1
+-- that resolvent came in, and its reduction, each of which counts a step
+pub record Turns (pivot : Quant) (scopes : List Scope) (old new : State) (before now : Counter) (row : ℕ)
+    (literal : Literal) (reason id : ℕ) : Type 0 where
+  pub reduced : ℕ
+  pub resolves : Resolves scopes old new 1 reduced
+  pub counted : now ≡ after before (1 + reduced)
   pub step : IsTrue (is_step new id)
   pub of_side : side_at new id ≡ pivot
   pub result : row_of new id ≡ reduce pivot scopes (resolved_with (row_of old row) (row_of old reason) literal)
 
--- at most that many resolvents came in
-pub record MayResolve (scopes : List Scope) (old new : State) (most : ℕ) : Type 0 where
-  pub came : ℕ
-  pub few : came ≤ most
-  pub resolves : Resolves scopes old new came
-
--- at most that many steps were counted, and for each at most one resolvent came in
+-- at most twice that many steps were counted, and for each at most one resolvent or reduction came in
 pub record StopsAfter (scopes : List Scope) (most : ℕ) (old new : State) (before now : Counter) : Type 0 where
   pub taken : ℕ
   pub came : ℕ
-  pub few : taken ≤ most
-  pub fewer : came ≤ taken
+  pub reduced : ℕ
+  pub few : taken ≤ 2 * most
+  pub fewer : came + reduced ≤ taken
   pub counted : now ≡ after before taken
-  pub resolves : Resolves scopes old new came
+  pub resolves : Resolves scopes old new came reduced

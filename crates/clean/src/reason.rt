@@ -28,9 +28,10 @@ use trail::Trail;
 /// marked as clean. The answer is the id of the reason, which is then marked. This keeps a list of the reasons on the
 /// way, and calls itself nowhere.
 ///
-/// Each resolution counts a step and costs the lengths of its two rows; there are at most as many as the reasons made
-/// clean times the literals of the trail. No resolvent clashes, as they are legal. Spent comes only where a resolution
-/// is due for a reason that isn't clean, and no step is left. What a stop leaves is as for `clean`.
+/// Each resolution counts a step, and so does each reduction in which something goes; a resolution costs the lengths of
+/// its two rows. There are at most as many resolutions as the reasons made clean times the literals of the trail, and no
+/// more reductions. No resolvent clashes, as they are legal. Spent comes only where a resolution is due for a reason that
+/// isn't clean. What a stop leaves is as for `clean`.
 pub fn clean_reason<S: Side>(
     derivation: &mut Derivation,
     trail: &mut Trail,
@@ -52,8 +53,8 @@ pub fn clean_reason<S: Side>(
         steps.old steps.new (marks_left trail.old * length trail.old.placed)) }
     ensures due { result ≡ Err spent → IsReasonBlocked S.PIVOT prefix.now derivation.old trail.old v }
     ensures spent { result ≡ Err spent → steps.new.spent ≡ steps.new.budget }
-    ensures few { result ≡ Err spent → left steps.old < marks_left trail.old * length trail.old.placed }
-    ensures limit { result ≡ Err spent → left steps.old < (length trail.old.placed + 2) * length trail.old.placed }
+    ensures few { result ≡ Err spent → left steps.old < 2 * (marks_left trail.old * length trail.old.placed) }
+    ensures limit { result ≡ Err spent → left steps.old < 2 * ((length trail.old.placed + 2) * length trail.old.placed) }
     ensures rises { steps.old.spent ≤ steps.new.spent }
     ensures reasons { KeepsReasons prefix.now derivation.old derivation.new trail.old trail.new }
     ensures trail { IsTrailFor prefix.now trail.new }
@@ -87,7 +88,7 @@ fn clean_marked<S: Side>(
         steps.old steps.new (marks_left trail.old * length trail.old.placed)) }
     ensures due { result ≡ Err spent → IsReasonBlocked S.PIVOT prefix.now derivation.old trail.old v }
     ensures spent { result ≡ Err spent → (steps.new.spent ≡ steps.new.budget)
-        × (left steps.old < marks_left trail.old * length trail.old.placed) }
+        × (left steps.old < 2 * (marks_left trail.old * length trail.old.placed)) }
     ensures reasons { KeepsReasons prefix.now derivation.old derivation.new trail.old trail.new }
     ensures trail { IsTrailFor prefix.now trail.new }
     ensures legal { IsLegalFor prefix.now derivation.new }
@@ -121,7 +122,7 @@ fn make_clean<S: Side>(
     ensures err { OnErr result (StopsCleaning prefix.now derivation.old derivation.new trail.old trail.new
         steps.old steps.new (marks_left trail.old * length trail.old.placed)) }
     ensures spent { result ≡ Err spent → (steps.new.spent ≡ steps.new.budget)
-        × (left steps.old < marks_left trail.old * length trail.old.placed) }
+        × (left steps.old < 2 * (marks_left trail.old * length trail.old.placed)) }
     ensures reasons { KeepsReasons prefix.now derivation.old derivation.new trail.old trail.new }
     ensures trail { IsTrailFor prefix.now trail.new }
     ensures legal { IsLegalFor prefix.now derivation.new }
@@ -157,7 +158,7 @@ fn clean_all<S: Side>(
     ensures err { OnErr result (StopsCleaning prefix.now derivation.old derivation.new trail.old trail.new
         steps.old steps.new (marks_left trail.old * length trail.old.placed)) }
     ensures spent { result ≡ Err spent → (steps.new.spent ≡ steps.new.budget)
-        × (left steps.old < marks_left trail.old * length trail.old.placed) }
+        × (left steps.old < 2 * (marks_left trail.old * length trail.old.placed)) }
     ensures reasons { KeepsReasons prefix.now derivation.old derivation.new trail.old trail.new }
     ensures trail { IsTrailFor prefix.now trail.new }
     ensures legal { IsLegalFor prefix.now derivation.new }
@@ -191,7 +192,7 @@ fn turn<S: Side>(
     ensures stays { OnErr result (trail.new ≡ trail.old) }
     ensures err { OnErr result (StopsAfter prefix.now 1 derivation.old derivation.new steps.old steps.new) }
     ensures due { OnErr result (IsDue S.PIVOT prefix.now derivation.old trail.old stack.old.items) }
-    ensures spent { result ≡ Err spent → (steps.old.spent ≡ steps.old.budget) × (steps.new ≡ steps.old) }
+    ensures spent { result ≡ Err spent → (steps.new.spent ≡ steps.new.budget) × (left steps.old < 2) }
     ensures reasons { KeepsReasons prefix.now derivation.old derivation.new trail.old trail.new }
     ensures trail { IsTrailFor prefix.now trail.new }
     ensures legal { IsLegalFor prefix.now derivation.new }

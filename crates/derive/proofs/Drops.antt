@@ -18,7 +18,7 @@ use Rattle.calculus.proofs.Changes.{changed_derivation, extends_itself}
 use Rattle.derive.specs.State.{Note, Notes, State, SameStep, OpenClause, note_in, note_at, next_id, row_of, is_finish, is_live, step_from, steps_of, clause_at, clause_from, clause_with, clauses_of, open_clauses, arena_of, has_rows, IsLegalFor}
 use Rattle.derive.specs.Antecedents.{AreSupported, Fits}
 use Rattle.derive.specs.Kept.{AreFrom, BelongTogether}
-use Rattle.derive.specs.Dropping.{StepTest, has_tag, Falls, DropsFrom, Drops, is_cube, is_initial_cube, finishes, is_from, unless_finish}
+use Rattle.derive.specs.Dropping.{StepTest, has_tag, Falls, DropsFrom, Drops, mentions, names, is_cube, is_initial_cube, finishes, is_from, unless_finish}
 use Rattle.derive.specs.Dropping.Falls.{root, rests}
 use Rattle.derive.proofs.Ids.{listed_at, listed_from, listed_filter, listed_same, listed_push, kept_if}
 use Rattle.derive.proofs.Falling.{none_some, some_is}
@@ -412,3 +412,21 @@ restored before after cut longer same given drops front =
           | inl h ↦ ap literals_of ((drops.others k live).row ∙ (same k (ap is_some (sym (below k h)) ∙ live)).row)
           | inr h ↦ absurd (false≢true (sym (ap is_some (past k h)) ∙ live))
         ]
+
+-- what is left names none of the variables
+pub left_unnamed : (test : ℕ → Bool) (old new : State) → Drops (names test (arena_of old)) old new → (id : ℕ) → is_live new id ≡ true → mentions test (row_of new id) ≡ false
+left_unnamed test old new drops id live =
+    let n = some_is (note_at new id) live in
+    let before = live_before (names test (arena_of old)) old.notes new.notes (arena_of old) (arena_of new) drops.exactly id n.0 n.1 in
+    let row : row_of new id ≡ row_of old id = ap literals_of (drops.others id live).row in
+    ⊎_elim
+    (λ t. absurd (before.0 (root id n.0 before.1 (ap (mentions test) (sym row) ∙ t))))
+    (λ f. f)
+    (cases_Bool (mentions test (row_of new id)))
+
+pub clauses_unnamed : (test : ℕ → Bool) (old new : State) → Drops (names test (arena_of old)) old new → clauses_of new ≡ filter (λ (c : OpenClause). not (mentions test c.row)) (clauses_of old)
+clauses_unnamed test old new drops =
+    let by_id : OpenClause → Bool = λ (c : OpenClause). not (mentions test (row_of old c.id)) in
+    clauses_filtered (names test (arena_of old)) old new drops by_id (λ c. refl)
+    ∙ filter_same by_id (λ (c : OpenClause). not (mentions test c.row)) (clauses_of old)
+    (λ c i. ap (λ (r : Row). not (mentions test r)) (sym (clause_stands_at old c i).row))

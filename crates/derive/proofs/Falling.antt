@@ -1,13 +1,15 @@
 -- A pass over the ids that drops roots and what rests on them.
-use Rattle.std.proofs.Common.{◌≡◌, ◌≢◌, ℕ, ◌+◌, ◌<◌, ◌≤◌, ◌⊎◌, true, false, cond, length, set, Option, Some, None, is_some, is_none, sym, refl, ap, ◌∙◌, inl, inr, ⊎_elim, arith}
+use Rattle.std.proofs.Common.{◌≡◌, ◌≢◌, ℕ, ◌+◌, ◌<◌, ◌≤◌, ◌⊎◌, ◌||◌, true, false, cond, length, set, Option, Some, None, is_some, is_none, sym, refl, ap, ◌∙◌, inl, inr, ⊎_elim, arith}
 use Rattle.std.proofs.lemmas.Bool.{cases_Bool, cases_eq, cases_lt, or_cases, or_left, or_right, true≢false, false≢true, cond-true, cond-false}
 use Rattle.std.proofs.lemmas.List.{get_or-set_same, get_or-set_other, get_or_past, length-set}
-use Rattle.rows.specs.Arena.{Arena, StoredRow, row_at as stored_at, next_id as next_row, ChangesAt}
+use Rattle.rows.specs.Arena.{Arena, StoredRow, literals_at, literals_of, row_at as stored_at, next_id as next_row, ChangesAt}
 use Rattle.calculus.specs.Derivations.{Why, RestsOn}
 use Rattle.calculus.specs.Derivations.Why.{Given, ReducedFrom, ResolvedFrom, FinishedFrom}
 use Rattle.derive.specs.State.{Note, Notes, note_in}
 use Rattle.derive.specs.Antecedents.{AreSupported, Fits}
-use Rattle.derive.specs.Dropping.{StepTest, Falls, DropsFrom}
+use Rattle.derive.specs.declared.dropping.Roots.{Roots}
+use Rattle.derive.specs.declared.dropping.Roots.TheVariants.{Frame, InitialCubes, Finishes, From, Naming}
+use Rattle.derive.specs.Dropping.{StepTest, Falls, DropsFrom, is_root, is_that, mentions}
 use Rattle.derive.specs.Dropping.Falls.{root, rests}
 use Rattle.derive.specs.Missing.{misses_antecedent, falls_now, falls_with}
 
@@ -165,3 +167,26 @@ passed_all is_root old notes old_rows rows to all passed =
     no_fall : (id : ℕ) → note_in old id ≡ None → Falls is_root old id → ⊥
     no_fall id past (root j note at r) = none_some (note_in old id) note past at
     no_fall id past (rests j on note at r falls) = none_some (note_in old id) note past at
+
+-- a step that is live names what it named before the pass
+root_same : (roots : Roots) (old_rows rows : Arena) (id : ℕ) (note : Note) → literals_at rows id ≡ literals_at old_rows id → is_root roots rows id note ≡ is_root roots old_rows id note
+root_same (Frame frame) old_rows rows id note e = refl
+root_same InitialCubes old_rows rows id note e = refl
+root_same Finishes old_rows rows id note e = refl
+root_same (From first) old_rows rows id note e = refl
+root_same (Naming index) old_rows rows id note e = ap (mentions (is_that (index + 1))) e
+
+pub falls_same : (roots : Roots) (old notes : Notes) (old_rows rows : Arena) (to : ℕ) → Passed (is_root roots old_rows) old notes old_rows rows to → falls_now (is_root roots rows) notes to ≡ falls_now (is_root roots old_rows) notes to
+falls_same roots old notes old_rows rows to passed = by (note_in notes to) refl
+  where
+    by : (o : Option Note) → note_in notes to ≡ o → falls_with (is_root roots rows) notes to o ≡ falls_with (is_root roots old_rows) notes to o
+    by None e = refl
+    by (Some note) e =
+        let row : literals_at rows to ≡ literals_at old_rows to = ap literals_of (passed.rows_follow to ∙ cond-true (is_some (note_in notes to)) (stored_at old_rows to) None (ap is_some e)) in
+        ap (λ b. b || misses_antecedent notes note.why) (root_same roots old_rows rows to note row)
+
+-- a live step's row is there
+pub row_there : (is_root : StepTest) (old notes : Notes) (old_rows rows : Arena) (to id : ℕ) → Fits old old_rows → Passed is_root old notes old_rows rows to → to ≤ id → (note : Note) → note_in notes id ≡ Some note → is_some (stored_at rows id) ≡ true
+row_there is_root old notes old_rows rows to id fits passed past note e =
+    ap is_some (passed.rows_follow id ∙ cond-true (is_some (note_in notes id)) (stored_at old_rows id) None (ap is_some e))
+    ∙ (fits.same_live id ∙ ap is_some (sym (passed.rest id past) ∙ e))

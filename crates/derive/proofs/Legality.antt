@@ -1,5 +1,5 @@
 -- Each live step but a finish stays legal.
-use Rattle.std.proofs.Common.{◌≡◌, ℕ, ◌<◌, Bool, true, false, not, List, [], ◌∷◌, ◌++◌, length, map, Contains, Option, Some, None, is_some, IsTrue, sym, refl, ap, ap₂, ◌∙◌, ⊎_elim, arith}
+use Rattle.std.proofs.Common.{◌≡◌, ℕ, ◌<◌, Bool, true, false, not, List, [], ◌∷◌, ◌++◌, length, map, Contains, Option, Some, None, is_some, IsTrue, sym, refl, subst, ap, ap₂, ◌∙◌, ⊎_elim, arith}
 use Rattle.std.specs.List.{filter_map, range_with_len, cons_option}
 use Rattle.std.specs.Option.{option_and_then}
 use Rattle.std.proofs.lemmas.Bool.{true≢false, false≢true}
@@ -22,6 +22,10 @@ use Rattle.derive.specs.Antecedents.{IsAntecedentIn, IsSupportedAt}
 use Rattle.derive.proofs.Falling.{none_some}
 use Rattle.derive.proofs.Additions.{live_below}
 use Rattle.std.specs.Prelude.{max}
+use Rattle.calculus.proofs.Removing.{agreed_derivation}
+use Rattle.calculus.specs.Derivations.{AgreeOn, StandsIn}
+use Rattle.calculus.specs.Rows.{variables_in}
+use Rattle.derive.specs.Theorems.{IsNamed}
 
 pub contains_last : {X : Type 0} (xs : List X) (x : X) → Contains (xs ++ x ∷ []) x
 contains_last [] x = contains_head x []
@@ -247,6 +251,21 @@ grown old new d extends legal = changed old new d (open_clauses d) extends (λ r
 
 pub served : (scopes : List Scope) (d : State) (clauses : List Row) → ((row : Row) → Contains (open_clauses d) row → Contains clauses row) → ((row : Row) → Contains clauses row → Contains (open_clauses d) row) → IsLegalFor scopes d → IsDerivation scopes clauses (steps_of d)
 served scopes d clauses to from legal = changed scopes scopes d clauses (extends_itself scopes) to from legal
+
+-- a prefix from which variables left that no live step names
+named : (d : State) (x : ℕ) → StandsIn (steps_of d) x → IsNamed d x
+named d x h = let st = stands_at d h.0 h.1 in (h.0.id, ap is_some st.there, subst (λ (r : Row). Contains (variables_in r) x) st.row h.2)
+
+pub moved : (old new : List Scope) (d : State) → AgreeOn old new (IsNamed d) → IsLegalFor old d → IsLegalFor new d
+moved old new d agree legal =
+    agreed_derivation old new (open_clauses d) (open_clauses d) (steps_of d)
+    (record {
+      has = λ x h. agree.has x (named d x h);
+      quantifiers = λ x h. agree.quantifiers x (named d x h);
+      depths = λ x y h k. agree.depths x y (named d x h) (named d y k);
+    })
+    (λ s j why. given_input old (open_clauses d) (steps_of d) s s.why why (legal.legal s j))
+    legal
 
 -- what is listed, by the readers' words
 

@@ -9,6 +9,7 @@ use Rattle.calculus.specs.Rows.{Row, clashes, reduce, resolve}
 use Rattle.calculus.specs.Derivations.{Why}
 use Rattle.calculus.specs.Derivations.Why.{Given, ReducedFrom, ResolvedFrom, FinishedFrom}
 use Rattle.calculus.specs.Verdicts.{finished}
+use Rattle.steps.specs.Counter.{Counter, after}
 use Rattle.derive.specs.State.{Note, State, SameStep, IsStepOf, OpenClause, arena_of, next_id, note_at, is_live, is_step, has_rows, row_of, side_at, why_at, tag_at, with_step, steps_of, clauses_of, step_from, clause_from}
 use Rattle.derive.specs.Dropping.{Drops, is_initial_cube}
 
@@ -64,6 +65,10 @@ reduction_at scopes d id = reduce (side_at d id) scopes (row_of d id)
 -- the literals over assumed variables in the row of a step
 abbrev pub finish_at : List Literal → State → ℕ → Row
 finish_at assumptions d id = finished assumptions (row_of d id)
+
+-- a removal counts a step where something goes, and else none
+abbrev pub CountsRemoval : (row left : Row) → (before now : Counter) → Type 0
+CountsRemoval row left before now = ((left ≡ row) × (now ≡ before)) ⊎ ((left ≢ row) × (now ≡ after before 1))
 
 -- two steps that may be resolved: a pivot-type variable stands in them with either sign, and no other one with both
 pub record AreResolvable (scopes : List Scope) (d : State) (positive negative variable : ℕ) : Type 0 where

@@ -1,13 +1,16 @@
 -- What goes where steps are dropped: some steps, the roots, with all that rests on them.
-use Rattle.std.specs.Prelude.{◌≡◌, ℕ, Bool, true, false, ◌==◌, nat_le, ◌⊎◌, if◌then◌else◌, length, Option, Some, None, is_some, filter, IsTrue}
+use Rattle.std.specs.Prelude.{◌≡◌, ℕ, Bool, true, false, ◌+◌, ◌==◌, nat_le, ◌⊎◌, if◌then◌else◌, length, Option, Some, None, is_some, filter, IsTrue}
 use Rattle.prefix.specs.declared.quant.Quant.{Quant}
 use Rattle.prefix.specs.declared.quant.Quant.TheVariants.{Exists, Forall}
-use Rattle.rows.specs.Arena.{Arena, next_id as next_row, row_at as stored_at}
+use Rattle.std.specs.List.{list_any}
+use Rattle.prefix.specs.Literal.{Literal}
+use Rattle.calculus.specs.Rows.{Row}
+use Rattle.rows.specs.Arena.{Arena, literals_at, next_id as next_row, row_at as stored_at}
 use Rattle.calculus.specs.Derivations.{Step, Why, RestsOn}
 use Rattle.calculus.specs.Derivations.Why.{Given, ReducedFrom, ResolvedFrom, FinishedFrom}
 use Rattle.derive.specs.State.{Note, Notes, State, SameStep, note_in, is_finish, is_live, steps_of, arena_of, has_rows}
 use Rattle.derive.specs.declared.dropping.Roots.{Roots}
-use Rattle.derive.specs.declared.dropping.Roots.TheVariants.{Frame, InitialCubes, Finishes, From}
+use Rattle.derive.specs.declared.dropping.Roots.TheVariants.{Frame, InitialCubes, Finishes, From, Naming}
 
 -- a test of steps, by id and note
 abbrev pub StepTest : Type 0
@@ -64,9 +67,22 @@ pub record Drops (is_root : StepTest) (old new : State) : Type 0 where
   pub others : (id : ℕ) → IsTrue (is_live new id) → SameStep old new id
   pub left : steps_of new ≡ filter (λ (s : Step). is_live new s.id) (steps_of old)
 
--- the steps that a sort of roots names
-abbrev pub is_root : Roots → StepTest
-is_root (Frame frame) = has_tag frame
-is_root InitialCubes = is_initial_cube
-is_root Finishes = finishes
-is_root (From first) = is_from first
+-- whether a row is over a variable for which this holds
+abbrev pub mentions : (ℕ → Bool) → Row → Bool
+mentions test row = list_any (λ (l : Literal). test l.variable) row
+
+-- whether the row of a step is so
+abbrev pub names : (ℕ → Bool) → Arena → StepTest
+names test rows id note = mentions test (literals_at rows id)
+
+-- whether a variable is that one
+abbrev pub is_that : ℕ → ℕ → Bool
+is_that v x = x == v
+
+-- the steps that a sort of roots names, with these rows
+abbrev pub is_root : Roots → Arena → StepTest
+is_root (Frame frame) rows = has_tag frame
+is_root InitialCubes rows = is_initial_cube
+is_root Finishes rows = finishes
+is_root (From first) rows = is_from first
+is_root (Naming index) rows = names (is_that (index + 1)) rows

@@ -2,10 +2,10 @@
 use Rattle.std.specs.Prelude.{◌≡◌, ℕ, nat_lt, if◌then◌else◌, IsTrue, List, Contains, Some, None}
 use Rattle.prefix.specs.declared.quant.Quant.TheVariants.{Exists}
 use Rattle.prefix.specs.Scopes.{Scope}
-use Rattle.calculus.specs.Rows.{Row}
-use Rattle.calculus.specs.Derivations.{Step, Why, Extends, IsDerivation}
+use Rattle.calculus.specs.Rows.{Row, variables_in}
+use Rattle.calculus.specs.Derivations.{AgreeOn, Step, Why, Extends, IsDerivation}
 use Rattle.calculus.specs.Derivations.Why.{Given}
-use Rattle.derive.specs.State.{Note, State, OpenClause, next_id, is_step, note_at, side_at, row_of, why_at, steps_of, clauses_of, open_clauses, IsLegalFor}
+use Rattle.derive.specs.State.{Note, State, OpenClause, next_id, is_live, is_step, note_at, side_at, row_of, why_at, steps_of, clauses_of, open_clauses, IsLegalFor}
 use Rattle.derive.specs.Adding.{Adds, Removes}
 use Rattle.derive.specs.Dropping.{Drops, is_from}
 pub use Rattle.derive.specs.Growing.{Grows}
@@ -13,6 +13,16 @@ pub use Rattle.derive.specs.Growing.{Grows}
 -- Each live step but a finish stays legal when the prefix gets scopes and variables.
 abbrev pub PrefixesMayGrow : Type 0
 PrefixesMayGrow = (old new : List Scope) (d : State) → Extends old new → IsLegalFor old d → IsLegalFor new d
+
+-- a variable stands in the row of a live step
+abbrev pub IsNamed : State → ℕ → Type 0
+IsNamed d x = (id : ℕ) × IsTrue (is_live d id) × Contains (variables_in (row_of d id)) x
+
+-- Each live step but a finish stays legal when the prefix changes and agrees with the old one on the variables of live
+-- steps: the others may leave it.
+abbrev pub PrefixesMayChange : Type 0
+PrefixesMayChange = (old new : List Scope) (d : State) → AgreeOn old new (IsNamed d) → IsLegalFor old d
+    → IsLegalFor new d
 
 -- The listed steps are those under the ids that `is_step` holds of, with the side, the row and the reason that are
 -- told there.

@@ -1,17 +1,19 @@
 //! Derivations.
-ghost use Rattle.std.specs.Prelude.{◌≡◌, ◌<◌, ◌⊎◌, ℕ, false, IsTrue, IsFalse, Some, None, IfOk, OnOk, OnErr, List, [], ◌∷◌, ◌++◌, filter, max, not, nat_lt, ◌==◌, if◌then◌else◌, length, slice_index_or, slice_set, Contains};
+ghost use Rattle.std.specs.Prelude.{◌≡◌, ◌≢◌, ◌<◌, ◌⊎◌, ℕ, false, IsTrue, IsFalse, Some, None, IfOk, OnOk, OnErr, Err, List, [], ◌∷◌, ◌++◌, filter, max, not, nat_lt, ◌==◌, if◌then◌else◌, length, slice_index_or, slice_set, Contains};
 ghost use Rattle.prefix.specs.Scopes.{Scope, IsAscending};
 ghost use Rattle.prefix.specs.declared.quant.Quant.TheVariants.{Exists as exists, Forall as forall};
 ghost use Rattle.rows.specs.Arena.{Arena, literals_at};
+ghost use Rattle.steps.specs.Counter.{after};
+ghost use Rattle.steps.specs.declared.stop.Stop.TheVariants.{Spent as spent};
 ghost use Rattle.calculus.specs.Rows.{IsRow, variables_in, reduce as reduction, resolve as resolvent};
 ghost use Rattle.calculus.specs.Derivations.{Hits, RestsOn};
 ghost use Rattle.calculus.specs.Derivations.Why.{ReducedFrom, ResolvedFrom, FinishedFrom};
 ghost use Rattle.calculus.specs.Verdicts.{finished, IsEndRow, IsFinish};
-ghost use Rattle.derive.specs.State.{State, IsStepOf, SameStep, OpenClause, next_id, is_live, is_step, has_rows, row_of, side_at, why_at, tag_at, note_at, steps_of, clauses_of, open_clauses, IsLegalFor, Note as Kept};
+ghost use Rattle.derive.specs.State.{State, arena_of, IsStepOf, SameStep, OpenClause, next_id, is_live, is_step, has_rows, row_of, side_at, why_at, tag_at, note_at, steps_of, clauses_of, open_clauses, IsLegalFor, Note as Kept};
 ghost use Rattle.derive.specs.Antecedents.{Fits, IsAntecedentIn, AreSupported, IsSupportedAt, IsGreatestFrame};
-ghost use Rattle.derive.specs.Adding.{Adds, AddsBoth, AddsClause, AreResolvable, InputsClause, IsOver, IsReductionOf, Removes, cube_note, finish_at, reduction_at, resolvent_at, resolvent_note};
+ghost use Rattle.derive.specs.Adding.{Adds, AddsBoth, AddsClause, AreResolvable, CountsRemoval, InputsClause, IsOver, IsReductionOf, Removes, cube_note, finish_at, reduction_at, resolvent_at, resolvent_note};
 ghost use Rattle.derive.specs.Growing.{AreUnlinked, GainsSteps};
-ghost use Rattle.derive.specs.Dropping.{Drops, StepTest, has_tag, is_initial_cube, finishes, is_from, is_root, unless_finish};
+ghost use Rattle.derive.specs.Dropping.{Drops, StepTest, is_that, mentions, names, has_tag, is_initial_cube, finishes, is_from, is_root, unless_finish};
 ghost use Rattle.derive.specs.Sweeping.{Sweeps};
 ghost use Rattle.derive.specs.Told.{told, why_of};
 
@@ -25,7 +27,7 @@ use reduce::{Row, resolve};
 use rows::Rows;
 use std::alloc::Global;
 use std::marker::Model;
-use steps::NoMemory;
+use steps::{NoMemory, Steps, Stop};
 
 /// A derivation of clauses and cubes: input steps, reductions, resolvents and finishes, each with its row. Contracts
 /// see it as the list that has, for each id given so far, what is kept of the step that is live under it, and beside
@@ -226,6 +228,39 @@ impl Derivation {
         self.add_removal(a, Step::Reduced(a), row.as_slice())
     }
 
+    /// Puts in the reduction of a step as `reduce` does, and counts a step where something goes, before it comes in. Spent
+    /// comes only there, where no step is left, and changes nothing. With no memory the derivation stays as it was.
+    pub fn reduce_counted(
+        &mut self,
+        prefix: &Prefix,
+        a: StepId,
+        steps: &mut Steps,
+    ) -> Result<StepId, Stop>
+        requires rows { IsTrue (has_rows self.old) }
+        requires step { IsTrue (is_step self.old a) }
+        ensures ok { IfOk result (λ id. Removes self.old self.new id a (ReducedFrom a)
+            (reduction_at prefix.now self.old a)) }
+        ensures step { IfOk result (λ id. IsStepOf self.new id (side_at self.old a)
+            (reduction_at prefix.now self.old a) (tag_at self.old a)) }
+        ensures counted { OnOk result (CountsRemoval (row_of self.old a) (reduction_at prefix.now self.old a)
+            steps.old steps.new) }
+        ensures gains { OnOk result (GainsSteps self.old self.new) }
+        ensures rows { IsTrue (has_rows self.new) }
+        ensures legal { OnOk result (IsLegalFor prefix.now self.old → IsLegalFor prefix.now self.new) }
+        ensures err { OnErr result (self.new ≡ self.old) }
+        ensures spent { result ≡ Err spent → (reduction_at prefix.now self.old a ≢ row_of self.old a)
+            × (steps.old.spent ≡ steps.old.budget) × (steps.new ≡ steps.old) }
+        ensures tried { OnErr result ((steps.new ≡ steps.old) ⊎ (steps.new ≡ after steps.old 1)) }
+    {
+        let mut row = Row::new(*self.notes.allocator());
+        reduce_of(self.side(a), prefix, self.lits(a), &mut row)?;
+        if row.len() == self.lits(a).len() {
+            return Ok(a);
+        }
+        steps.tick()?;
+        Ok(self.add_removal(a, Step::Reduced(a), row.as_slice())?)
+    }
+
     /// Puts in the finish of an end row, which keeps the literals over assumed variables, and answers its id; where
     /// nothing goes, that of the end row itself. The assumptions ascend by variable, as rows do. With no memory the
     /// derivation stays as it was.
@@ -316,6 +351,19 @@ impl Derivation {
         ensures legal { (scopes : List Scope) → IsLegalFor scopes self.old → IsLegalFor scopes self.new }
     {
         sweep_all(&mut self.notes, self.rows.as_mut().unwrap(), &mut self.marks, keep);
+    }
+
+    /// Drops the steps that name a variable, with all that rests on them. This takes no memory, and the time of going over
+    /// all literals.
+    pub fn drop_var(&mut self, v: Var)
+        requires { IsTrue (has_rows self.old) }
+        ensures drops { Drops (names (is_that v) (arena_of self.old)) self.old self.new }
+        ensures clauses { clauses_of self.new ≡ filter (λ (c : OpenClause). not (mentions (is_that v) c.row))
+            (clauses_of self.old) }
+        ensures left { (id : ℕ) → IsTrue (is_live self.new id) → mentions (is_that v) (row_of self.new id) ≡ false }
+        ensures legal { (scopes : List Scope) → IsLegalFor scopes self.old → IsLegalFor scopes self.new }
+    {
+        self.drop_all(0, Roots::Naming(v.index()));
     }
 
     /// Hands out the rows. Then only `step`, `is_live`, `tag` and `next_id` are called, until they are put back. This
@@ -457,8 +505,8 @@ impl Derivation {
     fn drop_all(&mut self, from: StepId, roots: Roots)
         requires rows { IsTrue (has_rows self.old) }
         requires below { (id : ℕ) (note : Kept) → note_at self.old id ≡ Some note → id < from →
-            is_root roots id note ≡ false }
-        ensures drops { Drops (is_root roots) self.old self.new }
+            is_root roots (arena_of self.old) id note ≡ false }
+        ensures drops { Drops (is_root roots (arena_of self.old)) self.old self.new }
         ensures supported { AreSupported self.old.notes }
     {
         drop_roots(&mut self.notes, self.rows.as_mut().unwrap(), from, &roots);

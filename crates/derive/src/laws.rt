@@ -1,9 +1,14 @@
 //! Laws of derivations.
-ghost use Rattle.derive.specs.Theorems.{ClausesAreListed, GrowthLaws, PrefixesMayGrow, SameClausesServe, StepsAreListed};
+ghost use Rattle.derive.specs.Theorems.{ClausesAreListed, GrowthLaws, PrefixesMayChange, PrefixesMayGrow, SameClausesServe, StepsAreListed};
 
 /// Each live step but a finish stays legal when the prefix gets scopes and variables.
 pub fn prefixes_may_grow()
     ensures { PrefixesMayGrow }
+{}
+
+/// Each live step but a finish stays legal when variables leave the prefix that no live step names.
+pub fn prefixes_may_change()
+    ensures { PrefixesMayChange }
 {}
 
 /// Each live step but a finish is legal for every formula that has the open clauses and no others.

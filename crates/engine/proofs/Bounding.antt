@@ -31,11 +31,12 @@ use Rattle.engine.specs.Kept.{AreTied, HasFinishesOf, IsEngine}
 
 -- the counts
 
-limit_grows : (m n : ℕ) → m ≤ n → step_limit m ≤ step_limit n
-limit_grows m n few =
+limit_grows : (few many m n : ℕ) → few ≤ many → m ≤ n → step_limit few m ≤ step_limit many n
+limit_grows low high m n more few =
     let two : 0 < 2 = omega arith in
-    mul-le-mul (let h : 4 * m + 4 ≤ 4 * n + 4 = omega arith in h)
-    (pow-le-pow_right two (let h : m + 1 ≤ n + 1 = omega arith in h))
+    mul-le-mul (let h : 8 * m + 8 ≤ 8 * n + 8 = omega arith in h)
+    (mul-le-mul (let h : low + 1 ≤ high + 1 = omega arith in h)
+    (pow-le-pow_right two (let h : m + 1 ≤ n + 1 = omega arith in h)))
 
 -- one more clause, with a count that may stay at its last value
 more_clauses : (last clauses rest old new : ℕ) → new ≤ old + 1 → new ≤ last → old < clauses + rest + 1
@@ -64,13 +65,17 @@ more_solves last solves each each' old new grows more small some clauses h =
     either a b = grind arith
 
 -- a solve of some variables, within a budget
-bounded_solve : (last clauses solves budget vars now n spent old new : ℕ) → spent ≤ now → spent < step_limit n
-    → new ≤ old + spent + 1 → new ≤ last → old < removal_bound clauses solves budget vars
-    → new < removal_bound clauses (min (solves + 1) last) (max budget now) (max vars n)
-bounded_solve last clauses solves budget vars now n spent old new paid few more small h =
-    let first : step_limit vars ≤ step_limit (max vars n) = limit_grows vars (max vars n) (omega arith) in
-    let second : step_limit n ≤ step_limit (max vars n) = limit_grows n (max vars n) (omega arith) in
-    by (step_limit vars) (step_limit n) (step_limit (max vars n)) first second few h
+bounded_solve : (last clauses solves budget restarts vars now again n spent old new : ℕ) → spent ≤ now
+    → spent < step_limit again n → new ≤ old + spent + 1 → new ≤ last
+    → old < removal_bound clauses solves budget restarts vars
+    → new < removal_bound clauses (min (solves + 1) last) (max budget now) (max restarts again) (max vars n)
+bounded_solve last clauses solves budget restarts vars now again n spent old new paid few more small h =
+    let most = max restarts again in
+    let first : step_limit restarts vars ≤ step_limit most (max vars n) =
+    limit_grows restarts most vars (max vars n) (omega arith) (omega arith) in
+    let second : step_limit again n ≤ step_limit most (max vars n) =
+    limit_grows again most n (max vars n) (omega arith) (omega arith) in
+    by (step_limit restarts vars) (step_limit again n) (step_limit most (max vars n)) first second few h
   where
     by : (a b c : ℕ) → a ≤ c → b ≤ c → spent < b → old < clauses + solves * (min budget a + 1) + 1
         → new < clauses + min (solves + 1) last * (min (max budget now) c + 1) + 1
@@ -80,44 +85,46 @@ bounded_solve last clauses solves budget vars now n spent old new paid few more 
 
 -- the removals that counts allow
 abbrev pub allowed : Counts → ℕ
-allowed counts = removal_bound counts.clauses counts.solves counts.budget counts.vars
+allowed counts = removal_bound counts.clauses counts.solves counts.budget counts.restarts counts.vars
 
 pub clause_counted : (counts : Counts) (old new : ℕ) → new ≤ old + 1 → new < 2 ^ 64 → old < allowed counts
     → new < allowed (with_clause counts)
 clause_counted counts old new more fit h =
-    more_clauses (2 ^ 64 - 1) counts.clauses (counts.solves * (min counts.budget (step_limit counts.vars) + 1)) old new
+    more_clauses (2 ^ 64 - 1) counts.clauses (counts.solves * (min counts.budget (step_limit counts.restarts counts.vars) + 1)) old new
     more (omega arith) h
 
 -- one more solve of so many variables, by a counter
-pub solve_counted : (counts : Counts) (before now : Counter) (n first old new : ℕ) → old ≡ first
-    → new ≤ old + (now.spent - before.spent) + 1 → new < 2 ^ 64 → now.spent - before.spent < step_limit n
+pub solve_counted : (counts : Counts) (before now : Counter) (again n first old new : ℕ) → old ≡ first
+    → new ≤ old + (now.spent - before.spent) + 1 → new < 2 ^ 64 → now.spent - before.spent < step_limit again n
     → now.spent ≤ now.budget → now.budget ≡ before.budget → first < allowed counts
-    → new < allowed (with_solve before.budget n counts)
-solve_counted counts before now n first old new same more fit few within budget h =
-    bounded_solve (2 ^ 64 - 1) counts.clauses counts.solves counts.budget counts.vars before.budget n
+    → new < allowed (with_solve before.budget again n counts)
+solve_counted counts before now again n first old new same more fit few within budget h =
+    bounded_solve (2 ^ 64 - 1) counts.clauses counts.solves counts.budget counts.restarts counts.vars
+    before.budget again n
     (now.spent - before.spent) first new (omega arith) few (omega arith) (omega arith) h
 
 -- a solve that didn't begin
-limit_some : (n : ℕ) → 0 < step_limit n
-limit_some n =
+limit_some : (restarts n : ℕ) → 0 < step_limit restarts n
+limit_some restarts n =
     let power = pow_pos (n + 1) in
-    let most : 1 ≤ (4 * n + 4) * 2 ^ (n + 1) = one-le-mul (omega arith) (omega (arith, power)) in
+    let rounds : 1 ≤ (restarts + 1) * 2 ^ (n + 1) = one-le-mul (omega arith) (omega (arith, power)) in
+    let most : 1 ≤ (8 * n + 8) * ((restarts + 1) * 2 ^ (n + 1)) = one-le-mul (omega arith) rounds in
     most
 
-pub unsolved_counted : (counts : Counts) (now n old new : ℕ) → new ≡ old → new < 2 ^ 64 → old < allowed counts
-    → new < allowed (with_solve now n counts)
-unsolved_counted counts now n old new same fit h =
-    bounded_solve (2 ^ 64 - 1) counts.clauses counts.solves counts.budget counts.vars now n 0 old new (omega arith)
-    (limit_some n) (omega (arith, same)) (omega arith) h
+pub unsolved_counted : (counts : Counts) (now again n old new : ℕ) → new ≡ old → new < 2 ^ 64 → old < allowed counts
+    → new < allowed (with_solve now again n counts)
+unsolved_counted counts now again n old new same fit h =
+    bounded_solve (2 ^ 64 - 1) counts.clauses counts.solves counts.budget counts.restarts counts.vars now again n 0
+    old new (omega arith) (limit_some again n) (omega (arith, same)) (omega arith) h
 
 pub some_solves : (counts : Counts) → one_more counts.solves ≡ 0 → ⊥
 some_solves counts none = absurd (omega arith)
 
 -- an engine after a solve without a verdict
-pub undecided : (f : OpenFormula) (s : SearchState) (counts : Counts) (now n : ℕ) → AreTied f s
-    → HasNoFinish s.derivation → reductions_in s.derivation < allowed (with_solve now n counts)
-    → IsEngine f s None (with_solve now n counts)
-undecided f s counts now n tied none few = record {
+pub undecided : (f : OpenFormula) (s : SearchState) (counts : Counts) (now again n : ℕ) → AreTied f s
+    → HasNoFinish s.derivation → reductions_in s.derivation < allowed (with_solve now again n counts)
+    → IsEngine f s None (with_solve now again n counts)
+undecided f s counts now again n tied none few = record {
   tied = tied;
   held = tt;
   finishes = none;

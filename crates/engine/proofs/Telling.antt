@@ -37,9 +37,9 @@ truth_again true = refl
 truth_again false = refl
 
 -- a stop of a search for the formula
-pub stops : (f : OpenFormula) (s : SearchState) (before now : Counter) (stop : SolveStop) → AreTied f s
-    → IsStop f.scopes s.derivation f.assumptions before now stop → IsStopFor f before now stop
-stops f s before now stop tied is = record {
+pub stops : (restarts : ℕ) (f : OpenFormula) (s : SearchState) (before now : Counter) (stop : SolveStop) → AreTied f s
+    → IsStop restarts f.scopes s.derivation f.assumptions before now stop → IsStopFor restarts f before now stop
+stops restarts f s before now stop tied is = record {
   derivation = s.derivation;
   clauses = same_rows s.derivation f.frames tied.clauses;
   stops = is;

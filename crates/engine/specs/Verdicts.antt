@@ -1,5 +1,5 @@
 -- Verdicts with their proofs, and stops.
-use Rattle.std.specs.Prelude.{◌≡◌, Bool, true, false, Option, Some}
+use Rattle.std.specs.Prelude.{ℕ, ◌≡◌, Bool, true, false, Option, Some}
 use Rattle.prefix.specs.declared.quant.Quant.{Quant}
 use Rattle.prefix.specs.declared.quant.Quant.TheVariants.{Exists, Forall}
 use Rattle.steps.specs.Counter.{Counter}
@@ -41,7 +41,7 @@ pub record HasProof (formula : OpenFormula) (verdict : Verdict) (kept : Option V
   pub last_row : proof.last.row ≡ state.row
 
 -- a solve of the formula may stop: as a search may whose open clauses are the formula's
-pub record IsStopFor (formula : OpenFormula) (before now : Counter) (stop : SolveStop) : Type 0 where
+pub record IsStopFor (restarts : ℕ) (formula : OpenFormula) (before now : Counter) (stop : SolveStop) : Type 0 where
   pub derivation : State
   pub clauses : open_clauses derivation ≡ clauses_in formula.frames
-  pub stops : IsStop formula.scopes derivation formula.assumptions before now stop
+  pub stops : IsStop restarts formula.scopes derivation formula.assumptions before now stop

@@ -23,7 +23,7 @@ use Rattle.engine.specs.State.{EngineState, changed}
 use Rattle.engine.specs.Verdicts.{HasProof, told}
 
 abbrev pub some_counts : Counts
-some_counts = record { clauses = 5; solves = 1; budget = 200; vars = 2 }
+some_counts = record { clauses = 5; solves = 1; budget = 200; restarts = 1; vars = 2 }
 
 -- the clause 1 in frame 0 and the clause -1 2 in a pushed one
 abbrev pub two_frames : List Frame
@@ -53,6 +53,7 @@ decided = record {
   formula = (state_of framed_commands).formula;
   verdict = Some (told derived (record { verdict = record { truth = false; end = 6 }; assumed = []; relevant = [] }));
   counts = some_counts;
+  restarts = 0;
 }
 
 pub record WorkedEngines : Type 0 where
@@ -60,7 +61,8 @@ pub record WorkedEngines : Type 0 where
   pub one : one_more 0 ≡ 1
   pub stays : one_more (2 ^ 64 - 1) ≡ 2 ^ 64 - 1
   pub clauses : (with_clause some_counts).clauses ≡ 6
-  pub solves : with_solve 100 3 some_counts ≡ record { clauses = 5; solves = 2; budget = 200; vars = 3 }
+  pub solves : with_solve 100 4 3 some_counts
+      ≡ record { clauses = 5; solves = 2; budget = 200; restarts = 4; vars = 3 }
   -- a change drops the verdict, and counts nothing else
   pub dropped : (changed decided Push).verdict ≡ None
   pub counted : (changed decided Push).counts ≡ some_counts

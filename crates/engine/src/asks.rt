@@ -56,13 +56,13 @@ impl Engine {
     ///
     /// Of its live steps at most `c + k * (min(N, limit(n)) + 1) + 1` are reductions and finishes: with c clauses
     /// accepted and k solves so far, however these ended, N their greatest budget, n their greatest number of
-    /// variables, and `limit(n) = (4n + 4) * 2^(n + 1)`. A count that came to 2^64 - 1 stays there.
+    /// variables, and `limit(n) = (8n + 8) * 2^(n + 1)`. A count that came to 2^64 - 1 stays there.
     pub fn derivation(&self) -> &Derivation
         ensures clauses { open_clauses result.now ≡ clauses_in self.now.formula.frames }
         ensures legal { IsLegalFor self.now.formula.scopes result.now }
         ensures proof { IfSome self.now.verdict (λ v. v.proof ≡ proof_at result.now v.assumptions v.end) }
         ensures few { reductions_in result.now + finishes_in result.now ≤ removal_bound self.now.counts.clauses
-            self.now.counts.solves self.now.counts.budget self.now.counts.vars }
+            self.now.counts.solves self.now.counts.budget self.now.counts.restarts self.now.counts.vars }
         ensures rows { IsTrue (has_rows result.now) }
     {
         self.search.derivation()
@@ -134,7 +134,7 @@ impl Engine {
         ensures list { IfAnswered self.now.verdict result (λ v core. inferences_of core.lines ≡ v.proof) }
         ensures numbered { IfOk result (λ core. IsNumbered core.lines) }
         ensures few { IfOk result (λ core. removals_of (inferences_of core.lines) ≤ removal_bound
-            self.now.counts.clauses self.now.counts.solves self.now.counts.budget self.now.counts.vars) }
+            self.now.counts.clauses self.now.counts.solves self.now.counts.budget self.now.counts.restarts self.now.counts.vars) }
         ensures verdict { IfSome self.now.verdict (IsVerdictOf self.now.formula) }
     {
         let _facts = self.verdict();
@@ -154,7 +154,7 @@ impl Engine {
         ensures strategy { IfOk result IsStrategy }
         ensures certifies { IfAnswered self.now.verdict result (IsCertificateOf self.now.formula) }
         ensures few { IfOk result (λ s. length s.aig.gates ≤ weight_bound self.now.counts.clauses
-            self.now.counts.solves self.now.counts.budget self.now.counts.vars) }
+            self.now.counts.solves self.now.counts.budget self.now.counts.restarts self.now.counts.vars) }
         ensures verdict { IfSome self.now.verdict (IsVerdictOf self.now.formula) }
     {
         plays_exist();

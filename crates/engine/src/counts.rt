@@ -2,13 +2,14 @@
 ghost use Rattle.std.specs.Prelude.{◌≡◌};
 ghost use Rattle.engine.specs.Counting.{no_counts, with_clause, with_solve};
 
-// The accepted clauses and the solves so far, however these ended, and the greatest budget and the greatest number of
-// variables at a solve. A count at its greatest value stays.
+// The accepted clauses and the solves so far, however these ended, and the greatest budget, the greatest number of restarts
+// and the greatest number of variables at a solve. A count at its greatest value stays.
 #[derive(Clone, Copy, Debug)]
 pub(crate) struct Counts {
     pub clauses: u64,
     pub solves: u64,
     pub budget: u64,
+    pub restarts: u32,
     pub vars: u64,
 }
 
@@ -21,6 +22,7 @@ impl Counts {
             clauses: 0,
             solves: 0,
             budget: 0,
+            restarts: 0,
             vars: 0,
         }
     }
@@ -36,13 +38,14 @@ impl Counts {
     }
 
     // Counts a solve.
-    pub(crate) fn with_solve(self, budget: u64, vars: u64) -> Self
-        ensures { result ≡ with_solve budget vars self }
+    pub(crate) fn with_solve(self, budget: u64, restarts: u32, vars: u64) -> Self
+        ensures { result ≡ with_solve budget restarts vars self }
     {
         Self {
             clauses: self.clauses,
             solves: self.solves.saturating_add(1),
             budget: self.budget.max(budget),
+            restarts: self.restarts.max(restarts),
             vars: self.vars.max(vars),
         }
     }

@@ -32,6 +32,8 @@ pub struct Engine {
     pub(crate) search: Search,
     pub(crate) verdict: Option<Held>,
     pub(crate) counts: Counts,
+    // How often a solve may begin anew.
+    pub(crate) restarts: u32,
 }
 
 impl Model for Engine {
@@ -47,6 +49,7 @@ impl Model for Engine {
       formula = e.frames.formula;
       verdict = option_map (told e.search.derivation) e.verdict;
       counts = e.counts;
+      restarts = e.restarts;
     } };
 
     ghost invariant = { λ e. IsEngine e.frames.formula e.search e.verdict e.counts };
@@ -63,6 +66,7 @@ impl Engine {
             search: Search::new(alloc),
             verdict: None,
             counts: Counts::new(),
+            restarts: 0,
         })
     }
 
@@ -74,12 +78,20 @@ impl Engine {
         self.frames.prefix()
     }
 
+    /// How often a solve may begin anew, after each 64th of its lessons; before the first call never. This is no change:
+    /// a verdict stays.
+    pub fn set_restarts(&mut self, restarts: u32)
+        ensures { self.new ≡ record self.old { restarts = restarts } }
+    {
+        self.restarts = restarts;
+    }
+
     /// Decides the open formula under the assumptions. A verdict empties the assumptions; it stays until the next
     /// change, and a solve that stops is one.
     ///
     /// Spent comes only where a step is due and the budget is spent, which with as many steps left as suffice for the
     /// variables is never so; at the first solve, where propagation from the assumptions refutes the clauses, only with
-    /// fewer than `n * (n + 3)` steps left, n being the number of variables. After it and after want of memory the
+    /// fewer than `2 * n * (n + 3)` steps left, n being the number of variables. After it and after want of memory the
     /// formula and the assumptions are as before, and there is no verdict.
     pub fn solve(&mut self, steps: &mut Steps) -> Result<Verdict, SolveStop>
         ensures truth { IfOk result (λ v. v.truth
@@ -88,23 +100,24 @@ impl Engine {
         ensures emptied { OnOk result (self.new.formula ≡ record self.old.formula { assumptions = [] }) }
         ensures kept { OnErr result (self.new.formula ≡ self.old.formula) }
         ensures none { OnErr result (self.new.verdict ≡ None) }
-        ensures stop { IfErr result (IsStopFor self.old.formula steps.old steps.new) }
+        ensures stop { IfErr result (IsStopFor self.old.restarts self.old.formula steps.old steps.new) }
         ensures quick { self.old.counts.solves ≡ 0 → IsRefuted self.old.formula.scopes
             (clauses_in self.old.formula.frames) self.old.formula.assumptions →
             IfErr result (IsQuickStop (size_of self.old.formula.scopes) steps.old) }
         ensures budget { steps.new.budget ≡ steps.old.budget }
         ensures rises { steps.old.spent ≤ steps.new.spent }
-        ensures counts { self.new.counts ≡ with_solve steps.old.budget (size_of self.old.formula.scopes)
-            self.old.counts }
+        ensures counts { self.new.counts ≡ with_solve steps.old.budget self.old.restarts
+            (size_of self.old.formula.scopes) self.old.counts }
+        ensures restarts { self.new.restarts ≡ self.old.restarts }
     {
         self.counts = self
             .counts
-            .with_solve(steps.budget(), self.frames.prefix().len() as u64);
+            .with_solve(steps.budget(), self.restarts, self.frames.prefix().len() as u64);
         self.verdict = None;
         forget_outcome(&mut self.search, &self.frames);
         let assumed = copied(self.alloc, self.frames.assumptions())?;
         let mut relevant = copied(self.alloc, self.frames.assumptions())?;
-        let verdict = decide(&mut self.search, &self.frames, steps)?;
+        let verdict = decide(&mut self.search, &self.frames, self.restarts, steps)?;
         end_rows_give_proofs();
         proofs_decide();
         steps_are_listed();

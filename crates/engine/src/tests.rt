@@ -93,7 +93,7 @@ fn verdicts_are_those_of_the_plain_recursion(rt: HostRuntime) -> Result<(), Fail
 // With too few steps a solve stops where they are spent, and the next one is right; with enough it never stops.
 #[test]
 fn budgets_are_kept(rt: HostRuntime) -> Result<(), Fail> {
-    let enough = (4 * 6 + 4) * 128;
+    let enough = 3 * (8 * 6 + 8) * 128;
     for seed in 0..300 {
         for budget in [0, 1, 20, enough - 1, enough] {
             let is_kept = is_budget_kept(rt.alloc(), seed, budget, enough)?;

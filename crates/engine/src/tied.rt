@@ -40,6 +40,7 @@ pub(crate) fn forget_outcome(search: &mut Search, frames: &Frames)
 pub(crate) fn decide(
     search: &mut Search,
     frames: &Frames,
+    restarts: u32,
     steps: &mut Steps,
 ) -> Result<Verdict, SolveStop>
     requires { AreTied frames.now.formula search.old }
@@ -47,19 +48,19 @@ pub(crate) fn decide(
     ensures found { IfOk result (IsFound frames.now.formula search.new.derivation frames.now.formula.assumptions) }
     ensures finishes { IfOk result (λ v. (id : ℕ) → IsFinishId search.new.derivation id → id ≡ v.end) }
     ensures unfinished { OnErr result (HasNoFinish search.new.derivation) }
-    ensures stop { IfErr result (IsStopFor frames.now.formula steps.old steps.new) }
+    ensures stop { IfErr result (IsStopFor restarts frames.now.formula steps.old steps.new) }
     ensures quick { HasNoCubes search.old → IsRefuted frames.now.formula.scopes (clauses_in frames.now.formula.frames)
         frames.now.formula.assumptions → IfErr result (IsQuickStop (size_of frames.now.formula.scopes) steps.old) }
     ensures reductions { reductions_in search.new.derivation
         ≤ reductions_in search.old.derivation + (steps.new.spent - steps.old.spent) + 1 }
     ensures fit { reductions_in search.new.derivation < 2 ^ 64 }
-    ensures few { steps.new.spent - steps.old.spent < step_limit (size_of frames.now.formula.scopes) }
+    ensures few { steps.new.spent - steps.old.spent < step_limit restarts (size_of frames.now.formula.scopes) }
     ensures within { steps.new.spent ≤ steps.new.budget }
     ensures budget { steps.new.budget ≡ steps.old.budget }
     ensures rises { steps.old.spent ≤ steps.new.spent }
 {
     let matrix = frames.open_clauses();
-    let found = search.solve(frames.prefix(), matrix, frames.assumptions(), steps);
+    let found = search.solve(frames.prefix(), matrix, frames.assumptions(), restarts, steps);
     // The counter is within its budget, and ids are fewer than 2 ^ 64.
     let _budget = steps.budget();
     let _next = search.derivation().next_id();

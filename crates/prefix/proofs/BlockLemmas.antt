@@ -1,11 +1,11 @@
 -- A write to one block, as what contracts see of it.
-use Rattle.std.proofs.Common.{◌≡◌, ℕ, ◌<◌, List, length, get_or, set, sym, ap, ◌∙◌}
+use Rattle.std.proofs.Common.{◌≡◌, ℕ, ◌<◌, ◌==◌, not, filter, List, length, get_or, set, sym, ap, ◌∙◌}
 use Rattle.std.specs.List.{AllByRecursion}
 use Rattle.std.proofs.lemmas.List.{map-set, get_or-map, set-get_or, length-map}
 use Rattle.std.proofs.lemmas.List.Elements.{All-from_recursion}
 use Rattle.prefix.specs.declared.prefix.Block.{Block}
 use Rattle.prefix.specs.Scopes.{Scope, insert_ascending, with_variable_at, IsAscending}
-use Rattle.prefix.specs.Blocks.{scope_of, scopes_of, ids_of}
+use Rattle.prefix.specs.Blocks.{scope_of, scopes_of, ids_of, IsTakenOut}
 use Rattle.prefix.proofs.ScopeLemmas.{set-with_variable_at}
 
 module _ (blocks : List Block) (i : ℕ) (x : Block) (within : i < length blocks) (read : x ≡ get_or blocks i x) where
@@ -36,3 +36,10 @@ module _ (blocks : List Block) (i : ℕ) (x : Block) (within : i < length blocks
     where
       made : (z : Block) (w : ℕ) → z.quant ≡ x.quant → z.vars.items ≡ insert_ascending w x.vars.items → scope_of z ≡ record { quantifier = x.quant; variables = insert_ascending w x.vars.items }
       made z w p q = cc
+
+  pub scopes_taken : (y : Block) (v : ℕ) → y.quant ≡ x.quant → y.vars.items ≡ filter (λ u. not (u == v)) x.vars.items → IsTakenOut v i (scopes_of blocks) (scopes_of (set blocks i y))
+  scopes_taken y v e f d =
+      map-set scope_of blocks i y ∙ ap (set (scopes_of blocks) i) (left y v e f ∙ sym (ap (λ (t : Scope). record { quantifier = t.quantifier; variables = filter (λ u. not (u == v)) t.variables }) (scope_at d)))
+    where
+      left : (z : Block) (w : ℕ) → z.quant ≡ x.quant → z.vars.items ≡ filter (λ u. not (u == w)) x.vars.items → scope_of z ≡ record { quantifier = x.quant; variables = filter (λ u. not (u == w)) x.vars.items }
+      left z w p q = cc

@@ -1,5 +1,5 @@
 -- The prefix of a formula, as contracts see it: a list of scopes, the outermost first.
-use Rattle.std.specs.Prelude.{◌≡◌, ℕ, ◌+◌, ◌-◌, ◌<◌, ◌≤◌, Bool, false, ◌==◌, ◌||◌, if◌then◌else◌, List, [], ◌∷◌, length, map, Option, Some, None, insert, unwrap_or, nat_lt, zero, suc, slice_get, ⊤}
+use Rattle.std.specs.Prelude.{◌≡◌, ℕ, ◌+◌, ◌-◌, ◌<◌, ◌≤◌, Bool, false, not, filter, ◌==◌, ◌||◌, if◌then◌else◌, List, [], ◌∷◌, length, map, Option, Some, None, insert, unwrap_or, nat_lt, zero, suc, slice_get, ⊤}
 use Rattle.std.specs.Option.{option_map, option_and_then}
 use Rattle.std.specs.List.{flat_map, AllByRecursion}
 use Rattle.prefix.specs.declared.quant.Quant.{Quant}
@@ -80,6 +80,11 @@ abbrev pub with_variable_at : List Scope → ℕ → ℕ → List Scope
 with_variable_at [] n v = []
 with_variable_at (s ∷ ss) zero v = record { quantifier = s.quantifier; variables = insert_ascending v s.variables } ∷ ss
 with_variable_at (s ∷ ss) (suc n) v = s ∷ with_variable_at ss n v
+
+-- a variable taken out of its scope
+abbrev pub without_variable : ℕ → List Scope → List Scope
+without_variable v ss =
+    map (λ (s : Scope). record { quantifier = s.quantifier; variables = filter (λ x. not (x == v)) s.variables }) ss
 
 -- no number comes twice
 abbrev pub AreDistinct : List ℕ → Type 0

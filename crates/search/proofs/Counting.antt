@@ -5,44 +5,48 @@ use Rattle.steps.specs.Counter.{Counter, after, left}
 use Rattle.trail.specs.State.{TrailState}
 use Rattle.clean.specs.Marks.{MarksMore, marks_in, marks_left}
 use Rattle.clean.proofs.Circling.{marks_size}
-use Rattle.search.specs.Counting.{IsBounded, IsCounted}
+use Rattle.calculus.specs.Limits.{steps_for}
+use Rattle.search.specs.Counting.{IsBounded, IsCounted, lesson_cost}
 
 -- one more assignment
-few_more : (n used len left assigned : ℕ) → used + (2 * n * len + n * left) ≤ (3 * n + 1) * assigned + 0
-    → (used + 1) + (2 * n * (len + 1) + n * (left + 1)) ≤ (3 * n + 1) * (assigned + 1) + 0
+few_more : (n used len left assigned : ℕ)
+    → used + (lesson_cost n * len + 2 * n * left) ≤ (6 * n + 2) * assigned + 0
+    → (used + 1) + (lesson_cost n * (len + 1) + 2 * n * (left + 1)) ≤ (6 * n + 2) * (assigned + 1) + 0
 few_more n used len left assigned h =
-    let one : 2 * n * (len + 1) ≡ 2 * n * len + 2 * n = omega arith in
-    let two : n * (left + 1) ≡ n * left + n = omega arith in
-    let three : (3 * n + 1) * (assigned + 1) ≡ (3 * n + 1) * assigned + (3 * n + 1) = omega arith in
+    let one : (4 * n + 1) * (len + 1) ≡ (4 * n + 1) * len + (4 * n + 1) = omega arith in
+    let two : 2 * n * (left + 1) ≡ 2 * n * left + 2 * n = omega arith in
+    let three : (6 * n + 2) * (assigned + 1) ≡ (6 * n + 2) * assigned + (6 * n + 2) = omega arith in
     omega arith
 
 -- analysis: reasons that become clean pay for themselves, the rest is owed
-few_owed : (n used len left made taken assigned : ℕ) → used + (2 * n * len + n * left) ≤ (3 * n + 1) * assigned + 0
-    → taken ≤ made * len + 2 * len → made ≤ left → len ≤ n
-    → (used + taken) + (2 * n * len + n * (left - made)) ≤ (3 * n + 1) * assigned + 2 * n
-few_owed n used len left made taken assigned h t m l =
+few_owed : (n used len left made taken reduced assigned : ℕ)
+    → used + (lesson_cost n * len + 2 * n * left) ≤ (6 * n + 2) * assigned + 1
+    → taken ≤ made * len + 2 * len → reduced ≤ taken → made ≤ left → len ≤ n
+    → (used + (taken + reduced)) + (lesson_cost n * len + 2 * n * (left - made))
+    ≤ (6 * n + 2) * assigned + lesson_cost n
+few_owed n used len left made taken reduced assigned h t r m l =
     let cost : made * len ≤ made * n = mul-le-mul_left made l in
-    let turn : made * n ≡ n * made = omega arith in
-    let split : n * left ≡ n * (left - made) + n * made =
-    (let e : left ≡ (left - made) + made = omega arith in ap (λ k. n * k) e ∙ (omega arith)) in
+    let turn : 2 * (made * n) ≡ 2 * n * made = omega arith in
+    let split : 2 * n * left ≡ 2 * n * (left - made) + 2 * n * made =
+    (let e : left ≡ (left - made) + made = omega arith in ap (λ k. 2 * n * k) e ∙ (omega arith)) in
     omega arith
 
 -- a lesson: the trail gets shorter, and pays
 few_back : (n used len short left less assigned : ℕ)
-    → used + (2 * n * len + n * left) ≤ (3 * n + 1) * assigned + 2 * n → short < len → less ≤ left
-    → used + (2 * n * short + n * less) ≤ (3 * n + 1) * assigned + 0
+    → used + (lesson_cost n * len + 2 * n * left) ≤ (6 * n + 2) * assigned + lesson_cost n → short < len → less ≤ left
+    → used + (lesson_cost n * short + 2 * n * less) ≤ (6 * n + 2) * assigned + 0
 few_back n used len short left less assigned h s m =
-    let shorter : 2 * n * (short + 1) ≤ 2 * n * len = mul-le-mul_left (2 * n) (omega arith) in
-    let one : 2 * n * (short + 1) ≡ 2 * n * short + 2 * n = omega arith in
-    let fewer : n * less ≤ n * left = mul-le-mul_left n m in
+    let shorter : (4 * n + 1) * (short + 1) ≤ (4 * n + 1) * len = mul-le-mul_left (4 * n + 1) (omega arith) in
+    let one : (4 * n + 1) * (short + 1) ≡ (4 * n + 1) * short + (4 * n + 1) = omega arith in
+    let fewer : 2 * n * less ≤ 2 * n * left = mul-le-mul_left (2 * n) m in
     omega arith
 
 -- where a search stops the steps are below the bound
-few_at_stop : (n used more owed assigned : ℕ) → used + owed ≤ (3 * n + 1) * assigned + 2 * n → more ≤ owed + 2 * n
-    → used + more < (4 * n + 4) * (assigned + 1)
+few_at_stop : (n used more owed assigned : ℕ) → used + owed ≤ (6 * n + 2) * assigned + lesson_cost n
+    → more ≤ owed + lesson_cost n → used + more < steps_for n assigned
 few_at_stop n used more owed assigned h m =
-    let most : (3 * n + 1) * assigned ≤ (4 * n + 4) * assigned = mul-le-mul_right assigned (omega arith) in
-    let one : (4 * n + 4) * (assigned + 1) ≡ (4 * n + 4) * assigned + (4 * n + 4) = omega arith in
+    let most : (6 * n + 2) * assigned ≤ (8 * n + 8) * assigned = mul-le-mul_right assigned (omega arith) in
+    let one : (8 * n + 8) * (assigned + 1) ≡ (8 * n + 8) * assigned + (8 * n + 8) = omega arith in
     omega arith
 
 -- marks
@@ -72,9 +76,35 @@ left_front (suc n) (false ∷ bs) h =
 
 -- the same numbers
 few_is : (n slack used used' len len' left left' assigned assigned' : ℕ) → used' ≡ used → len' ≡ len → left' ≡ left
-    → assigned' ≡ assigned → used + (2 * n * len + n * left) ≤ (3 * n + 1) * assigned + slack
-    → used' + (2 * n * len' + n * left') ≤ (3 * n + 1) * assigned' + slack
+    → assigned' ≡ assigned → used + (lesson_cost n * len + 2 * n * left) ≤ (6 * n + 2) * assigned + slack
+    → used' + (lesson_cost n * len' + 2 * n * left') ≤ (6 * n + 2) * assigned' + slack
 few_is n slack used used' len len' left left' assigned assigned' u l m a h = rw (u, l, m, a) h
+
+-- more is allowed
+pub counted_weaker : (n slack more start : ℕ) (t : TrailState) (steps : Counter) → slack ≤ more
+    → IsCounted n slack start t steps → IsCounted n more start t steps
+counted_weaker n slack more start t steps most h =
+    let few = h.few in
+    record { later = h.later; few = omega arith; less = h.less; within = h.within; fits = h.fits }
+
+-- at most one step, which is owed
+pub counted_step : (n start k : ℕ) (t : TrailState) (before now : Counter) → k ≤ 1 → now ≡ after before k
+    → now.spent ≤ now.budget → IsCounted n 0 start t before → IsCounted n 1 start t now
+counted_step n start k t before now once is within h =
+    let s : now.spent ≡ before.spent + k = ap (λ (c : Counter). c.spent) is in
+    let b : now.budget ≡ before.budget = ap (λ (c : Counter). c.budget) is in
+    let later = h.later in
+    let few = h.few in
+    let less = h.less in
+    let fits = h.fits in
+    let used : now.spent - start ≡ (before.spent - start) + k = omega arith in
+    record {
+      later = omega arith;
+      few = rw used (omega arith);
+      less = rw used (omega arith);
+      within = within;
+      fits = rw b fits;
+    }
 
 -- a trail with one more literal
 pub counted_push : (n start : ℕ) (t now : TrailState) (before : Counter) → length t.marks ≡ length t.placed
@@ -103,11 +133,12 @@ counted_push n start t now before same marks long within room rises h =
     )
 
 -- reasons were made clean
-pub counted_owed : (n start made taken : ℕ) (t now : TrailState) (before later : Counter)
+pub counted_owed : (n start made taken reduced : ℕ) (t now : TrailState) (before later : Counter)
     → length t.marks ≡ length t.placed → length t.placed ≤ n → MarksMore t now made
-    → taken ≤ made * length t.placed + 2 * length t.placed → later ≡ after before taken
-    → before.spent + taken ≤ before.budget → IsCounted n 0 start t before → IsCounted n (2 * n) start now later
-counted_owed n start made taken t now before later same short marks few is within h =
+    → taken ≤ made * length t.placed + 2 * length t.placed → reduced ≤ taken → later ≡ after before (taken + reduced)
+    → before.spent + (taken + reduced) ≤ before.budget → IsCounted n 1 start t before
+    → IsCounted n (lesson_cost n) start now later
+counted_owed n start made taken reduced t now before later same short marks few fewer is within h =
     let first = h.later in
     let less = h.less in
     let size : length now.placed ≡ length t.placed = marks_size t now made marks in
@@ -117,11 +148,12 @@ counted_owed n start made taken t now before later same short marks few is withi
     let left : marks_left now ≡ marks_left t - made = omega arith in
     let most : made ≤ marks_left t = omega arith in
     let owed = few_owed n (before.spent - start) (length t.placed)
-    (marks_left t) made taken t.assigned h.few few most short in
-    let used : (before.spent + taken) - start ≡ (before.spent - start) + taken = omega arith in
+    (marks_left t) made taken reduced t.assigned h.few few fewer most short in
+    let used : (before.spent + (taken + reduced)) - start ≡ (before.spent - start) + (taken + reduced) = omega arith in
     rw is (record {
       later = omega arith;
-      few = few_is n (2 * n) ((before.spent - start) + taken) ((before.spent + taken) - start) (length t.placed)
+      few = few_is n (lesson_cost n) ((before.spent - start) + (taken + reduced))
+          ((before.spent + (taken + reduced)) - start) (length t.placed)
           (length now.placed) (marks_left t - made)
           (marks_left now) t.assigned now.assigned used size left marks.assigned owed;
       less = rw (used, marks.assigned) (omega arith);
@@ -132,7 +164,7 @@ counted_owed n start made taken t now before later same short marks few is withi
 -- the trail was cut
 pub counted_back : (n start : ℕ) (t now : TrailState) (steps : Counter) → length now.placed < length t.placed
     → length t.marks ≡ length t.placed → now.marks ≡ take (length now.placed) t.marks → now.assigned ≡ t.assigned
-    → IsCounted n (2 * n) start t steps → IsCounted n 0 start now steps
+    → IsCounted n (lesson_cost n) start t steps → IsCounted n 0 start now steps
 counted_back n start t now steps shorter same marks assigned h =
     let front : length now.placed + marks_in t.marks ≤ length t.marks + marks_in (take (length now.placed) t.marks) =
     left_front (length now.placed) t.marks (omega arith) in
@@ -150,23 +182,34 @@ counted_back n start t now steps shorter same marks assigned h =
 
 -- a stop after a few more steps, which the marks that are left pay for
 pub bounded_more : (n start taken : ℕ) (t now : TrailState) (before later : Counter) → length t.placed ≤ n
-    → taken ≤ marks_left t * length t.placed + 2 * length t.placed → now.assigned ≡ t.assigned
-    → later ≡ after before taken → IsCounted n 0 start t before → IsBounded n start now later
+    → taken ≤ 2 * (marks_left t * length t.placed + 2 * length t.placed) → now.assigned ≡ t.assigned
+    → later ≡ after before taken → IsCounted n 1 start t before → IsBounded n start now later
 bounded_more n start taken t now before later short few assigned is h =
     let first = h.later in
     let some = h.few in
     let cost : marks_left t * length t.placed ≤ marks_left t * n = mul-le-mul_left (marks_left t) short in
-    let turn : marks_left t * n ≡ n * marks_left t = omega arith in
-    let end = few_at_stop n (before.spent - start) taken (2 * n * length t.placed + n * marks_left t) t.assigned
-    (omega arith) (omega arith) in
+    let turn : 2 * (marks_left t * n) ≡ 2 * n * marks_left t = omega arith in
+    let end = few_at_stop n (before.spent - start) taken (lesson_cost n * length t.placed + 2 * n * marks_left t)
+    t.assigned (omega arith) (omega arith) in
     let used : (before.spent + taken) - start ≡ (before.spent - start) + taken = omega arith in
     rw is (record { later = omega arith; few = rw (used, assigned) end })
 
+-- a stop after at most one more
+pub bounded_step : (n start k : ℕ) (t now : TrailState) (before later : Counter) → k ≤ 1 → now.assigned ≡ t.assigned
+    → later ≡ after before k → IsCounted n 0 start t before → IsBounded n start now later
+bounded_step n start k t now before later once assigned is h =
+    let first = h.later in
+    let some = h.few in
+    let end = few_at_stop n (before.spent - start) k (lesson_cost n * length t.placed + 2 * n * marks_left t)
+    t.assigned (omega arith) (omega arith) in
+    let used : (before.spent + k) - start ≡ (before.spent - start) + k = omega arith in
+    rw is (record { later = omega arith; few = rw (used, assigned) end })
+
 -- a stop without one
-pub bounded_now : (n slack start : ℕ) (t now : TrailState) (steps : Counter) → slack ≤ 2 * n
+pub bounded_now : (n slack start : ℕ) (t now : TrailState) (steps : Counter) → slack ≤ lesson_cost n
     → now.assigned ≡ t.assigned → IsCounted n slack start t steps → IsBounded n start now steps
 bounded_now n slack start t now steps little assigned h =
     let some = h.few in
-    let end = few_at_stop n (steps.spent - start) 0 (2 * n * length t.placed + n * marks_left t) t.assigned
+    let end = few_at_stop n (steps.spent - start) 0 (lesson_cost n * length t.placed + 2 * n * marks_left t) t.assigned
     (omega arith) (omega arith) in
     record { later = h.later; few = rw assigned (omega arith) }

@@ -1,13 +1,13 @@
 -- Searches that end.
 use Rattle.std.proofs.Common.{◌≡◌, ℕ, ◌+◌, ◌-◌, ◌*◌, ◌^◌, ◌<◌, ◌≤◌, List, refl, sym, ap, subst, ◌∙◌, arith}
-use Rattle.std.proofs.Math.Nat.{mul-le-mul_left}
+use Rattle.std.proofs.Math.Nat.{mul-le-mul_left, mul-le-mul_right}
 use Rattle.prefix.specs.declared.quant.Quant.{Quant}
 use Rattle.prefix.specs.Literal.{Literal}
 use Rattle.prefix.specs.Sides.{bad_of}
 use Rattle.prefix.specs.Scopes.{Scope, IsPrefix}
 use Rattle.steps.specs.Counter.{Counter, left, step_limit}
 use Rattle.calculus.specs.Derivations.Why.{FinishedFrom}
-use Rattle.calculus.specs.Limits.{assignment_limit}
+use Rattle.calculus.specs.Limits.{assignment_limit, steps_for}
 use Rattle.calculus.specs.Rows.{Row}
 use Rattle.calculus.specs.VerdictTheorems.{EndRowsGiveProofs, ProofsDecide}
 use Rattle.calculus.specs.Verdicts.{AreOuter, IsEndRow, proof_of}
@@ -47,20 +47,24 @@ is_outcome scopes matrix assumptions old new side row id listed serve give decid
     }
 
 -- fewer steps than suffice
-few_below : (n p assigned spent : ℕ) → assigned + 1 < 1 * p → spent < (4 * n + 4) * (assigned + 1)
-    → spent < (4 * n + 4) * p
-few_below n p assigned spent few h =
-    let one : (4 * n + 4) * (assigned + 1) ≤ (4 * n + 4) * p = mul-le-mul_left (4 * n + 4) (omega arith) in
+few_limit : (restarts n assigned spent : ℕ) → assigned + 1 < assignment_limit restarts n → spent < steps_for n assigned
+    → spent < step_limit restarts n
+few_limit restarts n assigned spent few h =
+    let one : (8 * n + 8) * (assigned + 1) ≤ (8 * n + 8) * ((restarts + 1) * 2 ^ (n + 1)) =
+    mul-le-mul_left (8 * n + 8) (omega arith) in
     omega arith
 
-few_limit : (n assigned spent : ℕ) → assigned + 1 < assignment_limit 0 n → spent < (4 * n + 4) * (assigned + 1)
-    → spent < step_limit n
-few_limit n assigned spent few h = few_below n (2 ^ (n + 1)) assigned spent few h
+-- the limit rises with the restarts
+pub limit_rises : (few many n : ℕ) → few ≤ many → assignment_limit few n ≤ assignment_limit many n
+limit_rises few many n h = mul-le-mul_right (2 ^ (n + 1)) (let e : few + 1 ≤ many + 1 = omega arith in e)
 
-pub steps_few : (scopes : List Scope) (start : ℕ) (t : TrailState) (steps : Counter) → IsTrailFor scopes t
-    → IsBounded (size_of scopes) start t steps → steps.spent - start < step_limit (size_of scopes)
-steps_few scopes start t steps trail bounded =
-    few_limit (size_of scopes) t.assigned (steps.spent - start) (assigned_few scopes t trail) bounded.few
+pub steps_few : (restarts : ℕ) (scopes : List Scope) (start : ℕ) (t : TrailState) (steps : Counter)
+    → t.restarts ≤ restarts → IsTrailFor scopes t → IsBounded (size_of scopes) start t steps
+    → steps.spent - start < step_limit restarts (size_of scopes)
+steps_few restarts scopes start t steps most trail bounded =
+    let few = assigned_few scopes t trail in
+    let all = limit_rises t.restarts restarts (size_of scopes) most in
+    few_limit restarts (size_of scopes) t.assigned (steps.spent - start) (omega (arith, few, all)) bounded.few
 
 -- the same clauses at the start
 pub due_first : (scopes : List Scope) (old new : State) (assumptions : List Literal) (before : Counter) (assigned : ℕ)
@@ -71,14 +75,14 @@ due_first scopes old new assumptions before assigned same (searching at is claus
     searching at is (clauses ∙ same) assumed count due
 
 -- the budget is spent
-pub is_spent : (scopes : List Scope) (first : State) (assumptions : List Literal) (before now : Counter)
-    (t : TrailState) (stopped : Account) → IsTrailFor scopes t → now.spent ≡ now.budget → now.budget ≡ before.budget
+pub is_spent : (restarts : ℕ) (scopes : List Scope) (first : State) (assumptions : List Literal) (before now : Counter)
+    (t : TrailState) (stopped : Account) → t.restarts ≤ restarts → IsTrailFor scopes t → now.spent ≡ now.budget → now.budget ≡ before.budget
     → WasSpentWhenDue scopes first assumptions before t.assigned → IsBounded (size_of scopes) before.spent t now
-    → stopped ≡ account_of scopes t now.budget → IsSpent scopes first assumptions before now stopped
-is_spent scopes first assumptions before now t stopped trail spent budget due bounded is =
+    → stopped ≡ account_of scopes t now.budget → IsSpent restarts scopes first assumptions before now stopped
+is_spent restarts scopes first assumptions before now t stopped most trail spent budget due bounded is =
     let few = bounded.few in
-    let limit : now.spent - before.spent < step_limit (size_of scopes) =
-    steps_few scopes before.spent t now trail bounded in
+    let limit : now.spent - before.spent < step_limit restarts (size_of scopes) =
+    steps_few restarts scopes before.spent t now most trail bounded in
     let same : left before ≡ now.spent - before.spent = omega arith in
     rw is (record {
       spent = spent;
@@ -86,5 +90,6 @@ is_spent scopes first assumptions before now t stopped trail spent budget due bo
       vars = refl;
       due = due;
       few = few;
+      restarts = most;
       short = rw same limit;
     })

@@ -1,24 +1,30 @@
 -- Parts of a turn that follow each other.
-use Rattle.std.proofs.Common.{◌≡◌, ℕ, ◌*◌, List, map, Contains, refl, sym, ap, subst, ◌∙◌, arith}
+use Rattle.std.proofs.Common.{◌≡◌, ◌⊎◌, ⊎_elim, ℕ, ◌+◌, ◌*◌, ◌^◌, ◌<◌, ◌≤◌, List, map, Contains, refl, sym, ap, subst, ◌∙◌, arith}
 use Rattle.prefix.specs.declared.quant.Quant.{Quant}
 use Rattle.prefix.specs.Literal.{Literal}
 use Rattle.prefix.specs.Scopes.{Scope}
-use Rattle.steps.specs.Counter.{Counter}
+use Rattle.steps.specs.Counter.{Counter, after}
 use Rattle.calculus.specs.Rows.{Row}
 use Rattle.calculus.specs.Search.{AreTheAssumptions, IsUnitIn, Trail, cut_trail, value_on}
-use Rattle.trail.specs.State.{TrailState}
+use Rattle.trail.specs.State.{TrailState, counted}
 use Rattle.derive.specs.State.{State, Notes, OpenClause, clauses_of, may_be_antecedent, note_in, row_of, side_in}
 use Rattle.clean.specs.Reasons.{IsReducedStep}
 use Rattle.analyse.specs.Lessons.{EndsOn}
 use Rattle.decide.specs.Decision.{IsDecision}
-use Rattle.search.specs.State.{IsSearching, SearchState}
-use Rattle.search.specs.Counting.{size_of}
-use Rattle.search.specs.Moves.{Advances, Analyses, Ends, IsMatrix, SameSteps, Undoes, WasDue}
+use Rattle.search.specs.State.{IsPaused, IsSearching, SearchState}
+use Rattle.search.specs.Counting.{IsCounted, lesson_cost, size_of}
+use Rattle.search.specs.Moves.{Advances, Analyses, BeginsAnew, Covers, Ends, Halts, IsMatrix, Proceeds, SameSteps, Undoes, WasDue}
 use Rattle.search.specs.Moves.IsDue.{decision, unit}
 use Rattle.search.specs.Stops.{WasSpentWhenDue}
 use Rattle.search.specs.Stops.WasSpentWhenDue.{searching as in_search}
-use Rattle.search.specs.Watching.{Keeps}
-use Rattle.search.proofs.Counting.{bounded_now}
+use Rattle.std.specs.Prelude.{IfOk, IfSome, Option, Some, None, Result, Ok, Err}
+use Rattle.search.specs.declared.outcome.EndRow.{EndRow}
+use Rattle.search.specs.Watching.{Keeps, Looks}
+use Rattle.clean.proofs.Keeping.{after_none}
+use Rattle.clean.proofs.Turning.{reduces}
+use Rattle.derive.specs.Adding.{CountsRemoval, Removes}
+use Rattle.calculus.specs.Derivations.Why.{ReducedFrom}
+use Rattle.search.proofs.Counting.{bounded_now, bounded_step, counted_step, counted_weaker}
 
 -- a step of a derivation with the same steps
 pub step_same : (side : Quant) (scopes : List Scope) (old new : State) (id : ℕ) → SameSteps old new
@@ -67,7 +73,20 @@ module _ (scopes : List Scope) (s between new : SearchState) (before now end : C
     due = h.due;
   }
 
-  pub advances_later : Advances scopes (2 * size_of scopes) between new now end → Advances scopes 0 s new before end
+  pub halts_later : Halts scopes (lesson_cost (size_of scopes)) between new now end → Halts scopes 1 s new before end
+  halts_later h =
+      let more = h.rises in
+      let rises = analyses.rises in
+      record {
+        paused = h.paused;
+        clauses = h.clauses ∙ analyses.clauses;
+        budget = h.budget ∙ analyses.budget;
+        rises = omega arith;
+        bounded = λ start is. h.bounded start (analyses.owed start is);
+      }
+
+  pub advances_later : Advances scopes (lesson_cost (size_of scopes)) between new now end
+      → Advances scopes 1 s new before end
   advances_later h =
       let more = h.rises in
       let rises = analyses.rises in
@@ -78,23 +97,175 @@ module _ (scopes : List Scope) (s between new : SearchState) (before now end : C
         allowed = h.allowed;
         budget = h.budget ∙ analyses.budget;
         rises = omega arith;
-        counted = λ start is. let r = h.counted start (analyses.owed start is) in (r.0, rw (← analyses.assigned) r.1);
+        counted = λ start is. let r = h.counted start (analyses.owed start is) in
+            (r.0, rw (← analyses.assigned, ← analyses.restarts) r.1);
       }
 
 pub ends_analysed : (scopes : List Scope) (s new : SearchState) (before now : Counter) (side : Quant) (row : ℕ)
     → Analyses scopes s new before now → IsReducedStep side scopes new.derivation row
-    → EndsOn side scopes new.trail.placed (row_of new.derivation row) → Ends scopes s new before now side row
+    → EndsOn side scopes new.trail.placed (row_of new.derivation row) → Ends scopes 1 s new before now side row
 ends_analysed scopes s new before now side row analyses step ends = record {
   paused = analyses.searching.paused;
   clauses = analyses.clauses;
   budget = analyses.budget;
   rises = analyses.rises;
-  bounded = λ start is. bounded_now (size_of scopes) (2 * size_of scopes) start new.trail new.trail now (omega arith) refl
+  bounded = λ start is. bounded_now (size_of scopes) (lesson_cost (size_of scopes)) start new.trail new.trail now
+      (omega arith) refl
       (analyses.owed start is);
   row = step;
   end = λ assumptions a. let h = analyses.assumed assumptions a in
       ends assumptions (record { entries = h.entries; values = λ x b e. (h.stand x b e).0 });
 }
+
+-- with less slack before
+pub advances_sooner : (scopes : List Scope) (s new : SearchState) (before now : Counter)
+    → Advances scopes 1 s new before now → Advances scopes 0 s new before now
+advances_sooner scopes s new before now h = record {
+  searching = h.searching;
+  clauses = h.clauses;
+  assumed = h.assumed;
+  allowed = h.allowed;
+  budget = h.budget;
+  rises = h.rises;
+  counted = λ start is. h.counted start (counted_weaker (size_of scopes) 0 1 start s.trail before (omega arith) is);
+}
+
+-- after an initial cube
+module _ (scopes : List Scope) (s between new : SearchState) (before now end : Counter)
+    (covers : Covers scopes s between before now) where
+  counted_then : (start : ℕ) → IsCounted (size_of scopes) 0 start s.trail before
+      → IsCounted (size_of scopes) 1 start between.trail now
+  counted_then = covers.counted
+
+  pub advances_covered : Advances scopes 1 between new now end → Advances scopes 0 s new before end
+  advances_covered h =
+      let more = h.rises in
+      let rises = covers.rises in
+      record {
+        searching = h.searching;
+        clauses = h.clauses ∙ covers.clauses;
+        assumed = λ assumptions a. h.assumed assumptions
+            (subst (λ (t : TrailState). AreTheAssumptions t.placed assumptions) (sym covers.same_trail) a);
+        allowed = h.allowed;
+        budget = h.budget ∙ covers.budget;
+        rises = omega arith;
+        counted = λ start is. let r = h.counted start (counted_then start is) in
+            (r.0, subst (λ (t : TrailState). Proceeds t new.trail) covers.same_trail r.1);
+      }
+
+  pub halts_covered : Halts scopes 1 between new now end → Halts scopes 0 s new before end
+  halts_covered h =
+      let more = h.rises in
+      let rises = covers.rises in
+      record {
+        paused = h.paused;
+        clauses = h.clauses ∙ covers.clauses;
+        budget = h.budget ∙ covers.budget;
+        rises = omega arith;
+        bounded = λ start is. h.bounded start (counted_then start is);
+      }
+
+  pub ends_covered : (side : Quant) (id : ℕ) → Ends scopes 1 between new now end side id
+      → Ends scopes 0 s new before end side id
+  ends_covered side id h =
+      let more = h.rises in
+      let rises = covers.rises in
+      record {
+        paused = h.paused;
+        clauses = h.clauses ∙ covers.clauses;
+        budget = h.budget ∙ covers.budget;
+        rises = omega arith;
+        bounded = λ start is. h.bounded start (counted_then start is);
+        row = h.row;
+        end = λ assumptions a. h.end assumptions
+            (subst (λ (t : TrailState). AreTheAssumptions t.placed assumptions) (sym covers.same_trail) a);
+      }
+
+-- with less slack before a stop or an end
+pub halts_sooner : (scopes : List Scope) (s new : SearchState) (before now : Counter) → Halts scopes 1 s new before now
+    → Halts scopes 0 s new before now
+halts_sooner scopes s new before now h = record {
+  paused = h.paused;
+  clauses = h.clauses;
+  budget = h.budget;
+  rises = h.rises;
+  bounded = λ start is. h.bounded start (counted_weaker (size_of scopes) 0 1 start s.trail before (omega arith) is);
+}
+
+pub ends_sooner : (scopes : List Scope) (s new : SearchState) (before now : Counter) (side : Quant) (id : ℕ)
+    → Ends scopes 1 s new before now side id → Ends scopes 0 s new before now side id
+ends_sooner scopes s new before now side id h = record {
+  paused = h.paused;
+  clauses = h.clauses;
+  budget = h.budget;
+  rises = h.rises;
+  bounded = λ start is. h.bounded start (counted_weaker (size_of scopes) 0 1 start s.trail before (omega arith) is);
+  row = h.row;
+  end = h.end;
+}
+
+-- from a search with the same clauses and the same trail
+pub covers_moved : (scopes : List Scope) (v s new : SearchState) (before now : Counter)
+    → clauses_of v.derivation ≡ clauses_of s.derivation → v.trail ≡ s.trail → Covers scopes v new before now
+    → Covers scopes s new before now
+covers_moved scopes v s new before now clauses trail covers = record {
+  searching = covers.searching;
+  clauses = covers.clauses ∙ clauses;
+  same_trail = covers.same_trail ∙ trail;
+  budget = covers.budget;
+  rises = covers.rises;
+  counted = λ start is. covers.counted start (subst (λ (t : TrailState). IsCounted (size_of scopes) 0 start t before)
+      (sym trail) is);
+}
+
+-- the watches were asked
+pub covers_looked : (scopes : List Scope) (s new : SearchState) (c : Counter) → Looks scopes s new
+    → Covers scopes s new c c
+covers_looked scopes s new c looks = record {
+  searching = looks.searching;
+  clauses = looks.steps.clauses;
+  same_trail = looks.trail;
+  budget = refl;
+  rises = omega arith;
+  counted = λ start is. subst (λ (t : TrailState). IsCounted (size_of scopes) 1 start t c) (sym looks.trail)
+      (counted_weaker (size_of scopes) 0 1 start s.trail c (omega arith) is);
+}
+
+-- an initial cube came in, with its reduction
+module _ (scopes : List Scope) (s middle new : SearchState) (before now : Counter) (within : now.spent ≤ now.budget)
+    (clauses : clauses_of middle.derivation ≡ clauses_of s.derivation) (same : new.trail ≡ s.trail) where
+  pub covers_counted : (id a : ℕ) (row : Row) → IsSearching scopes new
+      → Removes middle.derivation new.derivation id a (ReducedFrom a) row
+      → CountsRemoval (row_of middle.derivation a) row before now → Covers scopes s new before now
+  covers_counted id a row searching removes counts =
+      let r = reduces scopes middle.derivation new.derivation before now id a row removes counts in
+      let spent : now.spent ≡ before.spent + r.reduced = ap (λ (c : Counter). c.spent) r.counted in
+      record {
+        searching = searching;
+        clauses = r.clauses ∙ clauses;
+        same_trail = same;
+        budget = ap (λ (c : Counter). c.budget) r.counted;
+        rises = omega arith;
+        counted = λ start is. subst (λ (t : TrailState). IsCounted (size_of scopes) 1 start t now) (sym same)
+            (counted_step (size_of scopes) start r.reduced s.trail before now r.once r.counted within is);
+      }
+
+  pub halts_reduction : IsPaused scopes new → new.derivation ≡ middle.derivation
+      → (now ≡ before) ⊎ (now ≡ after before 1) → Halts scopes 0 s new before now
+  halts_reduction paused there tried =
+      ⊎_elim (λ none. stopped 0 (omega arith) (none ∙ after_none before)) (λ one. stopped 1 (omega arith) one) tried
+    where
+      stopped : (k : ℕ) → k ≤ 1 → now ≡ after before k → Halts scopes 0 s new before now
+      stopped k once is =
+          let spent : now.spent ≡ before.spent + k = ap (λ (c : Counter). c.spent) is in
+          record {
+            paused = paused;
+            clauses = ap clauses_of there ∙ clauses;
+            budget = ap (λ (c : Counter). c.budget) is;
+            rises = omega arith;
+            bounded = λ start. bounded_step (size_of scopes) start k s.trail new.trail before now once
+                (ap (λ (t : TrailState). t.assigned) same) is;
+          }
 
 -- after what leaves the clauses and the trail
 pub due_between : (scopes : List Scope) (s between new : SearchState)
@@ -151,3 +322,49 @@ pub due_at_stop : (scopes : List Scope) (first : State) (s new : SearchState) (a
     → WasDue scopes s new → WasSpentWhenDue scopes first assumptions before new.trail.assigned
 due_at_stop scopes first s new assumptions before clauses assumed h =
     in_search h.at h.searching (h.clauses ∙ clauses) (h.assumed assumptions assumed) h.assigned h.due
+
+-- the search began anew, and a row was kept; or there was no memory for it
+module _ (scopes : List Scope) (s cut kept : SearchState) (steps : Counter) (began : BeginsAnew scopes s cut)
+    (keeps : Keeps scopes cut kept) where
+  pub advances_anew : s.trail.restarts + 1 < 2 ^ 64
+      → Advances scopes (lesson_cost (size_of scopes)) s kept steps steps
+  advances_anew small =
+      let more : cut.trail.restarts ≡ s.trail.restarts + 1 = began.restarts ∙ (let e : counted s.trail.restarts 1
+      ≡ s.trail.restarts + 1 = omega arith in e) in
+      let same = began.assigned in
+      let goes : Proceeds s.trail cut.trail = omega arith in
+      record {
+        searching = keeps.searching;
+        clauses = keeps.steps.clauses ∙ ap clauses_of began.derivation;
+        assumed = λ assumptions h. subst (λ (t : TrailState). AreTheAssumptions t.placed assumptions) (sym keeps.trail)
+            (began.assumed assumptions h);
+        allowed = ap (λ (t : TrailState). t.allowed) keeps.trail ∙ began.allowed;
+        budget = refl;
+        rises = omega arith;
+        counted = λ start is. (
+          subst (λ (t : TrailState). IsCounted (size_of scopes) 0 start t steps) (sym keeps.trail)
+          (began.paid start steps is),
+          subst (λ (t : TrailState). Proceeds s.trail t) (sym keeps.trail) goes,
+        );
+      }
+
+  pub restarts_anew : s.trail.restarts + 1 < 2 ^ 64 → kept.trail.restarts ≡ s.trail.restarts + 1
+  restarts_anew small = ap (λ (t : TrailState). t.restarts) keeps.trail ∙ (began.restarts
+      ∙ (let e : counted s.trail.restarts 1 ≡ s.trail.restarts + 1 = omega arith in e))
+
+  pub halts_anew : Halts scopes (lesson_cost (size_of scopes)) s kept steps steps
+  halts_anew = record {
+    paused = keeps.searching.paused;
+    clauses = keeps.steps.clauses ∙ ap clauses_of began.derivation;
+    budget = refl;
+    rises = omega arith;
+    bounded = λ start. bounded_now (size_of scopes) (lesson_cost (size_of scopes)) start s.trail kept.trail steps
+        (omega arith) (ap (λ (t : TrailState). t.assigned) keeps.trail ∙ began.assigned);
+  }
+
+-- by the outcome of a turn
+pub ends_within : {E : Type 0} (r : Result (Option EndRow) E) (P Q : EndRow → Type 0) → ((e : EndRow) → P e → Q e)
+    → IfOk r (λ end. IfSome end P) → IfOk r (λ end. IfSome end Q)
+ends_within (Ok None) P Q f h = h
+ends_within (Ok (Some e)) P Q f h = f e h
+ends_within (Err e) P Q f h = h

@@ -10,6 +10,7 @@ use Rattle.prefix.specs.Literal.{Literal}
 use Rattle.prefix.specs.Scopes.{Scope, AreDistinct, all_variables, quantifier_of}
 use Rattle.steps.specs.Counter.{Counter, after, left}
 use Rattle.truth.specs.Truth.{assumed_value}
+use Rattle.calculus.specs.Limits.{propagation_limit}
 use Rattle.calculus.specs.Rows.{Row, variables_in}
 use Rattle.calculus.specs.Search.{AreTheAssumptions, Cause, IsBadRow, IsUnitIn, Placed, Trail, assumed, cause_on, good_literal, is_decision, last_level, value_on}
 use Rattle.calculus.specs.Search.Cause.{Assumed, Propagated}
@@ -171,35 +172,36 @@ refuting_push scopes matrix start old new side id kept before now h attached uni
 
 -- where a step was due
 
-few_square : (n : ℕ) → n ≤ n * (n + 3)
-few_square n = let r : n * 1 ≤ n * (n + 3) = mul-le-mul_left n (omega arith) in omega arith
+few_square : (n : ℕ) → n ≤ propagation_limit n
+few_square n = let r : n * 1 ≤ n * (n + 3) = mul-le-mul_left n (omega arith) in
+    let twice : 2 * n * (n + 3) ≡ 2 * (n * (n + 3)) = omega arith in omega arith
 
 -- of an assignment
 pub few_assignment : (scopes : List Scope) (start : ℕ) (s : SearchState) (steps : Counter) (side : Quant) (row : Row)
     (kept : Literal) → IsSearching scopes s → Contains (all_variables scopes) kept.variable
     → IsUnitIn side scopes (value_on s.trail.placed) row kept → IsForced scopes start s steps
-    → steps.spent ≡ steps.budget → steps.budget - start < size_of scopes * (size_of scopes + 3)
+    → steps.spent ≡ steps.budget → steps.budget - start < propagation_limit (size_of scopes)
 few_assignment scopes start s steps side row kept searching known unit forced spent =
     let short : length s.trail.placed < size_of scopes =
     short_of scopes s.trail.placed kept.variable searching.paused.intact.trail.ordered known
     (none_open (value_on s.trail.placed kept.variable) unit.open_yet) in
     let was = forced.counted in
-    let n : size_of scopes ≤ size_of scopes * (size_of scopes + 3) = few_square (size_of scopes) in
+    let n : size_of scopes ≤ propagation_limit (size_of scopes) = few_square (size_of scopes) in
     omega arith
 
 -- of an analysis
 few_analysed : (n len marks start spent budget : ℕ) → len ≤ n → marks ≤ len → spent ≡ start + len
-    → budget - spent < marks * len + 2 * len → budget - start < n * (n + 3)
+    → budget - spent < 2 * (marks * len + 2 * len) → budget - start < propagation_limit n
 few_analysed n len marks start spent budget short few was h =
     let one : marks * len ≤ n * len = mul-le-mul_right len (omega arith) in
     let two : n * len ≤ n * n = mul-le-mul_left n short in
-    let three : n * (n + 3) ≡ n * n + 3 * n = omega arith in
+    let three : 2 * n * (n + 3) ≡ 2 * (n * n) + 6 * n = omega arith in
     omega arith
 
 pub few_analysis : (scopes : List Scope) (start : ℕ) (s : SearchState) (steps : Counter) → IsSearching scopes s
     → IsForced scopes start s steps
-    → left steps < marks_left s.trail * length s.trail.placed + 2 * length s.trail.placed
-    → steps.budget - start < size_of scopes * (size_of scopes + 3)
+    → left steps < 2 * (marks_left s.trail * length s.trail.placed + 2 * length s.trail.placed)
+    → steps.budget - start < propagation_limit (size_of scopes)
 few_analysis scopes start s steps searching forced h =
     let short : length s.trail.placed ≤ size_of scopes =
     trail_length scopes s.trail.placed searching.paused.intact.trail.ordered in
@@ -228,11 +230,11 @@ forced_start scopes s assumptions before none is = record {
 
 -- of an assumption
 pub assumptions_few : (scopes : List Scope) (lits : List Literal) → AreOuter scopes lits
-    → AreDistinct (variables_in lits) → length lits ≤ size_of scopes * (size_of scopes + 3)
+    → AreDistinct (variables_in lits) → length lits ≤ propagation_limit (size_of scopes)
 assumptions_few scopes lits outer different =
     let short : length (map assumed lits) ≤ size_of scopes =
     trail_length scopes (map assumed lits) (ordered_from scopes [] lits outer different (λ l i. refl)
     (λ p i. absurd (contains_nil p i))) in
     let same : length (map assumed lits) ≡ length lits = length-map lits assumed in
-    let n : size_of scopes ≤ size_of scopes * (size_of scopes + 3) = few_square (size_of scopes) in
+    let n : size_of scopes ≤ propagation_limit (size_of scopes) = few_square (size_of scopes) in
     omega arith

@@ -82,6 +82,7 @@ module _ (laws : HoldingLaws) (s : SearchState) (new : IsNew s) where
       empty = ap (λ (t : TrailState). t.placed) new.trail;
       allowed = ap (λ (t : TrailState). t.allowed) new.trail;
       begun = ap (λ (t : TrailState). t.assigned) new.trail;
+      fresh = ap (λ (t : TrailState). t.restarts) new.trail;
       kept = new.kept;
     };
     intact = record {
@@ -105,6 +106,7 @@ pub record WidensTrail (old new : TrailState) : Type 0 where
   pub placed : new.placed ≡ old.placed
   pub allowed : new.allowed ≡ old.allowed
   pub assigned : new.assigned ≡ old.assigned
+  pub restarts : new.restarts ≡ old.restarts
   pub kept : (scopes : List Scope) → IsTrailFor scopes old → IsTrailFor scopes new
   pub room : old.room ≤ new.room
 
@@ -113,6 +115,7 @@ same_trail old new e = record {
   placed = ap (λ (t : TrailState). t.placed) e;
   allowed = ap (λ (t : TrailState). t.allowed) e;
   assigned = ap (λ (t : TrailState). t.assigned) e;
+  restarts = ap (λ (t : TrailState). t.restarts) e;
   kept = λ scopes kept. subst (IsTrailFor scopes) (sym e) kept;
   room = let r = ap (λ (t : TrailState). t.room) e in omega arith;
 }
@@ -123,6 +126,7 @@ wider_trail old new vars e kept = record {
   placed = ap (λ (t : TrailState). t.placed) e;
   allowed = ap (λ (t : TrailState). t.allowed) e;
   assigned = ap (λ (t : TrailState). t.assigned) e;
+  restarts = ap (λ (t : TrailState). t.restarts) e;
   kept = kept;
   room = let r = ap (λ (t : TrailState). t.room) e in omega arith;
 }
@@ -190,6 +194,7 @@ module _ (scopes : List Scope) (old new : SearchState) (widens : Widens old new)
       empty = widens.trail.placed ∙ resting.rest.empty;
       allowed = widens.trail.allowed ∙ resting.rest.allowed;
       begun = widens.trail.assigned ∙ resting.rest.begun;
+      fresh = widens.trail.restarts ∙ resting.rest.fresh;
       kept = λ prefix. widens.trail.kept prefix (resting.rest.kept prefix);
     };
     intact = record {

@@ -255,22 +255,24 @@ module _ (scopes : List Scope) (s new : SearchState) (before now : Counter) (wit
   analyses clauses cleans =
       let is = cleans.counted in
       let budget : now.budget ≡ before.budget = ap (λ (c : Counter). c.budget) is in
-      let spent : now.spent ≡ before.spent + cleans.taken = ap (λ (c : Counter). c.spent) is in
+      let spent : now.spent ≡ before.spent + (cleans.taken + cleans.reduced) = ap (λ (c : Counter). c.spent) is in
       record {
         searching = goes_on cleans.made cleans.marks;
         clauses = clauses;
         assumed = assumptions_marked s.trail new.trail cleans.made cleans.marks;
         level = level_marked s.trail new.trail cleans.made cleans.marks;
         assigned = cleans.marks.assigned;
+        restarts = cleans.marks.restarts;
         budget = budget;
         rises = omega arith;
-        owed = λ start. counted_owed (size_of scopes) start cleans.made cleans.taken s.trail new.trail before now
-            searching.paused.intact.trail.marked short cleans.marks cleans.few is (omega arith);
+        owed = λ start. counted_owed (size_of scopes) start cleans.made cleans.taken cleans.reduced s.trail new.trail
+            before now searching.paused.intact.trail.marked short cleans.marks cleans.few cleans.resolves.fewer is
+            (omega arith);
       }
 
   pub halts_analysis : clauses_of new.derivation ≡ clauses_of s.derivation
       → StopsCleaning scopes s.derivation new.derivation s.trail new.trail before now
-      (marks_left s.trail * length s.trail.placed + 2 * length s.trail.placed) → Halts scopes 0 s new before now
+      (marks_left s.trail * length s.trail.placed + 2 * length s.trail.placed) → Halts scopes 1 s new before now
   halts_analysis clauses stops =
       let is = stops.counted in
       let spent : now.spent ≡ before.spent + stops.taken = ap (λ (c : Counter). c.spent) is in
@@ -325,3 +327,12 @@ module _ {A E : Type 0} where
   pub on_err_with : {P Q X : Type 0} (r : Result A E) (e : E) → r ≡ Err e → (P → Q → X) → OnErr r P → OnErr r Q → X
   on_err_with (Ok a) e is f p q = absurd (let g : Ok a ≡ Err e = is in cc)
   on_err_with (Err x) e is f p q = f p q
+
+  pub on_err_both : {P Q X : Type 0} (r : Result A E) → (P → Q → X) → OnErr r P → OnErr r Q → OnErr r X
+  on_err_both (Ok a) f p q = p
+  on_err_both (Err e) f p q = f p q
+
+  pub on_ok_by : {Q X : Type 0} (r : Result A E) (P : A → Type 0) → ((a : A) → P a → Q → X) → IfOk r P → OnOk r Q
+      → OnOk r X
+  on_ok_by (Ok a) P f p q = f a p q
+  on_ok_by (Err e) P f p q = p

@@ -1,6 +1,6 @@
 -- Reductions that are live, where steps come and go.
 use Rattle.std.proofs.Common.{◌≡◌, ℕ, ◌+◌, ◌≤◌, Bool, not, cond, List, [], ◌++◌, length, filter, Option, refl, ap, ap₂, ◌∙◌, ⊎_elim, arith}
-use Rattle.std.specs.Prelude.{count_by, Result, Ok, Err, IfOk, OnErr}
+use Rattle.std.specs.Prelude.{count_by, Result, Ok, Err, IfOk, OnErr, OnOk}
 use Rattle.std.specs.List.{cons_option, filter_map, range_with_len}
 use Rattle.std.specs.Option.{option_and_then}
 use Rattle.std.proofs.lemmas.List.{append-nil}
@@ -12,8 +12,11 @@ use Rattle.prefix.specs.Scopes.{Scope}
 use Rattle.calculus.specs.Derivations.{Step, Why}
 use Rattle.calculus.specs.Derivations.Why.{Given, ReducedFrom, ResolvedFrom, FinishedFrom}
 use Rattle.calculus.specs.Rows.{Row, reduce}
-use Rattle.derive.specs.State.{Note, State, is_live, step_at, step_from, step_with, steps_of}
-use Rattle.derive.specs.Adding.{Adds, InputsClause, Removes, clause_note}
+use Rattle.derive.specs.State.{Note, State, is_live, row_of, step_at, step_from, step_with, steps_of}
+use Rattle.steps.specs.Counter.{Counter}
+use Rattle.clean.proofs.Turning.{reduces}
+use Rattle.search.specs.Counting.{ReducesFew}
+use Rattle.derive.specs.Adding.{Adds, CountsRemoval, InputsClause, Removes, clause_note}
 use Rattle.derive.specs.Dropping.{Drops, StepTest}
 use Rattle.clean.specs.Turns.{is_reduction, reductions_in}
 use Rattle.search.specs.Moves.{SameSteps}
@@ -63,11 +66,20 @@ reductions_removed old new id on why row removes =
     (λ more. let e = reductions_added old new id _ row more.1 in omega arith)
     removes.cases
 
-pub reductions_by : {E : Type 0} (r : Result ℕ E) (old new : State) (on : ℕ) (row : Row)
-    → IfOk r (λ id. Removes old new id on (ReducedFrom on) row) → OnErr r (new ≡ old)
-    → reductions_in new ≤ reductions_in old + 1
-reductions_by (Ok id) old new on row ok err = reductions_removed old new id on (ReducedFrom on) row ok
-reductions_by (Err e) old new on row ok err = let same = ap reductions_in err in omega (arith, same)
+-- one that counts a step where something goes
+pub few_reduced : {E : Type 0} (r : Result ℕ E) (scopes : List Scope) (first middle new : State) (before now : Counter)
+    (on : ℕ) (row : Row) → reductions_in middle ≡ reductions_in first
+    → IfOk r (λ id. Removes middle new id on (ReducedFrom on) row)
+    → OnOk r (CountsRemoval (row_of middle on) row before now) → OnErr r (new ≡ middle)
+    → ReducesFew first new before now
+few_reduced (Ok id) scopes first middle new before now on row same ok counts err =
+    let r = reduces scopes middle new before now id on row ok counts in
+    let more = r.reductions in
+    let spent : now.spent ≡ before.spent + r.reduced = ap (λ (c : Counter). c.spent) r.counted in
+    omega arith
+few_reduced (Err e) scopes first middle new before now on row same ok counts err =
+    let none = ap reductions_in err in
+    omega (arith, same, none)
 
 -- a finish
 pub reductions_finished : (old new : State) (id on : ℕ) (row : Row) → Removes old new id on (FinishedFrom on) row

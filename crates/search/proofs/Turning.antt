@@ -1,5 +1,5 @@
 -- Searches in which the trail changes.
-use Rattle.std.proofs.Common.{◌≡◌, ◌≢◌, ℕ, ◌+◌, ◌≤◌, Bool, true, false, not, List, length, Option, Some, None, is_none, refl, sym, ap, subst, ◌∙◌, arith}
+use Rattle.std.proofs.Common.{◌≡◌, ◌<◌, ◌≢◌, ℕ, ◌+◌, ◌≤◌, Bool, true, false, not, List, length, Option, Some, None, is_none, refl, sym, ap, subst, ◌∙◌, arith}
 use Rattle.std.proofs.lemmas.Bool.{false≢true}
 use Rattle.std.proofs.lemmas.List.{length_push}
 use Rattle.prefix.specs.declared.quant.Quant.{Quant}
@@ -166,7 +166,10 @@ advances scopes s new value cause before laws searching changes is trail fresh o
       allowed = ap (λ (t : TrailState). t.allowed) is;
       budget = refl;
       rises = omega arith;
-      counted = λ start. counted_push (size_of scopes) start s.trail new.trail before intact.trail.marked
+      counted = λ start h. let r = counted_push (size_of scopes) start s.trail new.trail before intact.trail.marked
           (ap (λ (t : TrailState). t.marks) is) (ap (λ (t : TrailState). length t.placed) is
-          ∙ length_push s.trail.placed (record { literal = value; cause = cause })) within room rises;
+          ∙ length_push s.trail.placed (record { literal = value; cause = cause })) within room rises h in
+          let same : new.trail.restarts ≡ s.trail.restarts = ap (λ (t : TrailState). t.restarts) is in
+          let more : s.trail.assigned < new.trail.assigned = r.1 in
+          (r.0, omega arith);
     }

@@ -8,8 +8,8 @@ use Rattle.prefix.specs.Scopes.{Scope}
 use Rattle.calculus.specs.Search.{AreTheAssumptions, Trail, cut_trail, last_level, literals_on}
 use Rattle.calculus.proofs.Assuming.{cut}
 use Rattle.calculus.proofs.Cutting.{cut_shorter}
-use Rattle.trail.specs.State.{TrailState, IsTrailFor, undone_to, with_front}
-use Rattle.trail.specs.declared.allowed.Allowed.TheVariants.{NoDecision, Nothing}
+use Rattle.trail.specs.State.{TrailState, IsTrailFor, allowed_anew, begun_anew, counted, restarted, undone_to, with_front}
+use Rattle.trail.specs.declared.allowed.Allowed.TheVariants.{Anything, NoDecision, Nothing}
 use Rattle.trail.proofs.Cutting.{undone_high}
 use Rattle.decide.specs.Memory.{Memory, saved, with_phase}
 use Rattle.derive.specs.State.{State, arena_of}
@@ -19,7 +19,7 @@ use Rattle.clean.specs.Reasons.{HaveReasons}
 use Rattle.clean.proofs.Reasoning.{cut_have}
 use Rattle.search.specs.State.{AreAttachedIf, IsAtRest, IsIntact, IsPaused, IsResting, IsSearching, SearchState, rows_of, watch_of}
 use Rattle.search.specs.Counting.{size_of}
-use Rattle.search.specs.Moves.{Undoes}
+use Rattle.search.specs.Moves.{BeginsAnew, Undoes}
 use Rattle.search.proofs.Counting.{counted_back}
 use Rattle.search.proofs.Turning.{same_watched}
 
@@ -113,6 +113,7 @@ undoes scopes level keep s new holding looking searching below changes is trail 
             (cut_have side scopes s.derivation s.trail level (searching.reasons side)));
       };
       derivation = changes.derivation;
+      restarts = ap (λ (t : TrailState). t.restarts) high;
       placed = placed;
       assigned = ap (λ (t : TrailState). t.assigned) high;
       allowed = λ e. (let g : NoDecision ≡ Nothing = sym (ap (λ (t : TrailState). t.allowed) high) ∙ e in cc);
@@ -124,6 +125,54 @@ undoes scopes level keep s new holding looking searching below changes is trail 
           counted_back (size_of scopes) start s.trail new.trail steps shorter intact.trail.marked
           (ap (λ (t : TrailState). t.marks) high ∙ ap (λ n. take n s.trail.marks) (sym (ap length placed)))
           (ap (λ (t : TrailState). t.assigned) high);
+    }
+
+-- to level 0, from where the search begins anew
+anew_have : (side : Quant) (scopes : List Scope) (d : State) (t : TrailState) → HaveReasons side scopes d t
+    → HaveReasons side scopes d (begun_anew t)
+anew_have side scopes d t have l id of_pivot is_bad cause =
+    let r = have l id of_pivot is_bad cause in
+    record { step = r.step; unit = r.unit; clean = r.clean }
+
+pub anew : (scopes : List Scope) (keep : ℕ) (s new : SearchState) → HoldingLaws → LookingLaws
+    → IsSearching scopes s → 0 < last_level s.trail.placed → CutChanges s new keep → new.trail ≡ restarted s.trail
+    → IsTrailFor scopes new.trail → keep ≡ length (cut_trail 0 s.trail.placed) → BeginsAnew scopes s new
+anew scopes keep s new holding looking searching below changes is trail keeps =
+    let intact = searching.paused.intact in
+    let old = s.trail.placed in
+    let high = undone_high 0 s.trail below in
+    let placed : new.trail.placed ≡ cut_trail 0 old = ap (λ (t : TrailState). t.placed) is
+    ∙ ap (λ (t : TrailState). t.placed) high in
+    let long : length (undone_to 0 s.trail).placed ≡ keep = ap (λ (t : TrailState). length t.placed) high
+    ∙ sym keeps in
+    let front : (side : Quant) → IsFront (looked (watch_undone keep (watch_of side s))) (literals_on new.trail.placed) =
+    λ side. subst (λ (t : Trail). IsFront (looked (watch_undone keep (watch_of side s))) (literals_on t))
+    (sym (ap (λ (t : TrailState). t.placed) is)) (subst (λ n. IsFront (looked (watch_undone n (watch_of side s)))
+    (literals_on (undone_to 0 s.trail).placed)) long
+    (looking.undone (watch_of side s) s.trail 0 (intact.watching.front side))) in
+    let assigned : new.trail.assigned ≡ s.trail.assigned = ap (λ (t : TrailState). t.assigned) is
+    ∙ ap (λ (t : TrailState). t.assigned) high in
+    record {
+      searching = record {
+        paused = paused_cut scopes s new keep holding changes searching.paused trail front;
+        reasons = λ side. subst (λ (t : TrailState). HaveReasons side scopes new.derivation t) (sym is)
+            (subst (λ (d : State). HaveReasons side scopes d (restarted s.trail)) (sym changes.derivation)
+            (anew_have side scopes s.derivation (undone_to 0 s.trail)
+            (cut_have side scopes s.derivation s.trail 0 (searching.reasons side))));
+      };
+      derivation = changes.derivation;
+      assigned = assigned;
+      restarts = ap (λ (t : TrailState). t.restarts) is ∙ ap (λ (t : TrailState). counted t.restarts 1) high;
+      allowed = ap (λ (t : TrailState). t.allowed) is ∙ ap (λ (t : TrailState). allowed_anew t.allowed) high;
+      assumed = λ assumptions h. subst (λ (t : Trail). AreTheAssumptions t assumptions) (sym placed)
+          (cut scopes old assumptions 0 intact.trail.ordered h);
+      paid =
+          λ start steps.
+          let shorter : length new.trail.placed < length old = rw placed (cut_shorter old 0 below) in
+          counted_back (size_of scopes) start s.trail new.trail steps shorter intact.trail.marked
+          (ap (λ (t : TrailState). t.marks) is ∙ (ap (λ (t : TrailState). t.marks) high
+          ∙ ap (λ n. take n s.trail.marks) (sym (ap length placed))))
+          assigned;
     }
 
 -- to rest

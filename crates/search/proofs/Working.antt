@@ -98,10 +98,10 @@ finds pivot = record {
   attached_row = λ d. some_none _ (d 0);
 }
 
-too_many : 2 + (6 + 3) ≤ 10 → ⊥
+too_many : 21 ≤ 20 → ⊥
 too_many l = absurd (omega arith)
 
-too_long : 32 < 32 → ⊥
+too_long : 64 < 64 → ⊥
 too_long l = absurd (omega arith)
 
 not_counted : ◌≡◌ {A = ℕ} 12 11 → ⊥
@@ -211,6 +211,5 @@ finishes pivot = record {
   not_finished = refl;
   paid = omega arith;
   unpaid = not_paid;
-  allowed = omega arith;
   gone = omega arith;
 }

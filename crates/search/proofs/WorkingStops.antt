@@ -1,24 +1,25 @@
 -- The worked values of stops.
-use Rattle.std.proofs.Common.{◌≡◌, ℕ, ◌<◌, ◌==◌, true, [], ◌∷◌, Some, is_none, refl, sym, ap, subst, ◌∙◌, ⊎_elim, arith}
+use Rattle.std.proofs.Common.{◌≡◌, ℕ, ◌<◌, ◌≤◌, ◌==◌, true, List, [], ◌∷◌, map, Contains, Some, is_none, refl, sym, ap, subst, ◌∙◌, ⊎_elim, arith}
 use Rattle.std.proofs.lemmas.Bool.{cases_Bool, eqb-true, false≢true}
 use Rattle.prefix.specs.declared.quant.Quant.{Quant}
 use Rattle.prefix.specs.Literal.{Literal}
 use Rattle.prefix.specs.Sides.{is_pivot}
-use Rattle.calculus.proofs.Lists.{contains_cons, contains_nil}
+use Rattle.calculus.proofs.Lists.{contains_cons, contains_head, contains_nil}
 use Rattle.calculus.specs.Rows.{Row, depth_of}
 use Rattle.calculus.specs.Search.{AreTheAssumptions, Trail, cause_on, value_on}
 use Rattle.calculus.specs.Search.Cause.{Assumed, Propagated}
 use Rattle.calculus.specs.Worked.{plus}
 use Rattle.clean.specs.Blockers.{IsBlocked}
 use Rattle.analyse.specs.Lessons.{IsUnlearned}
+use Rattle.derive.specs.State.{OpenClause, State, clauses_of, open_clauses, row_of}
 use Rattle.search.specs.Moves.{IsDue}
-use Rattle.search.specs.Moves.IsDue.{unit, bad, decision}
+use Rattle.search.specs.Moves.IsDue.{unit, bad, cube, decision}
 use Rattle.search.specs.State.{SearchState}
 use Rattle.search.specs.Stops.{WasSpentWhenDue}
 use Rattle.search.specs.Stops.WasSpentWhenDue.{assuming, searching}
 use Rattle.search.specs.Worked.{WorkedStops, alone, no_steps, spent}
 
-too_slow : 10 < 10 → ⊥
+too_slow : 20 < 20 → ⊥
 too_slow l = absurd (omega arith)
 
 not_spent : ◌≡◌ {A = ℕ} 99 100 → ⊥
@@ -29,6 +30,9 @@ not_two e = absurd (omega arith)
 
 not_less : 1 < 1 → ⊥
 not_less l = absurd (omega arith)
+
+not_more : 1 ≤ 0 → ⊥
+not_more l = absurd (omega arith)
 
 one_not_none : ◌≡◌ {A = ℕ} 1 0 → ⊥
 one_not_none e = absurd (omega arith)
@@ -69,24 +73,38 @@ module _ (placed : Trail) (assumed : AreTheAssumptions placed (plus 1 ∷ [])) w
       ∙ (assumed.stand 1 true refl).1) ∙ is.propagated.1 in
       cc
 
-nothing_due : (at : SearchState) → AreTheAssumptions at.trail.placed (plus 1 ∷ []) → IsDue alone at → ⊥
-nothing_due at assumed (unit side id l step is) =
+-- with no clauses an initial cube has no literals
+no_literals : (d : State) (row : Row) → clauses_of d ≡ [] → ((l : Literal) → Contains row l
+    → (clause : Row) × Contains (open_clauses d) clause) → row ≡ []
+no_literals d [] none from = refl
+no_literals d (l ∷ row) none from =
+    let r = from l (contains_head l row) in
+    absurd (contains_nil r.0 (subst (λ (cs : List OpenClause). Contains (map (λ (c : OpenClause). c.row) cs) r.0) none r.1))
+
+nothing_due : (at : SearchState) → clauses_of at.derivation ≡ []
+    → AreTheAssumptions at.trail.placed (plus 1 ∷ []) → IsDue alone at → ⊥
+nothing_due at clauses assumed (unit side id l step is) =
     not_open at.trail.placed assumed l.variable (only_one side l is.pivot_type) is.open_yet
-nothing_due at assumed (bad side id step is needs) =
+nothing_due at clauses assumed (bad side id step is needs) =
     ⊎_elim (not_blocked at.trail.placed assumed side _) (not_unlearned at.trail.placed assumed side _) needs
-nothing_due at assumed (decision x is) =
+nothing_due at clauses assumed (decision x is) =
     ⊎_elim
     (λ one. not_open at.trail.placed assumed x (sym one) (ap is_none is.unassigned))
     (λ none. contains_nil x none)
     (contains_cons 1 [] x is.known)
 
+nothing_due at clauses assumed (cube id is goes) =
+    let none = no_literals at.derivation (row_of at.derivation id) clauses
+    (λ l i. let m = is.literals l i in (m.clause, m.stands)) in
+    goes (rw none refl)
+
 none_left : WasSpentWhenDue alone no_steps (plus 1 ∷ []) (spent 99) 1 → ⊥
 none_left (assuming few count) = not_less few
-none_left (searching at is clauses assumed count due) = nothing_due at assumed due
+none_left (searching at is clauses assumed count due) = nothing_due at clauses assumed due
 
 none_assigned : WasSpentWhenDue alone no_steps (plus 1 ∷ []) (spent 100) 1 → ⊥
 none_assigned (assuming few count) = one_not_none count
-none_assigned (searching at is clauses assumed count due) = nothing_due at assumed due
+none_assigned (searching at is clauses assumed count due) = nothing_due at clauses assumed due
 
 pub stops : WorkedStops
 stops = record {
@@ -98,6 +116,7 @@ stops = record {
     vars = refl;
     due = assuming (omega arith) refl;
     few = omega arith;
+    restarts = omega arith;
     short = omega arith;
   };
   one_of_two = record {
@@ -106,11 +125,13 @@ stops = record {
     vars = refl;
     due = assuming (omega arith) refl;
     few = omega arith;
+    restarts = omega arith;
     short = omega arith;
   };
   one_left = λ s. not_spent s.spent;
   other_vars = λ s. not_two s.vars;
   other_budget = λ s. not_spent s.budget;
+  more_restarts = λ s. not_more s.restarts;
   other_count = λ s. none_assigned s.due;
   none_due = λ s. none_left s.due;
 }

@@ -1,22 +1,25 @@
 -- What a search does in a turn.
-use Rattle.std.specs.Prelude.{◌≡◌, ◌≢◌, ℕ, ◌*◌, ◌<◌, ◌≤◌, IsTrue, List, Contains}
+use Rattle.std.specs.Prelude.{◌≡◌, ◌≢◌, ℕ, ◌+◌, ◌<◌, ◌≤◌, IsTrue, List, Contains}
 use Rattle.prefix.specs.declared.quant.Quant.{Quant}
+use Rattle.prefix.specs.declared.quant.Quant.TheVariants.{Forall}
 use Rattle.prefix.specs.Literal.{Literal}
 use Rattle.prefix.specs.Scopes.{Scope}
 use Rattle.steps.specs.Counter.{Counter, after}
-use Rattle.calculus.specs.Rows.{Row}
+use Rattle.calculus.specs.Derivations.Why.{Given}
+use Rattle.calculus.specs.Rows.{Row, reduce}
 use Rattle.calculus.specs.Search.{AreTheAssumptions, Cause, IsBadRow, IsUnitIn, cut_trail, last_level, value_on}
 use Rattle.calculus.specs.Verdicts.{IsEndRow}
 use Rattle.trail.specs.Open.{placed_with}
-use Rattle.trail.specs.State.{TrailState}
+use Rattle.trail.specs.State.{TrailState, counted}
 use Rattle.trail.specs.declared.allowed.Allowed.TheVariants.{Anything, Nothing}
 use Rattle.decide.specs.Decision.{IsDecision}
-use Rattle.derive.specs.State.{State, clauses_of, has_rows, open_clauses, row_of}
+use Rattle.cover.specs.Choices.{MayCover}
+use Rattle.derive.specs.State.{State, clauses_of, has_rows, is_step, open_clauses, row_of, side_at, why_at}
 use Rattle.watch.specs.Events.{AreQuiet}
 use Rattle.clean.specs.Reasons.{IsReducedStep}
 use Rattle.analyse.specs.Lessons.{NeedsResolution}
 use Rattle.search.specs.State.{IsAttached, IsPaused, IsSearching, SearchState, rows_of}
-use Rattle.search.specs.Counting.{IsBounded, IsCounted, size_of}
+use Rattle.search.specs.Counting.{IsBounded, IsCounted, lesson_cost, size_of}
 use Rattle.search.specs.declared.outcome.Found.{Found}
 use Rattle.search.specs.declared.outcome.Found.TheVariants.{Unit as IsUnit, Bad, Quiet}
 
@@ -37,16 +40,20 @@ abbrev pub KeepsAssumptions : TrailState → TrailState → Type 0
 KeepsAssumptions old new = (assumptions : List Literal) → AreTheAssumptions old.placed assumptions
     → AreTheAssumptions new.placed assumptions
 
--- the search goes on, with more steps and assignments, and may decide
+-- more was assigned, or the search began anew once more
+abbrev pub Proceeds : TrailState → TrailState → Type 0
+Proceeds old new = old.assigned + old.restarts < new.assigned + new.restarts
+
+-- the search goes on, with more assignments or restarts, and may decide
 pub record Advances (scopes : List Scope) (slack : ℕ) (old new : SearchState) (before now : Counter) : Type 0 where
   pub searching : IsSearching scopes new
   pub clauses : clauses_of new.derivation ≡ clauses_of old.derivation
   pub assumed : KeepsAssumptions old.trail new.trail
   pub allowed : new.trail.allowed ≡ Anything
   pub budget : now.budget ≡ before.budget
-  pub rises : before.spent < now.spent
+  pub rises : before.spent ≤ now.spent
   pub counted : (start : ℕ) → IsCounted (size_of scopes) slack start old.trail before
-      → IsCounted (size_of scopes) 0 start new.trail now × (old.trail.assigned < new.trail.assigned)
+      → IsCounted (size_of scopes) 0 start new.trail now × Proceeds old.trail new.trail
 
 -- a row was analysed: what that costs is owed until the trail is cut
 pub record Analyses (scopes : List Scope) (old new : SearchState) (before now : Counter) : Type 0 where
@@ -55,10 +62,21 @@ pub record Analyses (scopes : List Scope) (old new : SearchState) (before now : 
   pub assumed : KeepsAssumptions old.trail new.trail
   pub level : last_level new.trail.placed ≡ last_level old.trail.placed
   pub assigned : new.trail.assigned ≡ old.trail.assigned
+  pub restarts : new.trail.restarts ≡ old.trail.restarts
   pub budget : now.budget ≡ before.budget
   pub rises : before.spent ≤ now.spent
-  pub owed : (start : ℕ) → IsCounted (size_of scopes) 0 start old.trail before
-      → IsCounted (size_of scopes) (2 * size_of scopes) start new.trail now
+  pub owed : (start : ℕ) → IsCounted (size_of scopes) 1 start old.trail before
+      → IsCounted (size_of scopes) (lesson_cost (size_of scopes)) start new.trail now
+
+-- an initial cube came in with its reduction, which counts a step where something goes
+pub record Covers (scopes : List Scope) (old new : SearchState) (before now : Counter) : Type 0 where
+  pub searching : IsSearching scopes new
+  pub clauses : clauses_of new.derivation ≡ clauses_of old.derivation
+  pub same_trail : new.trail ≡ old.trail
+  pub budget : now.budget ≡ before.budget
+  pub rises : before.spent ≤ now.spent
+  pub counted : (start : ℕ) → IsCounted (size_of scopes) 0 start old.trail before
+      → IsCounted (size_of scopes) 1 start new.trail now
 
 -- a literal was assigned from this cause, in one step, and nothing else changed
 pub record Pushes (old new : SearchState) (literal : Literal) (cause : Cause) (before now : Counter) : Type 0 where
@@ -76,13 +94,13 @@ pub record Halts (scopes : List Scope) (slack : ℕ) (old new : SearchState) (be
       → IsBounded (size_of scopes) start new.trail now
 
 -- the search ends with an end row of a side
-pub record Ends (scopes : List Scope) (old new : SearchState) (before now : Counter) (side : Quant)
+pub record Ends (scopes : List Scope) (slack : ℕ) (old new : SearchState) (before now : Counter) (side : Quant)
     (id : ℕ) : Type 0 where
   pub paused : IsPaused scopes new
   pub clauses : clauses_of new.derivation ≡ clauses_of old.derivation
   pub budget : now.budget ≡ before.budget
   pub rises : before.spent ≤ now.spent
-  pub bounded : (start : ℕ) → IsCounted (size_of scopes) 0 start old.trail before
+  pub bounded : (start : ℕ) → IsCounted (size_of scopes) slack start old.trail before
       → IsBounded (size_of scopes) start new.trail now
   pub row : IsReducedStep side scopes new.derivation id
   pub end : (assumptions : List Literal) → AreTheAssumptions old.trail.placed assumptions
@@ -92,11 +110,25 @@ pub record Ends (scopes : List Scope) (old new : SearchState) (before now : Coun
 pub record Undoes (scopes : List Scope) (level : ℕ) (old new : SearchState) : Type 0 where
   pub searching : IsSearching scopes new
   pub derivation : new.derivation ≡ old.derivation
+  pub restarts : new.trail.restarts ≡ old.trail.restarts
   pub placed : new.trail.placed ≡ cut_trail level old.trail.placed
   pub assigned : new.trail.assigned ≡ old.trail.assigned
   pub allowed : new.trail.allowed ≢ Nothing
   pub assumed : KeepsAssumptions old.trail new.trail
-  pub paid : (start : ℕ) (steps : Counter) → IsCounted (size_of scopes) (2 * size_of scopes) start old.trail steps
+  pub paid : (start : ℕ) (steps : Counter) → IsCounted (size_of scopes) (lesson_cost (size_of scopes)) start old.trail
+      steps
+      → IsCounted (size_of scopes) 0 start new.trail steps
+
+-- the search is cut to level 0, and begins anew
+pub record BeginsAnew (scopes : List Scope) (old new : SearchState) : Type 0 where
+  pub searching : IsSearching scopes new
+  pub derivation : new.derivation ≡ old.derivation
+  pub assigned : new.trail.assigned ≡ old.trail.assigned
+  pub restarts : new.trail.restarts ≡ counted old.trail.restarts 1
+  pub allowed : new.trail.allowed ≡ Anything
+  pub assumed : KeepsAssumptions old.trail new.trail
+  pub paid : (start : ℕ) (steps : Counter) → IsCounted (size_of scopes) (lesson_cost (size_of scopes)) start old.trail
+      steps
       → IsCounted (size_of scopes) 0 start new.trail steps
 
 -- what is found: an attached row that is unit or bad, or that none is
@@ -107,8 +139,16 @@ IsFound scopes s (Bad side id) = IsAttached s side id
     × IsBadRow side scopes (value_on s.trail.placed) (row_of s.derivation id)
 IsFound scopes s Quiet = (side : Quant) → AreQuiet side scopes (value_on s.trail.placed) (rows_of s)
 
--- A step is due: a row of a side is unit in a literal, which is to be assigned; a bad one is to be resolved; or a
--- variable is to be decided.
+-- the live step under an id is an initial cube, of literals that may cover the open clauses
+pub record IsInitialCube (scopes : List Scope) (s : SearchState) (id : ℕ) : Type 0 where
+  pub step : IsTrue (is_step s.derivation id)
+  pub of_side : side_at s.derivation id ≡ Forall
+  pub why : why_at s.derivation id ≡ Given
+  pub literals : (l : Literal) → Contains (row_of s.derivation id) l
+      → MayCover scopes (value_on s.trail.placed) (open_clauses s.derivation) l
+
+-- A step is due: a row of a side is unit in a literal, which is to be assigned; a bad one is to be resolved; a variable
+-- is to be decided; or an initial cube is to be reduced.
 pub data IsDue (scopes : List Scope) (s : SearchState) : Type 0 where
   unit : (side : Quant) (id : ℕ) (literal : Literal) → IsReducedStep side scopes s.derivation id
       → IsUnitIn side scopes (value_on s.trail.placed) (row_of s.derivation id) literal → IsDue scopes s
@@ -116,6 +156,8 @@ pub data IsDue (scopes : List Scope) (s : SearchState) : Type 0 where
       → IsBadRow side scopes (value_on s.trail.placed) (row_of s.derivation id)
       → NeedsResolution side scopes s.trail.placed (row_of s.derivation id) → IsDue scopes s
   decision : (x : ℕ) → IsDecision scopes s.trail.placed x → IsDue scopes s
+  cube : (id : ℕ) → IsInitialCube scopes s id → reduce Forall scopes (row_of s.derivation id) ≢ row_of s.derivation id
+      → IsDue scopes s
 
 -- a step was due in a search that this one came to, with the same clauses, assumptions and assignments so far
 pub record WasDue (scopes : List Scope) (old new : SearchState) : Type 0 where

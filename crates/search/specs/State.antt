@@ -98,11 +98,12 @@ pub record IsSearching (scopes : List Scope) (s : SearchState) : Type 0 where
   pub paused : IsPaused scopes s
   pub reasons : (side : Quant) → HaveReasons side scopes s.derivation s.trail
 
--- a trail at rest: empty, with the count begun anew, for whatever prefix
+-- a trail at rest: empty, with the counts begun anew, for whatever prefix
 pub record IsAtRest (t : TrailState) : Type 0 where
   pub empty : t.placed ≡ []
   pub allowed : t.allowed ≡ Anything
   pub begun : t.assigned ≡ 0
+  pub fresh : t.restarts ≡ 0
   pub kept : (scopes : List Scope) → IsTrailFor scopes t
 
 -- what holds between solves

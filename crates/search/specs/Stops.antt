@@ -1,10 +1,11 @@
 -- When a solve may stop without an outcome, and what an outcome is.
-use Rattle.std.specs.Prelude.{◌≡◌, ℕ, ◌+◌, ◌-◌, ◌*◌, ◌<◌, ⊤, IsTrue, List, length}
+use Rattle.std.specs.Prelude.{◌≡◌, ℕ, ◌-◌, ◌<◌, ◌≤◌, ⊤, IsTrue, List, length}
 use Rattle.prefix.specs.Literal.{Literal}
 use Rattle.prefix.specs.Scopes.{Scope}
 use Rattle.prefix.specs.Sides.{bad_of}
 use Rattle.steps.specs.Counter.{Counter, left, step_limit}
 use Rattle.truth.specs.Truth.{truth_under}
+use Rattle.calculus.specs.Limits.{propagation_limit, steps_for}
 use Rattle.calculus.specs.Rows.{Row}
 use Rattle.calculus.specs.Search.{AreTheAssumptions}
 use Rattle.trail.specs.State.{Account}
@@ -28,24 +29,26 @@ pub data WasSpentWhenDue (scopes : List Scope) (d : State) (assumptions : List L
       → WasSpentWhenDue scopes d assumptions before assigned
 
 -- The budget is spent, and a step was due. What is told is told of the budget and of the prefix's variables; the steps
--- of the call are few for its assignments; and fewer steps were left than suffice for so many variables.
-pub record IsSpent (scopes : List Scope) (d : State) (assumptions : List Literal) (before now : Counter)
+-- of the call are few for its assignments; the search began anew at most so often; and fewer steps were left than
+-- suffice for so many variables.
+pub record IsSpent (most : ℕ) (scopes : List Scope) (d : State) (assumptions : List Literal) (before now : Counter)
     (stopped : Account) : Type 0 where
   pub spent : now.spent ≡ now.budget
   pub budget : stopped.budget ≡ before.budget
   pub vars : stopped.vars ≡ size_of scopes
   pub due : WasSpentWhenDue scopes d assumptions before stopped.assigned
-  pub few : now.spent - before.spent < (4 * size_of scopes + 4) * (stopped.assigned + 1)
-  pub short : left before < step_limit (size_of scopes)
+  pub few : now.spent - before.spent < steps_for (size_of scopes) stopped.assigned
+  pub restarts : stopped.restarts ≤ most
+  pub short : left before < step_limit most (size_of scopes)
 
 -- a stop comes for want of memory at any time, else only where the budget is spent
-abbrev pub IsStop : List Scope → State → List Literal → Counter → Counter → SolveStop → Type 0
-IsStop scopes d assumptions before now (Spent stopped) = IsSpent scopes d assumptions before now stopped
-IsStop scopes d assumptions before now NoMemory = ⊤
+abbrev pub IsStop : ℕ → List Scope → State → List Literal → Counter → Counter → SolveStop → Type 0
+IsStop restarts scopes d assumptions before now (Spent stopped) = IsSpent restarts scopes d assumptions before now stopped
+IsStop restarts scopes d assumptions before now NoMemory = ⊤
 
 -- where propagation refutes the clauses, and there is no cube, it comes only with fewer steps left than these
 abbrev pub IsQuickStop : ℕ → Counter → SolveStop → Type 0
-IsQuickStop n before (Spent stopped) = left before < n * (n + 3)
+IsQuickStop n before (Spent stopped) = left before < propagation_limit n
 IsQuickStop n before NoMemory = ⊤
 
 -- an outcome: the formula's truth under the assumptions is the value for which the loser stands not, and the end is the

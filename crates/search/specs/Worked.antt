@@ -59,6 +59,7 @@ trail_of placed = record {
   marks = [];
   finished = [];
   assigned = length placed;
+  restarts = 0;
   room = 3;
   allowed = Anything;
 }
@@ -116,7 +117,7 @@ spent n = record { spent = n; budget = 100 }
 
 -- what a stop tells of so many variables, after so many assignments
 abbrev pub stopped : ℕ → ℕ → Account
-stopped vars assigned = record { budget = 100; vars = vars; assigned = assigned }
+stopped vars assigned = record { budget = 100; vars = vars; assigned = assigned; restarts = 0 }
 
 -- a derivation of no steps
 abbrev pub no_steps : State
@@ -132,9 +133,9 @@ pub record WorkedCounts : Type 0 where
   pub counted : IsCounted 3 0 10 (trail_of (once Exists)) (spent 11)
   pub too_many : IsCounted 3 0 10 (trail_of (once Exists)) (spent 12) → ⊥
   pub owed : IsCounted 3 1 10 (trail_of (once Exists)) (spent 12)
-  -- a solve of one assignment stops after at most 31 steps
-  pub bounded : IsBounded 3 10 (trail_of (once Exists)) (spent 41)
-  pub unbounded : IsBounded 3 10 (trail_of (once Exists)) (spent 42) → ⊥
+  -- a solve of one assignment stops after at most 63 steps
+  pub bounded : IsBounded 3 10 (trail_of (once Exists)) (spent 73)
+  pub unbounded : IsBounded 3 10 (trail_of (once Exists)) (spent 74) → ⊥
   -- no decision stands, and one step was taken for each literal; not after a decision, nor after a step more
   pub forced : IsForced (alternating Exists) 10 (search_over Exists detached (once Exists)) (spent 11)
   pub one_more : IsForced (alternating Exists) 10 (search_over Exists detached (once Exists)) (spent 12) → ⊥
@@ -174,27 +175,28 @@ pub record WorkedFinishes (pivot : Quant) : Type 0 where
   pub no_reductions : reductions_in (finished_three pivot) ≡ 0
   pub one_reduction : reductions_in (reduced_three pivot) ≡ 1
   pub not_finished : finishes_in (reduced_three pivot) ≡ 0
-  -- a step pays for a reduction that came in; not without a step, unless one more is allowed
-  pub paid : ReducesFew 0 (three_of pivot detached) (reduced_three pivot) (spent 10) (spent 11)
-  pub unpaid : ReducesFew 0 (three_of pivot detached) (reduced_three pivot) (spent 10) (spent 10) → ⊥
-  pub allowed : ReducesFew 1 (three_of pivot detached) (reduced_three pivot) (spent 10) (spent 10)
+  -- a step pays for a reduction that came in; not without a step
+  pub paid : ReducesFew (three_of pivot detached) (reduced_three pivot) (spent 10) (spent 11)
+  pub unpaid : ReducesFew (three_of pivot detached) (reduced_three pivot) (spent 10) (spent 10) → ⊥
   -- none is to be paid where it goes
-  pub gone : ReducesFew 0 (reduced_three pivot) (three_of pivot detached) (spent 10) (spent 10)
+  pub gone : ReducesFew (reduced_three pivot) (three_of pivot detached) (spent 10) (spent 10)
 
 -- when a solve may stop
 pub record WorkedStops : Type 0 where
-  -- a refutation by propagation of two variables takes at most ten steps
-  pub quick : IsQuickStop 2 (record { spent = 91; budget = 100 }) (Spent (stopped 3 0))
-  pub slow : IsQuickStop 2 (record { spent = 90; budget = 100 }) (Spent (stopped 3 0)) → ⊥
+  -- a refutation by propagation of two variables takes at most twenty steps
+  pub quick : IsQuickStop 2 (record { spent = 81; budget = 100 }) (Spent (stopped 3 0))
+  pub slow : IsQuickStop 2 (record { spent = 80; budget = 100 }) (Spent (stopped 3 0)) → ⊥
   -- a literal was to be assumed and no step was left, or two were and one was left
-  pub at_once : IsSpent (alternating Exists) no_steps (plus 1 ∷ []) (spent 100) (spent 100) (stopped 3 0)
-  pub one_of_two : IsSpent (existential (1 ∷ 2 ∷ []) ∷ []) no_steps (plus 1 ∷ plus 2 ∷ []) (spent 99) (spent 100)
+  pub at_once : IsSpent 0 (alternating Exists) no_steps (plus 1 ∷ []) (spent 100) (spent 100) (stopped 3 0)
+  pub one_of_two : IsSpent 0 (existential (1 ∷ 2 ∷ []) ∷ []) no_steps (plus 1 ∷ plus 2 ∷ []) (spent 99) (spent 100)
       (stopped 2 1)
-  -- not while one is left, nor where another number of variables, another budget or another number of assignments is
-  -- told, nor where a step was left for each assumption and none was due
-  pub one_left : IsSpent (alternating Exists) no_steps (plus 1 ∷ []) (spent 99) (spent 99) (stopped 3 0) → ⊥
-  pub other_vars : IsSpent (alternating Exists) no_steps (plus 1 ∷ []) (spent 100) (spent 100) (stopped 2 0) → ⊥
-  pub other_budget : IsSpent (alternating Exists) no_steps (plus 1 ∷ []) (spent 100) (spent 100)
-      (record { budget = 99; vars = 3; assigned = 0 }) → ⊥
-  pub other_count : IsSpent alone no_steps (plus 1 ∷ []) (spent 100) (spent 100) (stopped 1 1) → ⊥
-  pub none_due : IsSpent alone no_steps (plus 1 ∷ []) (spent 99) (spent 100) (stopped 1 1) → ⊥
+  -- not while one is left, nor where another number of variables, another budget, more restarts or another number of
+  -- assignments are told, nor where a step was left for each assumption and none was due
+  pub one_left : IsSpent 0 (alternating Exists) no_steps (plus 1 ∷ []) (spent 99) (spent 99) (stopped 3 0) → ⊥
+  pub other_vars : IsSpent 0 (alternating Exists) no_steps (plus 1 ∷ []) (spent 100) (spent 100) (stopped 2 0) → ⊥
+  pub other_budget : IsSpent 0 (alternating Exists) no_steps (plus 1 ∷ []) (spent 100) (spent 100)
+      (record { budget = 99; vars = 3; assigned = 0; restarts = 0 }) → ⊥
+  pub more_restarts : IsSpent 0 (alternating Exists) no_steps (plus 1 ∷ []) (spent 100) (spent 100)
+      (record { budget = 100; vars = 3; assigned = 0; restarts = 1 }) → ⊥
+  pub other_count : IsSpent 0 alone no_steps (plus 1 ∷ []) (spent 100) (spent 100) (stopped 1 1) → ⊥
+  pub none_due : IsSpent 0 alone no_steps (plus 1 ∷ []) (spent 99) (spent 100) (stopped 1 1) → ⊥

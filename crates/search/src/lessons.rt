@@ -1,32 +1,32 @@
 //! What bad rows teach, and what is done about it.
-ghost use Rattle.std.specs.Prelude.{◌≡◌, ◌≢◌, ◌≤◌, ◌<◌, ◌+◌, ◌-◌, ◌*◌, ℕ, IsTrue, IfOk, IfSome, OnOk, OnErr, Ok, Err, None, length, List};
+ghost use Rattle.std.specs.Prelude.{◌≡◌, ◌≢◌, ◌≤◌, ◌<◌, ◌+◌, ◌-◌, ◌*◌, ◌^◌, ℕ, IsTrue, IfOk, IfSome, OnOk, OnErr, Ok, Err, None, length, List};
 ghost use Rattle.prefix.specs.Literal.{Literal};
 ghost use Rattle.prefix.specs.declared.quant.Quant.{Quant as Q};
-ghost use Rattle.steps.specs.Counter.{left};
+ghost use Rattle.steps.specs.Counter.{Counter, left};
 ghost use Rattle.steps.specs.declared.stop.Stop.TheVariants.{Spent as spent};
 ghost use Rattle.calculus.specs.Search.{IsBadRow, IsUnitIn, MakesUnitAt, good_literal, last_level, value_on};
 ghost use Rattle.calculus.specs.Search.Cause.{Propagated as propagated};
 ghost use Rattle.decide.specs.Decision.{IsDecision};
 ghost use Rattle.trail.specs.State.{IsTrailFor};
 ghost use Rattle.trail.specs.declared.allowed.Allowed.TheVariants.{Anything, Nothing};
-ghost use Rattle.derive.specs.State.{has_rows, row_of, IsLegalFor};
+ghost use Rattle.derive.specs.State.{has_rows, row_of, side_at, IsLegalFor};
 ghost use Rattle.derive.specs.Growing.{GainsSteps};
 ghost use Rattle.clean.specs.Reasons.{HaveReasons, IsReducedStep};
 ghost use Rattle.clean.specs.Marks.{CleansReasons, KeepsReasons, StopsCleaning, marks_left};
 ghost use Rattle.clean.specs.Turns.{reductions_in};
 ghost use Rattle.analyse.specs.Lessons.{IsLesson, NeedsResolution};
 ghost use Rattle.search.specs.State.{IsSearching};
-ghost use Rattle.search.specs.Counting.{ReducesFew, size_of};
-ghost use Rattle.search.specs.Moves.{Advances, Analyses, Ends, Halts, Pushes, Undoes, WasDue};
+ghost use Rattle.search.specs.Counting.{ReducesFew, lesson_cost, size_of};
+ghost use Rattle.search.specs.Moves.{Advances, Analyses, BeginsAnew, Ends, Halts, Pushes, Undoes, WasDue};
 
 use crate::outcome::EndRow;
-use crate::search::Search;
+use crate::search::{LESSONS, Search};
 use analyse::{Lesson, analyse};
 use clean::reason_laws;
 use decide::Decider;
 use derive::{Derivation, Step, StepId};
 use prefix::{Clauses, Cubes, Lit, Prefix, Quant};
-use steps::{Spent, Steps, Stop};
+use steps::{NoMemory, Spent, Steps, Stop};
 use trail::{Trail, Why};
 use watch::{agreeing_laws, holding_laws, looking_laws};
 
@@ -37,31 +37,84 @@ impl Search {
         prefix: &Prefix,
         side: Quant,
         row: StepId,
+        restarts: u32,
         steps: &mut Steps,
     ) -> Result<Option<EndRow>, Stop>
         requires searching { IsSearching prefix.now self.old }
         requires row { IsReducedStep side prefix.now self.old.derivation row }
         requires bad { IsBadRow side prefix.now (value_on self.old.trail.placed) (row_of self.old.derivation row) }
-        ensures go { result ≡ Ok None → Advances prefix.now 0 self.old self.new steps.old steps.new }
+        ensures go { result ≡ Ok None → Advances prefix.now 1 self.old self.new steps.old steps.new }
         ensures end { IfOk result (λ end. IfSome end (λ e.
-            Ends prefix.now self.old self.new steps.old steps.new e.side e.row)) }
-        ensures err { OnErr result (Halts prefix.now 0 self.old self.new steps.old steps.new) }
+            Ends prefix.now 1 self.old self.new steps.old steps.new e.side e.row)) }
+        ensures err { OnErr result (Halts prefix.now 1 self.old self.new steps.old steps.new) }
         ensures spent { result ≡ Err spent → steps.new.spent ≡ steps.new.budget }
         ensures due { result ≡ Err spent → WasDue prefix.now self.old self.new }
-        ensures reductions { ReducesFew 0 self.old.derivation self.new.derivation steps.old steps.new }
-        ensures fewer { result ≡ Ok None →
-            reductions_in self.new.derivation < reductions_in self.old.derivation + (steps.new.spent - steps.old.spent) }
+        ensures reductions { ReducesFew self.old.derivation self.new.derivation steps.old steps.new }
+        ensures restarts { self.old.trail.restarts ≤ restarts → self.new.trail.restarts ≤ restarts }
         ensures ends { last_level self.old.trail.placed ≡ 0 → result ≢ Ok None }
         ensures few { last_level self.old.trail.placed ≡ 0 → result ≡ Err spent → left steps.old
-            < marks_left self.old.trail * length self.old.trail.placed + 2 * length self.old.trail.placed }
+            < 2 * (marks_left self.old.trail * length self.old.trail.placed + 2 * length self.old.trail.placed) }
     {
         match self.analysed(prefix, side, row, steps)? {
             Lesson::End { row } => Ok(Some(EndRow { side, row })),
             Lesson::Learn { row, lit, level } => {
-                self.backjump(prefix, side, row, lit, level, steps)?;
+                if self.is_restart_due(restarts) {
+                    self.begin_anew(prefix, row)?;
+                } else {
+                    self.backjump(prefix, side, row, lit, level, steps)?;
+                }
                 Ok(None)
             }
         }
+    }
+
+    // Counts a lesson, and tells whether the search is to begin anew after it, which it may so often.
+    fn is_restart_due(&mut self, restarts: u32) -> bool
+        ensures same { self.new ≡ self.old }
+        ensures fewer { IsTrue result → self.old.trail.restarts < restarts }
+        ensures small { IsTrue result → self.old.trail.restarts + 1 < 2 ^ 64 }
+    {
+        self.lessons_left = self.lessons_left.saturating_sub(1);
+        if self.lessons_left > 0 {
+            return false;
+        }
+        self.lessons_left = LESSONS;
+        self.trail.restarts() < u64::from(restarts)
+    }
+
+    // Undoes to level 0, from where the search begins anew, and keeps a learned row.
+    fn begin_anew(&mut self, prefix: &Prefix, row: StepId) -> Result<(), NoMemory>
+        requires searching { IsSearching prefix.now self.old }
+        requires row { IsReducedStep (side_at self.old.derivation row) prefix.now self.old.derivation row }
+        requires below { 0 < last_level self.old.trail.placed }
+        requires small { self.old.trail.restarts + 1 < 2 ^ 64 }
+        ensures ok { OnOk result ((steps : Counter) →
+            Advances prefix.now (lesson_cost (size_of prefix.now)) self.old self.new steps steps) }
+        ensures err { OnErr result ((steps : Counter) →
+            Halts prefix.now (lesson_cost (size_of prefix.now)) self.old self.new steps steps) }
+        ensures reductions { reductions_in self.new.derivation ≡ reductions_in self.old.derivation }
+        ensures restarts { self.new.trail.restarts ≡ self.old.trail.restarts + 1 }
+    {
+        bump(&mut self.decider, self.derivation.lits(row));
+        self.restart(prefix);
+        self.keep(prefix, row)?;
+        Ok(())
+    }
+
+    // Undoes to level 0, from where the search begins anew.
+    fn restart(&mut self, prefix: &Prefix)
+        requires searching { IsSearching prefix.now self.old }
+        requires below { 0 < last_level self.old.trail.placed }
+        ensures { BeginsAnew prefix.now self.old self.new }
+    {
+        holding_laws();
+        looking_laws();
+        reason_laws();
+        let front = self.trail.len_to(0);
+        self.decider.undoing(&self.trail, prefix, front);
+        self.trail.restart();
+        self.clauses.undone(front);
+        self.cubes.undone(front);
     }
 
     // What a bad row of a side teaches.
@@ -76,14 +129,15 @@ impl Search {
         requires row { IsReducedStep side prefix.now self.old.derivation row }
         requires bad { IsBadRow side prefix.now (value_on self.old.trail.placed) (row_of self.old.derivation row) }
         ensures ok { OnOk result (Analyses prefix.now self.old self.new steps.old steps.new) }
+        ensures restarts { self.new.trail.restarts ≡ self.old.trail.restarts }
         ensures lesson { IfOk result (λ lesson.
             IsLesson side prefix.now self.new.trail.placed self.new.derivation lesson) }
-        ensures err { OnErr result (Halts prefix.now 0 self.old self.new steps.old steps.new) }
+        ensures err { OnErr result (Halts prefix.now 1 self.old self.new steps.old steps.new) }
         ensures spent { result ≡ Err spent → steps.new.spent ≡ steps.new.budget }
         ensures due { result ≡ Err spent → WasDue prefix.now self.old self.new }
-        ensures reductions { ReducesFew 0 self.old.derivation self.new.derivation steps.old steps.new }
+        ensures reductions { ReducesFew self.old.derivation self.new.derivation steps.old steps.new }
         ensures few { result ≡ Err spent → left steps.old
-            < marks_left self.old.trail * length self.old.trail.placed + 2 * length self.old.trail.placed }
+            < 2 * (marks_left self.old.trail * length self.old.trail.placed + 2 * length self.old.trail.placed) }
     {
         holding_laws();
         agreeing_laws();
@@ -117,11 +171,14 @@ impl Search {
         requires searching { IsSearching prefix.now self.old }
         requires row { IsReducedStep side prefix.now self.old.derivation row }
         requires unit { MakesUnitAt side prefix.now self.old.trail.placed (row_of self.old.derivation row) lit level }
-        ensures ok { OnOk result (Advances prefix.now (2 * size_of prefix.now) self.old self.new steps.old steps.new) }
-        ensures err { OnErr result (Halts prefix.now (2 * size_of prefix.now) self.old self.new steps.old steps.new) }
+        ensures ok { OnOk result (Advances prefix.now (lesson_cost (size_of prefix.now)) self.old self.new
+            steps.old steps.new) }
+        ensures err { OnErr result (Halts prefix.now (lesson_cost (size_of prefix.now)) self.old self.new
+            steps.old steps.new) }
         ensures spent { result ≡ Err spent → steps.new.spent ≡ steps.new.budget }
         ensures due { result ≡ Err spent → WasDue prefix.now self.old self.new }
         ensures reductions { reductions_in self.new.derivation ≡ reductions_in self.old.derivation }
+        ensures restarts { self.new.trail.restarts ≡ self.old.trail.restarts }
     {
         bump(&mut self.decider, self.derivation.lits(row));
         self.undo(prefix, level);
@@ -160,6 +217,7 @@ impl Search {
         requires unit { IsUnitIn side prefix.now (value_on self.old.trail.placed) (row_of self.old.derivation row) lit }
         requires allowed { self.old.trail.allowed ≢ Nothing }
         ensures ok { OnOk result (Advances prefix.now 0 self.old self.new steps.old steps.new) }
+        ensures restarts { self.new.trail.restarts ≡ self.old.trail.restarts }
         ensures pushes { OnOk result (Pushes self.old self.new (good_literal side lit) (propagated row)
             steps.old steps.new) }
         ensures same { OnErr result (self.new ≡ self.old) }
@@ -185,6 +243,7 @@ impl Search {
         requires decision { IsDecision prefix.now self.old.trail.placed lit.variable }
         requires allowed { self.old.trail.allowed ≡ Anything }
         ensures ok { OnOk result (Advances prefix.now 0 self.old self.new steps.old steps.new) }
+        ensures restarts { self.new.trail.restarts ≡ self.old.trail.restarts }
         ensures derivation { self.new.derivation ≡ self.old.derivation }
         ensures same { OnErr result (self.new ≡ self.old) }
         ensures uncounted { OnErr result (steps.new ≡ steps.old) }
@@ -220,7 +279,7 @@ fn lesson_of(
     ensures due { OnErr result (NeedsResolution side prefix.now trail.old.placed (row_of derivation.old row)) }
     ensures spent { result ≡ Err spent → steps.new.spent ≡ steps.new.budget }
     ensures few { result ≡ Err spent →
-        left steps.old < marks_left trail.old * length trail.old.placed + 2 * length trail.old.placed }
+        left steps.old < 2 * (marks_left trail.old * length trail.old.placed + 2 * length trail.old.placed) }
     ensures reasons { KeepsReasons prefix.now derivation.old derivation.new trail.old trail.new }
     ensures trail { IsTrailFor prefix.now trail.new }
     ensures gains { GainsSteps derivation.old derivation.new }

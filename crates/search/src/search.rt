@@ -13,6 +13,9 @@ use std::marker::Model;
 use trail::Trail;
 use watch::{Watch, holding_laws};
 
+// A restart is due with each such lesson of a solve.
+pub(crate) const LESSONS: u8 = 64;
+
 /// A search with what it learned so far. Contracts see it as the derivation, the trail, both watches, the signs that
 /// variables had last, the ids of the rows to watch, and whether these are attached.
 ///
@@ -29,6 +32,8 @@ pub struct Search {
     pub(crate) watched: Vec<StepId>,
     // Whether the rows to watch are attached; else none is.
     pub(crate) joined: bool,
+    // How many lessons come before the next restart is due; contracts don't see it.
+    pub(crate) lessons_left: u8,
 }
 
 impl Model for Search {
@@ -65,6 +70,7 @@ impl Search {
             decider: Decider::new(alloc),
             watched: Vec::new(alloc),
             joined: false,
+            lessons_left: LESSONS,
         }
     }
 }

@@ -4,6 +4,7 @@ ghost use Rattle.prefix.specs.Scopes.{IsAscending};
 ghost use Rattle.prefix.specs.declared.quant.Quant.{Quant as Q};
 ghost use Rattle.steps.specs.Counter.{left, step_limit};
 ghost use Rattle.steps.specs.declared.stop.Stop.TheVariants.{Spent as spent};
+ghost use Rattle.calculus.specs.Limits.{propagation_limit};
 ghost use Rattle.calculus.specs.Rows.{variables_in};
 ghost use Rattle.calculus.specs.Search.{AreTheAssumptions, IsRefuted};
 ghost use Rattle.calculus.specs.Verdicts.{AreOuter, IsEndRow};
@@ -20,7 +21,7 @@ ghost use Rattle.search.specs.Moves.{IsMatrix};
 ghost use Rattle.search.specs.Stops.{IsOutcome, IsQuickStop, IsStop, WasSpentWhenDue};
 
 use crate::outcome::{EndRow, Outcome, SolveStop};
-use crate::search::Search;
+use crate::search::{LESSONS, Search};
 use calculus::{end_rows_give_proofs, proofs_decide};
 use derive::{StepId, same_clauses_serve, steps_are_listed};
 use prefix::{Lit, LitList, Prefix};
@@ -34,8 +35,10 @@ impl Search {
     /// of the first scope, by search with learned clauses and cubes (QCDCL). What it learns stays for the next call.
     /// The finish of the last outcome goes: after a call no finish is live but that of its own outcome.
     ///
-    /// For each step that it takes at most one reduction comes in, and beside these at most one more; and it takes fewer
-    /// steps than suffice for the variables.
+    /// After each 64th lesson it begins anew from its assumptions and what follows from them, at most `restarts` times.
+    ///
+    /// For each step that it takes at most one reduction comes in; and it takes fewer steps than suffice for the
+    /// variables.
     ///
     /// Spent comes only where a step is due and the budget is spent, which with as many steps left as suffice for the
     /// variables is never so. After it and after want of memory the search is at rest, with the same open clauses.
@@ -44,6 +47,7 @@ impl Search {
         prefix: &Prefix,
         matrix: &[LitList],
         assumptions: &[Lit],
+        restarts: u32,
         steps: &mut Steps,
     ) -> Result<Outcome, SolveStop>
         requires resting { IsResting prefix.now self.old }
@@ -51,7 +55,7 @@ impl Search {
         requires outer { AreOuter prefix.now assumptions.now }
         requires ascending { IsAscending (variables_in assumptions.now) }
         ensures outcome { IfOk result (IsOutcome prefix.now matrix.now assumptions.now self.new.derivation) }
-        ensures stop { IfErr result (IsStop prefix.now self.old.derivation assumptions.now steps.old steps.new) }
+        ensures stop { IfErr result (IsStop restarts prefix.now self.old.derivation assumptions.now steps.old steps.new) }
         ensures quick { HasNoCubes self.old → IsRefuted prefix.now matrix.now assumptions.now →
             IfErr result (IsQuickStop (size_of prefix.now) steps.old) }
         ensures resting { IsResting prefix.now self.new }
@@ -59,13 +63,13 @@ impl Search {
         ensures finishes { IfOk result (λ o. (id : ℕ) → IsFinishId self.new.derivation id → id ≡ o.end) }
         ensures unfinished { OnErr result (HasNoFinish self.new.derivation) }
         ensures reductions { reductions_in self.new.derivation
-            ≤ reductions_in self.old.derivation + (steps.new.spent - steps.old.spent) + 1 }
-        ensures few { steps.new.spent - steps.old.spent < step_limit (size_of prefix.now) }
+            ≤ reductions_in self.old.derivation + (steps.new.spent - steps.old.spent) }
+        ensures few { steps.new.spent - steps.old.spent < step_limit restarts (size_of prefix.now) }
         ensures budget { steps.new.budget ≡ steps.old.budget }
         ensures rises { steps.old.spent ≤ steps.new.spent }
     {
         self.attach_all(prefix);
-        match self.run(prefix, matrix, assumptions, steps) {
+        match self.run(prefix, matrix, assumptions, restarts, steps) {
             Ok(end) => self.conclude(prefix, matrix, end, assumptions),
             Err(Stop::Spent) => Err(SolveStop::Spent(self.stop(prefix, steps))),
             Err(Stop::NoMemory) => {
@@ -82,6 +86,7 @@ impl Search {
         prefix: &Prefix,
         matrix: &[LitList],
         assumptions: &[Lit],
+        restarts: u32,
         steps: &mut Steps,
     ) -> Result<EndRow, Stop>
         requires paused { IsPaused prefix.now self.old }
@@ -94,18 +99,19 @@ impl Search {
         ensures row { IfOk result (λ e. IsReducedStep e.side prefix.now self.new.derivation e.row) }
         ensures end { IfOk result (λ e. IsEndRow e.side prefix.now assumptions.now (row_of self.new.derivation e.row)) }
         ensures bounded { IsBounded (size_of prefix.now) steps.old.spent self.new.trail steps.new }
+        ensures restarts { self.new.trail.restarts ≤ restarts }
         ensures due { result ≡ Err spent → WasSpentWhenDue prefix.now self.old.derivation assumptions.now steps.old
             self.new.trail.assigned }
         ensures spent { result ≡ Err spent → steps.new.spent ≡ steps.new.budget }
         ensures refuted { NoCubeAttached self.old → IsRefuted prefix.now matrix.now assumptions.now →
-            result ≡ Err spent → left steps.old < size_of prefix.now * (size_of prefix.now + 3) }
-        ensures reductions { ReducesFew 1 self.old.derivation self.new.derivation steps.old steps.new }
+            result ≡ Err spent → left steps.old < propagation_limit (size_of prefix.now) }
+        ensures reductions { ReducesFew self.old.derivation self.new.derivation steps.old steps.new }
         ensures budget { steps.new.budget ≡ steps.old.budget }
         ensures rises { steps.old.spent ≤ steps.new.spent }
     {
         self.assume(prefix, assumptions, steps)?;
         'turns: loop {
-            if let Some(end) = self.turn(prefix, matrix, steps)? {
+            if let Some(end) = self.turn(prefix, matrix, restarts, steps)? {
                 return Ok(end);
             }
         }
@@ -128,6 +134,7 @@ impl Search {
         ensures counted { OnOk result (IsCounted (size_of prefix.now) 0 steps.old.spent self.new.trail steps.new) }
         ensures paused { IsPaused prefix.now self.new }
         ensures derivation { self.new.derivation ≡ self.old.derivation }
+        ensures restarts { self.new.trail.restarts ≡ self.old.trail.restarts }
         ensures forced { NoCubeAttached self.old →
             OnOk result (IsForced prefix.now steps.old.spent self.new steps.new) }
         ensures bounded { OnErr result (IsBounded (size_of prefix.now) steps.old.spent self.new.trail steps.new) }
@@ -221,6 +228,7 @@ impl Search {
         self.clauses.undone(0);
         self.cubes.undone(0);
         self.joined = true;
+        self.lessons_left = LESSONS;
     }
 
     // Ends where the budget is spent: the trail is emptied, and the finish of the last outcome goes; what is watched
@@ -241,6 +249,7 @@ impl Search {
         self.clauses.undone(0);
         self.cubes.undone(0);
         self.joined = true;
+        self.lessons_left = LESSONS;
         self.drop_finish(prefix);
         stopped
     }

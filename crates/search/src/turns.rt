@@ -4,17 +4,17 @@ ghost use Rattle.prefix.specs.Literal.{Literal};
 ghost use Rattle.prefix.specs.declared.quant.Quant.{Quant as Q};
 ghost use Rattle.prefix.specs.declared.quant.Quant.TheVariants.{Exists as exists, Forall as forall};
 ghost use Rattle.steps.specs.declared.stop.Stop.TheVariants.{Spent as spent};
+ghost use Rattle.calculus.specs.Limits.{propagation_limit};
 ghost use Rattle.calculus.specs.Search.{IsBadRow, value_on};
 ghost use Rattle.trail.specs.Open.{AreAssigned};
 ghost use Rattle.trail.specs.declared.allowed.Allowed.TheVariants.{Anything};
 ghost use Rattle.derive.specs.State.{clauses_of, row_of};
 ghost use Rattle.watch.specs.Events.{AreQuiet, IsEvent};
 ghost use Rattle.clean.specs.Reasons.{IsReducedStep};
-ghost use Rattle.clean.specs.Turns.{reductions_in};
 ghost use Rattle.search.specs.State.{IsSearching, rows_of};
 ghost use Rattle.search.specs.Counting.{ReducesFew, size_of};
 ghost use Rattle.search.specs.Forcing.{IsRefuting};
-ghost use Rattle.search.specs.Moves.{Advances, Ends, Halts, IsFound, IsMatrix, SameSteps, WasDue};
+ghost use Rattle.search.specs.Moves.{Advances, Covers, Ends, Halts, IsFound, IsMatrix, SameSteps, WasDue};
 ghost use Rattle.search.specs.Watching.{Looks};
 
 use crate::outcome::{EndRow, Found};
@@ -24,7 +24,7 @@ use calculus::{reductions_keep_unit, row_laws, value_laws};
 use cover::cover;
 use derive::StepId;
 use prefix::{LitList, Prefix, Quant};
-use steps::{NoMemory, Steps, Stop};
+use steps::{Steps, Stop};
 use watch::{Event, agreeing_laws, holding_laws};
 
 impl Search {
@@ -33,6 +33,7 @@ impl Search {
         &mut self,
         prefix: &Prefix,
         matrix: &[LitList],
+        restarts: u32,
         steps: &mut Steps,
     ) -> Result<Option<EndRow>, Stop>
         requires searching { IsSearching prefix.now self.old }
@@ -40,24 +41,24 @@ impl Search {
         requires matrix { IsMatrix self.old.derivation matrix.now }
         ensures go { result ≡ Ok None → Advances prefix.now 0 self.old self.new steps.old steps.new }
         ensures end { IfOk result (λ end. IfSome end (λ e.
-            Ends prefix.now self.old self.new steps.old steps.new e.side e.row)) }
+            Ends prefix.now 0 self.old self.new steps.old steps.new e.side e.row)) }
         ensures err { OnErr result (Halts prefix.now 0 self.old self.new steps.old steps.new) }
         ensures spent { result ≡ Err spent → steps.new.spent ≡ steps.new.budget }
         ensures due { result ≡ Err spent → WasDue prefix.now self.old self.new }
-        ensures reductions { ReducesFew 1 self.old.derivation self.new.derivation steps.old steps.new }
-        ensures paid { result ≡ Ok None → ReducesFew 0 self.old.derivation self.new.derivation steps.old steps.new }
+        ensures restarts { self.old.trail.restarts ≤ restarts → self.new.trail.restarts ≤ restarts }
+        ensures reductions { ReducesFew self.old.derivation self.new.derivation steps.old steps.new }
         ensures forced { (start : ℕ) → IsRefuting prefix.now matrix.now start self.old steps.old → result ≡ Ok None →
             IsRefuting prefix.now matrix.now start self.new steps.new }
         ensures refuted { (start : ℕ) → IsRefuting prefix.now matrix.now start self.old steps.old →
-            result ≡ Err spent → steps.new.budget - start < size_of prefix.now * (size_of prefix.now + 3) }
+            result ≡ Err spent → steps.new.budget - start < propagation_limit (size_of prefix.now) }
     {
         match self.next_found(prefix) {
             Found::Unit(side, row, lit) => {
                 self.propagate(prefix, side, row, lit, steps)?;
                 Ok(None)
             }
-            Found::Bad(side, row) => self.learn(prefix, side, row, steps),
-            Found::Quiet => self.quiet(prefix, matrix, steps),
+            Found::Bad(side, row) => self.learn(prefix, side, row, restarts, steps),
+            Found::Quiet => self.quiet(prefix, matrix, restarts, steps),
         }
     }
 
@@ -103,6 +104,7 @@ impl Search {
         &mut self,
         prefix: &Prefix,
         matrix: &[LitList],
+        restarts: u32,
         steps: &mut Steps,
     ) -> Result<Option<EndRow>, Stop>
         requires searching { IsSearching prefix.now self.old }
@@ -111,31 +113,38 @@ impl Search {
         requires matrix { IsMatrix self.old.derivation matrix.now }
         ensures go { result ≡ Ok None → Advances prefix.now 0 self.old self.new steps.old steps.new }
         ensures end { IfOk result (λ end. IfSome end (λ e.
-            Ends prefix.now self.old self.new steps.old steps.new e.side e.row)) }
+            Ends prefix.now 0 self.old self.new steps.old steps.new e.side e.row)) }
         ensures err { OnErr result (Halts prefix.now 0 self.old self.new steps.old steps.new) }
         ensures spent { result ≡ Err spent → steps.new.spent ≡ steps.new.budget }
         ensures due { result ≡ Err spent → WasDue prefix.now self.old self.new }
-        ensures reductions { ReducesFew 1 self.old.derivation self.new.derivation steps.old steps.new }
-        ensures paid { result ≡ Ok None → ReducesFew 0 self.old.derivation self.new.derivation steps.old steps.new }
+        ensures restarts { self.old.trail.restarts ≤ restarts → self.new.trail.restarts ≤ restarts }
+        ensures reductions { ReducesFew self.old.derivation self.new.derivation steps.old steps.new }
     {
         let Some(lit) = self.decider.next_decision(&self.trail, prefix) else {
-            let cube = self.solution(prefix, matrix)?;
-            return self.learn(prefix, Quant::Forall, cube, steps);
+            let cube = self.solution(prefix, matrix, steps)?;
+            return self.learn(prefix, Quant::Forall, cube, restarts, steps);
         };
         self.decide(prefix, lit, steps)?;
         Ok(None)
     }
 
-    // The reduction of an initial cube that a solution gives.
-    fn solution(&mut self, prefix: &Prefix, matrix: &[LitList]) -> Result<StepId, NoMemory>
+    // The reduction of an initial cube that a solution gives, which counts a step where something goes.
+    fn solution(
+        &mut self,
+        prefix: &Prefix,
+        matrix: &[LitList],
+        steps: &mut Steps,
+    ) -> Result<StepId, Stop>
         requires searching { IsSearching prefix.now self.old }
         requires quiet { AreQuiet exists prefix.now (value_on self.old.trail.placed) (rows_of self.old) }
         requires assigned { AreAssigned prefix.now self.old.trail.placed }
         requires matrix { IsMatrix self.old.derivation matrix.now }
-        ensures searching { IsSearching prefix.now self.new }
-        ensures clauses { clauses_of self.new.derivation ≡ clauses_of self.old.derivation }
+        ensures ok { OnOk result (Covers prefix.now self.old self.new steps.old steps.new) }
+        ensures err { OnErr result (Halts prefix.now 0 self.old self.new steps.old steps.new) }
+        ensures spent { result ≡ Err spent → steps.new.spent ≡ steps.new.budget }
+        ensures due { result ≡ Err spent → WasDue prefix.now self.old self.new }
+        ensures reductions { ReducesFew self.old.derivation self.new.derivation steps.old steps.new }
         ensures trail { self.new.trail ≡ self.old.trail }
-        ensures reductions { reductions_in self.new.derivation ≤ reductions_in self.old.derivation + 1 }
         ensures row { IfOk result (λ id. IsReducedStep forall prefix.now self.new.derivation id) }
         ensures bad { IfOk result (λ id. IsBadRow forall prefix.now (value_on self.new.trail.placed)
             (row_of self.new.derivation id)) }
@@ -146,6 +155,9 @@ impl Search {
         holding_laws();
         agreeing_laws();
         let cube = cover(&mut self.derivation, &self.trail, prefix, matrix)?;
-        self.derivation.reduce(prefix, cube)
+        let reduced = self.derivation.reduce_counted(prefix, cube, steps);
+        // The counter is within its budget.
+        let _budget = steps.budget();
+        reduced
     }
 }

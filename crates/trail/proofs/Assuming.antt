@@ -81,7 +81,7 @@ assumed_more scopes t ls l =
     let number : counted (counted t.assigned (length ls)) 1 ≡ counted t.assigned (length (ls ++ l ∷ [])) = counted_more t.assigned (length ls) ∙ ap (counted t.assigned) longer in
     let finished = sym (finished_more scopes [] ls l t.finished) in
     let next = allowed_anything ls l t.allowed in
-    λ i. record { placed = placed i; depths = depths i; marks = marks i; finished = finished i; assigned = number i; room = t.room; allowed = next i }
+    λ i. record { placed = placed i; depths = depths i; marks = marks i; finished = finished i; assigned = number i; restarts = t.restarts; room = t.room; allowed = next i }
 
 pub assumed_next : (scopes : List Scope) (t : TrailState) (ls : List Literal) (i : ℕ) (l : Literal) → i < length ls → l ≡ get_or ls i l → with_literal scopes (with_assumed scopes t (take i ls)) l Assumed ≡ with_assumed scopes t (take (i + 1) ls)
 assumed_next scopes t ls i l below is =
@@ -96,7 +96,7 @@ pub assumed_none : (scopes : List Scope) (t : TrailState) → IsTrailFor scopes 
 assumed_none scopes t kept empty =
     let none : t.depths ≡ [] = kept.numbered ∙ ap (map (λ (p : Placed). depth_of scopes p.literal.variable)) empty in
     let bare : t.marks ≡ [] = nothing t.marks (kept.marked ∙ ap length empty) in
-    λ i. record { placed = empty i; depths = none i; marks = bare i; finished = t.finished; assigned = t.assigned; room = t.room; allowed = t.allowed }
+    λ i. record { placed = empty i; depths = none i; marks = bare i; finished = t.finished; assigned = t.assigned; restarts = t.restarts; room = t.room; allowed = t.allowed }
 
 -- steps
 pub after_none : (c : Counter) → c ≡ after c 0
@@ -119,14 +119,15 @@ all_left first then i e same =
     omega arith
 
 -- assumptions that are given up
-pub given_up_is : (scopes : List Scope) (t now : TrailState) (ls : List Literal) (left : ℕ) (placed : Trail) (depths : List ℕ) (marks finished : List Bool) (assigned room : ℕ) → placed ≡ [] → depths ≡ [] → marks ≡ [] → finished ≡ emptied now.finished → assigned ≡ now.assigned → room ≡ now.room → now ≡ with_assumed scopes t (take left ls) → left < length ls → record { placed = placed; depths = depths; marks = marks; finished = finished; assigned = assigned; room = room; allowed = Nothing } ≡ given_up t left
-given_up_is scopes t now ls left placed depths marks finished assigned room empty none unmarked known same kept is fewer =
+pub given_up_is : (scopes : List Scope) (t now : TrailState) (ls : List Literal) (left : ℕ) (placed : Trail) (depths : List ℕ) (marks finished : List Bool) (assigned restarts room : ℕ) → placed ≡ [] → depths ≡ [] → marks ≡ [] → finished ≡ emptied now.finished → assigned ≡ now.assigned → restarts ≡ now.restarts → room ≡ now.room → now ≡ with_assumed scopes t (take left ls) → left < length ls → record { placed = placed; depths = depths; marks = marks; finished = finished; assigned = assigned; restarts = restarts; room = room; allowed = Nothing } ≡ given_up t left
+given_up_is scopes t now ls left placed depths marks finished assigned restarts room empty none unmarked known same rounds kept is fewer =
     let long : length now.finished ≡ length t.finished = ap (λ (u : TrailState). length u.finished) is ∙ assumed_length scopes [] (take left ls) t.finished in
     let gone : finished ≡ emptied t.finished = known ∙ ap (λ n. replicate n false) long in
     let taken : length (take left ls) ≡ left = length-take-le left ls (omega arith) in
     let count : assigned ≡ counted t.assigned left = same ∙ (ap (λ (u : TrailState). u.assigned) is ∙ ap (counted t.assigned) taken) in
+    let anew : restarts ≡ t.restarts = rounds ∙ ap (λ (u : TrailState). u.restarts) is in
     let wide : room ≡ t.room = kept ∙ ap (λ (u : TrailState). u.room) is in
-    λ i. record { placed = empty i; depths = none i; marks = unmarked i; finished = gone i; assigned = count i; room = wide i; allowed = Nothing }
+    λ i. record { placed = empty i; depths = none i; marks = unmarked i; finished = gone i; assigned = count i; restarts = anew i; room = wide i; allowed = Nothing }
 
 pub on_err_both : {T E P Q R : Type 0} (r : Result T E) → OnErr r P → OnErr r Q → (P → Q → R) → OnErr r R
 on_err_both (Ok v) p q f = tt

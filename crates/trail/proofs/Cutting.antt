@@ -156,4 +156,4 @@ undone_less b t high =
         let depths = take_take m n t.depths h in
         let marks = take_take m n t.marks h in
         let finished = finished_less m n t.depths t.finished h in
-        λ i. record { placed = front; depths = depths i; marks = marks i; finished = finished i; assigned = t.assigned; room = t.room; allowed = NoDecision }
+        λ i. record { placed = front; depths = depths i; marks = marks i; finished = finished i; assigned = t.assigned; restarts = t.restarts; room = t.room; allowed = NoDecision }

@@ -1,10 +1,11 @@
 -- What a trail keeps for its prefix: its order, and a count of assignments within its weight.
-use Rattle.std.proofs.Common.{Bool, drop, ◌*◌, ◌≡◌, ℕ, suc, ◌+◌, ◌^◌, ◌<◌, ◌≤◌, true, false, List, [], ◌∷◌, ◌++◌, length, map, take, Contains, None, refl, sym, ap, ◌∙◌, ⊎_elim, arith, append_assoc, length-append}
+use Rattle.std.proofs.Common.{Bool, drop, ◌*◌, ◌≡◌, ℕ, suc, ◌+◌, ◌-◌, ◌^◌, ◌<◌, ◌≤◌, true, false, List, [], ◌∷◌, ◌++◌, length, map, take, Contains, None, refl, sym, ap, ◌∙◌, ⊎_elim, arith, append_assoc, length-append, pow_pos, pow-suc}
 use Rattle.std.proofs.lemmas.Bool.{cases_lt, false≢true}
 use Rattle.std.proofs.lemmas.List.{length-take-le, length-map, map-append, length_push}
 use Rattle.prefix.specs.Literal.{Literal}
 use Rattle.prefix.specs.Scopes.{Scope, all_variables}
 use Rattle.calculus.specs.Search.{Cause, Placed, Trail, MayStand, cut_trail, decisions_on, is_decision, last_level, value_on}
+use Rattle.std.proofs.Math.Nat.{mul-le-mul_left}
 use Rattle.std.proofs.Math.Seq.{drop-append_seam, take-append_seam}
 use Rattle.calculus.specs.Rows.{depth_of}
 use Rattle.calculus.specs.Limits.{assignment_limit}
@@ -17,12 +18,12 @@ use Rattle.calculus.proofs.TrailMoves.{ordered_more}
 use Rattle.calculus.proofs.TrailLaws.{cut_ordered}
 use Rattle.trail.specs.declared.allowed.Allowed.{Allowed}
 use Rattle.trail.specs.declared.allowed.Allowed.TheVariants.{Anything, NoDecision, Nothing}
-use Rattle.trail.specs.State.{TrailState, MayFollow, IsWeighed, IsTrailFor, counted, with_finished, with_literal, with_placed, undone_to, cleared}
+use Rattle.trail.specs.State.{TrailState, MayFollow, IsWeighed, IsTrailFor, counted, with_finished, with_literal, with_placed, undone_to, allowed_anew, begun_anew, cleared}
 use Rattle.trail.specs.Finished.{emptied, is_in}
 use Rattle.trail.specs.Open.{AreAssignedBefore, AreFinished, finished_without, is_finished, placed_with}
 use Rattle.trail.proofs.Finishing.{finished_longer, finished_none, finished_shorter, finished_then}
 use Rattle.trail.proofs.Opening.{still_assigned}
-use Rattle.trail.proofs.Cutting.{IsCutAt, cut_at, cut_short, undone_low, undone_high}
+use Rattle.trail.proofs.Cutting.{IsCutAt, cut_all, cut_at, cut_short, undone_low, undone_high}
 
 decisions_length : (trail : Trail) → length (decisions_on trail) ≡ length trail
 decisions_length trail = length-map trail (λ (p : Placed). is_decision p.cause)
@@ -53,8 +54,8 @@ few_by n restarts NoDecision trail assigned fits h =
     omega arith
 few_by n restarts Nothing trail assigned fits h = h.1
 
-pub assigned_few : (scopes : List Scope) (t : TrailState) → IsTrailFor scopes t → t.assigned + 1 < assignment_limit 0 (length (all_variables scopes))
-assigned_few scopes t kept = few_by (length (all_variables scopes)) 0 t.allowed t.placed t.assigned (trail_length scopes t.placed kept.ordered) kept.weighed
+pub assigned_few : (scopes : List Scope) (t : TrailState) → IsTrailFor scopes t → t.assigned + 1 < assignment_limit t.restarts (length (all_variables scopes))
+assigned_few scopes t kept = few_by (length (all_variables scopes)) t.restarts t.allowed t.placed t.assigned (trail_length scopes t.placed kept.ordered) kept.weighed
 
 -- an assignment
 weighed_more : (n restarts : ℕ) (allowed : Allowed) (trail : Trail) (assigned : ℕ) (p : Placed) → IsWeighed n restarts allowed trail assigned → MayFollow allowed p.cause → counted assigned 1 ≤ restarts * 2 ^ (n + 1) + trail_weight n (decisions_on (trail ++ p ∷ []))
@@ -80,7 +81,7 @@ kept_placed scopes t l cause kept known fresh order may =
       numbered = ap (λ (ds : List ℕ). ds ++ depth_of scopes l.variable ∷ []) kept.numbered ∙ sym (map-append (λ (q : Placed). depth_of scopes q.literal.variable) t.placed (p ∷ []));
       marked = (let one : length (t.marks ++ false ∷ []) ≡ length t.marks + 1 = length_push t.marks false in let two : length (t.placed ++ p ∷ []) ≡ length t.placed + 1 = length_push t.placed p in let was = kept.marked in omega arith);
       all_assigned = finished_longer scopes t.placed (p ∷ []) t.finished kept.all_assigned;
-      weighed = weighed_more (length (all_variables scopes)) 0 t.allowed t.placed t.assigned p kept.weighed may;
+      weighed = weighed_more (length (all_variables scopes)) t.restarts t.allowed t.placed t.assigned p kept.weighed may;
     }
 
 pub kept_finished : (scopes : List Scope) (t : TrailState) (is_full is_decided : Bool) (depth : ℕ) → IsTrailFor scopes t → (is_full ≡ true → is_finished scopes t.placed depth ≡ true) → (is_decided ≡ true → AreAssignedBefore scopes t.placed depth) → 1 ≤ depth → IsTrailFor scopes (with_finished t is_full is_decided depth)
@@ -180,21 +181,93 @@ kept_cut scopes b t kept =
       numbered = numbered_cut scopes b t high kept;
       marked = marked_cut b t kept.marked;
       all_assigned = finished_cut scopes b t high kept;
-      weighed = weighed_cut (length (all_variables scopes)) 0 b t.allowed t.placed t.assigned (trail_length scopes t.placed kept.ordered) high kept.weighed;
+      weighed = weighed_cut (length (all_variables scopes)) t.restarts b t.allowed t.placed t.assigned (trail_length scopes t.placed kept.ordered) high kept.weighed;
     }))
     (λ (low : last_level t.placed ≤ b). rw (undone_low b t low) kept)
     (cases_lt b (last_level t.placed))
 
 -- more room
-pub kept_wider : (scopes : List Scope) (t : TrailState) (placed : Trail) (depths : List ℕ) (marks finished : List Bool) (assigned room : ℕ) (allowed : Allowed) → placed ≡ t.placed → depths ≡ t.depths → marks ≡ t.marks → ((i : ℕ) → is_in finished i ≡ is_in t.finished i) → assigned ≡ t.assigned → allowed ≡ t.allowed → IsTrailFor scopes t → IsTrailFor scopes (record { placed = placed; depths = depths; marks = marks; finished = finished; assigned = assigned; room = room; allowed = allowed })
-kept_wider scopes t placed depths marks finished assigned room allowed same scoped marked known counts may kept =
+pub kept_wider : (scopes : List Scope) (t : TrailState) (placed : Trail) (depths : List ℕ) (marks finished : List Bool) (assigned restarts room : ℕ) (allowed : Allowed) → placed ≡ t.placed → depths ≡ t.depths → marks ≡ t.marks → ((i : ℕ) → is_in finished i ≡ is_in t.finished i) → assigned ≡ t.assigned → restarts ≡ t.restarts → allowed ≡ t.allowed → IsTrailFor scopes t → IsTrailFor scopes (record { placed = placed; depths = depths; marks = marks; finished = finished; assigned = assigned; restarts = restarts; room = room; allowed = allowed })
+kept_wider scopes t placed depths marks finished assigned restarts room allowed same scoped marked known counts rounds may kept =
     record {
       ordered = rw same kept.ordered;
       numbered = scoped ∙ (kept.numbered ∙ ap (map (λ (p : Placed). depth_of scopes p.literal.variable)) (sym same));
       marked = ap length marked ∙ (kept.marked ∙ ap length (sym same));
       all_assigned = λ x i stands depth there. rw same (kept.all_assigned x i stands depth (sym (known i) ∙ there));
-      weighed = rw (same, counts, may) kept.weighed;
+      weighed = rw (same, counts, rounds, may) kept.weighed;
     }
+
+-- a restart
+
+two_at_least : (n : ℕ) → 2 ≤ 2 ^ (n + 1)
+two_at_least n =
+    let one : 1 ≤ 2 ^ n = pow_pos n in
+    let twice : 2 ^ suc n ≡ 2 * 2 ^ n = omega (arith, pow-suc 2 n) in
+    let e : n + 1 ≡ suc n = omega arith in
+    rw e (omega arith)
+
+at_least_twice : (k n : ℕ) → k ≤ k * 2 ^ (n + 1)
+at_least_twice k n =
+    let one : 1 ≤ 2 ^ (n + 1) = pow_pos (n + 1) in
+    let more : k * 1 ≤ k * 2 ^ (n + 1) = mul-le-mul_left k one in
+    omega arith
+
+-- one more round has room for all assignments so far, also where the number of rounds stands still
+round_for : (n restarts assigned : ℕ) → assigned < 2 ^ 64 → assigned + 1 < assignment_limit restarts n → assigned ≤ counted restarts 1 * 2 ^ (n + 1)
+round_for n restarts assigned fits few =
+    ⊎_elim
+    (λ (low : restarts < 2 ^ 64 - 1).
+    let is : counted restarts 1 ≡ restarts + 1 = omega arith in
+    let below : assigned + 1 < (restarts + 1) * 2 ^ (n + 1) = few in
+    rw is (omega arith))
+    (λ (high : 2 ^ 64 - 1 ≤ restarts).
+    let is : counted restarts 1 ≡ 2 ^ 64 - 1 = omega arith in
+    let most = at_least_twice (counted restarts 1) n in
+    omega arith)
+    (cases_lt restarts (2 ^ 64 - 1))
+
+weighed_anew : (n restarts : ℕ) (allowed : Allowed) (trail : Trail) (assigned : ℕ) → assigned < 2 ^ 64 → length trail ≤ n → IsWeighed n restarts allowed trail assigned → IsWeighed n (counted restarts 1) (allowed_anew allowed) trail assigned
+weighed_anew n restarts Anything trail assigned fits short h =
+    let most = round_for n restarts assigned fits (few_by n restarts Anything trail assigned short h) in
+    omega arith
+weighed_anew n restarts NoDecision trail assigned fits short h =
+    let most = round_for n restarts assigned fits (few_by n restarts NoDecision trail assigned short h) in
+    omega arith
+weighed_anew n restarts Nothing trail assigned fits short h =
+    let most = round_for n restarts assigned fits h.1 in
+    let all = one_more_round (counted restarts 1) (2 ^ (n + 1)) in
+    let two : 2 ≤ 2 ^ (n + 1) = two_at_least n in
+    (h.0, omega arith)
+
+pub kept_anew : (scopes : List Scope) (t : TrailState) → t.assigned < 2 ^ 64 → IsTrailFor scopes t → IsTrailFor scopes (begun_anew t)
+kept_anew scopes t fits kept =
+    record {
+      ordered = kept.ordered;
+      numbered = kept.numbered;
+      marked = kept.marked;
+      all_assigned = kept.all_assigned;
+      weighed = weighed_anew (length (all_variables scopes)) t.restarts t.allowed t.placed t.assigned fits (trail_length scopes t.placed kept.ordered) kept.weighed;
+    }
+
+-- what a restart leaves
+pub undone_placed : (t : TrailState) → (undone_to 0 t).placed ≡ cut_trail 0 t.placed
+undone_placed t =
+    ⊎_elim
+    (λ (high : 0 < last_level t.placed). ap (λ (u : TrailState). u.placed) (undone_high 0 t high))
+    (λ (low : last_level t.placed ≤ 0). ap (λ (u : TrailState). u.placed) (undone_low 0 t low) ∙ sym (cut_all 0 0 t.placed low))
+    (cases_lt 0 (last_level t.placed))
+
+allowed_again : (allowed : Allowed) → (allowed ≡ Nothing → ⊥) → allowed_anew allowed ≡ Anything
+allowed_again Anything h = refl
+allowed_again NoDecision h = refl
+allowed_again Nothing h = absurd (h refl)
+
+pub restart_allows : (t : TrailState) → (t.allowed ≡ Nothing → ⊥) → allowed_anew (undone_to 0 t).allowed ≡ Anything
+restart_allows t h =
+    ⊎_elim
+    (λ (high : 0 < last_level t.placed). ap (λ (u : TrailState). allowed_anew u.allowed) (undone_high 0 t high))
+    (λ (low : last_level t.placed ≤ 0). ap (λ (u : TrailState). allowed_anew u.allowed) (undone_low 0 t low) ∙ allowed_again t.allowed h)
+    (cases_lt 0 (last_level t.placed))
 
 pub kept_cleared : (scopes : List Scope) (t : TrailState) → IsTrailFor scopes (cleared t)
 kept_cleared scopes t = record {
@@ -206,12 +279,12 @@ kept_cleared scopes t = record {
 }
 
 -- assumptions that are given up
-pub kept_given_up : (scopes : List Scope) (t : TrailState) (placed : Trail) (depths : List ℕ) (marks finished : List Bool) (assigned room : ℕ) → IsTrailFor scopes t → placed ≡ [] → depths ≡ [] → marks ≡ [] → finished ≡ emptied t.finished → assigned ≡ t.assigned → IsTrailFor scopes (record { placed = placed; depths = depths; marks = marks; finished = finished; assigned = assigned; room = room; allowed = Nothing })
-kept_given_up scopes t placed depths marks finished assigned room kept empty none unmarked known same =
+pub kept_given_up : (scopes : List Scope) (t : TrailState) (placed : Trail) (depths : List ℕ) (marks finished : List Bool) (assigned restarts room : ℕ) → IsTrailFor scopes t → placed ≡ [] → depths ≡ [] → marks ≡ [] → finished ≡ emptied t.finished → assigned ≡ t.assigned → restarts ≡ t.restarts → IsTrailFor scopes (record { placed = placed; depths = depths; marks = marks; finished = finished; assigned = assigned; restarts = restarts; room = room; allowed = Nothing })
+kept_given_up scopes t placed depths marks finished assigned restarts room kept empty none unmarked known same rounds =
     record {
       ordered = rw empty tt;
       numbered = none ∙ ap (map (λ (p : Placed). depth_of scopes p.literal.variable)) (sym empty);
       marked = ap length unmarked ∙ sym (ap length empty);
       all_assigned = rw known (finished_none scopes placed t.finished);
-      weighed = (empty, rw same (assigned_few scopes t kept));
+      weighed = (empty, rw (same, rounds) (assigned_few scopes t kept));
     }

@@ -134,7 +134,7 @@ kept_clean scopes t x id is kept =
       numbered = kept.numbered ∙ sym (map_reason x id was (λ (p : Placed). depth_of scopes p.literal.variable) t.placed (λ l. refl) is.1);
       marked = length-set t.marks (place_on t.placed x) true ∙ (kept.marked ∙ sym (length_stays x id was t.placed is.1));
       all_assigned = finished_same scopes t.placed (with_reason t.placed x id) t.finished (literals_stay x id was t.placed is.1) kept.all_assigned;
-      weighed = weighed_same (length (all_variables scopes)) 0 t.allowed t.placed (with_reason t.placed x id) t.assigned (decisions_stay x id was t.placed is.1) (length_stays x id was t.placed is.1) (λ e. no_cause was (sym (ap (λ (p : Trail). cause_on p x) e) ∙ is.1)) kept.weighed;
+      weighed = weighed_same (length (all_variables scopes)) t.restarts t.allowed t.placed (with_reason t.placed x id) t.assigned (decisions_stay x id was t.placed is.1) (length_stays x id was t.placed is.1) (λ e. no_cause was (sym (ap (λ (p : Trail). cause_on p x) e) ∙ is.1)) kept.weighed;
     }
 
 -- the entries

@@ -14,14 +14,15 @@ use Rattle.trail.specs.Finished.{emptied}
 
 -- the assigned literals with their causes, oldest first; the number of each one's scope, by the prefix of its
 -- assignment, and whether its reason is marked as clean; the scopes that are known to be all assigned, by their
--- numbers less 1; how many were assigned since the last clear or stop, undone ones too; the greatest number of a
--- variable that there is room for; and what may be assigned next
+-- numbers less 1; how many were assigned since the last clear or stop, undone ones too, and how often the search began
+-- anew since then; the greatest number of a variable that there is room for; and what may be assigned next
 pub record TrailState : Type 0 where
   pub placed : Trail
   pub depths : List ℕ
   pub marks : List Bool
   pub finished : List Bool
   pub assigned : ℕ
+  pub restarts : ℕ
   pub room : ℕ
   pub allowed : Allowed
 
@@ -33,6 +34,7 @@ new_trail = record {
   marks = [];
   finished = [];
   assigned = 0;
+  restarts = 0;
   room = 0;
   allowed = Anything;
 }
@@ -57,6 +59,7 @@ with_room t vars = record {
   marks = t.marks;
   finished = t.finished ++ replicate (vars - t.room) false;
   assigned = t.assigned;
+  restarts = t.restarts;
   room = max t.room vars;
   allowed = t.allowed;
 }
@@ -69,6 +72,7 @@ with_placed t literal cause depth = record {
   marks = t.marks ++ false ∷ [];
   finished = t.finished;
   assigned = counted t.assigned 1;
+  restarts = t.restarts;
   room = t.room;
   allowed = Anything;
 }
@@ -81,6 +85,7 @@ with_finished t is_full is_decided depth = record {
   marks = t.marks;
   finished = finished_with is_full is_decided depth t.finished;
   assigned = t.assigned;
+  restarts = t.restarts;
   room = t.room;
   allowed = t.allowed;
 }
@@ -109,6 +114,7 @@ with_assumed scopes t literals = record {
   marks = map unmarked literals;
   finished = finished_assumed scopes [] literals t.finished;
   assigned = counted t.assigned (length literals);
+  restarts = t.restarts;
   room = t.room;
   allowed = allowed_after literals t.allowed;
 }
@@ -121,6 +127,7 @@ given_up t undone = record {
   marks = [];
   finished = emptied t.finished;
   assigned = counted t.assigned undone;
+  restarts = t.restarts;
   room = t.room;
   allowed = Nothing;
 }
@@ -133,6 +140,7 @@ with_front front len t = record {
   marks = take len t.marks;
   finished = finished_without (drop len t.depths) t.finished;
   assigned = t.assigned;
+  restarts = t.restarts;
   room = t.room;
   allowed = NoDecision;
 }
@@ -148,7 +156,21 @@ undone_to level t =
     then t
     else with_front (cut_trail level t.placed) (length (cut_trail level t.placed)) t
 
--- an empty trail, with the count begun anew
+-- what may be assigned next once a search begins anew: what a cut forbids is allowed again
+abbrev pub allowed_anew : Allowed → Allowed
+allowed_anew Anything = Anything
+allowed_anew NoDecision = Anything
+allowed_anew Nothing = Nothing
+
+-- a trail from which the search begins anew
+abbrev pub begun_anew : TrailState → TrailState
+begun_anew t = record t { restarts = counted t.restarts 1; allowed = allowed_anew t.allowed }
+
+-- a trail that is cut to level 0, from where the search begins anew
+abbrev pub restarted : TrailState → TrailState
+restarted t = begun_anew (undone_to 0 t)
+
+-- an empty trail, with the counts begun anew
 abbrev pub cleared : TrailState → TrailState
 cleared t = record {
   placed = [];
@@ -156,6 +178,7 @@ cleared t = record {
   marks = [];
   finished = emptied t.finished;
   assigned = 0;
+  restarts = 0;
   room = t.room;
   allowed = Anything;
 }
@@ -184,6 +207,7 @@ with_clean t x id = record {
   marks = slice_set t.marks (place_on t.placed x) true;
   finished = t.finished;
   assigned = t.assigned;
+  restarts = t.restarts;
   room = t.room;
   allowed = t.allowed;
 }
@@ -204,17 +228,17 @@ IsWeighed n restarts Nothing trail assigned = (trail ≡ []) × (assigned + 1 < 
 
 -- what a trail keeps for the prefix that its calls were given since the last clear or stop: its order, the scopes'
 -- numbers, a mark for each literal, that the scopes known to be all assigned are, and that each assignment raised the
--- weight; so far no call restarts a search
+-- weight above all earlier ones since the last restart
 pub record IsTrailFor (scopes : List Scope) (t : TrailState) : Type 0 where
   pub ordered : IsOrderedTrail scopes t.placed
   pub numbered : t.depths ≡ map (λ (p : Placed). depth_of scopes p.literal.variable) t.placed
   pub marked : length t.marks ≡ length t.placed
   pub all_assigned : AreFinished scopes t.placed t.finished
-  pub weighed : IsWeighed (length (all_variables scopes)) 0 t.allowed t.placed t.assigned
+  pub weighed : IsWeighed (length (all_variables scopes)) t.restarts t.allowed t.placed t.assigned
 
--- fewer literals were assigned than the limit for the prefix, and 2 more
+-- fewer literals were assigned than the limit for the prefix and the restarts, and 2 more
 abbrev pub IsFew : List Scope → TrailState → Type 0
-IsFew scopes t = t.assigned + 1 < assignment_limit 0 (length (all_variables scopes))
+IsFew scopes t = t.assigned + 1 < assignment_limit t.restarts (length (all_variables scopes))
 
 -- a trail outweighs another one, whatever the number of variables
 abbrev pub Outweighs : Trail → Trail → Type 0
@@ -226,12 +250,19 @@ abbrev pub OutweighsWithOne : Trail → Trail → Type 0
 OutweighsWithOne more less =
     (n : ℕ) → length less ≤ n → trail_weight n (decisions_on less) < trail_weight n (decisions_on more ++ false ∷ [])
 
--- what a stop tells: the counter's budget, the number of the prefix's variables, and the assignments that were counted
+-- what a stop tells: the counter's budget, the number of the prefix's variables, and the assignments and restarts that
+-- were counted
 pub record Account : Type 0 where
   pub budget : ℕ
   pub vars : ℕ
   pub assigned : ℕ
+  pub restarts : ℕ
 
 -- what a stop of a trail tells
 abbrev pub account_of : List Scope → TrailState → ℕ → Account
-account_of scopes t budget = record { budget = budget; vars = length (all_variables scopes); assigned = t.assigned }
+account_of scopes t budget = record {
+  budget = budget;
+  vars = length (all_variables scopes);
+  assigned = t.assigned;
+  restarts = t.restarts;
+}

@@ -11,6 +11,7 @@ pub struct Stopped {
     budget: u64,
     vars: usize,
     assigned: u64,
+    restarts: u64,
 }
 
 impl Model for Stopped {
@@ -20,21 +21,22 @@ impl Model for Stopped {
 
     ghost Value = { Account };
 
-    ghost view = { λ s. record { budget = s.budget; vars = s.vars; assigned = s.assigned } };
+    ghost view = { λ s. record { budget = s.budget; vars = s.vars; assigned = s.assigned; restarts = s.restarts } };
 
-    ghost invariant = { λ s. s.assigned + 1 < assignment_limit 0 s.vars };
+    ghost invariant = { λ s. s.assigned + 1 < assignment_limit s.restarts s.vars };
 }
 
 impl Stopped {
     // What a stop tells.
-    pub(crate) fn new(budget: u64, vars: usize, assigned: u64) -> Self
-        requires { assigned + 1 < assignment_limit 0 vars }
-        ensures { result ≡ record { budget = budget; vars = vars; assigned = assigned } }
+    pub(crate) fn new(budget: u64, vars: usize, assigned: u64, restarts: u64) -> Self
+        requires { assigned + 1 < assignment_limit restarts vars }
+        ensures { result ≡ record { budget = budget; vars = vars; assigned = assigned; restarts = restarts } }
     {
         Self {
             budget,
             vars,
             assigned,
+            restarts,
         }
     }
 
@@ -53,11 +55,18 @@ impl Stopped {
     }
 
     /// How many literals were assigned, undone ones too; at 2^64 - 1 the count stays. Each assignment raised the
-    /// weight of the trail, so they are few.
+    /// weight of the trail above all earlier ones since the last restart, so they are few.
     pub fn assigned(&self) -> u64
         ensures value { result ≡ self.now.assigned }
-        ensures few { self.now.assigned + 1 < assignment_limit 0 self.now.vars }
+        ensures few { self.now.assigned + 1 < assignment_limit self.now.restarts self.now.vars }
     {
         self.assigned
+    }
+
+    /// How often the search began anew; at 2^64 - 1 the count stays.
+    pub fn restarts(&self) -> u64
+        ensures { result ≡ self.now.restarts }
+    {
+        self.restarts
     }
 }

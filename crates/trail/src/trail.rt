@@ -1,5 +1,5 @@
 //! The trail.
-ghost use Rattle.std.specs.Prelude.{◌≡◌, ◌↔◌, ℕ, [], ◌∷◌, ◌++◌, ◌+◌, ◌^◌, ◌<◌, ◌≤◌, ◌==◌, length, take, slice_get, count_by, false, All, IfSome, IsNone, IsTrue, IsErr, OnOk, OnErr, List, Contains, Some, None};
+ghost use Rattle.std.specs.Prelude.{◌≡◌, ◌≢◌, ◌↔◌, ℕ, [], ◌∷◌, ◌++◌, ◌+◌, ◌^◌, ◌<◌, ◌≤◌, ◌==◌, length, take, slice_get, count_by, false, All, IfSome, IsNone, IsTrue, IsErr, OnOk, OnErr, List, Contains, Some, None};
 ghost use Rattle.std.specs.Option.{option_map};
 ghost use Rattle.prefix.specs.Literal.{Literal};
 ghost use Rattle.prefix.specs.Scopes.{Scope, all_variables, depth_of, variables_at, AreDistinct, IsPrefix};
@@ -8,12 +8,12 @@ ghost use Rattle.calculus.specs.Search.{MayStand, value_on, place_on, cause_on, 
 ghost use Rattle.calculus.specs.Search.Cause.{Assumed as assumed_cause};
 ghost use Rattle.calculus.specs.Rows.{variables_in};
 ghost use Rattle.calculus.specs.Verdicts.{AreOuter};
-ghost use Rattle.trail.specs.declared.allowed.Allowed.TheVariants.{Anything, NoDecision};
+ghost use Rattle.trail.specs.declared.allowed.Allowed.TheVariants.{Anything, NoDecision, Nothing};
 ghost use Rattle.trail.specs.Causes.{cause_of};
 ghost use Rattle.trail.specs.Finished.{emptied};
 ghost use Rattle.trail.specs.Open.{is_assigned, is_finished, AreAssigned, AreAssignedBefore, IsFirstOpen};
 ghost use Rattle.trail.specs.Table.{spot_on};
-ghost use Rattle.trail.specs.State.{new_trail, without_last, with_room, with_placed, with_finished, with_literal, with_assumed, given_up, undone_to, cleared, account_of, HasRoom, IsFew, is_marked, with_clean, IsPropagated, MayFollow, IsTrailFor, Outweighs, OutweighsWithOne};
+ghost use Rattle.trail.specs.State.{new_trail, without_last, with_room, with_placed, with_finished, with_literal, with_assumed, given_up, undone_to, restarted, cleared, counted, account_of, HasRoom, IsFew, is_marked, with_clean, IsPropagated, MayFollow, IsTrailFor, Outweighs, OutweighsWithOne};
 
 use super::allowed::Allowed;
 use super::entry::{Entry, Spot, last_floor};
@@ -42,6 +42,7 @@ pub struct Trail {
     // The scopes that are known to be all assigned, of those that are counted.
     finished: Finished,
     assigned: u64,
+    restarts: u64,
     allowed: Allowed,
 }
 
@@ -59,6 +60,7 @@ impl Model for Trail {
       marks = marks_of t.entries.items;
       finished = t.finished;
       assigned = t.assigned;
+      restarts = t.restarts;
       room = length t.spots.items;
       allowed = t.allowed;
     } };
@@ -81,6 +83,7 @@ impl Trail {
             tallies: Vec::new(alloc),
             finished: Finished::new(alloc),
             assigned: 0,
+            restarts: 0,
             allowed: Allowed::Anything,
         }
     }
@@ -206,12 +209,20 @@ impl Trail {
     }
 
     /// How many literals were assigned since the last `clear` or `stop`, undone ones too; at 2^64 - 1 the count
-    /// stays. Each assignment raised the weight of the trail, so they are few.
+    /// stays. Each assignment raised the weight of the trail above all earlier ones since the last `restart`, so they
+    /// are few.
     pub fn assigned(&self) -> u64
         ensures value { result ≡ self.now.assigned }
         ensures few { (scopes : List Scope) → IsTrailFor scopes self.now → IsFew scopes self.now }
     {
         self.assigned
+    }
+
+    /// How often `restart` was called since the last `clear` or `stop`; at 2^64 - 1 the count stays.
+    pub fn restarts(&self) -> u64
+        ensures { result ≡ self.now.restarts }
+    {
+        self.restarts
     }
 
     /// Assigns a literal, which counts a step. The prefix is that of the calls since the last `clear` or `stop`; the
@@ -299,6 +310,7 @@ impl Trail {
         ensures same { last_level self.old.placed ≤ level → self.new ≡ self.old }
         ensures assigned { self.new.assigned ≡ self.old.assigned }
         ensures room { self.new.room ≡ self.old.room }
+        ensures restarts { self.new.restarts ≡ self.old.restarts }
 
         // What is assigned after a cut raises the weight over that of the whole trail before it.
         ensures raised { level < last_level self.old.placed → OutweighsWithOne self.new.placed self.old.placed }
@@ -308,18 +320,37 @@ impl Trail {
         }
     }
 
-    /// Empties the trail, level 0 too, and begins the count anew. This takes no memory.
+    /// Cuts the trail to level 0, and lets the search begin anew from there: a decision may come next, and the weight
+    /// rises from that of what is left. This takes no memory.
+    pub fn restart(&mut self)
+        ensures value { self.new ≡ restarted self.old }
+        ensures kept { (scopes : List Scope) → IsTrailFor scopes self.old → IsTrailFor scopes self.new }
+        ensures placed { self.new.placed ≡ cut_trail 0 self.old.placed }
+        ensures allowed { self.old.allowed ≢ Nothing → self.new.allowed ≡ Anything }
+        ensures restarts { self.new.restarts ≡ counted self.old.restarts 1 }
+        ensures assigned { self.new.assigned ≡ self.old.assigned }
+        ensures room { self.new.room ≡ self.old.room }
+    {
+        // A count is below 2^64.
+        let _assigned = self.assigned();
+        self.undo_to(0);
+        self.restarts = self.restarts.saturating_add(1);
+        self.allowed = self.allowed.anew();
+    }
+
+    /// Empties the trail, level 0 too, and begins the counts anew. This takes no memory.
     pub fn clear(&mut self)
         ensures cleared { self.new ≡ cleared self.old }
         ensures kept { (scopes : List Scope) → IsTrailFor scopes self.new }
     {
         self.undo_all();
         self.assigned = 0;
+        self.restarts = 0;
         self.allowed = Allowed::Anything;
     }
 
     /// Empties the trail as `clear` does, where the budget is spent, and tells the counter's budget, the number of the
-    /// prefix's variables and how many literals were assigned. This takes no memory.
+    /// prefix's variables, how many literals were assigned and how often the search began anew. This takes no memory.
     pub fn stop(&mut self, prefix: &Prefix, steps: &Steps) -> Stopped
         requires prefix { IsTrailFor prefix.now self.old }
         requires spent { steps.now.spent ≡ steps.now.budget }
@@ -327,7 +358,12 @@ impl Trail {
         ensures cleared { self.new ≡ cleared self.old }
         ensures kept { (scopes : List Scope) → IsTrailFor scopes self.new }
     {
-        let stopped = Stopped::new(steps.budget(), prefix.len(), self.assigned());
+        let stopped = Stopped::new(
+            steps.budget(),
+            prefix.len(),
+            self.assigned(),
+            self.restarts(),
+        );
         self.clear();
         stopped
     }
@@ -493,6 +529,7 @@ impl Trail {
         ensures marks { self.new.marks ≡ [] }
         ensures finished { self.new.finished ≡ emptied self.old.finished }
         ensures assigned { self.new.assigned ≡ self.old.assigned }
+        ensures restarts { self.new.restarts ≡ self.old.restarts }
         ensures room { self.new.room ≡ self.old.room }
     {
         while !self.entries.is_empty() {

@@ -27,9 +27,10 @@ plain_steps_bound ss cs =
     rw (← same) (from_bound (prefix_order ss) cs no_values)
 
 -- the step limit suffices
-pub plain_steps_limit : (ss : List Scope) (cs : List (List Literal)) → plain_steps ss cs ≤ step_limit (length (all_variables ss))
+pub plain_steps_limit : (ss : List Scope) (cs : List (List Literal)) → plain_steps ss cs ≤ step_limit 0 (length (all_variables ss))
 plain_steps_limit ss cs =
     let n = length (all_variables ss) in
     let enough = plain_steps_bound ss cs in
-    let four : 1 ≤ 4 * n + 4 = omega arith in
-    omega (arith, enough, mul-le-mul_right (2 ^ (n + 1)) four)
+    let one : (0 + 1) * 2 ^ (n + 1) ≡ 2 ^ (n + 1) = omega arith in
+    let eight : 1 ≤ 8 * n + 8 = omega arith in
+    rw one (omega (arith, enough, mul-le-mul_right (2 ^ (n + 1)) eight))

@@ -21,7 +21,7 @@ pub fn decide_plain(alloc: Global, f: &Formula, steps: &mut Steps) -> Result<boo
     ensures ok { OnOk result (steps.new ≡ after steps.old (plain_steps f.now.prefix f.now.clauses)) }
     ensures room { OnOk result (plain_steps f.now.prefix f.now.clauses ≤ left steps.old) }
     ensures spent { result ≡ Err Stop.Spent → left steps.old < plain_steps f.now.prefix f.now.clauses }
-    ensures never { step_limit (length (all_variables f.now.prefix)) ≤ left steps.old → result ≢ Err Stop.Spent }
+    ensures never { step_limit 0 (length (all_variables f.now.prefix)) ≤ left steps.old → result ≢ Err Stop.Spent }
     ensures all_spent { result ≡ Err Stop.Spent → steps.new ≡ record steps.old { spent = steps.old.budget } }
     ensures budget { steps.new.budget ≡ steps.old.budget }
     ensures later { steps.old.spent ≤ steps.new.spent }

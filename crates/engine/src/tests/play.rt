@@ -236,6 +236,7 @@ pub(crate) fn is_budget_kept(
 ) -> Result<bool, Fail> {
     let drawn = Drawn::new(alloc, seed)?;
     let mut engine = Engine::new(alloc)?;
+    engine.set_restarts(2);
     drawn.stops_at(&mut engine, budget, enough)
 }
 

@@ -49,10 +49,10 @@ returns-in_err-turn-clause-spent g c =
     λ e.
     let own = c.in_err-turn.ensures.spent (ap Err
     (same_error c.from_residual.result p.0 spent c.in_err-turn.field-0.0 p.1 p.2 e)) in
-    let full = ap (λ (n : Counter). n.spent) own.1 ∙ (own.0 ∙ ap (λ (n : Counter). n.budget) (sym own.1)) in (
-      full,
-      spent_under c.args.steps.now c.loop-derivation.steps is.taken
-          (marks_left c.args.trail.now * length c.args.trail.now.placed) is.counted own.0
+    (
+      own.0,
+      spent_under c.args.steps.now c.loop-derivation.steps is.taken is.reduced
+          (marks_left c.args.trail.now * length c.args.trail.now.placed) is.counted is.resolves.fewer own.1
           (under_square g.S.Side.PIVOT c.args.prefix.now c.args.derivation.now c.loop-derivation.derivation
           c.args.trail.now c.loop-derivation.trail c.args.steps.now c.loop-derivation.steps c.args.stack.now.items
           c.loop-derivation.stack.items is c.in_err-turn.ensures.due),

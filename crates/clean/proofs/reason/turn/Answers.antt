@@ -92,14 +92,13 @@ returns-in_ok-push-in-Turns-clause-ok g c =
     c.pop.new.self.items c.in-Some.frame c.in-Some.ensures.items c.requires.frames c.place_of-end.result
     c.in-Turns.lit c.in-Turns.reason c.lits.result.now c.place_of-end.ensures.place c.lits.ensures c.requires.legal
     c.in-Turns.ensures c.requires.reasons
-    c.resolve_with_reason.new.derivation (record {
+    c.resolve_with_reason.new.derivation c.args.steps.now c.resolve_with_reason.new.steps (record {
       var = c.in-Some.frame.var;
       row = c.in_ok-row-in-Turns.row;
       left = c.place_of-left.result;
     }) c.push-in-Turns.new.self.items c.in_ok-row-in-Turns.ensures.ok
     c.in_ok-push-in-Turns.ensures.items refl (c.place_of-left.ensures.place
     ∙ ap (place_on c.args.trail.now.placed) c.var.ensures)
-    c.args.steps.now c.resolve_with_reason.new.steps c.in_ok-row-in-Turns.ensures.counted
 
 pub returns-in_ok-push-in-Turns-clause-frames : goal.returns-in_ok-push-in-Turns-clause-frames
 returns-in_ok-push-in-Turns-clause-frames g c =
@@ -107,7 +106,7 @@ returns-in_ok-push-in-Turns-clause-frames g c =
     c.pop.new.self.items c.in-Some.frame c.in-Some.ensures.items c.requires.frames c.place_of-end.result
     c.in-Turns.lit c.in-Turns.reason c.lits.result.now c.place_of-end.ensures.place c.lits.ensures c.requires.legal
     c.in-Turns.ensures c.requires.reasons
-    c.resolve_with_reason.new.derivation (record {
+    c.resolve_with_reason.new.derivation c.args.steps.now c.resolve_with_reason.new.steps (record {
       var = c.in-Some.frame.var;
       row = c.in_ok-row-in-Turns.row;
       left = c.place_of-left.result;

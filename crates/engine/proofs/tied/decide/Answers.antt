@@ -14,7 +14,7 @@ solve-found-requires-clause-matrix c =
 pub returns-in_err-outcome-clause-stop : goal.returns-in_err-outcome-clause-stop
 returns-in_err-outcome-clause-stop c =
     let h = err_from_is_err_and c.from_residual.result c.from_residual.ensures.1 in
-    rw (h.1, h.2) (stops c.args.frames.now.formula c.args.search.now c.args.steps.now c.solve-found.new.steps
+    rw (h.1, h.2) (stops c.args.restarts c.args.frames.now.formula c.args.search.now c.args.steps.now c.solve-found.new.steps
     c.in_err-outcome.field-0.0 c.requires
     (rw (← c.prefix.ensures.value, ← c.assumptions.ensures.value) c.in_err-outcome.ensures.stop))
 

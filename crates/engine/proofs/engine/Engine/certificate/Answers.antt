@@ -90,7 +90,7 @@ returns-clause-few c =
     c.self.invariant.variables in
     let known = subst (λ (e : EngineState). size_of e.formula.scopes ≤ e.counts.vars) c.self.view_is variables in
     let weight = c.gates_are_bounded.ensures (loser_of core) f.scopes (clauses_in f.frames) v.assumptions
-    (inferences_of core.lines) e.counts.clauses e.counts.solves e.counts.budget e.counts.vars
+    (inferences_of core.lines) e.counts.clauses e.counts.solves e.counts.budget e.counts.restarts e.counts.vars
     (core_proves f v core winner list facts) known c.in_ok-core.ensures.few in
     let size = c.in_ok-extract-in-Some.ensures.size in
     omega (arith, size, weight)

@@ -30,7 +30,7 @@ returns-in_err-put_clause-clause-err c =
     let e = c.in_err-put_clause.ensures in
     rw h.1
     (ap₂ (λ (f : OpenFormula) (v : Option VerdictState).
-    record { formula = f; verdict = v; counts = c.self.inside.counts })
+    record { formula = f; verdict = v; counts = c.self.inside.counts; restarts = c.self.inside.restarts })
     e.err (verdict_kept c.self.inside.search.derivation c.put_clause.new.search.derivation e.same
     c.self.inside.verdict) ∙ c.self.view_is)
 

@@ -21,7 +21,7 @@ use Rattle.engine.proofs.engine.Engine.solve.Goals as goal
 pub returns-in_err-assumed-clause-stop : goal.returns-in_err-assumed-clause-stop
 returns-in_err-assumed-clause-stop c =
     let h = err_from_is_err_and c.from_residual.result c.from_residual.ensures.1 in
-    rw (h.1, h.2, ← c.self.view_is) (stops c.self.inside.frames.formula c.forget_outcome.new.search c.args.steps.now
+    rw (h.1, h.2, ← c.self.view_is) (stops c.self.inside.restarts c.self.inside.frames.formula c.forget_outcome.new.search c.args.steps.now
     c.args.steps.now _ c.forget_outcome.ensures.tied tt)
 
 pub returns-in_err-verdict-clause-quick : goal.returns-in_err-verdict-clause-quick
@@ -36,7 +36,7 @@ returns-in_err-verdict-clause-quick c none refuted =
 pub returns-in_err-relevant-clause-stop : goal.returns-in_err-relevant-clause-stop
 returns-in_err-relevant-clause-stop c =
     let h = err_from_is_err_and c.from_residual-in_err-relevant.result c.from_residual-in_err-relevant.ensures.1 in
-    rw (h.1, h.2, ← c.self.view_is) (stops c.self.inside.frames.formula c.forget_outcome.new.search c.args.steps.now
+    rw (h.1, h.2, ← c.self.view_is) (stops c.self.inside.restarts c.self.inside.frames.formula c.forget_outcome.new.search c.args.steps.now
     c.args.steps.now _ c.forget_outcome.ensures.tied tt)
 
 pub keep_mentioned-requires : goal.keep_mentioned-requires
@@ -87,7 +87,7 @@ invariant_of-self-2 c =
       };
       finishes = e.finishes;
       cubes = λ none. absurd (some_solves c.self.inside.counts none);
-      reductions = solve_counted c.self.inside.counts c.args.steps.now c.decide.new.steps (size_of f.scopes)
+      reductions = solve_counted c.self.inside.counts c.args.steps.now c.decide.new.steps c.self.inside.restarts (size_of f.scopes)
           (reductions_in c.self.inside.search.derivation) (reductions_in c.forget_outcome.new.search.derivation)
           (reductions_in d) c.forget_outcome.ensures.reductions e.reductions e.fit e.few e.within e.budget
           c.self.invariant.reductions;
@@ -100,8 +100,8 @@ pub invariant_of-self : goal.invariant_of-self
 invariant_of-self c =
     let e = c.forget_outcome.ensures in
     rw c.with_solve-self-inside.ensures (undecided c.self.inside.frames.formula c.forget_outcome.new.search
-    c.self.inside.counts c.budget.result c.len.result e.tied e.finishes
-    (unsolved_counted c.self.inside.counts c.budget.result c.len.result
+    c.self.inside.counts c.budget.result c.self.inside.restarts c.len.result e.tied e.finishes
+    (unsolved_counted c.self.inside.counts c.budget.result c.self.inside.restarts c.len.result
     (reductions_in c.self.inside.search.derivation) (reductions_in c.forget_outcome.new.search.derivation)
     e.reductions e.fit c.self.invariant.reductions))
 
@@ -109,8 +109,8 @@ pub invariant_of-self-in_err-relevant : goal.invariant_of-self-in_err-relevant
 invariant_of-self-in_err-relevant c =
     let e = c.forget_outcome.ensures in
     rw c.with_solve-self-inside.ensures (undecided c.self.inside.frames.formula c.forget_outcome.new.search
-    c.self.inside.counts c.budget.result c.len.result e.tied e.finishes
-    (unsolved_counted c.self.inside.counts c.budget.result c.len.result
+    c.self.inside.counts c.budget.result c.self.inside.restarts c.len.result e.tied e.finishes
+    (unsolved_counted c.self.inside.counts c.budget.result c.self.inside.restarts c.len.result
     (reductions_in c.self.inside.search.derivation) (reductions_in c.forget_outcome.new.search.derivation)
     e.reductions e.fit c.self.invariant.reductions))
 
@@ -122,8 +122,8 @@ invariant_of-self-in_err-verdict c =
     let vars : c.len.result ≡ size_of f.scopes = c.len.ensures.value
     ∙ ap (λ (ss : List Scope). length (all_variables ss)) c.prefix.ensures.value in
     rw (c.with_solve-self-inside.ensures, c.budget.ensures.value, vars) (undecided f c.decide.new.search
-    c.self.inside.counts c.args.steps.now.budget (size_of f.scopes) e.tied e.unfinished
-    (solve_counted c.self.inside.counts c.args.steps.now c.decide.new.steps (size_of f.scopes)
+    c.self.inside.counts c.args.steps.now.budget c.self.inside.restarts (size_of f.scopes) e.tied e.unfinished
+    (solve_counted c.self.inside.counts c.args.steps.now c.decide.new.steps c.self.inside.restarts (size_of f.scopes)
     (reductions_in c.self.inside.search.derivation) (reductions_in c.forget_outcome.new.search.derivation)
     (reductions_in d) c.forget_outcome.ensures.reductions e.reductions e.fit e.few e.within e.budget
     c.self.invariant.reductions))

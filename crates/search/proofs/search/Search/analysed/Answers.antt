@@ -1,4 +1,4 @@
-use Rattle.std.proofs.Common.{ℕ, OnErr, OnOk, refl, sym, subst, ◌∙◌}
+use Rattle.std.proofs.Common.{◌≡◌, ℕ, OnErr, OnOk, refl, sym, subst, ◌∙◌}
 use Rattle.steps.specs.declared.stop.Stop.TheVariants.{Spent as spent}
 use Rattle.clean.specs.Marks.{MarksMore}
 use Rattle.clean.specs.Reasons.{HaveReasons, IsReducedStep}
@@ -6,7 +6,7 @@ use Rattle.calculus.specs.Search.{IsBadRow, value_on}
 use Rattle.derive.specs.State.{row_of}
 use Rattle.search.specs.State.{IsSearching, SearchState}
 use Rattle.search.specs.Moves.{Analyses, Halts, WasDue}
-use Rattle.search.proofs.Learning.{analyses, due_analysis, halts_analysis, on_err, on_err_with, on_ok, searching_analysed}
+use Rattle.search.proofs.Learning.{either_way, analyses, due_analysis, halts_analysis, on_err, on_err_with, on_ok, searching_analysed}
 use Rattle.search.proofs.search.Search.analysed.Goals as goal
 
 pub lesson_of-lesson-requires-clause-reasons : goal.lesson_of-lesson-requires-clause-reasons
@@ -65,7 +65,7 @@ pub returns-clause-err : goal.returns-clause-err
 returns-clause-err c =
     let e = c.lesson_of-lesson.ensures in
     subst (λ (s : SearchState). OnErr c.lesson_of-lesson.result
-    (Halts c.args.prefix.now 0 s (new c) c.args.steps.now c.lesson_of-lesson.new.steps)) c.self.view_is
+    (Halts c.args.prefix.now 1 s (new c) c.args.steps.now c.lesson_of-lesson.new.steps)) c.self.view_is
     (on_err c.lesson_of-lesson.result
     (halts_analysis c.args.prefix.now (old c)
     (new c) c.args.steps.now c.lesson_of-lesson.new.steps c.budget-budget.ensures.within (searching_old c)
@@ -87,3 +87,10 @@ returns-clause-due c = λ is.
     c.budget-budget.ensures.within (searching_old c) (searching_new c)
     c.args.side c.args.row stops.made step is_bad needs stops.marks)
     e.err e.due)
+
+pub returns-clause-restarts : goal.returns-clause-restarts
+returns-clause-restarts c =
+    let e = c.lesson_of-lesson.ensures in
+    subst (λ (s : SearchState). c.lesson_of-lesson.new.trail.restarts ≡ s.trail.restarts) c.self.view_is
+    (either_way c.lesson_of-lesson.result e.counted e.err (λ cleans. cleans.marks.restarts)
+    (λ stops. stops.marks.restarts))

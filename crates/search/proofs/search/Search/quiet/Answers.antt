@@ -1,16 +1,49 @@
 use Rattle.std.proofs.Common.{ap, subst, ◌∙◌}
 use Rattle.decide.specs.Decision.{IsDecision}
 use Rattle.derive.specs.State.{clauses_of}
+use Rattle.std.specs.Prelude.{IfOk, IfSome, OnErr}
+use Rattle.search.specs.Moves.{Advances, Ends, Halts}
 use Rattle.search.specs.State.{SearchState}
-use Rattle.search.proofs.Following.{due_between, due_decision}
+use Rattle.search.proofs.Learning.{on_err}
+use Rattle.search.proofs.Following.{advances_covered, covers_moved, due_between, due_decision, ends_covered, ends_within, halts_covered}
 use Rattle.search.proofs.search.Search.quiet.Goals as goal
+
+pub returns-in_default-clause-go : goal.returns-in_default-clause-go
+returns-in_default-clause-go c = λ is.
+    advances_covered c.args.prefix.now c.args.self.now c.solution.new.self c.learn.new.self c.args.steps.now
+    c.solution.new.steps c.learn.new.steps
+    (covers_moved c.args.prefix.now _ c.args.self.now c.solution.new.self c.args.steps.now c.solution.new.steps
+    (ap (λ (s : SearchState). clauses_of s.derivation) c.self.view_is) (ap (λ (s : SearchState). s.trail) c.self.view_is)
+    c.in_ok-cube.ensures.ok)
+    (c.learn.ensures.go is)
+
+pub returns-in_default-clause-end : goal.returns-in_default-clause-end
+returns-in_default-clause-end c =
+    ends_within c.learn.result _ _
+    (λ e. ends_covered c.args.prefix.now c.args.self.now c.solution.new.self c.learn.new.self c.args.steps.now
+    c.solution.new.steps c.learn.new.steps
+    (covers_moved c.args.prefix.now _ c.args.self.now c.solution.new.self c.args.steps.now c.solution.new.steps
+    (ap (λ (s : SearchState). clauses_of s.derivation) c.self.view_is) (ap (λ (s : SearchState). s.trail) c.self.view_is)
+    c.in_ok-cube.ensures.ok)
+    e.side e.row)
+    c.learn.ensures.end
+
+pub returns-in_default-clause-err : goal.returns-in_default-clause-err
+returns-in_default-clause-err c =
+    on_err c.learn.result
+    (halts_covered c.args.prefix.now c.args.self.now c.solution.new.self c.learn.new.self c.args.steps.now
+    c.solution.new.steps c.learn.new.steps
+    (covers_moved c.args.prefix.now _ c.args.self.now c.solution.new.self c.args.steps.now c.solution.new.steps
+    (ap (λ (s : SearchState). clauses_of s.derivation) c.self.view_is) (ap (λ (s : SearchState). s.trail) c.self.view_is)
+    c.in_ok-cube.ensures.ok))
+    c.learn.ensures.err
 
 pub returns-in_default-clause-due : goal.returns-in_default-clause-due
 returns-in_default-clause-due c = λ is.
-    let e = c.in_ok-cube.ensures in
+    let e = c.in_ok-cube.ensures.ok in
     due_between c.args.prefix.now c.args.self.now c.solution.new.self c.learn.new.self
     (e.clauses ∙ ap (λ (s : SearchState). clauses_of s.derivation) c.self.view_is)
-    (e.trail ∙ ap (λ (s : SearchState). s.trail) c.self.view_is)
+    (e.same_trail ∙ ap (λ (s : SearchState). s.trail) c.self.view_is)
     (c.learn.ensures.due is)
 
 pub returns-in_err-decide-clause-due : goal.returns-in_err-decide-clause-due

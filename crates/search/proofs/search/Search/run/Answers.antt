@@ -1,11 +1,12 @@
-use Rattle.std.proofs.Common.{◌≡◌, ◌+◌, ◌-◌, ◌<◌, Ok, Err, sym, ap, ◌∙◌, arith}
+use Rattle.std.proofs.Common.{◌≡◌, ◌+◌, ◌-◌, ◌<◌, ◌≤◌, Ok, Err, sym, ap, ◌∙◌, arith}
 use Rattle.std.proofs.lemmas.Result.{err_from_is_err_and}
 use Rattle.steps.specs.declared.stop.Stop.TheVariants.{Spent as spent}
 use Rattle.calculus.specs.Limits.{assignment_limit}
 use Rattle.calculus.specs.Rows.{variables_in}
 use Rattle.trail.proofs.Keeping.{assigned_few}
 use Rattle.search.specs.Counting.{size_of}
-use Rattle.search.specs.Moves.{Advances}
+use Rattle.search.specs.Moves.{Advances, Proceeds}
+use Rattle.search.proofs.Ending.{limit_rises}
 use Rattle.search.proofs.Following.{due_at_stop, matrix_moves}
 use Rattle.search.proofs.Forcing.{assumptions_few}
 use Rattle.search.proofs.Starting.{distinct}
@@ -15,12 +16,17 @@ pub turns-smaller : goal.turns-smaller
 turns-smaller c =
     let adv : Advances c.args.prefix.now 0 c.turns.self c.turn.new.self c.turns.steps c.turn.new.steps =
     c.in_ok-end.ensures.go (ap Ok c.in_default.is) in
-    let more : c.turns.self.trail.assigned < c.turn.new.self.trail.assigned =
+    let more : Proceeds c.turns.self.trail c.turn.new.self.trail =
     (adv.counted c.args.steps.now.spent c.turns.invariant.counted).1 in
-    let few : c.turn.new.self.trail.assigned + 1 < assignment_limit 0 (size_of c.args.prefix.now) =
+    let most : c.turn.new.self.trail.restarts ≤ c.args.restarts = c.turn.ensures.restarts c.turns.invariant.restarts in
+    let few : c.turn.new.self.trail.assigned + 1 < assignment_limit c.turn.new.self.trail.restarts
+    (size_of c.args.prefix.now) =
     assigned_few c.args.prefix.now c.turn.new.self.trail adv.searching.paused.intact.trail in
-    let goes : assignment_limit 0 (size_of c.args.prefix.now) - c.turn.new.self.trail.assigned < assignment_limit 0
-    (size_of c.args.prefix.now) - c.turns.self.trail.assigned = omega arith in
+    let all = limit_rises c.turn.new.self.trail.restarts c.args.restarts (size_of c.args.prefix.now) most in
+    let goes : (assignment_limit c.args.restarts (size_of c.args.prefix.now) + c.args.restarts)
+    - (c.turn.new.self.trail.assigned + c.turn.new.self.trail.restarts)
+    < (assignment_limit c.args.restarts (size_of c.args.prefix.now) + c.args.restarts)
+    - (c.turns.self.trail.assigned + c.turns.self.trail.restarts) = omega (arith, more, most, few, all) in
     goes
 
 pub turns-preserved : goal.turns-preserved
@@ -40,7 +46,8 @@ turns-preserved c =
       rises = omega arith;
       forced = λ none refuted. c.in_ok-end.ensures.forced c.args.steps.now.spent (i.forced none refuted)
           (ap Ok c.in_default.is);
-      reductions = let more = i.reductions in let paid = c.in_ok-end.ensures.paid (ap Ok c.in_default.is) in
+      restarts = c.turn.ensures.restarts i.restarts;
+      reductions = let more = i.reductions in let paid = c.turn.ensures.reductions in
           omega arith;
       matrix = matrix_moves c.turns.self.derivation c.turn.new.self.derivation c.args.matrix.now adv.clauses i.matrix;
     }

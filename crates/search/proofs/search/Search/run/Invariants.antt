@@ -1,4 +1,4 @@
-use Rattle.std.proofs.Common.{◌≡◌, ◌-◌, ◌≤◌}
+use Rattle.std.proofs.Common.{◌≡◌, ◌+◌, ◌-◌, ◌≤◌}
 use Rattle.calculus.specs.Limits.{assignment_limit}
 use Rattle.calculus.specs.Search.{AreTheAssumptions, IsRefuted}
 use Rattle.trail.specs.declared.allowed.Allowed.TheVariants.{Anything}
@@ -18,11 +18,13 @@ invariant-turns l = record {
   clauses : clauses_of l.self.derivation ≡ clauses_of l.fn.self.derivation;
   budget : l.steps.budget ≡ l.fn.steps.budget;
   rises : l.fn.steps.spent ≤ l.steps.spent;
-  reductions : ReducesFew 0 l.fn.self.derivation l.self.derivation l.fn.steps l.steps;
+  restarts : l.self.trail.restarts ≤ l.restarts;
+  reductions : ReducesFew l.fn.self.derivation l.self.derivation l.fn.steps l.steps;
   forced : NoCubeAttached l.fn.self → IsRefuted l.prefix l.matrix l.assumptions
       → IsRefuting l.prefix l.matrix l.fn.steps.spent l.self l.steps;
   matrix : IsMatrix l.self.derivation l.matrix;
 }
 
 abbrev pub decreases-turns : goal.decreases-turns
-decreases-turns l = assignment_limit 0 (size_of l.prefix) - l.self.trail.assigned
+decreases-turns l = (assignment_limit l.restarts (size_of l.prefix) + l.restarts)
+    - (l.self.trail.assigned + l.self.trail.restarts)

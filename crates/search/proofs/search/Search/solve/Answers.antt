@@ -18,8 +18,8 @@ pub returns-in-Err-Spent-clause-stop : goal.returns-in-Err-Spent-clause-stop
 returns-in-Err-Spent-clause-stop c =
     let is = c.in-Err-Spent.is ∙ ap Err c.in-Err-Spent.field-0-is in
     let e = c.run.ensures in
-    is_spent c.args.prefix.now c.args.self.now.derivation c.args.assumptions.now c.args.steps.now c.run.new.steps
-    c.run.new.self.trail c.stop.result e.paused.intact.trail (e.spent is) e.budget
+    is_spent c.args.restarts c.args.prefix.now c.args.self.now.derivation c.args.assumptions.now c.args.steps.now c.run.new.steps
+    c.run.new.self.trail c.stop.result e.restarts e.paused.intact.trail (e.spent is) e.budget
     (due_first c.args.prefix.now c.args.self.now.derivation c.attach_all.new.self.derivation c.args.assumptions.now
     c.args.steps.now c.run.new.self.trail.assigned c.attach_all.ensures.steps.clauses (e.due is))
     e.bounded
@@ -41,10 +41,15 @@ returns-in-Err-Spent-clause-reductions c =
 
 pub returns-in-Ok-clause-few : goal.returns-in-Ok-clause-few
 returns-in-Ok-clause-few c =
-    steps_few c.args.prefix.now c.args.steps.now.spent c.run.new.self.trail c.run.new.steps
-    c.run.ensures.paused.intact.trail c.run.ensures.bounded
+    steps_few c.args.restarts c.args.prefix.now c.args.steps.now.spent c.run.new.self.trail c.run.new.steps
+    c.run.ensures.restarts c.run.ensures.paused.intact.trail c.run.ensures.bounded
 
 pub returns-in-Err-NoMemory-clause-few : goal.returns-in-Err-NoMemory-clause-few
 returns-in-Err-NoMemory-clause-few c =
-    steps_few c.args.prefix.now c.args.steps.now.spent c.run.new.self.trail c.run.new.steps
-    c.run.ensures.paused.intact.trail c.run.ensures.bounded
+    steps_few c.args.restarts c.args.prefix.now c.args.steps.now.spent c.run.new.self.trail c.run.new.steps
+    c.run.ensures.restarts c.run.ensures.paused.intact.trail c.run.ensures.bounded
+
+pub returns-in-Err-Spent-clause-few : goal.returns-in-Err-Spent-clause-few
+returns-in-Err-Spent-clause-few c =
+    steps_few c.args.restarts c.args.prefix.now c.args.steps.now.spent c.run.new.self.trail c.run.new.steps
+    c.run.ensures.restarts c.run.ensures.paused.intact.trail c.run.ensures.bounded

@@ -17,5 +17,6 @@ drop_finish-requires c =
       allowed = ap (λ (t : TrailState). t.allowed) is;
       begun =
           ap (λ (t : TrailState). t.assigned) is;
+      fresh = ap (λ (t : TrailState). t.restarts) is;
       kept = c.stop-stopped.ensures.kept;
     })

@@ -4,8 +4,8 @@ use Rattle.steps.specs.Counter.{Counter}
 use Rattle.steps.specs.declared.stop.Stop.TheVariants.{Spent as spent}
 use Rattle.derive.specs.State.{row_of}
 use Rattle.clean.proofs.Keeping.{step_row}
-use Rattle.search.proofs.Learning.{on_err_at}
-use Rattle.search.proofs.Following.{due_between, due_now, matrix_moves}
+use Rattle.search.proofs.Learning.{on_err, on_err_at}
+use Rattle.search.proofs.Following.{advances_covered, covers_looked, ends_covered, ends_within, halts_covered, due_between, due_now, matrix_moves}
 use Rattle.search.proofs.Forcing.{few_analysis, few_assignment, forced_level, never_quiet, refuting_looked, refuting_push}
 use Rattle.search.proofs.search.Search.turn.Goals as goal
 
@@ -94,3 +94,23 @@ returns-in-Quiet-clause-refuted c = λ start refuting is.
     absurd (never_quiet c.args.prefix.now c.args.matrix.now start between c.args.steps.now e.looks.searching.paused
     (matrix_moves c.args.self.now.derivation between.derivation c.args.matrix.now e.looks.steps.clauses
     c.requires.matrix) now (e.found Exists))
+
+pub returns-in-Bad-clause-go : goal.returns-in-Bad-clause-go
+returns-in-Bad-clause-go c = λ is.
+    advances_covered c.args.prefix.now c.args.self.now c.next_found.new.self c.learn.new.self c.args.steps.now
+    c.args.steps.now c.learn.new.steps (covers_looked c.args.prefix.now c.args.self.now c.next_found.new.self
+    c.args.steps.now c.next_found.ensures.looks) (c.learn.ensures.go is)
+
+pub returns-in-Bad-clause-end : goal.returns-in-Bad-clause-end
+returns-in-Bad-clause-end c =
+    ends_within c.learn.result _ _
+    (λ e. ends_covered c.args.prefix.now c.args.self.now c.next_found.new.self c.learn.new.self c.args.steps.now
+    c.args.steps.now c.learn.new.steps (covers_looked c.args.prefix.now c.args.self.now c.next_found.new.self
+    c.args.steps.now c.next_found.ensures.looks) e.side e.row) c.learn.ensures.end
+
+pub returns-in-Bad-clause-err : goal.returns-in-Bad-clause-err
+returns-in-Bad-clause-err c =
+    on_err c.learn.result
+    (halts_covered c.args.prefix.now c.args.self.now c.next_found.new.self c.learn.new.self c.args.steps.now
+    c.args.steps.now c.learn.new.steps (covers_looked c.args.prefix.now c.args.self.now c.next_found.new.self
+    c.args.steps.now c.next_found.ensures.looks)) c.learn.ensures.err

@@ -93,4 +93,4 @@ returns c =
     let depths : depths_of c.push.new.self.items ≡ depths_of items ++ (c.args.scope + 1) ∷ [] = ap depths_of (grown b) ∙ map-append (λ (e : Entry). e.scope + 1) items (entry b ∷ []) in
     let marks : marks_of c.push.new.self.items ≡ marks_of items ++ false ∷ [] = ap marks_of (grown b) ∙ map-append (λ (e : Entry). e.clean) items (entry b ∷ []) in
     let room : length (set c.self.inside.spots.items c.index.result (Some spot)) ≡ length c.self.inside.spots.items = length-set c.self.inside.spots.items c.index.result (Some spot) in
-    rw (← c.self.view_is) (λ i. record { placed = placed i; depths = depths i; marks = marks i; finished = c.self.inside.finished; assigned = c.saturating_add-self-inside.ensures i; room = room i; allowed = Anything })
+    rw (← c.self.view_is) (λ i. record { placed = placed i; depths = depths i; marks = marks i; finished = c.self.inside.finished; assigned = c.saturating_add-self-inside.ensures i; restarts = c.self.inside.restarts; room = room i; allowed = Anything })

@@ -43,7 +43,7 @@ invariant_of-self c =
     (c.self.invariant.0, c.self.invariant.1) in
     (both.0, both.1, c.self.invariant.2)
 
-is_value : (c : goal.After-self-1) → record { placed = trail_of (entries c); depths = depths_of (entries c); marks = marks_of (entries c); finished = c.self.inside.finished; assigned = c.self.inside.assigned; room = length c.self.inside.spots.items; allowed = c.self.inside.allowed } ≡ with_clean c.args.self.now c.args.v c.args.reason
+is_value : (c : goal.After-self-1) → record { placed = trail_of (entries c); depths = depths_of (entries c); marks = marks_of (entries c); finished = c.self.inside.finished; assigned = c.self.inside.assigned; restarts = c.self.inside.restarts; room = length c.self.inside.spots.items; allowed = c.self.inside.allowed } ≡ with_clean c.args.self.now c.args.v c.args.reason
 is_value c =
     let t = c.args.self.now in
     let is = marked c in
@@ -52,9 +52,10 @@ is_value c =
     let marks : marks_of (entries c) ≡ set t.marks (place_on t.placed c.args.v) true = is.marks ∙ ap₂ (λ (bs : List Bool) (n : ℕ). set bs n true) (ap (λ (s : TrailState). s.marks) c.self.view_is) (place c) in
     let finished : c.self.inside.finished ≡ t.finished = ap (λ (s : TrailState). s.finished) c.self.view_is in
     let assigned : c.self.inside.assigned ≡ t.assigned = ap (λ (s : TrailState). s.assigned) c.self.view_is in
+    let restarts : c.self.inside.restarts ≡ t.restarts = ap (λ (s : TrailState). s.restarts) c.self.view_is in
     let room : length c.self.inside.spots.items ≡ t.room = ap (λ (s : TrailState). s.room) c.self.view_is in
     let allowed : c.self.inside.allowed ≡ t.allowed = ap (λ (s : TrailState). s.allowed) c.self.view_is in
-    λ i. record { placed = placed i; depths = depths i; marks = marks i; finished = finished i; assigned = assigned i; room = room i; allowed = allowed i }
+    λ i. record { placed = placed i; depths = depths i; marks = marks i; finished = finished i; assigned = assigned i; restarts = restarts i; room = room i; allowed = allowed i }
 
 pub returns-in-Some-clause-value : goal.returns-in-Some-clause-value
 returns-in-Some-clause-value c = is_value c

@@ -1,0 +1,33 @@
+use Rattle.std.proofs.Common.{◌≡◌, ◌<◌, ◌+◌, ◌-◌, Some, sym, ap, ◌∙◌, length, true}
+use Rattle.prefix.specs.Scopes.{Scope, all_variables, is_among, level_of, without_variable}
+use Rattle.prefix.specs.Blocks.{ids_of, scopes_of}
+use Rattle.prefix.proofs.RemovalLemmas.{index_within, level-without, removal_keeps_order, table_taken, without_absent, without_is}
+use Rattle.prefix.proofs.prefix.Prefix.remove_var.Goals as goal
+
+pub returns-in_default-clause-value : goal.returns-in_default-clause-value
+returns-in_default-clause-value c = without_absent c.args.v c.args.self.now (sym c.in_default.ensures.found)
+
+pub index_mut-requires : goal.index_mut-requires
+index_mut-requires c =
+    let level : level_of (scopes_of c.self.inside.blocks.items) c.args.v ≡ Some c.in-Some.scope = ap (λ ss. level_of ss c.args.v) c.self.view_is ∙ sym c.in-Some.ensures.value in
+    rw c.self.inside.homes.ok.0 (index_within (scopes_of c.self.inside.blocks.items) (ids_of c.self.inside.blocks.items) c.self.inside.numbers.items c.self.inside.homes.items c.self.inside.count c.index.result c.args.v c.in-Some.scope c.index.ensures.place c.self.invariant level)
+
+pub invariant_of-self : goal.invariant_of-self
+invariant_of-self c =
+    let level : level_of (scopes_of c.self.inside.blocks.items) c.args.v ≡ Some c.in-Some.scope = ap (λ ss. level_of ss c.args.v) c.self.view_is ∙ sym c.in-Some.ensures.value in
+    let among : is_among c.args.v (all_variables (scopes_of c.self.inside.blocks.items)) ≡ true = ap (λ ss. is_among c.args.v (all_variables ss)) c.self.view_is ∙ sym c.in-Some.ensures.found in
+    table_taken (scopes_of c.self.inside.blocks.items) (ids_of c.self.inside.blocks.items) c.self.inside.numbers.items c.self.inside.homes.items c.self.inside.count c.index.result c.args.v c.in-Some.scope c.index.ensures.place c.self.invariant level
+    (scopes_of c.take_out.new.blocks.items) (ids_of c.take_out.new.blocks.items) among
+    (without_is (scopes_of c.self.inside.blocks.items) (scopes_of c.take_out.new.blocks.items) c.in-Some.scope c.args.v c.self.invariant.distinct level c.in-Some.ensures.within.0 c.take_out.ensures.scopes)
+    c.take_out.ensures.ids
+
+pub returns-clause-value : goal.returns-clause-value
+returns-clause-value c =
+    let level : level_of (scopes_of c.self.inside.blocks.items) c.args.v ≡ Some c.in-Some.scope = ap (λ ss. level_of ss c.args.v) c.self.view_is ∙ sym c.in-Some.ensures.value in
+    without_is (scopes_of c.self.inside.blocks.items) (scopes_of c.take_out.new.blocks.items) c.in-Some.scope c.args.v c.self.invariant.distinct level c.in-Some.ensures.within.0 c.take_out.ensures.scopes ∙ ap (without_variable c.args.v) c.self.view_is
+
+pub returns-clause-levels : goal.returns-clause-levels
+returns-clause-levels c = λ w. ap (λ ss. level_of ss w) (returns-clause-value c) ∙ level-without c.args.self.now c.args.v w
+
+pub returns-clause-kept : goal.returns-clause-kept
+returns-clause-kept c = rw (returns-clause-value c) (removal_keeps_order c.args.self.now c.args.v)
