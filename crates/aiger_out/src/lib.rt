@@ -13,6 +13,3 @@ mod write;
 pub use laws::{circuits_have_one_text, texts_denote_one_circuit};
 pub use worked::{worked_lines, worked_texts, worked_words};
 pub use write::write_aag;
-
-#[cfg(test)]
-mod tests;

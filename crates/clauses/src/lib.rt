@@ -11,6 +11,3 @@ mod worked;
 pub use row::row_of;
 pub use scan::{is_tautology, variables};
 pub use worked::worked_clauses;
-
-#[cfg(test)]
-mod tests;

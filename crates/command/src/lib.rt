@@ -6,8 +6,6 @@ mod form;
 mod number;
 mod read;
 mod refused;
-#[cfg(test)]
-mod tests;
 mod values;
 
 pub use command::Command;

@@ -15,6 +15,3 @@ pub use frames::{Frames, OpenParts};
 pub use laws::refused_commands_change_nothing;
 pub use refusal::FrameRefusal;
 pub use worked::worked_commands;
-
-#[cfg(test)]
-mod tests;

@@ -12,6 +12,3 @@ mod worked;
 pub use formulas::make;
 pub use laws::made_formulas_are_formed;
 pub use worked::{worked_formulas, worked_places, worked_states};
-
-#[cfg(test)]
-mod tests;

@@ -13,6 +13,3 @@ mod sets;
 pub use laws::each_text_has_one_outcome;
 pub use read::read_formula;
 pub use refusal::{Quantity, ReadRefusal};
-
-#[cfg(test)]
-mod tests;

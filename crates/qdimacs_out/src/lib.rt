@@ -12,6 +12,3 @@ mod write;
 pub use laws::{read_formulas_are_writable, written_formulas_are_read};
 pub use worked::{worked_forms, worked_lines, worked_readings, worked_texts};
 pub use write::write_formula;
-
-#[cfg(test)]
-mod tests;

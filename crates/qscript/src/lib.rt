@@ -16,6 +16,3 @@ pub use command::{Command, NumList};
 pub use laws::each_script_has_one_reading;
 pub use reader::ScriptReader;
 pub use worked::worked_scripts;
-
-#[cfg(test)]
-mod tests;

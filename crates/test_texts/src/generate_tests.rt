@@ -1,7 +1,7 @@
 //! Formulas of some seeds.
 ghost use Rattle.std.specs.Prelude.{◌≤◌};
 
-use super::make;
+use generate::make;
 use prefix::{Lit, LitList, Prefix, Quant};
 use std::alloc::{AllocError, Global};
 use std::test::Fail;

@@ -1,32 +1,18 @@
 //! Texts of formulas that are made from seeds, read back, and faults of the sink.
-ghost use Rattle.std.specs.Prelude.{◌≤◌, ◌<◌};
-
-use super::write_formula;
+use crate::build::{desk_with, sink_with};
 use generate::make;
-use ports::{Desk, Failed, Input, MemoryDesk, MemorySink};
+use ports::{Failed, MemorySink};
 use qdimacs::read_formula;
+use qdimacs_out::write_formula;
 use std::alloc::Global;
 use std::test::Fail;
 use truth::Formula;
 
 const TWO_CLAUSES: &str = "p cnf 4 2\ne 1 0\na 2 0\ne 3 4 0\n-1 -3 -4 0\n-1 3 -4 0\n";
 
-// A sink with this room that takes at most so many bytes at once.
-fn sink_with(alloc: Global, room: usize, greatest: usize) -> Result<MemorySink, Fail>
-    requires { 0 < greatest }
-{
-    Ok(MemorySink::new(alloc, room, greatest, Vec::new(alloc))?)
-}
-
 // The formula that a text is read as.
 fn read_back(alloc: Global, text: &[u8]) -> Result<Formula, Fail> {
-    let mut inputs = Vec::new(alloc);
-    inputs.push(Input {
-        name: String::from_str(alloc, "-")?,
-        bytes: Vec::from_slice(alloc, text)?,
-    })?;
-    let mut desk = MemoryDesk::new(inputs, 4096, Vec::new(alloc));
-    desk.choose("-")?;
+    let mut desk = desk_with(alloc, text, 4096)?;
     Ok(read_formula(alloc, &mut desk)?)
 }
 

@@ -1,5 +1,6 @@
-use super::*;
-use prefix::{Lit, LitList};
+//! Rows of clauses that are given as numbers.
+use clauses::{is_tautology, row_of, variables};
+use prefix::LitList;
 use std::test::Fail;
 
 fn numbers(row: &LitList) -> Option<[i32; 3]> {

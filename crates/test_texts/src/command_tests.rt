@@ -1,4 +1,5 @@
-use crate::{Command, Refused, read_command};
+//! Command lines, and what the refusals of others say.
+use command::{Command, Refused, read_command};
 use std::alloc::Global;
 use std::test::Fail;
 

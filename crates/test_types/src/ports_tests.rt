@@ -1,7 +1,9 @@
 //! Ports in memory, over the system, and over a system that is played.
 ghost use Rattle.std.specs.Prelude.{None};
 
-use super::*;
+use ports::{
+    Desk, Failed, HostDesk, HostSink, Input, MemoryDesk, MemorySink, Sink, Source, write_all,
+};
 use std::io::{Error, ErrorKind, Read, Write};
 use std::test::Fail;
 use std::{env, fs, io, process};

@@ -1,8 +1,9 @@
 //! Scripts and what is read of them.
 ghost use Rattle.std.specs.Prelude.{◌<◌};
 
-use crate::{NumList, ScriptReader};
-use ports::{Desk, Input, MemoryDesk};
+use crate::build::failing_desk;
+use ports::Desk;
+use qscript::{NumList, ScriptReader};
 use std::alloc::Global;
 use std::test::Fail;
 
@@ -11,13 +12,7 @@ use std::test::Fail;
 fn read(alloc: Global, text: &str, greatest: usize, failing: Vec<u64>) -> Result<Vec<u8>, Fail>
     requires { 0 < greatest }
 {
-    let mut inputs = Vec::new(alloc);
-    inputs.push(Input {
-        name: String::from_str(alloc, "-")?,
-        bytes: Vec::from_slice(alloc, text.as_bytes())?,
-    })?;
-    let mut desk = MemoryDesk::new(inputs, greatest, failing);
-    desk.choose("-")?;
+    let mut desk = failing_desk(alloc, text.as_bytes(), greatest, failing)?;
     let mut reader = ScriptReader::new(alloc)?;
     commands(alloc, &mut reader, &mut desk)
 }

@@ -1,5 +1,7 @@
-use super::{Aig, Edge, Output, OutputList, Strategy, VarList};
-use prefix::{Quant, Var};
+//! Small circuits, their values, and the strategy of one.
+use crate::build::variable;
+use aig::{Aig, Edge, Output, OutputList, Strategy, VarList};
+use prefix::Quant;
 use std::test::Fail;
 
 const ALL: [(bool, bool); 4] = [(false, false), (false, true), (true, false), (true, true)];
@@ -89,10 +91,10 @@ fn a_strategy_names_its_inputs_and_outputs(rt: HostRuntime) -> Result<(), Fail> 
     let (a, b) = (aig.input(0), aig.input(1));
     let edge = aig.and(b, a)?;
     let mut vars = Vec::new(rt.alloc());
-    vars.push(Var::new(1).ok_or("range")?)?;
-    vars.push(Var::new(2).ok_or("range")?)?;
+    vars.push(variable(1)?)?;
+    vars.push(variable(2)?)?;
     let mut outputs = Vec::new(rt.alloc());
-    let var = Var::new(3).ok_or("range")?;
+    let var = variable(3)?;
     outputs.push(Output { var, edge })?;
     let strategy = Strategy {
         aig,

@@ -1,4 +1,5 @@
-use super::*;
+//! Commands on frames, and their refusals in order.
+use frames::{FrameRefusal, Frames};
 use prefix::Quant;
 use std::alloc::Global;
 use std::test::Fail;

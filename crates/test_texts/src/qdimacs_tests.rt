@@ -1,24 +1,10 @@
 //! Texts and what is read of them.
-ghost use Rattle.std.specs.Prelude.{◌<◌};
-
-use crate::{Quantity, ReadRefusal, read_formula};
-use ports::{Desk, Input, MemoryDesk};
+use crate::build::desk_with;
 use prefix::{Prefix, Quant};
+use qdimacs::{Quantity, ReadRefusal, read_formula};
 use std::alloc::Global;
 use std::test::Fail;
 use truth::Formula;
-
-// A desk with this text.
-fn desk_with(alloc: Global, text: &str) -> Result<MemoryDesk, Fail> {
-    let mut inputs = Vec::new(alloc);
-    inputs.push(Input {
-        name: String::from_str(alloc, "-")?,
-        bytes: Vec::from_slice(alloc, text.as_bytes())?,
-    })?;
-    let mut desk = MemoryDesk::new(inputs, 7, Vec::new(alloc));
-    desk.choose("-")?;
-    Ok(desk)
-}
 
 // Writes the scopes, each with its variables.
 fn write_prefix(alloc: Global, prefix: &Prefix, to: &mut Vec<u8>) -> Result<(), Fail> {
@@ -79,7 +65,7 @@ fn texts_are_read_as_their_formulas(rt: HostRuntime) -> Result<(), Fail> {
         ),
         ("p cnf 1048576 0\n", "1048576 0/"),
     ] {
-        let mut desk = desk_with(alloc, text)?;
+        let mut desk = desk_with(alloc, text.as_bytes(), 7)?;
         let f = read_formula(alloc, &mut desk)?;
         assert_eq!(rt; written(alloc, &f)?.as_slice(), want.as_bytes());
     }
@@ -105,7 +91,7 @@ fn texts_are_refused_with_number_and_line(rt: HostRuntime) -> Result<(), Fail> {
         ("p cnf 1 1\n\u{e9} 0\n", 7, 2),
         ("p cnf 1 1\n99999999999999999999 0\n", 8, 2),
     ] {
-        let mut desk = desk_with(alloc, text)?;
+        let mut desk = desk_with(alloc, text.as_bytes(), 7)?;
         let answer = read_formula(alloc, &mut desk).err();
         assert_eq!(rt;
             answer,
@@ -117,7 +103,7 @@ fn texts_are_refused_with_number_and_line(rt: HostRuntime) -> Result<(), Fail> {
         ("p cnf 1048577 0\n", Quantity::Variables),
         ("p cnf 1 16777217\n1 0\n", Quantity::Clauses),
     ] {
-        let mut desk = desk_with(alloc, text)?;
+        let mut desk = desk_with(alloc, text.as_bytes(), 7)?;
         let answer = read_formula(alloc, &mut desk).err();
         assert_eq!(rt;
             answer,

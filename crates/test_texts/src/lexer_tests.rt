@@ -1,29 +1,9 @@
 //! Texts and the words that are read from them.
-ghost use Rattle.std.specs.Prelude.{◌<◌};
-
-use crate::{Comments, Lexer, Word};
-use ports::{Desk, Input, MemoryDesk};
+use crate::build::{desk_with, failing_desk};
+use lexer::{Comments, Lexer, Word};
+use ports::Desk;
 use std::alloc::Global;
 use std::test::Fail;
-
-// A desk with this text, that gives at most so many bytes a read. The calls with these numbers fail.
-fn desk_with(
-    alloc: Global,
-    text: &str,
-    greatest: usize,
-    failing: Vec<u64>,
-) -> Result<MemoryDesk, Fail>
-    requires { 0 < greatest }
-{
-    let mut inputs = Vec::new(alloc);
-    inputs.push(Input {
-        name: String::from_str(alloc, "-")?,
-        bytes: Vec::from_slice(alloc, text.as_bytes())?,
-    })?;
-    let mut desk = MemoryDesk::new(inputs, greatest, failing);
-    desk.choose("-")?;
-    Ok(desk)
-}
 
 // Writes a number as such, a text in quotes, another word as a star.
 fn write_word(alloc: Global, word: Word, to: &mut Vec<u8>) -> Result<(), Fail> {
@@ -97,7 +77,7 @@ fn words_have_their_lines(rt: HostRuntime) -> Result<(), Fail> {
             "1 1, line 3: a byte of a word is none of 33 to 126",
         ),
     ] {
-        let mut desk = desk_with(alloc, text, 4096, Vec::new(alloc))?;
+        let mut desk = desk_with(alloc, text.as_bytes(), 4096)?;
         assert_eq!(rt;
             read(alloc, Comments::Dimacs, &mut desk)?.as_slice(),
             want.as_bytes()
@@ -109,7 +89,7 @@ fn words_have_their_lines(rt: HostRuntime) -> Result<(), Fail> {
 #[test]
 fn only_a_word_c_begins_a_script_comment(rt: HostRuntime) -> Result<(), Fail> {
     let alloc = rt.alloc();
-    let mut desk = desk_with(alloc, "c x\ncx\n5 c 1\n", 2, Vec::new(alloc))?;
+    let mut desk = desk_with(alloc, b"c x\ncx\n5 c 1\n", 2)?;
     let words = read(alloc, Comments::Script, &mut desk)?;
     assert_eq!(rt;
         words.as_slice(),
@@ -122,7 +102,7 @@ fn only_a_word_c_begins_a_script_comment(rt: HostRuntime) -> Result<(), Fail> {
 #[test]
 fn a_failed_read_is_refused(rt: HostRuntime) -> Result<(), Fail> {
     let alloc = rt.alloc();
-    let mut desk = desk_with(alloc, "12 34", 2, vec![in alloc; 3]?)?;
+    let mut desk = failing_desk(alloc, b"12 34", 2, vec![in alloc; 3]?)?;
     let words = read(alloc, Comments::Dimacs, &mut desk)?;
     assert_eq!(rt; words.as_slice(), b"the text can't be read".as_slice());
     Ok(())

@@ -1,0 +1,21 @@
+//! Tests of the crates that read and write texts: words, formulas, scripts, circuits and the command line.
+//!
+//! They stand here and not in those crates since a crate with tests is proved twice.
+#![tactic(auto)]
+
+#[cfg(test)]
+mod aiger_out_tests;
+#[cfg(test)]
+mod build;
+#[cfg(test)]
+mod command_tests;
+#[cfg(test)]
+mod generate_tests;
+#[cfg(test)]
+mod lexer_tests;
+#[cfg(test)]
+mod qdimacs_out_tests;
+#[cfg(test)]
+mod qdimacs_tests;
+#[cfg(test)]
+mod qscript_tests;
