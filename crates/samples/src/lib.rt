@@ -11,6 +11,3 @@ mod written;
 pub use counts::count_samples;
 pub use worked::worked_samples;
 pub use written::write_sample;
-
-#[cfg(test)]
-mod tests;

@@ -22,6 +22,3 @@ pub use reply::{Reply, SessionStop};
 pub use script::run_script;
 pub use session::Session;
 pub use worked::{worked_answers, worked_jobs, worked_replies};
-
-#[cfg(test)]
-mod tests;

@@ -1,5 +1,7 @@
-use crate::{count_samples, write_sample};
+//! Made formulas, written and counted, and faults of the sink.
+use crate::build::sink_with;
 use ports::MemorySink;
+use samples::{count_samples, write_sample};
 use session::Ending;
 use std::test::Fail;
 
@@ -15,7 +17,7 @@ fn formulas_of_seeds_are_written(rt: HostRuntime) -> Result<(), Fail> {
             "p cnf 4 2\ne 1 0\na 2 0\ne 3 4 0\n-1 -3 -4 0\n-1 3 -4 0\n",
         ),
     ] {
-        let mut sink = MemorySink::new(alloc, 64, 3, Vec::new(alloc))?;
+        let mut sink = sink_with(alloc, 64, 3)?;
         let ending = write_sample(alloc, seed, vars, clauses, &mut sink);
         assert_eq!(rt; ending, Ending::Done(0));
         assert_eq!(rt; sink.flushed(), text.as_bytes());
@@ -30,7 +32,7 @@ fn formulas_from_a_seed_on_are_counted(rt: HostRuntime) -> Result<(), Fail> {
         (1, "formulas 1\nsat 1\nunsat 0\n"),
         (2, "formulas 2\nsat 2\nunsat 0\n"),
     ] {
-        let mut sink = MemorySink::new(alloc, 64, 3, Vec::new(alloc))?;
+        let mut sink = sink_with(alloc, 64, 3)?;
         let ending = count_samples(alloc, 0, count, &mut sink);
         assert_eq!(rt; ending, Ending::Done(0));
         assert_eq!(rt; sink.flushed(), text.as_bytes());

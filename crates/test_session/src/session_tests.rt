@@ -1,25 +1,11 @@
 //! Files that are solved, and scripts that are replied to.
-ghost use Rattle.std.specs.Prelude.{◌<◌};
-
-use crate::{Answer, Ending, Job, Reply, Session, run_file, run_script};
-use ports::{Desk, Input, MemoryDesk, MemorySink};
+use crate::build::{desk_with, sink_with};
+use ports::MemorySink;
 use prefix::Quant;
 use qdimacs::Quantity;
 use qscript::Command;
-use std::alloc::Global;
+use session::{Answer, Ending, Job, Reply, Session, run_file, run_script};
 use std::test::Fail;
-
-// A desk whose chosen input is this text.
-fn desk_with(alloc: Global, text: &str) -> Result<MemoryDesk, Fail> {
-    let mut inputs = Vec::new(alloc);
-    inputs.push(Input {
-        name: String::from_str(alloc, "f")?,
-        bytes: Vec::from_slice(alloc, text.as_bytes())?,
-    })?;
-    let mut desk = MemoryDesk::new(inputs, 7, Vec::new(alloc));
-    desk.choose("f")?;
-    Ok(desk)
-}
 
 // For each value of 1 there is one of 2 that differs from it.
 const DIFFERS: &str = "p cnf 2 2\na 1 0\ne 2 0\n1 2 0\n-1 -2 0\n";
@@ -57,7 +43,7 @@ fn files_end_as_their_texts_say(rt: HostRuntime) -> Result<(), Fail> {
         ("p cnf 1048577 0\n", 9, too_many, ""),
     ] {
         let mut desk = desk_with(alloc, text)?;
-        let mut sink = MemorySink::new(alloc, 64, 3, Vec::new(alloc))?;
+        let mut sink = sink_with(alloc, 64, 3)?;
         let mut stops = Vec::new(alloc);
         let answer = run_file(alloc, Job::Solve, budget, &mut desk, &mut sink, &mut stops);
         assert_eq!(rt; answer, ending, "{text:?}");
@@ -165,7 +151,7 @@ fn jobs_write_what_they_ask_for(rt: HostRuntime) -> Result<(), Fail> {
         },
     ] {
         let mut desk = desk_with(alloc, row.text)?;
-        let mut sink = MemorySink::new(alloc, 128, 5, Vec::new(alloc))?;
+        let mut sink = sink_with(alloc, 128, 5)?;
         let mut stops = Vec::new(alloc);
         let ending = run_file(alloc, row.job, row.budget, &mut desk, &mut sink, &mut stops);
         assert_eq!(rt; ending, row.ending);
@@ -182,7 +168,7 @@ fn each_search_that_stopped_is_told(rt: HostRuntime) -> Result<(), Fail> {
     // The first step is due, and then the second.
     for budget in 0..2 {
         let mut desk = desk_with(alloc, DIFFERS)?;
-        let mut sink = MemorySink::new(alloc, 64, 3, Vec::new(alloc))?;
+        let mut sink = sink_with(alloc, 64, 3)?;
         let answer = run_file(alloc, Job::Solve, budget, &mut desk, &mut sink, &mut stops);
         assert_eq!(rt; answer, Ending::Done(0));
         assert_eq!(rt; sink.bytes(), b"UNKNOWN\n".as_slice());
@@ -235,7 +221,7 @@ fn scripts_are_replied_to(rt: HostRuntime) -> Result<(), Fail> {
         ("p qscript 1\npop\njump\n", malformed, "refused 40\n"),
     ] {
         let mut desk = desk_with(alloc, text)?;
-        let mut sink = MemorySink::new(alloc, 64, 3, Vec::new(alloc))?;
+        let mut sink = sink_with(alloc, 64, 3)?;
         let mut stops = Vec::new(alloc);
         let answer = run_script(alloc, 1000, &mut desk, &mut sink, &mut stops);
         assert_eq!(rt; answer, ending, "{text:?}");
@@ -248,7 +234,7 @@ fn scripts_are_replied_to(rt: HostRuntime) -> Result<(), Fail> {
 #[test]
 fn commands_are_replied_to_one_by_one(rt: HostRuntime) -> Result<(), Fail> {
     let alloc = rt.alloc();
-    let mut sink = MemorySink::new(alloc, 64, 3, Vec::new(alloc))?;
+    let mut sink = sink_with(alloc, 64, 3)?;
     let mut session = Session::new(alloc, 0)?;
     let scope = Command::Scope {
         quant: Quant::Exists,

@@ -1,0 +1,25 @@
+//! Desks with a text, and sinks with some room.
+ghost use Rattle.std.specs.Prelude.{◌<◌};
+
+use ports::{Desk, Input, MemoryDesk, MemorySink};
+use std::alloc::Global;
+use std::test::Fail;
+
+// A desk whose chosen input is this text.
+pub(crate) fn desk_with(alloc: Global, text: &str) -> Result<MemoryDesk, Fail> {
+    let mut inputs = Vec::new(alloc);
+    inputs.push(Input {
+        name: String::from_str(alloc, "f")?,
+        bytes: Vec::from_slice(alloc, text.as_bytes())?,
+    })?;
+    let mut desk = MemoryDesk::new(inputs, 7, Vec::new(alloc));
+    desk.choose("f")?;
+    Ok(desk)
+}
+
+// A sink with this room that takes at most so many bytes at once.
+pub(crate) fn sink_with(alloc: Global, room: usize, greatest: usize) -> Result<MemorySink, Fail>
+    requires { 0 < greatest }
+{
+    Ok(MemorySink::new(alloc, room, greatest, Vec::new(alloc))?)
+}
