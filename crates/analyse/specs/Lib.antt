@@ -1,4 +1,3 @@
 pub mod Levels
 pub mod Lessons
 pub mod Worked
-pub mod Tested

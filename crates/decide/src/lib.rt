@@ -5,6 +5,3 @@ mod decider;
 mod waiting;
 
 pub use decider::Decider;
-
-#[cfg(test)]
-mod tests;

@@ -27,6 +27,3 @@ pub use refusal::AskRefusal;
 pub use search::SolveStop;
 pub use verdict::Verdict;
 pub use worked::{worked_asks, worked_engines, worked_refusals};
-
-#[cfg(test)]
-mod tests;

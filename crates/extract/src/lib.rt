@@ -16,6 +16,3 @@ pub use worked::{
     worked_covers, worked_edges, worked_given, worked_plays, worked_removals, worked_rules,
     worked_tables, worked_weights,
 };
-
-#[cfg(test)]
-mod tests;

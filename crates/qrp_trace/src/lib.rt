@@ -21,6 +21,3 @@ pub use laws::finishes_end_proofs;
 pub use listing::{Core, CoreStep};
 pub use text::{write_literals, write_trace};
 pub use worked::{worked_cores, worked_numbers, worked_texts};
-
-#[cfg(test)]
-mod tests;

@@ -11,6 +11,3 @@ use smallvec::SmallVec;
 
 /// The literals of a clause or of a cube, of which most have few.
 pub type Row = SmallVec<Lit, 16>;
-
-#[cfg(test)]
-mod tests;

@@ -6,8 +6,6 @@ mod entry;
 mod finished;
 mod stopped;
 mod tally;
-#[cfg(test)]
-mod tests;
 mod trail;
 mod why;
 mod worked;

@@ -1,0 +1,103 @@
+//! Tests of `engine`: formulas that are decided, under assumptions and frames.
+mod asks;
+mod play;
+
+use engine::Engine;
+use play::{are_frames_right, is_budget_kept, put, put_scope, truth_within};
+use prefix::Quant;
+use std::alloc::Global;
+use std::test::Fail;
+
+// One of two variables that follow each other holds.
+fn either(engine: &mut Engine, var: u32) -> Result<(), Fail> {
+    let lit = i64::from(var);
+    Ok(engine.clause(&[lit, lit + 1])?)
+}
+
+// One of two variables holds, whatever another one is.
+fn whatever(engine: &mut Engine, var: u32) -> Result<(), Fail> {
+    let lit = i64::from(var);
+    engine.clause(&[lit, 41, 42])?;
+    Ok(engine.clause(&[-lit, 41, 42])?)
+}
+
+// Forty existential variables that are decided first, and a contradiction behind a universal one.
+fn put_contradiction_behind(engine: &mut Engine, alloc: Global) -> Result<(), Fail> {
+    put_scope(engine, Quant::Exists, 1, 40)?;
+    put_scope(engine, Quant::Forall, 41, 41)?;
+    put_scope(engine, Quant::Exists, 42, 43)?;
+    for var in 1..40 {
+        either(engine, var)?;
+    }
+    let contradiction = [42, 43, 0, 42, -43, 0, -42, 43, 0, -42, -43, 0];
+    put(alloc, engine, &contradiction)
+}
+
+// Forty universal variables, for which cubes are learned.
+fn put_forty_universal(engine: &mut Engine) -> Result<(), Fail> {
+    put_scope(engine, Quant::Forall, 1, 40)?;
+    put_scope(engine, Quant::Exists, 41, 42)?;
+    for var in 1..=40 {
+        whatever(engine, var)?;
+    }
+    Ok(engine.clause(&[-41, -42])?)
+}
+
+// One of the two formulas above.
+#[derive(Debug, Clone, Copy)]
+enum Large {
+    ContradictionBehind,
+    FortyUniversal,
+}
+
+fn put_large(engine: &mut Engine, alloc: Global, formula: Large) -> Result<(), Fail> {
+    match formula {
+        Large::ContradictionBehind => put_contradiction_behind(engine, alloc),
+        Large::FortyUniversal => put_forty_universal(engine),
+    }
+}
+
+fn decide(engine: &mut Engine, alloc: Global, formula: Large) -> Result<bool, Fail> {
+    put_large(engine, alloc, formula)?;
+    truth_within(engine, 1000)
+}
+
+// The truth that an engine finds in at most a thousand steps.
+fn truth_of(alloc: Global, formula: Large) -> Result<bool, Fail> {
+    let mut engine = Engine::new(alloc)?;
+    decide(&mut engine, alloc, formula)
+}
+
+#[test]
+fn what_comes_first_is_not_tried_again(rt: HostRuntime) -> Result<(), Fail> {
+    assert!(rt; !truth_of(rt.alloc(), Large::ContradictionBehind)?);
+    Ok(())
+}
+
+#[test]
+fn cubes_spare_the_values_of_universal_variables(rt: HostRuntime) -> Result<(), Fail> {
+    assert!(rt; truth_of(rt.alloc(), Large::FortyUniversal)?);
+    Ok(())
+}
+
+// Clauses come in and go, variables are assumed, and each verdict is that of the plain recursion.
+#[test]
+fn verdicts_are_those_of_the_plain_recursion(rt: HostRuntime) -> Result<(), Fail> {
+    for seed in 0..1000 {
+        assert!(rt; are_frames_right(rt.alloc(), seed)?, "seed {seed}");
+    }
+    Ok(())
+}
+
+// With too few steps a solve stops where they are spent, and the next one is right; with enough it never stops.
+#[test]
+fn budgets_are_kept(rt: HostRuntime) -> Result<(), Fail> {
+    let enough = 3 * (8 * 6 + 8) * 128;
+    for seed in 0..300 {
+        for budget in [0, 1, 20, enough - 1, enough] {
+            let is_kept = is_budget_kept(rt.alloc(), seed, budget, enough)?;
+            assert!(rt; is_kept, "seed {seed}, {budget} steps");
+        }
+    }
+    Ok(())
+}
