@@ -59,7 +59,14 @@ fn a_true_formula_has_this_trace(rt: HostRuntime) -> Result<(), Fail> {
     let mut shop = shop_of(rt.alloc())?;
     let cube = shop.cube(&[literal(2)?])?;
     let end = shop.finish(cube, &[])?;
-    assert!(rt; traces(rt.alloc(), &shop, end, "p qrp 2 2\ne 2 0\na 1 0\n1 2 0 0\n2 0 1 0\nr SAT\n")?);
+    assert!(rt;
+        traces(
+            rt.alloc(),
+            &shop,
+            end,
+            "p qrp 2 2\ne 2 0\na 1 0\n1 2 0 0\n2 0 1 0\nr SAT\n"
+        )?
+    );
     Ok(())
 }
 

@@ -24,7 +24,10 @@ fn ids_grow_and_none_comes_again(rt: HostRuntime) -> Result<(), Fail> {
 fn a_pair_of_rows_comes_with_two_ids(rt: HostRuntime) -> Result<(), Fail> {
     let mut rows = Rows::new(rt.alloc());
     rows.add(&[literal(4)?])?;
-    assert_eq!(rt; rows.add_pair(&[literal(1)?, literal(2)?], &[literal(1)?])?, (1, 2));
+    assert_eq!(rt;
+        rows.add_pair(&[literal(1)?, literal(2)?], &[literal(1)?])?,
+        (1, 2)
+    );
     assert_eq!(rt; rows.lits(1), [literal(1)?, literal(2)?].as_slice());
     assert_eq!(rt; rows.lits(2), [literal(1)?].as_slice());
     assert_eq!(rt; (rows.link(1, 0), rows.link(2, 7)), (None, None));
@@ -42,7 +45,10 @@ fn literals_and_links_stay_while_others_come_and_go(rt: HostRuntime) -> Result<(
     let empty = rows.add(&[])?;
     rows.set_link(empty, 7, Some(0));
     rows.compact();
-    assert_eq!(rt; rows.lits(row), [literal(1)?, literal(3)?.negate()].as_slice());
+    assert_eq!(rt;
+        rows.lits(row),
+        [literal(1)?, literal(3)?.negate()].as_slice()
+    );
     assert_eq!(rt; rows.lits(empty).len(), 0);
     assert_eq!(rt; rows.link(row, 7), Some(40));
     Ok(())

@@ -69,7 +69,10 @@ impl Game {
     fn after(self, turn: Turn) -> Result<Self, Fail> {
         match turn {
             Turn::Decide(number, positive) => self.decided(Lit::new(variable(number)?, positive)),
-            Turn::Propagate(number, positive) => self.propagated(Lit::new(variable(number)?, positive)),
+            Turn::Propagate(number, positive) => self.propagated(Lit::new(
+                variable(number)?,
+                positive,
+            )),
             Turn::Clean(number) => self.cleaned(variable(number)?),
             Turn::Undo(level) => Ok(self.undone(level)),
             Turn::Clear => Ok(self.cleared()),
