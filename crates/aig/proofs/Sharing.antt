@@ -1,16 +1,14 @@
 -- A set of gates: the gate of two edges is found again, or put behind the others.
-use Rattle.std.proofs.Common.{◌≡◌, ℕ, zero, suc, ◌+◌, ◌<◌, ◌≤◌, ◌⊎◌, inl, inr, ⊎_elim, Bool, true, false, ◌&&◌, ◌||◌, List, [], ◌∷◌, ◌++◌, length, get_or, refl, sym, ap, ap₂, subst, ◌∙◌, arith, length-append}
+use Rattle.std.proofs.Common.{◌≡◌, ℕ, zero, suc, ◌+◌, ◌<◌, ◌⊎◌, inl, inr, Bool, true, false, ◌||◌, List, [], ◌∷◌, length, get_or, refl, sym, ap, ap₂, ◌∙◌, arith}
 use Rattle.std.specs.List.{IsDistinct, list_any, position_or_len}
-use Rattle.std.proofs.lemmas.Bool.{cases_lt, true≢false}
+use Rattle.std.proofs.lemmas.Bool.{true≢false}
 use Rattle.std.proofs.lemmas.Map.Keys.{apart_from_distinct}
-use Rattle.std.proofs.Math.ListN.{get_or-append}
-use Rattle.std.proofs.Math.Seq.{get_or-append_seam}
 use Rattle.indexmap.specs.IndexSet.{insert_key}
-use Rattle.aig.specs.Circuits.{Circuit, edge_number, edge_value, gate_of, gate_value, gate_values, value_of, Adds, AreDistinct, AreGates, AreProper, Finds, Grows, HaveSameEdges, IsEdge, IsGate, IsOrdered, Makes, Puts}
+use Rattle.aig.specs.Circuits.{Circuit, edge_number, gate_of, gate_value, gate_values, value_of, Adds, AreDistinct, AreGates, Finds, Grows, HaveSameEdges, IsEdge, IsGate, IsOrdered, Makes, Puts}
 use Rattle.aig.specs.declared.edge.Edge.{Edge}
 use Rattle.aig.specs.declared.edge.Node.TheVariants.{Gate}
 use Rattle.aig.specs.declared.edge.And.{And}
-use Rattle.aig.proofs.Numbers.{gate_both, gate_ordered, gate_proper}
+use Rattle.aig.proofs.Numbers.{gate_both}
 use Rattle.aig.proofs.Values.{gate_at, push_adds, push_all, push_grows}
 
 -- gates with the greater literal left that differ aren't over the same two edges

@@ -1,8 +1,9 @@
 -- Worked values: small circuits whose values are known.
 use Rattle.std.specs.Prelude.{◌≡◌, ℕ, ◌==◌, true, false, not, [], ◌∷◌}
 use Rattle.prefix.specs.declared.quant.Quant.TheVariants.{Exists}
-use Rattle.aig.specs.Circuits.{Circuit, zero, one, opposite, value_of, edge_number, IsGate}
+use Rattle.aig.specs.Circuits.{Circuit, zero, one, opposite, value_of, edge_number, gate_of, AreGates, IsGate, Makes}
 use Rattle.aig.specs.Strategies.{IsStrategy, values_of}
+use Rattle.aig.specs.declared.edge.And.{And}
 use Rattle.aig.specs.declared.edge.Edge.{Edge}
 use Rattle.aig.specs.declared.edge.Node.TheVariants.{Input, Gate}
 use Rattle.aig.specs.declared.strategy.Strategy.{Strategy}
@@ -18,6 +19,21 @@ gate j = record { node = Gate j; negated = false }
 -- the second input and the first
 abbrev pub both : Circuit
 both = record { inputs = 2; gates = record { left = input 1; right = input 0 } ∷ [] }
+
+-- a gate that is true where both inputs are, and one that is true where none is
+abbrev pub both_gate : And
+both_gate = record { left = input 1; right = input 0 }
+
+abbrev pub none_gate : And
+none_gate = record { left = opposite (input 1); right = opposite (input 0) }
+
+-- a gate with its edges exchanged
+abbrev pub exchanged : And → And
+exchanged g = record { left = g.right; right = g.left }
+
+-- both gates
+abbrev pub both_and_none : Circuit
+both_and_none = record { inputs = 2; gates = both_gate ∷ none_gate ∷ [] }
 
 -- one of two inputs alone: neither both of them nor none
 abbrev pub either : Circuit
@@ -59,6 +75,22 @@ pub record WorkedGates : Type 0 where
   pub of_itself : IsGate 2 0 (record { left = gate 0; right = input 0 }) → ⊥
   pub with_itself : IsGate 2 0 (record { left = input 0; right = gate 0 }) → ⊥
   pub of_no_input : IsGate 2 0 (record { left = input 2; right = input 0 }) → ⊥
+
+-- The gates of a circuit have the greater literal left, and no two have the same edges, in whichever order. So of two
+-- edges there is one gate: it is found again where it stands, and put behind the others where it doesn't.
+pub record WorkedSharing : Type 0 where
+  pub different : AreGates 2 (both_gate ∷ none_gate ∷ [])
+  pub gate_twice : AreGates 2 (both_gate ∷ both_gate ∷ []) → ⊥
+  pub gate_in_other_order : AreGates 2 (both_gate ∷ exchanged both_gate ∷ []) → ⊥
+  pub lesser_left : AreGates 2 (exchanged both_gate ∷ []) → ⊥
+  pub greater_given_last : gate_of 2 (input 0) (input 1) ≡ both_gate
+  pub greater_given_first : gate_of 2 (input 1) (input 0) ≡ both_gate
+  pub found_again : Makes both both (input 0) (input 1) (gate 0)
+  pub not_put_again : Makes both (record { inputs = 2; gates = both_gate ∷ both_gate ∷ [] }) (input 0) (input 1) (gate 1)
+      → ⊥
+  pub put : Makes both both_and_none (opposite (input 0)) (opposite (input 1)) (gate 1)
+  pub not_found : Makes both both (opposite (input 0)) (opposite (input 1)) (gate 0) → ⊥
+  pub other_not_found : Makes both_and_none both_and_none (input 0) (input 1) (gate 1) → ⊥
 
 -- the values of both circuits
 pub record WorkedCircuits : Type 0 where

@@ -109,3 +109,15 @@ fn a_strategy_names_its_inputs_and_outputs(rt: HostRuntime) -> Result<(), Fail> 
     assert_eq!(rt; strategy.outputs.outputs()[0].edge, edge);
     Ok(())
 }
+
+#[test]
+fn a_gate_in_either_order_is_found_again(rt: HostRuntime) -> Result<(), Fail> {
+    let mut aig = Aig::new(rt.alloc(), 2)?;
+    let (a, b) = (aig.input(0), aig.input(1));
+    let first = aig.and(a, b)?;
+    let again = aig.and(b, a)?;
+    assert_eq!(rt; first.number(2), 6);
+    assert_eq!(rt; again.number(2), 6);
+    assert_eq!(rt; aig.gates(), 1);
+    Ok(())
+}
