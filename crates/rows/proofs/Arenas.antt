@@ -1,16 +1,16 @@
 -- Lemmas on what a contract sees of an arena, for this crate and its callers.
-use Rattle.std.proofs.Common.{◌≡◌, ◌≢◌, ℕ, zero, suc, ◌+◌, ◌<◌, ◌≤◌, List, [], ◌∷◌, ◌++◌, length, map, replicate, get_or, set, Option, Some, None, is_some, IsTrue, refl, sym, ap, ap₂, ◌∙◌, subst, ◌⊎◌, false, inl, inr, arith}
+use Rattle.std.proofs.Common.{◌≡◌, ◌≢◌, ℕ, ◌+◌, ◌<◌, ◌≤◌, List, [], ◌∷◌, ◌++◌, length, replicate, get_or, set, Option, Some, None, is_some, IsTrue, refl, sym, ap, ap₂, ◌∙◌, ◌⊎◌, false, inl, inr, arith}
 use Rattle.std.proofs.lemmas.List.{get_or-set_same, get_or-set_other, get_or_past, get_or_at, get_or_append_left, length-append, length-set, length-map, map-append, same_lists, get_or_default}
 use Rattle.std.proofs.lemmas.Bool.{cases_eq, cases_lt}
 use Rattle.std.specs.Option.{option_map}
 use Rattle.prefix.specs.Literal.{Literal}
 use Rattle.rows.specs.declared.places.Place.{Place}
 use Rattle.rows.specs.declared.blocks.Block.{Block}
-use Rattle.rows.specs.Arena.{StoredRow, Arena, row_at, is_live, literals_of, links_of, new_row, with_row, with_link, set_link_of, ChangesAt, ChangesLink}
+use Rattle.rows.specs.Arena.{StoredRow, Arena, row_at, is_live, literals_of, links_of, link_at, new_row, ThreeLinks, with_row, with_link, with_links, set_link_of, set_links_of, ChangesAt, ChangesLink, ChangesLinks}
 use Rattle.rows.specs.Places.{AreSpread, KeepsParts, Reblocks, blocks_of, part, part_in, place_at}
-use Rattle.rows.specs.Blocks.{LosesBlock, block_at, block_in, links_in}
+use Rattle.rows.specs.Blocks.{LosesBlock, block_in, links_in}
 use Rattle.rows.specs.Stored.{arena_of, stored}
-use Rattle.rows.proofs.Parts.{map_at, none_some, some_same, some_is, place_given, part_append, part_end}
+use Rattle.rows.proofs.Parts.{map_at, some_is, part_append, part_end}
 
 -- a live id is one that was given
 pub is_live-given : (arena : Arena) (id : ℕ) → IsTrue (is_live arena id) → id < length arena
@@ -24,33 +24,56 @@ ChangesAt-set arena id row live =
       elsewhere = λ other differs. get_or-set_other arena id other row None differs;
     }
 
+-- a row with other link fields
+module _ (arena : Arena) (id : ℕ) (row : StoredRow) (f : StoredRow → StoredRow) (live : IsTrue (is_live arena id)) (at : row_at arena id ≡ Some row) where
+  abbrev changed : Arena
+  changed = set arena id (option_map f (row_at arena id))
+
+  changed_there : row_at changed id ≡ Some (f row)
+  changed_there = get_or-set_same arena id (option_map f (row_at arena id)) None (is_live-given arena id live) ∙ ap (option_map f) at
+
+  changed_elsewhere : (other : ℕ) → other ≢ id → row_at changed other ≡ row_at arena other
+  changed_elsewhere other differs = get_or-set_other arena id other (option_map f (row_at arena id)) None differs
+
+  changed_live : (other : ℕ) → is_live changed other ≡ is_live arena other
+  changed_live other =
+      elim (cases_eq other id) [
+        | inl same ↦ rw same (ap is_some changed_there ∙ sym (ap is_some at))
+        | inr differs ↦ ap is_some (changed_elsewhere other differs)
+      ]
+
+  changed_link : (k : ℕ) → link_at changed id k ≡ get_or (f row).links k None
+  changed_link k = ap (λ r. get_or (links_of r) k None) changed_there
+
+  same_link : (k : ℕ) → get_or (f row).links k None ≡ get_or row.links k None → link_at changed id k ≡ link_at arena id k
+  same_link k e = changed_link k ∙ e ∙ sym (ap (λ r. get_or (links_of r) k None) at)
+
 -- what a write of a link field changes
 pub ChangesLink-with_link : (arena : Arena) (id k : ℕ) (value : Option ℕ) (row : StoredRow) → IsTrue (is_live arena id) → row_at arena id ≡ Some row → k < length row.links → ChangesLink arena (with_link arena id k value) id k value
 ChangesLink-with_link arena id k value row live at within =
     record {
-      link = ap (λ r. get_or (links_of r) k None) there ∙ get_or-set_same row.links k value None within;
-      other_links =
-          λ m differs.
-          ap (λ r. get_or (links_of r) m None) there
-          ∙ get_or-set_other row.links k m value None differs
-          ∙ sym (ap (λ r. get_or (links_of r) m None) at);
-      same_literals = ap literals_of there ∙ sym (ap literals_of at);
-      elsewhere = elsewhere;
-      same_live =
-          λ other.
-          elim (cases_eq other id) [
-            | inl same ↦ rw same (ap is_some there ∙ sym (ap is_some at))
-            | inr differs ↦ ap is_some (elsewhere other differs)
-          ];
+      link = changed_link arena id row (set_link_of k value) live at k ∙ get_or-set_same row.links k value None within;
+      other_links = λ m differs. same_link arena id row (set_link_of k value) live at m (get_or-set_other row.links k m value None differs);
+      same_literals = ap literals_of (changed_there arena id row (set_link_of k value) live at) ∙ sym (ap literals_of at);
+      elsewhere = changed_elsewhere arena id row (set_link_of k value) live at;
+      same_live = changed_live arena id row (set_link_of k value) live at;
     }
-  where
-    there : row_at (with_link arena id k value) id ≡ Some (set_link_of k value row)
-    there =
-        get_or-set_same arena id (option_map (set_link_of k value) (row_at arena id)) None (is_live-given arena id live)
-        ∙ ap (option_map (set_link_of k value)) at
 
-    elsewhere : (other : ℕ) → other ≢ id → row_at (with_link arena id k value) other ≡ row_at arena other
-    elsewhere other differs = get_or-set_other arena id other (option_map (set_link_of k value) (row_at arena id)) None differs
+-- what a write of three link fields changes
+pub ChangesLinks-with_links : (arena : Arena) (id base : ℕ) (values : ThreeLinks) (row : StoredRow) → IsTrue (is_live arena id) → row_at arena id ≡ Some row → base + 2 < length row.links → ChangesLinks arena (with_links arena id base values) id base values
+ChangesLinks-with_links arena id base values row live at within =
+    record {
+      first = changed_link arena id row (set_links_of base values) live at base ∙ get_or-set_other (set (set row.links base values.0) (base + 1) values.1) (base + 2) base values.2 None (omega arith) ∙ get_or-set_other (set row.links base values.0) (base + 1) base values.1 None (omega arith) ∙ get_or-set_same row.links base values.0 None (omega arith);
+      second = changed_link arena id row (set_links_of base values) live at (base + 1) ∙ get_or-set_other (set (set row.links base values.0) (base + 1) values.1) (base + 2) (base + 1) values.2 None (omega arith) ∙ get_or-set_same (set row.links base values.0) (base + 1) values.1 None (let l = length-set row.links base values.0 in omega arith);
+      third = changed_link arena id row (set_links_of base values) live at (base + 2) ∙ get_or-set_same (set (set row.links base values.0) (base + 1) values.1) (base + 2) values.2 None (let l = length-set row.links base values.0 in let m = length-set (set row.links base values.0) (base + 1) values.1 in omega arith);
+      other_links =
+          λ m not_base not_one not_two.
+          same_link arena id row (set_links_of base values) live at m
+          (get_or-set_other (set (set row.links base values.0) (base + 1) values.1) (base + 2) m values.2 None not_two ∙ get_or-set_other (set row.links base values.0) (base + 1) m values.1 None not_one ∙ get_or-set_other row.links base m values.0 None not_base);
+      same_literals = ap literals_of (changed_there arena id row (set_links_of base values) live at) ∙ sym (ap literals_of at);
+      elsewhere = changed_elsewhere arena id row (set_links_of base values) live at;
+      same_live = changed_live arena id row (set_links_of base values) live at;
+    }
 
 -- the row of an id
 
@@ -127,16 +150,20 @@ stored_place literals blocks places i p e = row_at_place literals blocks places 
 same_stored : (literals : List Literal) (blocks new_blocks : List Block) (p q : Place) → q.start ≡ p.start → q.len ≡ p.len → links_in new_blocks q.block ≡ links_in blocks p.block → stored literals new_blocks q ≡ stored literals blocks p
 same_stored literals blocks new_blocks p q s l k = λ i. record { literals = part literals (record { start = s i; len = l i; block = q.block }); links = k i }
 
--- a row whose link field is written
-pub arena_linked : (literals : List Literal) (blocks middle new : List Block) (places new_places : List (Option Place)) (id b k : ℕ) (value : Option ℕ) → IsTrue (is_some (place_at places id)) → Reblocks places new_places
+-- a row with other link fields
+abbrev pub relinked : (List (Option ℕ) → List (Option ℕ)) → StoredRow → StoredRow
+relinked f row = record { literals = row.literals; links = f row.links }
+
+-- a row whose link fields are written
+pub arena_linked : (literals : List Literal) (blocks middle new : List Block) (places new_places : List (Option Place)) (id b : ℕ) (f : List (Option ℕ) → List (Option ℕ)) → IsTrue (is_some (place_at places id)) → Reblocks places new_places
     → block_in (blocks_of new_places) id ≡ Some (Some b)
     → ((i : ℕ) (b c : Option ℕ) → block_in (blocks_of places) i ≡ Some b → block_in (blocks_of new_places) i ≡ Some c → links_in middle c ≡ links_in blocks b)
-    → links_in new (Some b) ≡ set (links_in middle (Some b)) k value
+    → links_in new (Some b) ≡ f (links_in middle (Some b))
     → ((i : ℕ) (o : Option ℕ) → i ≢ id → block_in (blocks_of new_places) i ≡ Some o → links_in new o ≡ links_in middle o)
-    → arena_of literals new new_places ≡ with_link (arena_of literals blocks places) id k value
-arena_linked literals blocks middle new places new_places id b k value live same there kept here others =
-    same_arena (with_link (arena_of literals blocks places) id k value) (arena_of literals new new_places)
-    (length-map new_places (option_map (stored literals new)) ∙ same.count ∙ sym (length-map places (option_map (stored literals blocks))) ∙ sym (length-set (arena_of literals blocks places) id (option_map (set_link_of k value) (row_at (arena_of literals blocks places) id))))
+    → arena_of literals new new_places ≡ set (arena_of literals blocks places) id (option_map (relinked f) (row_at (arena_of literals blocks places) id))
+arena_linked literals blocks middle new places new_places id b f live same there kept here others =
+    same_arena (set (arena_of literals blocks places) id (option_map (relinked f) (row_at (arena_of literals blocks places) id))) (arena_of literals new new_places)
+    (length-map new_places (option_map (stored literals new)) ∙ same.count ∙ sym (length-map places (option_map (stored literals blocks))) ∙ sym (length-set (arena_of literals blocks places) id (option_map (relinked f) (row_at (arena_of literals blocks places) id))))
     (λ i. row i)
   where
     arena : Arena
@@ -145,7 +172,7 @@ arena_linked literals blocks middle new places new_places id b k value live same
     was_live : IsTrue (is_live arena id)
     was_live = live_place literals blocks places id ∙ live
 
-    row : (i : ℕ) → row_at (arena_of literals new new_places) i ≡ row_at (with_link arena id k value) i
+    row : (i : ℕ) → row_at (arena_of literals new new_places) i ≡ row_at (set arena id (option_map (relinked f) (row_at arena id))) i
     row i =
         elim (cases_eq i id) [
           | inl is ↦
@@ -153,15 +180,15 @@ arena_linked literals blocks middle new places new_places id b k value live same
               (let o = some_is (place_at places id) live in
               let n = some_is (place_at new_places id) (same.live id ∙ live) in
               let s = same.same id o.0 n.0 o.1 n.1 in
-              let nb : n.0.block ≡ Some b = (let f : Some n.0.block ≡ Some (Some b) = sym (block_place new_places id n.0 n.1) ∙ there in cc) in
+              let nb : n.0.block ≡ Some b = (let g : Some n.0.block ≡ Some (Some b) = sym (block_place new_places id n.0 n.1) ∙ there in cc) in
               stored_place literals new new_places id n.0 n.1
               ∙ ap Some (λ j. record {
                 literals = part literals (record { start = s.0 j; len = s.1 j; block = n.0.block });
-                links = (ap (links_in new) nb ∙ here ∙ ap (λ l. set l k value) (kept id o.0.block (Some b) (block_place places id o.0 o.1) there)) j;
+                links = (ap (links_in new) nb ∙ here ∙ ap f (kept id o.0.block (Some b) (block_place places id o.0 o.1) there)) j;
               })
-              ∙ sym (get_or-set_same arena id (option_map (set_link_of k value) (row_at arena id)) None (is_live-given arena id was_live)
-              ∙ ap (option_map (set_link_of k value)) (stored_place literals blocks places id o.0 o.1)))
-          | inr differs ↦ other i differs (place_at places i) refl ∙ sym (get_or-set_other arena id i (option_map (set_link_of k value) (row_at arena id)) None differs)
+              ∙ sym (get_or-set_same arena id (option_map (relinked f) (row_at arena id)) None (is_live-given arena id was_live)
+              ∙ ap (option_map (relinked f)) (stored_place literals blocks places id o.0 o.1)))
+          | inr differs ↦ other i differs (place_at places i) refl ∙ sym (get_or-set_other arena id i (option_map (relinked f) (row_at arena id)) None differs)
         ]
       where
         other : (i : ℕ) → i ≢ id → (o : Option Place) → place_at places i ≡ o → row_at (arena_of literals new new_places) i ≡ row_at arena i

@@ -1,15 +1,15 @@
 -- Blocks of link fields, and the rows that have them.
-use Rattle.std.proofs.Common.{◌≡◌, ◌≢◌, ℕ, zero, suc, ◌+◌, ◌-◌, ◌<◌, ◌≤◌, Bool, true, false, cond, List, [], ◌∷◌, ◌++◌, length, replicate, map, get_or, set, Option, Some, None, is_some, IsTrue, refl, sym, ap, ◌∙◌, subst, inl, inr, ⊎_elim, arith}
-use Rattle.std.specs.Prelude.{count_by, swap_remove}
+use Rattle.std.proofs.Common.{◌≡◌, ◌≢◌, ℕ, ◌+◌, ◌-◌, ◌<◌, ◌≤◌, true, cond, List, [], ◌∷◌, ◌++◌, length, replicate, get_or, set, Option, Some, None, is_some, refl, sym, ap, ◌∙◌, inl, inr, arith}
+use Rattle.std.specs.Prelude.{count_by}
 use Rattle.std.specs.Option.{option_map}
-use Rattle.std.proofs.lemmas.Bool.{cases_eq, cases_lt, false≢true}
-use Rattle.std.proofs.lemmas.List.{get_or-set_same, get_or-set_other, get_or_past, get_or_append_left, get_or_at, length-set, length-append, length_push, map-set, set-get_or, set_past}
+use Rattle.std.proofs.lemmas.Bool.{cases_eq, cases_lt}
+use Rattle.std.proofs.lemmas.List.{get_or-set_same, get_or-set_other, get_or_past, get_or_append_left, get_or_at, length-set, length-append, length_push}
 use Rattle.std.proofs.lemmas.List.Sums.{sum_by-cons, sum_by_push, sum_by-set}
 use Rattle.rows.specs.declared.places.Place.{Place}
 use Rattle.rows.specs.declared.blocks.Block.{Block}
 use Rattle.rows.specs.Places.{blocks_of, place_at}
 use Rattle.rows.specs.Blocks.{AreBlocks, LosesBlock, block_at, block_in, has_block, links_in, no_block}
-use Rattle.rows.proofs.Parts.{map_at, none_some, some_same, some_is}
+use Rattle.rows.proofs.Parts.{map_at, none_some, some_same}
 
 abbrev Rows : Type 0
 Rows = List (Option (Option ℕ))
@@ -248,29 +248,29 @@ module _ (rows : Rows) (blocks : List Block) (are : AreBlocks rows blocks) (id b
     loses_last =
         record {
           blocks = record {
-              has = λ i c e.
-                  elim (cases_eq i id) [
-                    | inl same ↦ absurd (none_some (block_in less id) (Some c) less_here (ap (block_in less) (sym same) ∙ e))
-                    | inr differs ↦
-                        let f = sym (less_other i differs) ∙ e in
-                        let h = stays i c differs f in
-                        (h, ap (λ (k : Block). k.owner) (same_block c h) ∙ (are.has i c f).1)
-                  ];
-              owner = λ c h.
-                  let low : c < length blocks = omega arith in
-                  let e = are.owner c low in
-                  let o : (block_at new c).owner ≡ (block_at blocks c).owner = ap (λ (k : Block). k.owner) (same_block c h) in
-                  let apart : c ≢ b = omega arith in
-                  ap (block_in less) o
-                  ∙ less_other (block_at blocks c).owner (λ same. apart (one_block (block_in rows id) c b (ap (block_in rows) (sym same) ∙ e) there))
-                  ∙ e;
-              counted = (
-                  let s = sum_by-set has_bit rows id None None gone_within in
-                  let z : has_bit (get_or rows id None) ≡ 1 = ap has_bit there in
-                  let o : has_bit None ≡ 0 = refl in
-                  let c = are.counted in
-                  omega arith);
-            };
+            has = λ i c e.
+                elim (cases_eq i id) [
+                  | inl same ↦ absurd (none_some (block_in less id) (Some c) less_here (ap (block_in less) (sym same) ∙ e))
+                  | inr differs ↦
+                      let f = sym (less_other i differs) ∙ e in
+                      let h = stays i c differs f in
+                      (h, ap (λ (k : Block). k.owner) (same_block c h) ∙ (are.has i c f).1)
+                ];
+            owner = λ c h.
+                let low : c < length blocks = omega arith in
+                let e = are.owner c low in
+                let o : (block_at new c).owner ≡ (block_at blocks c).owner = ap (λ (k : Block). k.owner) (same_block c h) in
+                let apart : c ≢ b = omega arith in
+                ap (block_in less) o
+                ∙ less_other (block_at blocks c).owner (λ same. apart (one_block (block_in rows id) c b (ap (block_in rows) (sym same) ∙ e) there))
+                ∙ e;
+            counted = (
+                let s = sum_by-set has_bit rows id None None gone_within in
+                let z : has_bit (get_or rows id None) ≡ 1 = ap has_bit there in
+                let o : has_bit None ≡ 0 = refl in
+                let c = are.counted in
+                omega arith);
+          };
           gone = less_here;
           live = λ i differs. ap is_some (less_other i differs);
           links = λ i o p differs e f.
@@ -319,47 +319,47 @@ module _ (rows : Rows) (blocks : List Block) (are : AreBlocks rows blocks) (id b
     loses_swapped =
         record {
           blocks = record {
-              has = λ i c e.
-                  elim (cases_eq i id) [
-                    | inl same ↦ absurd (none_some (block_in swapped id) (Some c) swapped_here (ap (block_in swapped) (sym same) ∙ e))
-                    | inr not_id ↦
-                        elim (cases_eq i owner) [
-                          | inl same ↦
-                              let is : c ≡ b = one_block (block_in swapped owner) c b (ap (block_in swapped) (sym same) ∙ e) swapped_owner in
-                              (omega arith, ap (λ n. (block_at new n).owner) is ∙ ap (λ (k : Block). k.owner) (moved more) ∙ sym owner_is ∙ sym same)
-                          | inr not_owner ↦
-                              let f = sym (swapped_other i not_id not_owner) ∙ e in
-                              let p = other_block i c not_id not_owner f in
-                              let h : c + 1 < length blocks = p.1 in
-                              (omega arith, ap (λ (k : Block). k.owner) (others c p.0 h) ∙ (are.has i c f).1)
-                        ]
-                  ];
-              owner = λ c h.
-                  elim (cases_eq c b) [
-                    | inl same ↦
-                        let o : (block_at new c).owner ≡ owner = ap (λ n. (block_at new n).owner) same ∙ ap (λ (k : Block). k.owner) (moved more) ∙ sym owner_is in
-                        ap (block_in swapped) o ∙ swapped_owner ∙ ap (λ n. Some (Some n)) (sym same)
-                    | inr differs ↦
-                        let low : c < length blocks = omega arith in
-                        let e = are.owner c low in
-                        let o : (block_at new c).owner ≡ (block_at blocks c).owner = ap (λ (k : Block). k.owner) (others c differs (omega arith)) in
-                        let not_last : c ≢ last = omega arith in
-                        ap (block_in swapped) o
-                        ∙ swapped_other (block_at blocks c).owner
-                        (λ same. differs (one_block (block_in rows id) c b (ap (block_in rows) (sym same) ∙ e) there))
-                        (λ same. not_last (one_block (block_in rows owner) c last (ap (block_in rows) (sym same) ∙ e) owner_row))
-                        ∙ e
-                  ];
-              counted = (
-                  let s = sum_by-set has_bit rows id None None gone_within in
-                  let z : has_bit (get_or rows id None) ≡ 1 = ap has_bit there in
-                  let o : has_bit None ≡ 0 = refl in
-                  let t = sum_by-set has_bit (set rows id None) owner (Some (Some b)) None owner_within in
-                  let y : has_bit (get_or (set rows id None) owner None) ≡ 1 = ap has_bit (get_or-set_other rows id owner None None owner_differs ∙ owner_row) in
-                  let x : has_bit (Some (Some b)) ≡ 1 = refl in
-                  let c = are.counted in
-                  omega arith);
-            };
+            has = λ i c e.
+                elim (cases_eq i id) [
+                  | inl same ↦ absurd (none_some (block_in swapped id) (Some c) swapped_here (ap (block_in swapped) (sym same) ∙ e))
+                  | inr not_id ↦
+                      elim (cases_eq i owner) [
+                        | inl same ↦
+                            let is : c ≡ b = one_block (block_in swapped owner) c b (ap (block_in swapped) (sym same) ∙ e) swapped_owner in
+                            (omega arith, ap (λ n. (block_at new n).owner) is ∙ ap (λ (k : Block). k.owner) (moved more) ∙ sym owner_is ∙ sym same)
+                        | inr not_owner ↦
+                            let f = sym (swapped_other i not_id not_owner) ∙ e in
+                            let p = other_block i c not_id not_owner f in
+                            let h : c + 1 < length blocks = p.1 in
+                            (omega arith, ap (λ (k : Block). k.owner) (others c p.0 h) ∙ (are.has i c f).1)
+                      ]
+                ];
+            owner = λ c h.
+                elim (cases_eq c b) [
+                  | inl same ↦
+                      let o : (block_at new c).owner ≡ owner = ap (λ n. (block_at new n).owner) same ∙ ap (λ (k : Block). k.owner) (moved more) ∙ sym owner_is in
+                      ap (block_in swapped) o ∙ swapped_owner ∙ ap (λ n. Some (Some n)) (sym same)
+                  | inr differs ↦
+                      let low : c < length blocks = omega arith in
+                      let e = are.owner c low in
+                      let o : (block_at new c).owner ≡ (block_at blocks c).owner = ap (λ (k : Block). k.owner) (others c differs (omega arith)) in
+                      let not_last : c ≢ last = omega arith in
+                      ap (block_in swapped) o
+                      ∙ swapped_other (block_at blocks c).owner
+                      (λ same. differs (one_block (block_in rows id) c b (ap (block_in rows) (sym same) ∙ e) there))
+                      (λ same. not_last (one_block (block_in rows owner) c last (ap (block_in rows) (sym same) ∙ e) owner_row))
+                      ∙ e
+                ];
+            counted = (
+                let s = sum_by-set has_bit rows id None None gone_within in
+                let z : has_bit (get_or rows id None) ≡ 1 = ap has_bit there in
+                let o : has_bit None ≡ 0 = refl in
+                let t = sum_by-set has_bit (set rows id None) owner (Some (Some b)) None owner_within in
+                let y : has_bit (get_or (set rows id None) owner None) ≡ 1 = ap has_bit (get_or-set_other rows id owner None None owner_differs ∙ owner_row) in
+                let x : has_bit (Some (Some b)) ≡ 1 = refl in
+                let c = are.counted in
+                omega arith);
+          };
           gone = swapped_here;
           live = λ i differs.
               elim (cases_eq i owner) [
@@ -394,21 +394,21 @@ pub loses_none : (rows : Rows) (blocks : List Block) (id : ℕ) → AreBlocks ro
 loses_none rows blocks id are there =
     record {
       blocks = record {
-          has = λ i c e.
-              elim (cases_eq i id) [
-                | inl same ↦ absurd (none_some (block_in (set rows id None) id) (Some c) here (ap (block_in (set rows id None)) (sym same) ∙ e))
-                | inr differs ↦ are.has i c (sym (other i differs) ∙ e)
-              ];
-          owner = λ c h.
-              let e = are.owner c h in
-              other (block_at blocks c).owner (λ same. not_none (block_in rows id) c there (ap (block_in rows) (sym same) ∙ e)) ∙ e;
-          counted = (
-              let s = sum_by-set has_bit rows id None None within in
-              let z : has_bit (get_or rows id None) ≡ 0 = ap has_bit there in
-              let o : has_bit None ≡ 0 = refl in
-              let c = are.counted in
-              omega arith);
-        };
+        has = λ i c e.
+            elim (cases_eq i id) [
+              | inl same ↦ absurd (none_some (block_in (set rows id None) id) (Some c) here (ap (block_in (set rows id None)) (sym same) ∙ e))
+              | inr differs ↦ are.has i c (sym (other i differs) ∙ e)
+            ];
+        owner = λ c h.
+            let e = are.owner c h in
+            other (block_at blocks c).owner (λ same. not_none (block_in rows id) c there (ap (block_in rows) (sym same) ∙ e)) ∙ e;
+        counted = (
+            let s = sum_by-set has_bit rows id None None within in
+            let z : has_bit (get_or rows id None) ≡ 0 = ap has_bit there in
+            let o : has_bit None ≡ 0 = refl in
+            let c = are.counted in
+            omega arith);
+      };
       gone = here;
       live = λ i differs. ap is_some (other i differs);
       links = λ i o p differs e f. ap (links_in blocks) (no_other (block_in rows i) p o (sym (other i differs) ∙ f) e);

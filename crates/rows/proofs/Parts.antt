@@ -1,8 +1,8 @@
 -- The literals of rows, where they stand and where they are moved.
-use Rattle.std.proofs.Common.{◌≡◌, ◌≢◌, ℕ, zero, suc, ◌+◌, ◌-◌, ◌<◌, ◌≤◌, List, [], ◌∷◌, ◌++◌, length, map, take, drop, get_or, set, Option, Some, None, is_some, IsTrue, refl, sym, ap, ◌∙◌, subst, inl, inr, ⊎_elim, arith, append_assoc}
+use Rattle.std.proofs.Common.{◌≡◌, ◌≢◌, ℕ, zero, suc, ◌+◌, ◌-◌, ◌<◌, ◌≤◌, List, [], ◌∷◌, ◌++◌, length, map, take, drop, get_or, set, Option, Some, None, is_some, IsTrue, refl, sym, ap, ◌∙◌, inl, inr, arith, append_assoc}
 use Rattle.std.specs.Option.{option_map}
 use Rattle.std.proofs.lemmas.Bool.{cases_eq, cases_lt, false≢true}
-use Rattle.std.proofs.lemmas.List.{get_or-set_same, get_or-set_other, get_or_past, get_or_at, get_or_append_left, length-set, length-take, length-drop, length-append, length-take-le, map-set, set-get_or, take-append-drop, take-append-le, drop-append-le, take_all, take_at, drop_at, drop-drop, take-take}
+use Rattle.std.proofs.lemmas.List.{get_or-set_same, get_or-set_other, get_or_past, get_or_at, get_or_append_left, length-set, length-drop, length-append, length-take-le, map-set, set-get_or, take-append-drop, take-append-le, drop-append-le, take_all, take_at, drop_at, drop-drop}
 use Rattle.std.proofs.lemmas.List.Edits.{drop-paste, length-paste}
 use lib.Seq.{paste}
 use Rattle.prefix.specs.Literal.{Literal}
@@ -152,24 +152,24 @@ module _ (size : ℕ) (places : List (Option Place)) (id to : ℕ) (m : AreMovin
     moving_down =
         record {
           spread = record {
-              within = λ i p e.
-                  elim (cases_eq i id) [
-                    | inl same ↦ rw (lowered_here i p same e) (let a = ends_within in let b = to_place in omega arith)
-                    | inr differs ↦ m.spread.within i p (lowered_other i p differs e)
-                  ];
-              apart = λ i j p q h e f.
-                  elim (cases_eq i id) [
-                    | inl same ↦
-                        let a = above_place j q (omega arith) (lowered_other j q (omega arith) f) in
-                        let b = to_place in
-                        rw (lowered_here i p same e) (omega arith)
-                    | inr differs ↦
-                        elim (cases_eq j id) [
-                          | inl same ↦ rw (lowered_here j q same f) (m.below i p (omega arith) (lowered_other i p differs e))
-                          | inr apart ↦ m.spread.apart i j p q h (lowered_other i p differs e) (lowered_other j q apart f)
-                        ]
-                  ];
-            };
+            within = λ i p e.
+                elim (cases_eq i id) [
+                  | inl same ↦ rw (lowered_here i p same e) (let a = ends_within in let b = to_place in omega arith)
+                  | inr differs ↦ m.spread.within i p (lowered_other i p differs e)
+                ];
+            apart = λ i j p q h e f.
+                elim (cases_eq i id) [
+                  | inl same ↦
+                      let a = above_place j q (omega arith) (lowered_other j q (omega arith) f) in
+                      let b = to_place in
+                      rw (lowered_here i p same e) (omega arith)
+                  | inr differs ↦
+                      elim (cases_eq j id) [
+                        | inl same ↦ rw (lowered_here j q same f) (m.below i p (omega arith) (lowered_other i p differs e))
+                        | inr apart ↦ m.spread.apart i j p q h (lowered_other i p differs e) (lowered_other j q apart f)
+                      ]
+                ];
+          };
           below = λ i p h e.
               elim (cases_eq i id) [
                 | inl same ↦ rw (lowered_here i p same e) (omega arith)

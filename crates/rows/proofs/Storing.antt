@@ -1,5 +1,5 @@
 -- How the rows of an arena stay kept.
-use Rattle.std.proofs.Common.{◌≡◌, ℕ, ◌+◌, ◌-◌, ◌<◌, ◌≤◌, List, [], ◌∷◌, ◌++◌, length, map, set, Option, Some, None, is_some, IsTrue, sym, ap, subst, ◌∙◌, arith}
+use Rattle.std.proofs.Common.{◌≡◌, ℕ, ◌+◌, ◌-◌, ◌<◌, ◌≤◌, List, [], ◌∷◌, ◌++◌, length, set, Option, Some, None, is_some, sym, ap, subst, ◌∙◌, arith}
 use Rattle.std.specs.Prelude.{count_by}
 use Rattle.std.specs.Option.{option_map}
 use Rattle.std.proofs.lemmas.List.{length-map, length-append, map-append}
@@ -7,8 +7,8 @@ use Rattle.std.proofs.lemmas.List.Sums.{count_by-le-length}
 use Rattle.prefix.specs.Literal.{Literal}
 use Rattle.rows.specs.declared.places.Place.{Place}
 use Rattle.rows.specs.declared.blocks.Block.{Block}
-use Rattle.rows.specs.Places.{AreSpread, KeepsParts, Reblocks, blocks_of, place_at}
-use Rattle.rows.specs.Blocks.{AreBlocks, LosesBlock, block_at, block_in, has_block}
+use Rattle.rows.specs.Places.{AreSpread, KeepsParts, Reblocks, blocks_of}
+use Rattle.rows.specs.Blocks.{AreBlocks, LosesBlock, block_at}
 use Rattle.rows.specs.Stored.{AreStored}
 use Rattle.rows.proofs.Parts.{spread_more, spread_reblocked, spread_without}
 use Rattle.rows.proofs.Blocking.{blocks_more, blocks_written, count_le, live_more}

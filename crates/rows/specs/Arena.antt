@@ -1,5 +1,5 @@
 -- Rows under their ids, as contracts see them.
-use Rattle.std.specs.Prelude.{◌≡◌, ◌≢◌, ℕ, Bool, List, [], ◌∷◌, ◌++◌, length, replicate, Option, Some, None, is_some, slice_index_or, slice_set}
+use Rattle.std.specs.Prelude.{◌≡◌, ◌≢◌, ℕ, Bool, List, [], ◌∷◌, ◌++◌, ◌+◌, length, replicate, Option, Some, None, is_some, slice_index_or, slice_set}
 use Rattle.std.specs.Option.{option_map}
 use Rattle.prefix.specs.Literal.{Literal}
 
@@ -63,6 +63,23 @@ set_link_of k value row = record { literals = row.literals; links = slice_set ro
 abbrev pub with_link : Arena → ℕ → ℕ → Option ℕ → Arena
 with_link arena id k value = slice_set arena id (option_map (set_link_of k value) (row_at arena id))
 
+-- values of three link fields, that of a number and the two behind it
+abbrev pub ThreeLinks : Type 0
+ThreeLinks = Option ℕ × Option ℕ × Option ℕ
+
+-- link fields with other values in three of them, the first of which has this number
+abbrev pub set_three : ℕ → ThreeLinks → List (Option ℕ) → List (Option ℕ)
+set_three base values links =
+    slice_set (slice_set (slice_set links base values.0) (base + 1) values.1) (base + 2) values.2
+
+-- the row with other values in three of its link fields
+abbrev pub set_links_of : ℕ → ThreeLinks → StoredRow → StoredRow
+set_links_of base values row = record { literals = row.literals; links = set_three base values row.links }
+
+-- the arena with other values in three link fields of the row under an id
+abbrev pub with_links : Arena → ℕ → ℕ → ThreeLinks → Arena
+with_links arena id base values = slice_set arena id (option_map (set_links_of base values) (row_at arena id))
+
 -- one id has this row, or none, and every other id has what it had
 pub record ChangesAt (old new : Arena) (id : ℕ) (row : Option StoredRow) : Type 0 where
   pub there : row_at new id ≡ row
@@ -72,6 +89,17 @@ pub record ChangesAt (old new : Arena) (id : ℕ) (row : Option StoredRow) : Typ
 pub record ChangesLink (old new : Arena) (id k : ℕ) (value : Option ℕ) : Type 0 where
   pub link : link_at new id k ≡ value
   pub other_links : (m : ℕ) → m ≢ k → link_at new id m ≡ link_at old id m
+  pub same_literals : literals_at new id ≡ literals_at old id
+  pub elsewhere : (other : ℕ) → other ≢ id → row_at new other ≡ row_at old other
+  pub same_live : (other : ℕ) → is_live new other ≡ is_live old other
+
+-- three link fields of a row have these values; every other one has the value that it had, and so have the rows'
+-- literals
+pub record ChangesLinks (old new : Arena) (id base : ℕ) (values : ThreeLinks) : Type 0 where
+  pub first : link_at new id base ≡ values.0
+  pub second : link_at new id (base + 1) ≡ values.1
+  pub third : link_at new id (base + 2) ≡ values.2
+  pub other_links : (m : ℕ) → m ≢ base → m ≢ base + 1 → m ≢ base + 2 → link_at new id m ≡ link_at old id m
   pub same_literals : literals_at new id ≡ literals_at old id
   pub elsewhere : (other : ℕ) → other ≢ id → row_at new other ≡ row_at old other
   pub same_live : (other : ℕ) → is_live new other ≡ is_live old other

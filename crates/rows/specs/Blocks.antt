@@ -1,5 +1,5 @@
 -- Which rows have link fields of their own.
-use Rattle.std.specs.Prelude.{◌≡◌, ◌≢◌, ℕ, ◌<◌, Bool, true, false, List, length, count_by, replicate, Option, None, Some, is_some, slice_index_or}
+use Rattle.std.specs.Prelude.{◌≡◌, ◌≢◌, ℕ, ◌<◌, Bool, false, List, length, count_by, replicate, Option, None, Some, is_some, slice_index_or}
 use Rattle.rows.specs.declared.blocks.Block.{Block}
 
 -- link fields without a link, of no row

@@ -1,5 +1,5 @@
 -- How an arena keeps its rows.
-use Rattle.std.specs.Prelude.{◌≡◌, ℕ, ◌≤◌, List, length, map, count_by, is_some, Option}
+use Rattle.std.specs.Prelude.{◌≡◌, ℕ, ◌≤◌, List, map, count_by, is_some, Option}
 use Rattle.std.specs.Option.{option_map}
 use Rattle.prefix.specs.Literal.{Literal}
 use Rattle.rows.specs.declared.places.Place.{Place}

@@ -1,5 +1,6 @@
 //! Blocks of link fields, for the rows that have links.
 ghost use Rattle.std.specs.Prelude.{◌≡◌, ◌≢◌, ℕ, ◌+◌, ◌<◌, ◌≤◌, ◌∷◌, ◌++◌, [], None, Option, Some, IsTrue, is_some, count_by, length, replicate, slice_index_or, slice_set, vec_len, vec_capacity};
+ghost use Rattle.rows.specs.Arena.{set_three};
 ghost use Rattle.rows.specs.Places.{AreSpread, Reblocks, blocks_of, place_at};
 ghost use Rattle.rows.specs.Blocks.{AreBlocks, LosesBlock, block_at, block_in, has_block, links_in};
 
@@ -8,6 +9,9 @@ use super::rows::RowId;
 
 // How many link fields a row has.
 const LINKS: usize = 8;
+
+/// The values of three link fields, that of a number and the two behind it.
+pub type ThreeLinks = (Option<usize>, Option<usize>, Option<usize>);
 
 // The link fields of a row.
 #[derive(Clone, Copy, Debug)]
@@ -25,6 +29,17 @@ impl Block {
     {
         self.links[k] = value;
     }
+
+    // Writes three link fields.
+    fn set_three(&mut self, base: usize, values: ThreeLinks)
+        requires { base + 2 < 8 }
+        ensures links { self.new ≡ record { owner = self.old.owner; links = set_three base values self.old.links } }
+        ensures eight { length self.old.links ≡ 8 }
+    {
+        self.links[base] = values.0;
+        self.links[base + 1] = values.1;
+        self.links[base + 2] = values.2;
+    }
 }
 
 // Reads a link field of a row with this block, if it has one.
@@ -36,6 +51,23 @@ pub(crate) fn read(blocks: &Vec<Block>, block: Option<usize>, k: usize) -> Optio
     match block {
         None => None,
         Some(block) => blocks[block].links[k],
+    }
+}
+
+// Reads three link fields of a row with this block, if it has one.
+pub(crate) fn read_three(blocks: &Vec<Block>, block: Option<usize>, base: usize) -> ThreeLinks
+    requires fields { base + 2 < 8 }
+    requires block { (b : ℕ) → block ≡ Some b → b < length blocks.now.items }
+    ensures first { result.0 ≡ slice_index_or (links_in blocks.now.items block) base None }
+    ensures second { result.1 ≡ slice_index_or (links_in blocks.now.items block) (base + 1) None }
+    ensures third { result.2 ≡ slice_index_or (links_in blocks.now.items block) (base + 2) None }
+{
+    match block {
+        None => (None, None, None),
+        Some(block) => {
+            let links = &blocks[block].links;
+            (links[base], links[base + 1], links[base + 2])
+        }
     }
 }
 
@@ -53,8 +85,26 @@ pub(crate) fn write(blocks: &mut Vec<Block>, block: usize, k: usize, value: Opti
     blocks[block].set(k, value);
 }
 
+// Writes three link fields of a block.
+pub(crate) fn write_three(blocks: &mut Vec<Block>, block: usize, base: usize, values: ThreeLinks)
+    requires fields { base + 2 < 8 }
+    requires block { block < length blocks.old.items }
+    ensures items { blocks.new.items ≡ slice_set blocks.old.items block (record {
+      owner = (block_at blocks.old.items block).owner;
+      links = set_three base values (block_at blocks.old.items block).links;
+    }) }
+    ensures room { vec_capacity blocks.new ≡ vec_capacity blocks.old }
+    ensures eight { length (block_at blocks.old.items block).links ≡ 8 }
+{
+    blocks[block].set_three(base, values);
+}
+
 // The block of a live row. Where it has none it gets one, for which there is room.
-pub(crate) fn block_for(places: &mut Vec<Option<Place>>, blocks: &mut Vec<Block>, id: RowId) -> usize
+pub(crate) fn block_for(
+    places: &mut Vec<Option<Place>>,
+    blocks: &mut Vec<Block>,
+    id: RowId,
+) -> usize
     requires live { IsTrue (is_some (place_at places.old.items id)) }
     requires blocks { AreBlocks (blocks_of places.old.items) blocks.old.items }
     requires room { count_by is_some (blocks_of places.old.items) ≤ vec_capacity blocks.old }

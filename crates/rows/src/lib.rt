@@ -5,4 +5,5 @@ mod blocks;
 mod places;
 mod rows;
 
+pub use blocks::ThreeLinks;
 pub use rows::{RowId, Rows};

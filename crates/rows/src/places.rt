@@ -85,7 +85,13 @@ fn settle(lits: &mut Vec<Lit>, places: &mut Vec<Option<Place>>, id: RowId, to: u
 }
 
 // Moves the literals of a row down.
-fn move_down(lits: &mut Vec<Lit>, places: &mut Vec<Option<Place>>, id: RowId, place: Place, to: usize)
+fn move_down(
+    lits: &mut Vec<Lit>,
+    places: &mut Vec<Option<Place>>,
+    id: RowId,
+    place: Place,
+    to: usize,
+)
     requires place { place_at places.old.items id ≡ Some place }
     requires moving { AreMoving (length lits.old.items) places.old.items id to }
     ensures moving { AreMoving (length lits.new.items) places.new.items (id + 1) (to + place.len) }

@@ -1,8 +1,8 @@
 //! The arena.
 ghost use Rattle.std.specs.Prelude.{◌≡◌, ◌↔◌, ◌<◌, ◌+◌, [], ◌∷◌, IsTrue, Some, None, IfOk, OnOk, OnErr, length, slice_set};
-ghost use Rattle.rows.specs.Arena.{ChangesAt, ChangesLink, next_id, row_at, is_live, literals_at, link_at, new_row, with_row, without_row, with_link};
+ghost use Rattle.rows.specs.Arena.{ChangesAt, ChangesLink, ChangesLinks, next_id, row_at, is_live, literals_at, link_at, new_row, with_row, without_row, with_link, with_links};
 
-use super::blocks::{Block, block_for, forget, read, write};
+use super::blocks::{Block, ThreeLinks, block_for, forget, read, read_three, write, write_three};
 use super::places::{Place, place_of, put, slide};
 use prefix::Lit;
 use std::alloc::Global;
@@ -91,6 +91,17 @@ impl Rows {
         read(&self.blocks, place_of(&self.places, id).block, k)
     }
 
+    /// Three link fields of a live row, that of a number and the two behind it.
+    pub fn links_from(&self, id: RowId, base: usize) -> ThreeLinks
+        requires live { IsTrue (is_live self.now id) }
+        requires fields { base + 2 < 8 }
+        ensures first { result.0 ≡ link_at self.now id base }
+        ensures second { result.1 ≡ link_at self.now id (base + 1) }
+        ensures third { result.2 ≡ link_at self.now id (base + 2) }
+    {
+        read_three(&self.blocks, place_of(&self.places, id).block, base)
+    }
+
     /// Writes a link field of a live row, and changes nothing else.
     pub fn set_link(&mut self, id: RowId, k: usize, value: Option<usize>)
         requires live { IsTrue (is_live self.old id) }
@@ -101,6 +112,18 @@ impl Rows {
     {
         let block = block_for(&mut self.places, &mut self.blocks, id);
         write(&mut self.blocks, block, k, value);
+    }
+
+    /// Writes three link fields of a live row, that of a number and the two behind it, and changes nothing else.
+    pub fn set_links(&mut self, id: RowId, base: usize, values: ThreeLinks)
+        requires live { IsTrue (is_live self.old id) }
+        requires fields { base + 2 < 8 }
+        ensures arena { self.new ≡ with_links self.old id base values }
+        ensures rest { ChangesLinks self.old self.new id base values }
+        ensures next { next_id self.new ≡ next_id self.old }
+    {
+        let block = block_for(&mut self.places, &mut self.blocks, id);
+        write_three(&mut self.blocks, block, base, values);
     }
 
     /// Puts in a row with a copy of these literals and no links, under the id that comes next. With no memory the

@@ -86,3 +86,18 @@ fn rows_stay_where_one_between_them_goes(rt: HostRuntime) -> Result<(), Fail> {
     assert!(rt; !rows.is_live(second));
     Ok(())
 }
+
+#[test]
+fn three_link_fields_are_read_and_written_at_once(rt: HostRuntime) -> Result<(), Fail> {
+    let mut rows = Rows::new(rt.alloc());
+    let row = rows.add(&[literal(5)?])?;
+    let other = rows.add(&[literal(6)?])?;
+    assert_eq!(rt; rows.links_from(row, 5), (None, None, None));
+    rows.set_link(row, 2, Some(8));
+    rows.set_links(row, 3, (Some(1), None, Some(usize::MAX)));
+    assert_eq!(rt; rows.links_from(row, 1), (None, Some(8), Some(1)));
+    assert_eq!(rt; rows.links_from(row, 4), (None, Some(usize::MAX), None));
+    assert_eq!(rt; rows.link(row, 3), Some(1));
+    assert_eq!(rt; rows.links_from(other, 3), (None, None, None));
+    Ok(())
+}

@@ -1,10 +1,10 @@
-use Rattle.std.proofs.Common.{◌≡◌, ◌≢◌, ℕ, ◌+◌, ◌-◌, ◌<◌, ◌≤◌, List, length, set, get_or, Option, Some, None, is_some, IsTrue, true, ap, sym, subst, ◌∙◌, arith}
+use Rattle.std.proofs.Common.{◌≡◌, ◌≢◌, ℕ, ◌+◌, ◌-◌, ◌<◌, ◌≤◌, List, length, set, Option, Some, None, is_some, ap, sym, subst, ◌∙◌, arith}
 use Rattle.std.specs.Prelude.{count_by}
 use Rattle.std.specs.Option.{option_map}
 use Rattle.std.proofs.lemmas.List.{map-set, get_or_default, get_or-set_other}
 use Rattle.rows.specs.declared.places.Place.{Place}
 use Rattle.rows.specs.declared.blocks.Block.{Block}
-use Rattle.rows.specs.Places.{blocks_of, place_at}
+use Rattle.rows.specs.Places.{blocks_of}
 use Rattle.rows.specs.Blocks.{LosesBlock, block_at, block_in, no_block}
 use Rattle.rows.proofs.Blocking.{block_there, live_block, live_less, live_swapped, loses_last, loses_none, loses_swapped, owner_row, owner_differs}
 use Rattle.rows.proofs.blocks.forget.Goals as goal

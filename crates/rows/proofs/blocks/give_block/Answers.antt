@@ -1,4 +1,4 @@
-use Rattle.std.proofs.Common.{◌<◌, length, arith, ◌∙◌}
+use Rattle.std.proofs.Common.{◌<◌, arith, ◌∙◌}
 use Rattle.std.specs.Prelude.{vec_len, vec_capacity}
 use Rattle.std.proofs.lemmas.Bool.{cond-true}
 use Rattle.rows.specs.Places.{blocks_of}

@@ -1,5 +1,5 @@
-use Rattle.std.proofs.Common.{◌≡◌, ◌+◌, ◌-◌, ◌≤◌, ℕ, List, [], ◌∷◌, ◌++◌, length, Option, Some, None, ap, ap₂, sym, subst, ◌∙◌, arith}
-use Rattle.std.specs.Prelude.{vec_len, vec_capacity}
+use Rattle.std.proofs.Common.{◌≡◌, ◌+◌, ◌≤◌, List, [], ◌∷◌, ◌++◌, length, Option, Some, None, ap, ap₂, sym, subst, ◌∙◌, arith}
+use Rattle.std.specs.Prelude.{vec_capacity}
 use Rattle.std.specs.Option.{option_map}
 use Rattle.std.proofs.lemmas.List.{length-map}
 use Rattle.prefix.specs.Literal.{Literal}
@@ -41,11 +41,12 @@ returns-clause-arena c =
     let places = c.self.inside.places.items in
     let row = c.args.lits.now in
     let e1 : c.put.new.all.items ≡ lits ++ row = c.put.ensures.lits ∙ ap (λ (ls : List Literal). ls ++ row) c.reserve-3.ensures.items in
-    let e2 : c.put.new.places.items ≡ places ++ Some (record { start = length lits; len = length row; block = None }) ∷ [] = c.put.ensures.places ∙ ap₂ (λ (ps : List (Option Place)) (ls : List Literal). ps ++ Some (record { start = length ls; len = length row; block = None }) ∷ []) c.reserve.ensures.items c.reserve-3.ensures.items in
-    (c.len-id.ensures ∙ c.self.inside.places.ok.0 ∙ sym (length-map places (option_map (stored lits c.self.inside.blocks.items))) ∙ ap (λ (a : Arena). length a) c.self.view_is,
-    ap (λ (bs : List Block). arena_of c.put.new.all.items bs c.put.new.places.items) c.reserve-2.ensures.items
-    ∙ arena_put lits row c.put.new.all.items c.self.inside.blocks.items places c.put.new.places.items e1 e2 c.self.invariant.spread
-    ∙ ap (λ (a : Arena). with_row a row) c.self.view_is)
+    let e2 : c.put.new.places.items ≡ places ++ Some (record { start = length lits; len = length row; block = None }) ∷ [] = c.put.ensures.places ∙ ap₂ (λ (ps : List (Option Place)) (ls : List Literal). ps ++ Some (record { start = length ls; len = length row; block = None }) ∷ []) c.reserve.ensures.items c.reserve-3.ensures.items in (
+      c.len-id.ensures ∙ c.self.inside.places.ok.0 ∙ sym (length-map places (option_map (stored lits c.self.inside.blocks.items))) ∙ ap (λ (a : Arena). length a) c.self.view_is,
+      ap (λ (bs : List Block). arena_of c.put.new.all.items bs c.put.new.places.items) c.reserve-2.ensures.items
+          ∙ arena_put lits row c.put.new.all.items c.self.inside.blocks.items places c.put.new.places.items e1 e2 c.self.invariant.spread
+          ∙ ap (λ (a : Arena). with_row a row) c.self.view_is,
+    )
 
 pub returns-clause-rest : goal.returns-clause-rest
 returns-clause-rest c =

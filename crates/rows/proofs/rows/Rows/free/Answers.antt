@@ -1,4 +1,4 @@
-use Rattle.std.proofs.Common.{◌≡◌, ◌≤◌, length, set, Some, None, is_some, true, ap, sym, subst, ◌∙◌, arith}
+use Rattle.std.proofs.Common.{◌≡◌, length, set, None, is_some, true, ap, sym, subst, ◌∙◌, arith}
 use Rattle.std.specs.Prelude.{vec_capacity}
 use Rattle.rows.specs.Arena.{Arena, ChangesAt, is_live}
 use Rattle.rows.specs.Places.{blocks_of, place_at}

@@ -1,4 +1,4 @@
-use Rattle.std.proofs.Common.{◌≡◌, ◌<◌, ◌≤◌, ℕ, List, length, set, Option, Some, None, is_some, true, ap, sym, subst, ◌∙◌, arith}
+use Rattle.std.proofs.Common.{◌≡◌, ◌<◌, ◌≤◌, ℕ, List, length, set, Option, Some, is_some, true, ap, sym, subst, ◌∙◌, arith}
 use Rattle.std.specs.Prelude.{vec_capacity}
 use Rattle.rows.specs.declared.blocks.Block.{Block}
 use Rattle.rows.specs.Arena.{Arena, ChangesLink, is_live, row_at, with_link}
@@ -38,7 +38,7 @@ returns-clause-arena c =
     let there = c.block_for-block.ensures.block in
     let within : b < length middle = (are.has c.args.id b there).0 in
     let live : is_some (place_at places c.args.id) ≡ true = sym (live_place lits blocks places c.args.id) ∙ ap (λ (a : Arena). is_live a c.args.id) c.self.view_is ∙ c.requires.live in
-    arena_linked lits blocks middle c.write.new.blocks.items places new_places c.args.id b c.args.k c.args.value live c.block_for-block.ensures.same there c.block_for-block.ensures.links
+    arena_linked lits blocks middle c.write.new.blocks.items places new_places c.args.id b (λ (l : List (Option ℕ)). set l c.args.k c.args.value) live c.block_for-block.ensures.same there c.block_for-block.ensures.links
     (ap (λ (bs : List Block). links_in bs (Some b)) c.write.ensures.items ∙ written_here (blocks_of new_places) middle are b links within)
     (λ i o differs e. ap (λ (bs : List Block). links_in bs o) c.write.ensures.items ∙ written_other (blocks_of new_places) middle are b links within i c.args.id o differs there e)
     ∙ ap (λ (a : Arena). with_link a c.args.id c.args.k c.args.value) c.self.view_is
