@@ -70,8 +70,10 @@ module _ (eq : And → And → Bool) (same : (x y : And) → eq x y ≡ true →
       by true t n rest = rw t ((let z : 0 < length (h ∷ gates) = omega arith in z), (λ d. sym (same g h t)))
       by false f n rest = let later = rest n in
           let next : 1 + position_or_len (eq g) gates ≡ suc (position_or_len (eq g) gates) = omega arith in
-          rw f ((let z : 1 + position_or_len (eq g) gates < length (h ∷ gates) = omega (arith, later.0) in z),
-          (λ d. ap (λ k. get_or (h ∷ gates) k d) next ∙ later.1 d))
+          rw f (
+            (let z : 1 + position_or_len (eq g) gates < length (h ∷ gates) = omega (arith, later.0) in z),
+            (λ d. ap (λ k. get_or (h ∷ gates) k d) next ∙ later.1 d),
+          )
 
   module _ (n : ℕ) (gates after : List And) (g : And) (place : ℕ) (keys : after ≡ insert_key eq gates g)
       (at : place ≡ position_or_len (eq g) gates) where

@@ -195,9 +195,9 @@ marked_stays keep notes marks m i note there u =
     ⊎_elim
     (λ c. clause i note there c)
     (λ c. ⊎_elim
-        (λ f. m.sound i f)
-        (λ f. absurd (true≢false (sym (and_both (not (is_input_clause note.side note.why)) (not (is_marked marks i)) (not_false (is_input_clause note.side note.why) c) (not_false (is_marked marks i) f)) ∙ u)))
-        (cases_Bool (is_marked marks i)))
+    (λ f. m.sound i f)
+    (λ f. absurd (true≢false (sym (and_both (not (is_input_clause note.side note.why)) (not (is_marked marks i)) (not_false (is_input_clause note.side note.why) c) (not_false (is_marked marks i) f)) ∙ u)))
+    (cases_Bool (is_marked marks i)))
     (cases_Bool (is_input_clause note.side note.why))
 
 -- what falls with the unmarked steps is unmarked
@@ -265,13 +265,18 @@ module _ (keep : List ℕ) (old new : State) (marks : List Bool) (supported : Ar
     where
       by : (id : ℕ) (o : Option Note) → note_at old id ≡ o → (Stays keep old.notes id × (note_at new id ≡ note_at old id)) ⊎ ((Stays keep old.notes id → ⊥) × (note_at new id ≡ None))
       by id None there =
-          inr ((λ s. none_some (note_at old id) (some_is (note_at old id) (stays_live id s)).0 there (some_is (note_at old id) (stays_live id s)).1),
-          ⊎_elim (λ p. p.1) (λ p. p.1 ∙ there) (drops.exactly.steps id))
+          inr (
+            (λ s. none_some (note_at old id) (some_is (note_at old id) (stays_live id s)).0 there (some_is (note_at old id) (stays_live id s)).1),
+            ⊎_elim (λ p. p.1) (λ p. p.1 ∙ there) (drops.exactly.steps id),
+          )
       by id (Some note) there =
           ⊎_elim
           (λ p. inr ((λ s. stays_marked keep old.notes marks m id s note there (falls_unmarked old.notes marks m.closed id p.0 note there)), p.1))
-          (λ p. inl (marked_stays keep old.notes marks m id note there
-              (⊎_elim (λ u. absurd (p.0 (root id note there u))) (λ u. u) (cases_Bool (is_unmarked marks id note))), p.1))
+          (λ p. inl (
+            marked_stays keep old.notes marks m id note there
+                (⊎_elim (λ u. absurd (p.0 (root id note there u))) (λ u. u) (cases_Bool (is_unmarked marks id note))),
+            p.1,
+          ))
           (drops.exactly.steps id)
 
 pub swept_clauses : (old new : State) (marks : List Bool) → Drops (is_unmarked marks) old new → clauses_of new ≡ clauses_of old

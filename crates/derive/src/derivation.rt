@@ -350,7 +350,12 @@ impl Derivation {
         ensures clauses { clauses_of self.new ≡ clauses_of self.old }
         ensures legal { (scopes : List Scope) → IsLegalFor scopes self.old → IsLegalFor scopes self.new }
     {
-        sweep_all(&mut self.notes, self.rows.as_mut().unwrap(), &mut self.marks, keep);
+        sweep_all(
+            &mut self.notes,
+            self.rows.as_mut().unwrap(),
+            &mut self.marks,
+            keep,
+        );
     }
 
     /// Drops the steps that name a variable, with all that rests on them. This takes no memory, and the time of going over

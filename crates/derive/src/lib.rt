@@ -12,6 +12,7 @@ mod sweeping;
 
 pub use derivation::Derivation;
 pub use laws::{
-    clauses_are_listed, growth_laws, prefixes_may_change, prefixes_may_grow, same_clauses_serve, steps_are_listed,
+    clauses_are_listed, growth_laws, prefixes_may_change, prefixes_may_grow, same_clauses_serve,
+    steps_are_listed,
 };
 pub use step::{Step, StepId};

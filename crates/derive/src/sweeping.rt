@@ -6,8 +6,8 @@ ghost use Rattle.derive.specs.Antecedents.{AreSupported, Fits};
 ghost use Rattle.derive.specs.Dropping.{DropsFrom};
 ghost use Rattle.derive.specs.Sweeping.{AreClosed, AreMarked, MarksNamed, goes, is_marked, is_unmarked, rests_in};
 
-use super::note::Note;
 use super::StepId;
+use super::note::Note;
 use rows::Rows;
 use steps::NoMemory;
 

@@ -110,9 +110,11 @@ impl Engine {
             (size_of self.old.formula.scopes) self.old.counts }
         ensures restarts { self.new.restarts ≡ self.old.restarts }
     {
-        self.counts = self
-            .counts
-            .with_solve(steps.budget(), self.restarts, self.frames.prefix().len() as u64);
+        self.counts = self.counts.with_solve(
+            steps.budget(),
+            self.restarts,
+            self.frames.prefix().len() as u64,
+        );
         self.verdict = None;
         forget_outcome(&mut self.search, &self.frames);
         let assumed = copied(self.alloc, self.frames.assumptions())?;

@@ -60,7 +60,13 @@ pub(crate) fn decide(
     ensures rises { steps.old.spent ≤ steps.new.spent }
 {
     let matrix = frames.open_clauses();
-    let found = search.solve(frames.prefix(), matrix, frames.assumptions(), restarts, steps);
+    let found = search.solve(
+        frames.prefix(),
+        matrix,
+        frames.assumptions(),
+        restarts,
+        steps,
+    );
     // The counter is within its budget, and ids are fewer than 2 ^ 64.
     let _budget = steps.budget();
     let _next = search.derivation().next_id();

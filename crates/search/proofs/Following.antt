@@ -343,7 +343,7 @@ module _ (scopes : List Scope) (s cut kept : SearchState) (steps : Counter) (beg
         rises = omega arith;
         counted = λ start is. (
           subst (λ (t : TrailState). IsCounted (size_of scopes) 0 start t steps) (sym keeps.trail)
-          (began.paid start steps is),
+              (began.paid start steps is),
           subst (λ (t : TrailState). Proceeds s.trail t) (sym keeps.trail) goes,
         );
       }

@@ -92,7 +92,6 @@ nothing_due at clauses assumed (decision x is) =
     (λ one. not_open at.trail.placed assumed x (sym one) (ap is_none is.unassigned))
     (λ none. contains_nil x none)
     (contains_cons 1 [] x is.known)
-
 nothing_due at clauses assumed (cube id is goes) =
     let none = no_literals at.derivation (row_of at.derivation id) clauses
     (λ l i. let m = is.literals l i in (m.clause, m.stands)) in

@@ -39,8 +39,7 @@ returns-clause-err g c =
 
 pub returns-clause-spent : goal.returns-clause-spent
 returns-clause-spent g c = λ e.
-    let own = c.resolve_with_reason.ensures.spent e in
-    (
+    let own = c.resolve_with_reason.ensures.spent e in (
       own.0,
       spent_later c.args.prefix.now c.args.derivation.now c.clean_reason.new.derivation c.args.trail.now
           c.clean_reason.new.trail c.args.steps.now c.clean_reason.new.steps 0 c.in_ok-reason.ensures.cleans

@@ -48,8 +48,7 @@ returns-in_err-turn-clause-spent g c =
     let is = c.loop-derivation.invariant in
     λ e.
     let own = c.in_err-turn.ensures.spent (ap Err
-    (same_error c.from_residual.result p.0 spent c.in_err-turn.field-0.0 p.1 p.2 e)) in
-    (
+    (same_error c.from_residual.result p.0 spent c.in_err-turn.field-0.0 p.1 p.2 e)) in (
       own.0,
       spent_under c.args.steps.now c.loop-derivation.steps is.taken is.reduced
           (marks_left c.args.trail.now * length c.args.trail.now.placed) is.counted is.resolves.fewer own.1

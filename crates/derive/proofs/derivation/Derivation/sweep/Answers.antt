@@ -13,9 +13,10 @@ sweep_all-requires-clause-live c id at = ap (λ (d : State). is_live d id) c.sel
 pub invariant_of-self : goal.invariant_of-self
 invariant_of-self c =
     let here : c.self.inside.rows ≡ Some c.unwrap.result.now = sym c.as_mut.ensures.value ∙ ap option_copied_mut c.unwrap.ensures in
-    let p = c.sweep_all.ensures.drops in
-    (kept_drop (is_unmarked p.0) _ _ _ _ _ _ _ _ here p.2 c.self.invariant.0,
-    (let same = p.2.same_next in let count = c.sweep_all.ensures.count in let room = c.self.invariant.1 in omega arith))
+    let p = c.sweep_all.ensures.drops in (
+      kept_drop (is_unmarked p.0) _ _ _ _ _ _ _ _ here p.2 c.self.invariant.0,
+      (let same = p.2.same_next in let count = c.sweep_all.ensures.count in let room = c.self.invariant.1 in omega arith),
+    )
 
 pub returns-clause-sweeps : goal.returns-clause-sweeps
 returns-clause-sweeps c =
