@@ -1,6 +1,7 @@
 //! Tests of `engine`: formulas that are decided, under assumptions and frames.
 mod asks;
 mod play;
+mod saves;
 
 use engine::Engine;
 use play::{are_frames_right, is_budget_kept, put, put_scope, truth_within};
