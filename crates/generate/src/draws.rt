@@ -4,9 +4,9 @@ ghost use Rattle.generate.specs.Draws.{drawn, start_of, state_at};
 
 use std::marker::Model;
 
-// Numbers that are drawn one after another.
-#[derive(Drop)]
-pub(crate) struct Draws {
+/// Numbers that are drawn one after another, the same ones from a seed each time. Contracts see it as its state.
+#[derive(Debug, Drop)]
+pub struct Draws {
     state: u32,
 }
 
@@ -26,8 +26,8 @@ impl Draws {
 
     const INCREMENT: u64 = 12_345;
 
-    // The draws of a seed.
-    pub(crate) fn new(seed: u32) -> Self
+    /// The draws of a seed. This takes no memory.
+    pub fn new(seed: u32) -> Self
         ensures { result ≡ start_of seed }
     {
         Self {
@@ -35,8 +35,8 @@ impl Draws {
         }
     }
 
-    // Draws a number below another.
-    pub(crate) fn draw(&mut self, below: u32) -> u32
+    /// Draws a number below another. This takes no memory.
+    pub fn draw(&mut self, below: u32) -> u32
         requires { 0 < below }
         ensures state { self.new ≡ state_at self.old 1 }
         ensures value { result ≡ drawn self.old 0 below }

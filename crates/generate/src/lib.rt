@@ -9,6 +9,7 @@ mod formulas;
 mod laws;
 mod worked;
 
+pub use draws::Draws;
 pub use formulas::make;
 pub use laws::made_formulas_are_formed;
 pub use worked::{worked_formulas, worked_places, worked_states};

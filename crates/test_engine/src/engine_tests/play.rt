@@ -219,7 +219,11 @@ pub(crate) fn is_budget_kept(
 }
 
 // Puts clauses, each with a 0 behind it, at the end of a list.
-fn push_clauses(alloc: Global, clauses: &mut ClauseList, numbers: &[i32]) -> Result<(), Fail> {
+pub(crate) fn push_clauses(
+    alloc: Global,
+    clauses: &mut ClauseList,
+    numbers: &[i32],
+) -> Result<(), Fail> {
     for lits in rows(alloc, numbers)? {
         clauses.push(lits)?;
     }
@@ -267,7 +271,11 @@ fn is_over(lits: &[i32], var: u64) -> bool {
 }
 
 // The verdict of the plain recursion.
-fn plain_truth(alloc: Global, prefix: Prefix, clauses: ClauseList) -> Result<bool, Fail> {
+pub(crate) fn plain_truth(
+    alloc: Global,
+    prefix: Prefix,
+    clauses: ClauseList,
+) -> Result<bool, Fail> {
     let formula = Formula {
         prefix,
         clauses,

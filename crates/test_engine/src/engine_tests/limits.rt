@@ -1,0 +1,149 @@
+//! Formulas of one to four variables with a scope each, of all quantifiers, and budgets at their limits.
+
+use super::play::{plain_truth, push_clauses, put};
+use engine::{Engine, SolveStop};
+use fixtures::prefix_of;
+use generate::Draws;
+use prefix::Quant;
+use std::alloc::Global;
+use std::test::Fail;
+use steps::Steps;
+use truth::ClauseList;
+
+// So many variables, as many choices of quantifiers, the steps that always suffice, and those that do where a search may
+// begin anew twice.
+const LIMITS: [(u32, u32, u64, u64); 4] = [
+    (1, 2, 64, 192),
+    (2, 4, 192, 576),
+    (3, 8, 512, 1_536),
+    (4, 16, 1_280, 3_840),
+];
+
+// The quantifier of a scope, by the bits of a number.
+fn quant_of(bits: u32, scope: u32) -> Quant {
+    let mut left = bits;
+    for _ in 1..scope {
+        left /= 2;
+    }
+    if left % 2 == 1 {
+        Quant::Forall
+    } else {
+        Quant::Exists
+    }
+}
+
+// A formula: quantifiers of its scopes, each of which has the variable of its number, and clauses, each with a 0 behind
+// it.
+#[derive(Debug, Drop)]
+struct Shape {
+    alloc: Global,
+    quants: Vec<Quant>,
+    clauses: Vec<i32>,
+}
+
+// Puts a clause, with a 0 behind it, at the end of a list: each variable with a sign that is drawn, or left out.
+fn draw_clause(draws: &mut Draws, clauses: &mut Vec<i32>, vars: i32) -> Result<(), Fail> {
+    for var in 1..=vars {
+        match draws.draw(3) {
+            0 => continue,
+            1 => clauses.push(var)?,
+            _ => clauses.push(-var)?,
+        }
+    }
+    Ok(clauses.push(0)?)
+}
+
+impl Shape {
+    fn new(alloc: Global, vars: u32, bits: u32, seed: u32) -> Result<Self, Fail>
+        requires { vars < 5 }
+    {
+        let mut draws = Draws::new(seed);
+        let mut quants = Vec::new(alloc);
+        for scope in 1..=vars {
+            quants.push(quant_of(bits, scope))?;
+        }
+        let mut clauses = Vec::new(alloc);
+        for _ in 0..2 * vars {
+            draw_clause(&mut draws, &mut clauses, vars as i32)?;
+        }
+        Ok(Self {
+            alloc,
+            quants,
+            clauses,
+        })
+    }
+
+    // An engine with the formula.
+    fn engine(&self) -> Result<Engine, Fail> {
+        let mut engine = Engine::new(self.alloc)?;
+        for quant in &self.quants {
+            engine.scope(*quant, None)?;
+            let last = engine.prefix().scopes() as u64;
+            engine.var(last, last)?;
+        }
+        put(self.alloc, &mut engine, &self.clauses)?;
+        Ok(engine)
+    }
+
+    // The verdict of the plain recursion.
+    fn plain(&self) -> Result<bool, Fail> {
+        let mut scopes = Vec::new(self.alloc);
+        for scope in 1..=self.quants.len() {
+            scopes.push(scope as u64)?;
+        }
+        let mut clauses = ClauseList::new(self.alloc);
+        push_clauses(self.alloc, &mut clauses, &self.clauses)?;
+        plain_truth(
+            self.alloc,
+            prefix_of(self.alloc, &self.quants, &scopes)?,
+            clauses,
+        )
+    }
+
+    // Whether a solve finds this truth, or spends its budget, where it is below the limit.
+    fn is_right(&self, truth: bool, restarts: u32, budget: u64, limit: u64) -> Result<bool, Fail> {
+        let mut engine = self.engine()?;
+        engine.set_restarts(restarts);
+        let mut steps = Steps::new(budget);
+        match engine.solve(&mut steps) {
+            Ok(verdict) => Ok(verdict.truth == truth),
+            Err(SolveStop::Spent(_)) => Ok(steps.spent() == budget && budget < limit),
+            Err(SolveStop::NoMemory) => Err("no memory")?,
+        }
+    }
+
+    // Whether it is so with no step, with one, and with one less than the limit and all of it; and where a search may
+    // begin anew twice.
+    fn keeps_limits(&self, once: u64, thrice: u64) -> Result<bool, Fail> {
+        let truth = self.plain()?;
+        for budget in [0, 1, once.saturating_sub(1), once] {
+            if !self.is_right(truth, 0, budget, once)? {
+                return Ok(false);
+            }
+        }
+        self.is_right(truth, 2, thrice, thrice)
+    }
+}
+
+// Whether the formulas of these quantifiers keep the limits.
+fn are_kept(alloc: Global, vars: u32, bits: u32, once: u64, thrice: u64) -> Result<bool, Fail>
+    requires { vars < 5 }
+{
+    for seed in 0..10 {
+        if !Shape::new(alloc, vars, bits, seed)?.keeps_limits(once, thrice)? {
+            return Ok(false);
+        }
+    }
+    Ok(true)
+}
+
+#[test]
+fn limits_are_met_exactly(rt: HostRuntime) -> Result<(), Fail> {
+    for (vars, choices, once, thrice) in LIMITS {
+        for bits in 0..choices {
+            let is_kept = are_kept(rt.alloc(), vars.min(4), bits, once, thrice)?;
+            assert!(rt; is_kept, "{vars} variables, quantifiers {bits}");
+        }
+    }
+    Ok(())
+}
