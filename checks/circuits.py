@@ -132,13 +132,15 @@ class Circuit:
             require(lines.numbers(NUMBER, "input") == [2 * place + 2], f"literal of input {place}")
         self.outputs = [lines.numbers(NUMBER, "output")[0] for _ in range(outputs)]
         require(all(literal <= 2 * top + 1 for literal in self.outputs), "an output that is no edge")
-        self.gates = []
+        self.gates, pairs = [], set()
         for place in range(gates):
             gate, first, second = lines.numbers(f"{NUMBER} {NUMBER} {NUMBER}", "gate")
             require(gate == 2 * (inputs + place + 1), f"literal {gate} of gate {place}")
             require(gate > first >= second, f"order of the literals of gate {gate}")
             require(second > 1, f"a constant edge in gate {gate}")
             require(first // 2 != second // 2, f"equal or opposite edges in gate {gate}")
+            require((first, second) not in pairs, f"gate {gate} stands twice")
+            pairs.add((first, second))
             self.gates.append((gate, first, second))
         self.inputs = [lines.numbers(f"i{place} {NUMBER}", "symbol")[0] for place in range(inputs)]
         self.names = [lines.numbers(f"o{place} {NUMBER}", "symbol")[0] for place in range(outputs)]

@@ -1,49 +1,21 @@
 -- A text denotes one circuit, and a circuit has one text.
 use Rattle.std.proofs.Common.{◌≡◌, ℕ, ◌+◌, ◌*◌, ◌<◌, ◌≤◌, ◌⊎◌, inl, inr, Bool, true, false, ◌&&◌, List, [], ◌∷◌, ◌++◌, length, refl, sym, ap, ap₂, subst, ◌∙◌, arith}
-use Rattle.std.specs.Prelude.{if◌then◌else◌, codes}
+use Rattle.std.specs.Prelude.{codes}
 use Rattle.std.specs.List.{AllZip}
 use Rattle.std.proofs.lemmas.List.Elements.{same_from_all_zip}
 use Rattle.prefix.specs.declared.quant.Quant.{Quant}
 use Rattle.prefix.specs.declared.quant.Quant.TheVariants.{Exists, Forall}
-use Rattle.aig.specs.Circuits.{Circuit, IsEdge, IsGate, IsNode, edge_number, edge_value, gate_value, gate_values, node_number, value_of}
+use Rattle.aig.specs.Circuits.{Circuit, IsEdge, IsGate, edge_number, edge_value, gate_value, gate_values, value_of}
 use Rattle.aig.specs.declared.edge.Edge.{Edge}
-use Rattle.aig.specs.declared.edge.Node.{Node}
-use Rattle.aig.specs.declared.edge.Node.TheVariants.{Constant, Input, Gate}
 use Rattle.aig.specs.declared.edge.And.{And}
 use Rattle.aig.specs.declared.strategy.Output.{Output}
 use Rattle.aig.specs.declared.strategy.Strategy.{Strategy}
+use Rattle.aig.proofs.Numbers.{edge_same}
 use Rattle.aiger_out.specs.Text.{Line, numeral, text_of}
 use Rattle.aiger_out.specs.Aag.{AreLiteralsOf, EachAt, IsAagText, IsGateLine, IsInputLine, IsInputSymbol, IsOutputLine, IsOutputSymbol, comment_lines, header_line, literal_line, symbol_line}
 use Rattle.aiger_out.specs.Theorems.{AreOneGate, HaveOneCircuit}
 use Rattle.aiger_out.proofs.Numerals.{plain_numeral, same_numeral}
 use Rattle.aiger_out.proofs.Reading.{ArePlain, IsPlainLine, each_length, each_line, each_plain, each_zip, plain_append, same_front, same_lines, zip_both}
-
--- literals of edges
-
-node_same : (inputs a b : ℕ) (m n : Node) → IsNode inputs a m → IsNode inputs b n
-    → node_number inputs m ≡ node_number inputs n → m ≡ n
-node_same inputs a b Constant Constant p q e = refl
-node_same inputs a b Constant (Input i) p q e = absurd (omega arith)
-node_same inputs a b Constant (Gate j) p q e = absurd (omega arith)
-node_same inputs a b (Input i) Constant p q e = absurd (omega arith)
-node_same inputs a b (Input i) (Input j) p q e = ap Input (let same : i ≡ j = omega arith in same)
-node_same inputs a b (Input i) (Gate j) p q e = let below : i < inputs = p in absurd (omega arith)
-node_same inputs a b (Gate i) Constant p q e = absurd (omega arith)
-node_same inputs a b (Gate i) (Input j) p q e = let below : j < inputs = q in absurd (omega arith)
-node_same inputs a b (Gate i) (Gate j) p q e = ap Gate (let same : i ≡ j = omega arith in same)
-
-sign_same : (m n : ℕ) (s t : Bool) → 2 * m + (if s then 1 else 0) ≡ 2 * n + (if t then 1 else 0) → (m ≡ n) × (s ≡ t)
-sign_same m n true true e = (omega arith, refl)
-sign_same m n true false e = absurd (omega arith)
-sign_same m n false true e = absurd (omega arith)
-sign_same m n false false e = (omega arith, refl)
-
-edge_same : (inputs a b : ℕ) (e f : Edge) → IsNode inputs a e.node → IsNode inputs b f.node
-    → edge_number inputs e ≡ edge_number inputs f → e ≡ f
-edge_same inputs a b e f p q h =
-    let both = sign_same (node_number inputs e.node) (node_number inputs f.node) e.negated f.negated h in
-    let Make : Node → Bool → Edge = λ node negated. record { node = node; negated = negated } in
-    ap₂ Make (node_same inputs a b e.node f.node p q both.0) both.1
 
 -- things of one line
 

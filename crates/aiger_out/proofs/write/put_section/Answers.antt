@@ -1,4 +1,4 @@
-use Rattle.std.proofs.Common.{◌≤◌, [], suc, length, get_or, sym, arith}
+use Rattle.std.proofs.Common.{◌≤◌, [], suc, length, sym, arith}
 use Rattle.aiger_out.specs.Text.{line_text}
 use Rattle.aiger_out.specs.Written.{section_lines}
 use Rattle.ports.proofs.Pieces.{each_more, each_stops}
