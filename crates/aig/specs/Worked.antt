@@ -86,8 +86,8 @@ pub record WorkedSharing : Type 0 where
   pub greater_given_last : gate_of 2 (input 0) (input 1) ≡ both_gate
   pub greater_given_first : gate_of 2 (input 1) (input 0) ≡ both_gate
   pub found_again : Makes both both (input 0) (input 1) (gate 0)
-  pub not_put_again : Makes both (record { inputs = 2; gates = both_gate ∷ both_gate ∷ [] }) (input 0) (input 1) (gate 1)
-      → ⊥
+  pub not_put_again : Makes both (record { inputs = 2; gates = both_gate ∷ both_gate ∷ [] })
+      (input 0) (input 1) (gate 1) → ⊥
   pub put : Makes both both_and_none (opposite (input 0)) (opposite (input 1)) (gate 1)
   pub not_found : Makes both both (opposite (input 0)) (opposite (input 1)) (gate 0) → ⊥
   pub other_not_found : Makes both_and_none both_and_none (input 0) (input 1) (gate 1) → ⊥
