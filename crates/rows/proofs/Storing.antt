@@ -7,7 +7,7 @@ use Rattle.std.proofs.lemmas.List.Sums.{count_by-le-length}
 use Rattle.prefix.specs.Literal.{Literal}
 use Rattle.rows.specs.declared.places.Place.{Place}
 use Rattle.rows.specs.declared.blocks.Block.{Block}
-use Rattle.rows.specs.Places.{AreSpread, KeepsParts, Reblocks, blocks_of}
+use Rattle.rows.specs.Places.{AreSpread, KeepsParts, Reblocks, blocks_of, most_blocks}
 use Rattle.rows.specs.Blocks.{AreBlocks, LosesBlock, block_at}
 use Rattle.rows.specs.Stored.{AreStored}
 use Rattle.rows.proofs.Parts.{spread_more, spread_reblocked, spread_without}
@@ -28,13 +28,14 @@ live_few size places blocks live room s =
     let n = length-map places (option_map (λ (p : Place). p.block)) in
     omega arith
 
-pub stored_more : (size more : ℕ) (places : List (Option Place)) (blocks : List Block) (live room now : ℕ) → AreStored size places blocks live room → live + 1 ≤ now → AreStored (size + more) (places ++ Some (record { start = size; len = more; block = None }) ∷ []) blocks (live + 1) now
-stored_more size more places blocks live room now s fits =
+pub stored_more : (size more : ℕ) (places : List (Option Place)) (blocks : List Block) (live room now : ℕ) → AreStored size places blocks live room → live + 1 ≤ now → live + 1 ≤ most_blocks → AreStored (size + more) (places ++ Some (record { start = size; len = more; block = None }) ∷ []) blocks (live + 1) now
+stored_more size more places blocks live room now s fits few =
     record {
       spread = spread_more size more places None s.spread;
       blocked = rw (map-append (option_map (λ (p : Place). p.block)) places (Some (record { start = size; len = more; block = None }) ∷ [])) (blocks_more (blocks_of places) blocks s.blocked);
       counted = ap (count_by is_some) (map-append (option_map (λ (p : Place). p.block)) places (Some (record { start = size; len = more; block = None }) ∷ [])) ∙ live_more (blocks_of places) ∙ ap (λ n. n + 1) s.counted;
       room = fits;
+      few = few;
     }
 
 pub stored_less : (size : ℕ) (places new_places : List (Option Place)) (blocks new_blocks : List Block) (live room now id : ℕ) → AreStored size places blocks live room → Reblocks (set places id None) new_places → LosesBlock (blocks_of places) blocks (blocks_of new_places) new_blocks id → count_by is_some (blocks_of new_places) + 1 ≡ count_by is_some (blocks_of places) → now ≡ room → AreStored size new_places new_blocks (live - 1) now
@@ -44,6 +45,7 @@ stored_less size places new_places blocks new_blocks live room now id s same los
       blocked = loses.blocks;
       counted = (let l = s.counted in omega arith);
       room = (let r = s.room in omega arith);
+      few = (let f = s.few in omega arith);
     }
 
 pub stored_linked : (size : ℕ) (places new_places : List (Option Place)) (blocks middle : List Block) (live room now b : ℕ) (links : List (Option ℕ)) → AreStored size places blocks live room → Reblocks places new_places → AreBlocks (blocks_of new_places) middle → count_by is_some (blocks_of new_places) ≡ count_by is_some (blocks_of places) → b < length middle → room ≤ now → AreStored size new_places (set middle b (record { owner = (block_at middle b).owner; links = links })) live now
@@ -53,6 +55,7 @@ stored_linked size places new_places blocks middle live room now b links s same 
       blocked = blocks_written (blocks_of new_places) middle are b links within;
       counted = count ∙ s.counted;
       room = (let r = s.room in omega arith);
+      few = (let f = s.few in omega arith);
     }
 
 pub stored_slid : (size new_size : ℕ) (old new : List Literal) (places new_places : List (Option Place)) (blocks : List Block) (live room : ℕ) → AreStored size places blocks live room → AreSpread new_size new_places → KeepsParts old places new new_places → AreStored new_size new_places blocks live room
@@ -62,11 +65,12 @@ stored_slid size new_size old new places new_places blocks live room s spread ke
       blocked = rw kept.blocks s.blocked;
       counted = ap (count_by is_some) kept.blocks ∙ s.counted;
       room = s.room;
+      few = s.few;
     }
 
-pub stored_put : (lits row new_lits : List Literal) (places new_places : List (Option Place)) (blocks : List Block) (live room now : ℕ) → new_lits ≡ lits ++ row → new_places ≡ places ++ Some (record { start = length lits; len = length row; block = None }) ∷ [] → AreStored (length lits) places blocks live room → live + 1 ≤ now → AreStored (length new_lits) new_places blocks (live + 1) now
-stored_put lits row new_lits places new_places blocks live room now e1 e2 s fits =
+pub stored_put : (lits row new_lits : List Literal) (places new_places : List (Option Place)) (blocks : List Block) (live room now : ℕ) → new_lits ≡ lits ++ row → new_places ≡ places ++ Some (record { start = length lits; len = length row; block = None }) ∷ [] → AreStored (length lits) places blocks live room → live + 1 ≤ now → live + 1 ≤ most_blocks → AreStored (length new_lits) new_places blocks (live + 1) now
+stored_put lits row new_lits places new_places blocks live room now e1 e2 s fits few =
     let size : length new_lits ≡ length lits + length row = ap (λ (ls : List Literal). length ls) e1 ∙ length-append lits row in
     let P : ℕ → Type 0 = λ n. AreStored n new_places blocks (live + 1) now in
     let Q : List (Option Place) → Type 0 = λ ps. AreStored (length lits + length row) ps blocks (live + 1) now in
-    subst P (sym size) (subst Q (sym e2) (stored_more (length lits) (length row) places blocks live room now s fits))
+    subst P (sym size) (subst Q (sym e2) (stored_more (length lits) (length row) places blocks live room now s fits few))

@@ -1,8 +1,29 @@
 -- Where rows stand.
-use Rattle.std.specs.Prelude.{◌≡◌, ℕ, ◌+◌, ◌<◌, ◌≤◌, List, [], length, map, take, drop, Option, None, Some, is_some, slice_index_or}
+use Rattle.std.specs.Prelude.{◌≡◌, ℕ, ◌+◌, ◌<◌, ◌≤◌, ◌==◌, if◌then◌else◌, List, [], length, map, take, drop, Option, None, Some, is_some, slice_index_or}
 use Rattle.std.specs.Option.{option_map}
 use Rattle.prefix.specs.Literal.{Literal}
 use Rattle.rows.specs.declared.places.Place.{Place}
+
+-- how many blocks there may be; this number itself stands for none
+abbrev pub most_blocks : ℕ
+most_blocks = 4294967294
+
+-- the block that a number stands for, if it stands for one
+abbrev pub block_numbered : ℕ → Option ℕ
+block_numbered number = if number == most_blocks then None else Some number
+
+-- the place that three numbers stand for, if they stand for one: the greatest number of a block stands for none
+abbrev pub slot_of : ℕ → ℕ → ℕ → Option Place
+slot_of start len number =
+    if number == 4294967295 then None else Some (record { start = start; len = len; block = block_numbered number })
+
+-- a place from another literal on
+abbrev pub moved_to : ℕ → Place → Place
+moved_to start place = record { start = start; len = place.len; block = place.block }
+
+-- a place with another block, or none
+abbrev pub with_block : Option ℕ → Place → Place
+with_block block place = record { start = place.start; len = place.len; block = block }
 
 -- where the row under an id stands, if it is live
 abbrev pub place_at : List (Option Place) → ℕ → Option Place

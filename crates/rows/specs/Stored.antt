@@ -5,7 +5,7 @@ use Rattle.prefix.specs.Literal.{Literal}
 use Rattle.rows.specs.declared.places.Place.{Place}
 use Rattle.rows.specs.declared.blocks.Block.{Block}
 use Rattle.rows.specs.Arena.{StoredRow, Arena}
-use Rattle.rows.specs.Places.{AreSpread, blocks_of, part}
+use Rattle.rows.specs.Places.{AreSpread, blocks_of, most_blocks, part}
 use Rattle.rows.specs.Blocks.{AreBlocks, links_in}
 
 -- what contracts see of a row
@@ -16,9 +16,10 @@ stored literals blocks place = record { literals = part literals place; links = 
 abbrev pub arena_of : List Literal → List Block → List (Option Place) → Arena
 arena_of literals blocks places = map (option_map (stored literals blocks)) places
 
--- how rows are kept: one behind the other, each with a block of its own or none, with room for a block of each
+-- how rows are kept: one behind the other, each with a block of its own or none, with room and a number for a block of each
 pub record AreStored (size : ℕ) (places : List (Option Place)) (blocks : List Block) (live capacity : ℕ) : Type 0 where
   pub spread : AreSpread size places
   pub blocked : AreBlocks (blocks_of places) blocks
   pub counted : count_by is_some (blocks_of places) ≡ live
   pub room : live ≤ capacity
+  pub few : live ≤ most_blocks

@@ -1,11 +1,12 @@
 //! Blocks of link fields, for the rows that have links.
 ghost use Rattle.std.specs.Prelude.{◌≡◌, ◌≢◌, ℕ, ◌+◌, ◌<◌, ◌≤◌, ◌∷◌, ◌++◌, [], None, Option, Some, IsTrue, is_some, count_by, length, replicate, slice_index_or, slice_set, vec_len, vec_capacity};
 ghost use Rattle.rows.specs.Arena.{set_three};
-ghost use Rattle.rows.specs.Places.{AreSpread, Reblocks, blocks_of, place_at};
+ghost use Rattle.rows.specs.Places.{AreSpread, Reblocks, blocks_of, most_blocks, place_at};
 ghost use Rattle.rows.specs.Blocks.{AreBlocks, LosesBlock, block_at, block_in, has_block, links_in};
 
-use super::places::{Place, place_of, set_block};
+use super::places::{place_of, set_block};
 use super::rows::RowId;
+use super::slots::Slot;
 
 // How many link fields a row has.
 const LINKS: usize = 8;
@@ -100,14 +101,11 @@ pub(crate) fn write_three(blocks: &mut Vec<Block>, block: usize, base: usize, va
 }
 
 // The block of a live row. Where it has none it gets one, for which there is room.
-pub(crate) fn block_for(
-    places: &mut Vec<Option<Place>>,
-    blocks: &mut Vec<Block>,
-    id: RowId,
-) -> usize
+pub(crate) fn block_for(places: &mut Vec<Slot>, blocks: &mut Vec<Block>, id: RowId) -> usize
     requires live { IsTrue (is_some (place_at places.old.items id)) }
     requires blocks { AreBlocks (blocks_of places.old.items) blocks.old.items }
     requires room { count_by is_some (blocks_of places.old.items) ≤ vec_capacity blocks.old }
+    requires few { count_by is_some (blocks_of places.old.items) ≤ most_blocks }
     ensures block { block_in (blocks_of places.new.items) id ≡ Some (Some result) }
     ensures blocks { AreBlocks (blocks_of places.new.items) blocks.new.items }
     ensures same { Reblocks places.old.items places.new.items }
@@ -123,10 +121,11 @@ pub(crate) fn block_for(
 }
 
 // Gives a row that has none a block, for which there is room.
-fn give_block(places: &mut Vec<Option<Place>>, blocks: &mut Vec<Block>, id: RowId) -> usize
+fn give_block(places: &mut Vec<Slot>, blocks: &mut Vec<Block>, id: RowId) -> usize
     requires live { block_in (blocks_of places.old.items) id ≡ Some None }
     requires blocks { AreBlocks (blocks_of places.old.items) blocks.old.items }
     requires room { count_by is_some (blocks_of places.old.items) ≤ vec_capacity blocks.old }
+    requires few { count_by is_some (blocks_of places.old.items) ≤ most_blocks }
     ensures result { result ≡ length blocks.old.items }
     ensures block { blocks_of places.new.items ≡ slice_set (blocks_of places.old.items) id (Some (Some result)) }
     ensures blocks { blocks.new.items ≡ blocks.old.items ++ (record { owner = id; links = replicate 8 None }) ∷ [] }
@@ -144,9 +143,10 @@ fn give_block(places: &mut Vec<Option<Place>>, blocks: &mut Vec<Block>, id: RowI
 }
 
 // Takes a live row out. Where it has a block, the last block comes into its place.
-pub(crate) fn forget(places: &mut Vec<Option<Place>>, blocks: &mut Vec<Block>, id: RowId)
+pub(crate) fn forget(places: &mut Vec<Slot>, blocks: &mut Vec<Block>, id: RowId)
     requires live { IsTrue (is_some (place_at places.old.items id)) }
     requires blocks { AreBlocks (blocks_of places.old.items) blocks.old.items }
+    requires few { count_by is_some (blocks_of places.old.items) ≤ most_blocks }
     ensures loses { LosesBlock (blocks_of places.old.items) blocks.old.items (blocks_of places.new.items)
         blocks.new.items id }
     ensures same { Reblocks (slice_set places.old.items id None) places.new.items }
@@ -154,7 +154,7 @@ pub(crate) fn forget(places: &mut Vec<Option<Place>>, blocks: &mut Vec<Block>, i
     ensures room { vec_capacity blocks.new ≡ vec_capacity blocks.old }
 {
     let place = place_of(places, id);
-    places[id] = None;
+    places[id].clear();
     let Some(block) = place.block else {
         return;
     };

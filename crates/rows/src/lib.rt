@@ -4,6 +4,7 @@
 mod blocks;
 mod places;
 mod rows;
+mod slots;
 
 pub use blocks::ThreeLinks;
 pub use rows::{RowId, Rows};

@@ -3,7 +3,8 @@ ghost use Rattle.std.specs.Prelude.{◌≡◌, ◌↔◌, ◌<◌, ◌+◌, [], 
 ghost use Rattle.rows.specs.Arena.{ChangesAt, ChangesLink, ChangesLinks, next_id, row_at, is_live, literals_at, link_at, new_row, with_row, without_row, with_link, with_links};
 
 use super::blocks::{Block, ThreeLinks, block_for, forget, read, read_three, write, write_three};
-use super::places::{Place, place_of, put, slide};
+use super::places::{place_of, put, slide};
+use super::slots::{Slot, short, within};
 use prefix::Lit;
 use std::alloc::Global;
 use std::marker::Model;
@@ -25,7 +26,7 @@ pub struct Rows {
     // The literals of the rows, in the order of their ids.
     lits: Vec<Lit>,
     // Where the row of each id stands, if it is live.
-    places: Vec<Option<Place>>,
+    places: Vec<Slot>,
     // The link fields of the rows that have had a link, with room for those of all live rows.
     blocks: Vec<Block>,
     // How many rows are live.
@@ -70,7 +71,10 @@ impl Rows {
     pub fn is_live(&self, id: RowId) -> bool
         ensures { result ≡ is_live self.now id }
     {
-        matches!(self.places.get(id), Some(Some(_)))
+        match self.places.get(id) {
+            Some(slot) => slot.is_live(),
+            None => false,
+        }
     }
 
     /// The literals of a live row, in the order in which they came.
@@ -135,10 +139,12 @@ impl Rows {
         ensures err { OnErr result (self.new ≡ self.old) }
     {
         let id = self.places.len();
+        let len = short(lits.len())?;
+        within(self.live, 1)?;
         self.places.reserve(1)?;
         self.blocks.reserve(self.live + 1 - self.blocks.len())?;
         self.lits.reserve(lits.len())?;
-        put(&mut self.lits, &mut self.places, lits);
+        put(&mut self.lits, &mut self.places, lits, len);
         self.live += 1;
         Ok(id)
     }
@@ -150,11 +156,13 @@ impl Rows {
         ensures err { OnErr result (self.new ≡ self.old) }
     {
         let id = self.places.len();
+        let lens = (short(first.len())?, short(second.len())?);
+        within(self.live, 2)?;
         self.places.reserve(2)?;
         self.blocks.reserve(self.live + 2 - self.blocks.len())?;
         self.lits.reserve(first.len() + second.len())?;
-        put(&mut self.lits, &mut self.places, first);
-        put(&mut self.lits, &mut self.places, second);
+        put(&mut self.lits, &mut self.places, first, lens.0);
+        put(&mut self.lits, &mut self.places, second, lens.1);
         self.live += 2;
         Ok((id, id + 1))
     }

@@ -6,14 +6,14 @@ use Rattle.rows.specs.declared.places.Place.{Place}
 use Rattle.rows.specs.declared.blocks.Block.{Block}
 use Rattle.rows.specs.Places.{blocks_of}
 use Rattle.rows.specs.Blocks.{LosesBlock, block_at, block_in, no_block}
-use Rattle.rows.proofs.Blocking.{block_there, live_block, live_less, live_swapped, loses_last, loses_none, loses_swapped, owner_row, owner_differs}
+use Rattle.rows.proofs.Blocking.{block_there, count_le, live_block, live_less, live_swapped, loses_last, loses_none, loses_swapped, owner_row, owner_differs}
 use Rattle.rows.proofs.blocks.forget.Goals as goal
 
 abbrev Rows : Type 0
 Rows = List (Option (Option ℕ))
 
-gone : (places : List (Option Place)) (id : ℕ) → blocks_of (set places id None) ≡ set (blocks_of places) id None
-gone places id = map-set (option_map (λ (p : Place). p.block)) places id None
+gone : (places : List (Option Place)) (id : ℕ) (o : Option Place) → o ≡ None → blocks_of (set places id o) ≡ set (blocks_of places) id None
+gone places id o e = map-set (option_map (λ (p : Place). p.block)) places id o ∙ ap (λ (q : Option Place). set (blocks_of places) id (option_map (λ (p : Place). p.block) q)) e
 
 pub returns-in_default-clause-loses : goal.returns-in_default-clause-loses
 returns-in_default-clause-loses c =
@@ -22,14 +22,14 @@ returns-in_default-clause-loses c =
     let none : c.place_of-place.result.block ≡ None = c.in_default.is in
     let there : block_in (blocks_of places) c.args.id ≡ Some None = block_there places c.args.id c.place_of-place.result c.place_of-place.ensures ∙ ap Some none in
     let P : Rows → Type 0 = λ rows. LosesBlock (blocks_of places) blocks rows blocks c.args.id in
-    subst P (sym (gone places c.args.id)) (loses_none (blocks_of places) blocks c.args.id c.requires.blocks there)
+    subst P (sym (gone places c.args.id c.clear.new.self c.clear.ensures)) (loses_none (blocks_of places) blocks c.args.id c.requires.blocks there)
 
 pub returns-in_default-clause-live : goal.returns-in_default-clause-live
 returns-in_default-clause-live c =
     let places = c.args.places.now.items in
     let none : c.place_of-place.result.block ≡ None = c.in_default.is in
     let there : block_in (blocks_of places) c.args.id ≡ Some None = block_there places c.args.id c.place_of-place.result c.place_of-place.ensures ∙ ap Some none in
-    ap (λ (rows : Rows). count_by is_some rows + 1) (gone places c.args.id) ∙ live_less (blocks_of places) c.args.id None there
+    ap (λ (rows : Rows). count_by is_some rows + 1) (gone places c.args.id c.clear.new.self c.clear.ensures) ∙ live_less (blocks_of places) c.args.id None there
 
 pub swap_remove-requires : goal.swap_remove-requires
 swap_remove-requires c =
@@ -60,7 +60,13 @@ set_block-requires c =
     let owner_is : c.index.result.now.owner ≡ (block_at blocks (length blocks - 1)).owner = ap (λ (k : Block). k.owner) (at ∙ moved more) in
     let row = owner_row (blocks_of places) blocks c.requires.blocks c.args.id b there new short moved others more c.index.result.now.owner owner_is in
     let apart = owner_differs (blocks_of places) blocks c.requires.blocks c.args.id b there new short moved others more c.index.result.now.owner owner_is in
-    ap is_some (get_or-set_other places c.args.id c.index.result.now.owner None None apart) ∙ live_block places c.index.result.now.owner (Some (length blocks - 1)) row
+    let count = c.requires.blocks.counted in
+    let le = count_le (blocks_of places) in
+    let few = c.requires.few in
+    record {
+      live = ap is_some (get_or-set_other places c.args.id c.index.result.now.owner c.clear.new.self None apart) ∙ live_block places c.index.result.now.owner (Some (length blocks - 1)) row;
+      fits = omega arith;
+    }
 
 pub returns-then-block-len-clause-loses : goal.returns-then-block-len-clause-loses
 returns-then-block-len-clause-loses c =
@@ -81,7 +87,7 @@ returns-then-block-len-clause-loses c =
     let others : (k : ℕ) → k ≢ b → k + 1 < length blocks → block_at new k ≡ block_at blocks k = λ k differs h. c.swap_remove.ensures.by_index.1 k no_block differs (omega arith) in
     let at : c.index.result.now ≡ block_at new b = c.index.ensures ∙ get_or_default new b c.index.result.now no_block low in
     let owner_is : c.index.result.now.owner ≡ (block_at blocks (length blocks - 1)).owner = ap (λ (k : Block). k.owner) (at ∙ moved more) in
-    let rows_are : blocks_of c.set_block.new.places.items ≡ set (set (blocks_of places) c.args.id None) c.index.result.now.owner (Some (Some b)) = c.set_block.ensures.blocks ∙ ap (λ (rows : Rows). set rows c.index.result.now.owner (Some (Some b))) (gone places c.args.id) in
+    let rows_are : blocks_of c.set_block.new.places.items ≡ set (set (blocks_of places) c.args.id None) c.index.result.now.owner (Some (Some b)) = c.set_block.ensures.blocks ∙ ap (λ (rows : Rows). set rows c.index.result.now.owner (Some (Some b))) (gone places c.args.id c.clear.new.self c.clear.ensures) in
     let P : Rows → Type 0 = λ rows. LosesBlock (blocks_of places) blocks rows new c.args.id in
     subst P (sym rows_are) (loses_swapped (blocks_of places) blocks c.requires.blocks c.args.id b there new short moved others more c.index.result.now.owner owner_is)
 
@@ -104,7 +110,7 @@ returns-then-block-len-clause-live c =
     let others : (k : ℕ) → k ≢ b → k + 1 < length blocks → block_at new k ≡ block_at blocks k = λ k differs h. c.swap_remove.ensures.by_index.1 k no_block differs (omega arith) in
     let at : c.index.result.now ≡ block_at new b = c.index.ensures ∙ get_or_default new b c.index.result.now no_block low in
     let owner_is : c.index.result.now.owner ≡ (block_at blocks (length blocks - 1)).owner = ap (λ (k : Block). k.owner) (at ∙ moved more) in
-    let rows_are : blocks_of c.set_block.new.places.items ≡ set (set (blocks_of places) c.args.id None) c.index.result.now.owner (Some (Some b)) = c.set_block.ensures.blocks ∙ ap (λ (rows : Rows). set rows c.index.result.now.owner (Some (Some b))) (gone places c.args.id) in
+    let rows_are : blocks_of c.set_block.new.places.items ≡ set (set (blocks_of places) c.args.id None) c.index.result.now.owner (Some (Some b)) = c.set_block.ensures.blocks ∙ ap (λ (rows : Rows). set rows c.index.result.now.owner (Some (Some b))) (gone places c.args.id c.clear.new.self c.clear.ensures) in
     ap (λ (rows : Rows). count_by is_some rows + 1) rows_are
     ∙ ap (λ n. n + 1) (live_swapped (blocks_of places) blocks c.requires.blocks c.args.id b there new short moved others more c.index.result.now.owner owner_is)
     ∙ live_less (blocks_of places) c.args.id (Some b) there
@@ -126,10 +132,10 @@ returns-else-block-len-clause-loses c =
     let moved : b + 1 < length blocks → block_at new b ≡ block_at blocks (length blocks - 1) = λ h. absurd (omega arith) in
     let others : (k : ℕ) → k ≢ b → k + 1 < length blocks → block_at new k ≡ block_at blocks k = λ k differs h. c.swap_remove.ensures.by_index.1 k no_block differs (omega arith) in
     let P : Rows → Type 0 = λ rows. LosesBlock (blocks_of places) blocks rows new c.args.id in
-    subst P (sym (gone places c.args.id)) (loses_last (blocks_of places) blocks c.requires.blocks c.args.id b there new short moved others last)
+    subst P (sym (gone places c.args.id c.clear.new.self c.clear.ensures)) (loses_last (blocks_of places) blocks c.requires.blocks c.args.id b there new short moved others last)
 
 pub returns-else-block-len-clause-live : goal.returns-else-block-len-clause-live
 returns-else-block-len-clause-live c =
     let places = c.args.places.now.items in
     let there : block_in (blocks_of places) c.args.id ≡ Some (Some c.in-Some.block) = block_there places c.args.id c.place_of-place.result c.place_of-place.ensures ∙ ap Some c.in-Some.is in
-    ap (λ (rows : Rows). count_by is_some rows + 1) (gone places c.args.id) ∙ live_less (blocks_of places) c.args.id (Some c.in-Some.block) there
+    ap (λ (rows : Rows). count_by is_some rows + 1) (gone places c.args.id c.clear.new.self c.clear.ensures) ∙ live_less (blocks_of places) c.args.id (Some c.in-Some.block) there

@@ -13,3 +13,12 @@ returns-clause-blocks c =
     let len = c.args.blocks.now.ok.0 in
     let has : vec_len c.args.blocks.now < vec_capacity c.args.blocks.now = omega arith in
     c.push.ensures.items ∙ cond-true _ _ _ (c.push.ensures.succeeds has)
+
+pub set_block-requires-clause-fits : goal.set_block-requires-clause-fits
+set_block-requires-clause-fits c =
+    let fewer = count_less (blocks_of c.args.places.now.items) c.args.id c.requires.live in
+    let count = c.requires.blocks.counted in
+    let few = c.requires.few in
+    let is = c.len-block.ensures in
+    let len = c.args.blocks.now.ok.0 in
+    omega arith

@@ -33,7 +33,7 @@ invariant_of-self-2 c =
     let fits : c.self.inside.live + 1 ≤ vec_capacity c.reserve-2.new.self = omega arith in
     let P : List Block → Type 0 = λ bs. AreStored (length c.put.new.all.items) c.put.new.places.items bs (c.self.inside.live + 1) (vec_capacity c.reserve-2.new.self) in
     subst P (sym c.reserve-2.ensures.items)
-    (stored_put lits row c.put.new.all.items places c.put.new.places.items c.self.inside.blocks.items c.self.inside.live (vec_capacity c.self.inside.blocks) (vec_capacity c.reserve-2.new.self) e1 e2 c.self.invariant fits)
+    (stored_put lits row c.put.new.all.items places c.put.new.places.items c.self.inside.blocks.items c.self.inside.live (vec_capacity c.self.inside.blocks) (vec_capacity c.reserve-2.new.self) e1 e2 c.self.invariant fits c.in_ok-within.ensures)
 
 pub returns-clause-arena : goal.returns-clause-arena
 returns-clause-arena c =

@@ -4,6 +4,7 @@ use Rattle.prefix.specs.Literal.{Literal}
 use Rattle.rows.specs.declared.places.Place.{Place}
 use Rattle.rows.specs.declared.blocks.Block.{Block}
 use Rattle.rows.specs.Arena.{Arena, with_row}
+use Rattle.rows.specs.Places.{most_blocks}
 use Rattle.rows.specs.Stored.{AreStored, arena_of}
 use Rattle.rows.proofs.Arenas.{arena_put}
 use Rattle.rows.proofs.Storing.{blocks_few, stored_put}
@@ -30,10 +31,13 @@ invariant_of-self-2 c =
     let same = c.reserve-2.ensures.len in
     let room = c.in_ok-reserve-2.ensures.ok in
     let fits : (c.self.inside.live + 1) + 1 ≤ vec_capacity c.reserve-2.new.self = omega arith in
+    let most = c.in_ok-within.ensures in
+    let few_one : c.self.inside.live + 1 ≤ most_blocks = omega arith in
+    let few_two : (c.self.inside.live + 1) + 1 ≤ most_blocks = omega arith in
     let fits_one : c.self.inside.live + 1 ≤ vec_capacity c.reserve-2.new.self = omega arith in
     let two : (c.self.inside.live + 1) + 1 ≡ c.self.inside.live + 2 = omega arith in
-    let one = stored_put lits first c.put.new.all.items places c.put.new.places.items c.self.inside.blocks.items c.self.inside.live (vec_capacity c.self.inside.blocks) (vec_capacity c.reserve-2.new.self) e1 e2 c.self.invariant fits_one in
-    let both = stored_put c.put.new.all.items second c.put-2.new.all.items c.put.new.places.items c.put-2.new.places.items c.self.inside.blocks.items (c.self.inside.live + 1) (vec_capacity c.reserve-2.new.self) (vec_capacity c.reserve-2.new.self) c.put-2.ensures.lits c.put-2.ensures.places one fits in
+    let one = stored_put lits first c.put.new.all.items places c.put.new.places.items c.self.inside.blocks.items c.self.inside.live (vec_capacity c.self.inside.blocks) (vec_capacity c.reserve-2.new.self) e1 e2 c.self.invariant fits_one few_one in
+    let both = stored_put c.put.new.all.items second c.put-2.new.all.items c.put.new.places.items c.put-2.new.places.items c.self.inside.blocks.items (c.self.inside.live + 1) (vec_capacity c.reserve-2.new.self) (vec_capacity c.reserve-2.new.self) c.put-2.ensures.lits c.put-2.ensures.places one fits few_two in
     let P : List Block → Type 0 = λ bs. AreStored (length c.put-2.new.all.items) c.put-2.new.places.items bs ((c.self.inside.live + 1) + 1) (vec_capacity c.reserve-2.new.self) in
     let Q : ℕ → Type 0 = λ n. AreStored (length c.put-2.new.all.items) c.put-2.new.places.items c.reserve-2.new.self.items n (vec_capacity c.reserve-2.new.self) in
     subst Q two (subst P (sym c.reserve-2.ensures.items) both)
@@ -52,8 +56,11 @@ returns-clause-arena c =
     let ok = c.self.inside.blocks.ok.0 in
     let same = c.reserve-2.ensures.len in
     let room = c.in_ok-reserve-2.ensures.ok in
+    let most = c.in_ok-within.ensures in
+    let few_one : c.self.inside.live + 1 ≤ most_blocks = omega arith in
+    let few_two : (c.self.inside.live + 1) + 1 ≤ most_blocks = omega arith in
     let fits_one : c.self.inside.live + 1 ≤ vec_capacity c.reserve-2.new.self = omega arith in
-    let one = stored_put lits first c.put.new.all.items places c.put.new.places.items blocks c.self.inside.live (vec_capacity c.self.inside.blocks) (vec_capacity c.reserve-2.new.self) e1 e2 c.self.invariant fits_one in
+    let one = stored_put lits first c.put.new.all.items places c.put.new.places.items blocks c.self.inside.live (vec_capacity c.self.inside.blocks) (vec_capacity c.reserve-2.new.self) e1 e2 c.self.invariant fits_one few_one in
     ap (λ (bs : List Block). arena_of c.put-2.new.all.items bs c.put-2.new.places.items) c.reserve-2.ensures.items
     ∙ arena_put c.put.new.all.items second c.put-2.new.all.items blocks c.put.new.places.items c.put-2.new.places.items c.put-2.ensures.lits c.put-2.ensures.places one.spread
     ∙ ap (λ (a : Arena). with_row a second) (arena_put lits first c.put.new.all.items blocks places c.put.new.places.items e1 e2 c.self.invariant.spread ∙ ap (λ (a : Arena). with_row a first) c.self.view_is)
