@@ -44,6 +44,7 @@ impl Block {
 }
 
 // Reads a link field of a row with this block, if it has one.
+#[inline]
 pub(crate) fn read(blocks: &Vec<Block>, block: Option<usize>, k: usize) -> Option<usize>
     requires field { k < 8 }
     requires block { (b : ℕ) → block ≡ Some b → b < length blocks.now.items }
@@ -56,6 +57,7 @@ pub(crate) fn read(blocks: &Vec<Block>, block: Option<usize>, k: usize) -> Optio
 }
 
 // Reads three link fields of a row with this block, if it has one.
+#[inline]
 pub(crate) fn read_three(blocks: &Vec<Block>, block: Option<usize>, base: usize) -> ThreeLinks
     requires fields { base + 2 < 8 }
     requires block { (b : ℕ) → block ≡ Some b → b < length blocks.now.items }
@@ -73,6 +75,7 @@ pub(crate) fn read_three(blocks: &Vec<Block>, block: Option<usize>, base: usize)
 }
 
 // Writes a link field of a block.
+#[inline]
 pub(crate) fn write(blocks: &mut Vec<Block>, block: usize, k: usize, value: Option<usize>)
     requires field { k < 8 }
     requires block { block < length blocks.old.items }
@@ -87,6 +90,7 @@ pub(crate) fn write(blocks: &mut Vec<Block>, block: usize, k: usize, value: Opti
 }
 
 // Writes three link fields of a block.
+#[inline]
 pub(crate) fn write_three(blocks: &mut Vec<Block>, block: usize, base: usize, values: ThreeLinks)
     requires fields { base + 2 < 8 }
     requires block { block < length blocks.old.items }
@@ -101,6 +105,7 @@ pub(crate) fn write_three(blocks: &mut Vec<Block>, block: usize, base: usize, va
 }
 
 // The block of a live row. Where it has none it gets one, for which there is room.
+#[inline]
 pub(crate) fn block_for(places: &mut Vec<Slot>, blocks: &mut Vec<Block>, id: RowId) -> usize
     requires live { IsTrue (is_some (place_at places.old.items id)) }
     requires blocks { AreBlocks (blocks_of places.old.items) blocks.old.items }
@@ -121,6 +126,7 @@ pub(crate) fn block_for(places: &mut Vec<Slot>, blocks: &mut Vec<Block>, id: Row
 }
 
 // Gives a row that has none a block, for which there is room.
+#[cold]
 fn give_block(places: &mut Vec<Slot>, blocks: &mut Vec<Block>, id: RowId) -> usize
     requires live { block_in (blocks_of places.old.items) id ≡ Some None }
     requires blocks { AreBlocks (blocks_of places.old.items) blocks.old.items }

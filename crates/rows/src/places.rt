@@ -15,6 +15,7 @@ pub(crate) struct Place {
 }
 
 // The place of a live row.
+#[inline]
 pub(crate) fn place_of(places: &Vec<Slot>, id: RowId) -> Place
     requires { IsTrue (is_some (place_at places.now.items id)) }
     ensures { place_at places.now.items id ≡ Some result }

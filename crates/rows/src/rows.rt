@@ -78,6 +78,7 @@ impl Rows {
     }
 
     /// The literals of a live row, in the order in which they came.
+    #[inline]
     pub fn lits(&self, id: RowId) -> &[Lit]
         requires { IsTrue (is_live self.now id) }
         ensures { result.now ≡ literals_at self.now id }
@@ -87,6 +88,7 @@ impl Rows {
     }
 
     /// A link field of a live row.
+    #[inline]
     pub fn link(&self, id: RowId, k: usize) -> Option<usize>
         requires live { IsTrue (is_live self.now id) }
         requires field { k < 8 }
@@ -96,6 +98,7 @@ impl Rows {
     }
 
     /// Three link fields of a live row, that of a number and the two behind it.
+    #[inline]
     pub fn links_from(&self, id: RowId, base: usize) -> ThreeLinks
         requires live { IsTrue (is_live self.now id) }
         requires fields { base + 2 < 8 }
@@ -107,6 +110,7 @@ impl Rows {
     }
 
     /// Writes a link field of a live row, and changes nothing else.
+    #[inline]
     pub fn set_link(&mut self, id: RowId, k: usize, value: Option<usize>)
         requires live { IsTrue (is_live self.old id) }
         requires field { k < 8 }
@@ -119,6 +123,7 @@ impl Rows {
     }
 
     /// Writes three link fields of a live row, that of a number and the two behind it, and changes nothing else.
+    #[inline]
     pub fn set_links(&mut self, id: RowId, base: usize, values: ThreeLinks)
         requires live { IsTrue (is_live self.old id) }
         requires fields { base + 2 < 8 }

@@ -36,6 +36,7 @@ impl Model for Slot {
 }
 
 // The block that a number stands for, if it stands for one.
+#[inline]
 fn block_of(number: u32) -> Option<usize>
     ensures { result ≡ block_numbered number }
 {
@@ -89,6 +90,7 @@ impl Slot {
     }
 
     // Whether the row is live.
+    #[inline]
     pub(crate) fn is_live(&self) -> bool
         ensures { result ≡ is_some self.now }
     {
@@ -96,6 +98,7 @@ impl Slot {
     }
 
     // The place of the row, if it is live.
+    #[inline]
     pub(crate) fn place(&self) -> Option<Place>
         ensures { result ≡ self.now }
     {
