@@ -1,7 +1,11 @@
 #!/usr/bin/env python3
 """Writes families of quantified Boolean formulas as QDIMACS 1.1, each file named FAMILY-SIZE.qdimacs.
 
-usage: families.py FOLDER
+usage: families.py FOLDER [KIND]
+
+KIND is small, which it is without one: twelve families of formulas that take a second or so; or large: families of
+larger formulas, some of which no solver here decides within a minute. The same formulas come each time: what is drawn
+is drawn from seeds.
 """
 
 import itertools
@@ -41,6 +45,18 @@ class Formula:
         """out is true where exactly one of a and b is."""
         for p, q in itertools.product((1, -1), repeat=2):
             self.add(-p * a, -q * b, out if p != q else -out)
+
+    def both(self, out, a, b):
+        """out is true where a and b are."""
+        self.add(-out, a)
+        self.add(-out, b)
+        self.add(out, -a, -b)
+
+    def most(self, out, a, b, c):
+        """out has the value that at least two of a, b and c have."""
+        for p, q in itertools.combinations((a, b, c), 2):
+            self.add(out, -p, -q)
+            self.add(-out, p, q)
 
     def text(self):
         lines = [f"p cnf {self.variables} {len(self.clauses)}"]
@@ -194,7 +210,164 @@ def pursuit(nodes, rounds, apart):
     return f
 
 
-def families():
+def random_3sat(seed, variables, ratio):
+    """Clauses of three existential literals: about 4.26 a variable is where true and false meet."""
+    draw = random.Random(seed)
+    f = Formula()
+    all_of_them = f.scope("e", variables)
+    for _ in range(int(ratio * variables)):
+        f.add(*[v if draw.random() < 0.5 else -v for v in draw.sample(all_of_them, 3)])
+    return f
+
+
+def chain(length, ends):
+    """Variables each of which implies the next, and the first one: false where the last one is excluded."""
+    f = Formula()
+    links = f.scope("e", length)
+    f.add(links[0])
+    for one, other in zip(links, links[1:]):
+        f.add(-one, other)
+    if ends:
+        f.add(-links[-1])
+    return f
+
+
+def full_adder(f, a, b, c):
+    """The sum and the carry of three bits."""
+    half, total, carry = f.scope("e", 3)
+    f.exclusive(half, a, b)
+    f.exclusive(total, half, c)
+    f.most(carry, a, b, c)
+    return total, carry
+
+
+def half_adder(f, a, b):
+    """The sum and the carry of two bits."""
+    total, carry = f.scope("e", 2)
+    f.exclusive(total, a, b)
+    f.both(carry, a, b)
+    return total, carry
+
+
+def ripple_sum(f, xs, ys):
+    """The bits of a sum, from the lowest on, with a carry from each bit to the next."""
+    total, carry = half_adder(f, xs[0], ys[0])
+    bits = [total]
+    for x, y in zip(xs[1:], ys[1:]):
+        total, carry = full_adder(f, x, y, carry)
+        bits.append(total)
+    return [*bits, carry]
+
+
+def prefix_sum(f, xs, ys):
+    """The same bits, with carries of twice as many bits in each layer."""
+    halves = [half_adder(f, x, y) for x, y in zip(xs, ys)]
+    made = [carry for _, carry in halves]
+    passed = [half for half, _ in halves]
+    step = 1
+    while step < len(xs):
+        made_before, passed_before = list(made), list(passed)
+        for i in range(step, len(xs)):
+            comes, made[i], passed[i] = f.scope("e", 3)
+            f.both(comes, passed_before[i], made_before[i - step])
+            f.both(-made[i], -made_before[i], -comes)
+            f.both(passed[i], passed_before[i], passed_before[i - step])
+        step *= 2
+    bits = [halves[0][0]]
+    for (half, _), carry in zip(halves[1:], made):
+        [total] = f.scope("e", 1)
+        f.exclusive(total, half, carry)
+        bits.append(total)
+    return [*bits, made[-1]]
+
+
+def adders(width):
+    """Whether two circuits that add numbers of so many bits ever differ: false."""
+    f = Formula()
+    xs, ys = f.scope("e", width), f.scope("e", width)
+    one, other = ripple_sum(f, xs, ys), prefix_sum(f, xs, ys)
+    differs = f.scope("e", width + 1)
+    for out, a, b in zip(differs, one, other):
+        f.exclusive(out, a, b)
+    f.add(*differs)
+    return f
+
+
+def prime(draw, bits):
+    """A drawn prime of so many bits."""
+    while True:
+        n = draw.randrange(1 << (bits - 1), 1 << bits)
+        if all(n % d for d in range(2, int(n**0.5) + 1)):
+            return n
+
+
+def factoring(seed, bits, splits):
+    """Whether a number has two factors of so many bits above 1: a drawn product of two primes, or a drawn prime."""
+    draw = random.Random(seed)
+    product = prime(draw, bits) * prime(draw, bits) if splits else prime(draw, 2 * bits)
+    f = Formula()
+    xs, ys = f.scope("e", bits), f.scope("e", bits)
+    f.add(*xs[1:])
+    f.add(*ys[1:])
+    columns = [[] for _ in range(2 * bits + 1)]
+    for (i, x), (j, y) in itertools.product(enumerate(xs), enumerate(ys)):
+        [part] = f.scope("e", 1)
+        f.both(part, x, y)
+        columns[i + j].append(part)
+    for place in range(2 * bits):
+        column = columns[place]
+        while len(column) > 1:
+            adder = full_adder if len(column) > 2 else half_adder
+            total, carry = adder(f, *[column.pop() for _ in range(min(len(column), 3))])
+            column.insert(0, total)
+            columns[place + 1].append(carry)
+        for bit in column:
+            f.add(bit if product >> place & 1 else -bit)
+    for bit in columns[2 * bits]:
+        f.add(-bit)
+    return f
+
+
+def conformant(seed, bits, steps):
+    """Whether some plan of two actions leads a drawn machine from each of its 2 ^ bits states to state 0."""
+    draw = random.Random(seed)
+    states = range(1 << bits)
+    moves = [[draw.randrange(len(states)) for _ in states] for _ in range(2)]
+    f = Formula()
+    plan, start = f.scope("e", steps), f.scope("a", bits)
+    now = f.scope("e", len(states))
+    for state in states:
+        f.add(now[state], *[-v if state >> i & 1 else v for i, v in enumerate(start)])
+    for action in plan:
+        then = f.scope("e", len(states))
+        for state in states:
+            f.add(-now[state], action, then[moves[0][state]])
+            f.add(-now[state], -action, then[moves[1][state]])
+        now = then
+    for state in states[1:]:
+        f.add(-now[state])
+    return f
+
+
+def counter(bits, steps, target):
+    """Whether inputs lead a counter of so many bits from each state to the target in so many steps, each up or not."""
+    f = Formula()
+    now, ups = f.scope("a", bits), f.scope("e", steps)
+    for up in ups:
+        then, carry = f.scope("e", bits), up
+        for i in range(bits):
+            f.exclusive(then[i], now[i], carry)
+            if i + 1 < bits:
+                [more] = f.scope("e", 1)
+                f.both(more, now[i], carry)
+                carry = more
+        now = then
+    for i in range(bits):
+        f.add(now[i] if target >> i & 1 else -now[i])
+    return f
+
+
+def small():
     for n in range(4, 10):
         yield "pigeons", n, pigeons(n)
     for t in range(4, 16, 2):
@@ -219,10 +392,35 @@ def families():
             yield "pursuit", 100 * nodes + 10 * rounds + apart, pursuit(nodes, rounds, apart)
 
 
+def large():
+    for variables, seed in itertools.product((150, 175, 200, 225, 250), range(4)):
+        yield "random_3sat_at_threshold", 10 * variables + seed, random_3sat(seed, variables, 4.26)
+    for seed in range(4):
+        yield "random_3sat_below", seed, random_3sat(seed, 5000, 3.0)
+    for width in (4, 6, 8, 12, 16):
+        yield "adders", width, adders(width)
+    for bits, seed in itertools.product((6, 8, 10), range(2)):
+        yield "factoring", 10 * bits + seed, factoring(seed, bits, True)
+        yield "factoring_prime", 10 * bits + seed, factoring(seed, bits, False)
+    for bits, steps, seed in itertools.product((3, 4), (2, 3), range(3)):
+        yield "conformant", 100 * bits + 10 * steps + seed, conformant(seed, bits, steps * bits)
+    for bits in (3, 4, 5, 6):
+        yield "counter_reached", bits, counter(bits, (1 << bits) - 1, 0)
+        yield "counter_missed", bits, counter(bits, (1 << bits) - 2, 0)
+    for scopes, size, ratio in ((2, 80, 2.0), (2, 160, 2.0), (3, 60, 2.0), (3, 120, 2.0)):
+        for seed in range(4):
+            yield f"drawn_{scopes}_scopes_larger", 10 * size + seed, drawn(seed, scopes, size, ratio)
+    yield "chain", 100_000, chain(100_000, False)
+    yield "chain_ended", 100_000, chain(100_000, True)
+
+
+KINDS = {"small": small, "large": large}
+
+
 def main():
     folder = Path(sys.argv[1])
     folder.mkdir(parents=True, exist_ok=True)
-    for family, size, formula in families():
+    for family, size, formula in KINDS[sys.argv[2] if len(sys.argv) > 2 else "small"]():
         (folder / f"{family}-{size}.qdimacs").write_text(formula.text())
 
 
