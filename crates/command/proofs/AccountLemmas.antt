@@ -8,13 +8,17 @@ use Rattle.clap.specs.Words.{App, HasMatchesOf, IsAmong, HasKind, Row, Text, fau
 use Rattle.clap.specs.declared.Error.{Error}
 use Rattle.clap.specs.declared.ArgMatches.{ArgMatches}
 use Rattle.clap.specs.declared.error.ErrorKind.TheVariants.{OutOfMemory}
+use Rattle.clap.specs.Walk.{rows_after}
 use Rattle.clap.proofs.OnLiterals.{clap_on_literals}
-use Rattle.command.specs.Account.{AreInput, AreValues, IsFoundAs, has_dashes, is_set, qbf_app}
-use Rattle.command.specs.Forms.{AreAlike, Asks, AsksInput, Explains, GivesInput, budget_of, name_of, numbers_of, qdo_of, word_of}
+use Rattle.command.specs.Account.{AreInput, AreValues, IsFoundAs, IsSet, has_dashes, is_set, qbf_app}
+use Rattle.command.specs.Forms.{AreAlike, Asks, AsksInput, Explains, GivesInput, Setting, budget_of, name_of, numbers_of, qdo_of, restarts_of, word_of}
+use Rattle.command.specs.Forms.Setting.{the_budget, the_restarts}
 use Rattle.command.specs.declared.command.Command.{Command}
 use Rattle.command.specs.declared.command.Command.TheVariants.{Cert, Demo, Gen, Script, Solve, Trace}
 use Rattle.command.specs.declared.refused.Refused.{Refused}
 use Rattle.command.specs.declared.refused.Refused.TheVariants.{Usage, NoMemory}
+use Rattle.command.proofs.InputForms.{setting_small}
+use Rattle.command.proofs.InputWords.{solve_rules}
 use Rattle.command.proofs.Calls.{asked, called, calls, is_solve_input, qdo_is, told}
 
 pub is_plain_command : is_simple_and_free qbf_app ≡ true
@@ -36,18 +40,24 @@ account_of a words m is fault matches = (
 
 -- ---- words ask for one command at most
 
-pub one_input : (words : List Text) (v w : Text) (m n : ℕ) (q r : Bool) (g h : Option Text) → AsksInput v words m q g
-    → AsksInput w words n r h → (v ≡ w) × (m ≡ n) × (q ≡ r) × (g ≡ h)
-one_input words v w m n q r g h a b =
+-- an option has one number at most
+one_number : (s : Setting) (rows : List Row) (m n : ℕ) → IsSet s rows m → IsSet s rows n → m ≡ n
+one_number s rows m n x y =
+    let text : decimal m ≡ decimal n = ap (λ o. unwrap_or o []) (sym x.0 ∙ y.0) in
+    decimal_injective m n (setting_small s m x.1.1) (setting_small s n y.1.1) text
+
+pub one_input : (words : List Text) (v w : Text) (m n j k : ℕ) (q r : Bool) (g h : Option Text)
+    → AsksInput v words m j q g → AsksInput w words n k r h → (v ≡ w) × (m ≡ n) × (j ≡ k) × (q ≡ r) × (g ≡ h)
+one_input words v w m n j k q r g h a b =
     let both : a.0 ∷ v ∷ a.1 ≡ b.0 ∷ w ∷ b.1 = sym a.2 ∙ b.2 in
     let word : v ≡ w = cc in
     let same : a.1 ≡ b.1 = cc in
-    let x = is_solve_input b.1 m q g (subst (λ (ws : List Text). GivesInput ws m q g) same a.3) in
-    let y = is_solve_input b.1 n r h b.3 in
-    let budget : decimal m ≡ decimal n = ap (λ o. unwrap_or o []) (sym x.values.1 ∙ y.values.1) in (
+    let x = is_solve_input b.1 m j q g (subst (λ (ws : List Text). GivesInput ws m j q g) same a.3) in
+    let y = is_solve_input b.1 n k r h b.3 in (
       word,
-      decimal_injective m n x.values.0 y.values.0 budget,
-      qdo_is b.1 m q g x ∙ sym (qdo_is b.1 n r h y),
+      one_number the_budget (rows_after solve_rules [] b.1) m n x.values.0 y.values.0,
+      one_number the_restarts (rows_after solve_rules [] b.1) j k x.values.1 y.values.1,
+      qdo_is b.1 m j q g x ∙ sym (qdo_is b.1 n k r h y),
       sym x.values.2 ∙ y.values.2,
     )
 
@@ -65,32 +75,34 @@ AreSmall numbers = AllByRecursion (λ n. n < 2 ^ 64) numbers
 
 -- the values of a command, by its word alone
 record AreOfInput (rows : List Row) (c : Command) : Type 0 where
-  pub input : AreInput rows (budget_of c) (name_of c)
+  pub input : AreInput rows (budget_of c) (restarts_of c) (name_of c)
   pub qdo : qdo_of c ≡ cond (bytes_eq (word_of c) (codes "solve")) (is_set rows) false
   pub numbers : numbers_of c ≡ []
 
 record AreOfNumbers (rows : List Row) (c : Command) : Type 0 where
   pub budget : budget_of c ≡ 2 ^ 64 - 1
+  pub restarts : restarts_of c ≡ 0
   pub qdo : qdo_of c ≡ false
   pub name : name_of c ≡ None
   pub small : AreSmall (numbers_of c)
   pub numbers : map (λ n. Some (decimal n)) (numbers_of c) ≡ map (λ id. first_of id rows) (names_of_numbers (word_of c))
 
 of_input : (rows : List Row) (c : Command) → takes_numbers (word_of c) ≡ false → AreValues rows c → AreOfInput rows c
-of_input rows (Solve n q g) e v = record { input = v.0; qdo = v.1; numbers = refl }
-of_input rows (Trace n g) e v = record { input = v; qdo = refl; numbers = refl }
-of_input rows (Cert n g) e v = record { input = v; qdo = refl; numbers = refl }
-of_input rows (Script n g) e v = record { input = v; qdo = refl; numbers = refl }
+of_input rows (Solve n k q g) e v = record { input = v.0; qdo = v.1; numbers = refl }
+of_input rows (Trace n k g) e v = record { input = v; qdo = refl; numbers = refl }
+of_input rows (Cert n k g) e v = record { input = v; qdo = refl; numbers = refl }
+of_input rows (Script n k g) e v = record { input = v; qdo = refl; numbers = refl }
 of_input rows (Gen s v k) e r = absurd cc
 of_input rows (Demo s k) e r = absurd cc
 
 of_numbers : (rows : List Row) (c : Command) → takes_numbers (word_of c) ≡ true → AreValues rows c → AreOfNumbers rows c
-of_numbers rows (Solve n q g) e v = absurd cc
-of_numbers rows (Trace n g) e v = absurd cc
-of_numbers rows (Cert n g) e v = absurd cc
-of_numbers rows (Script n g) e v = absurd cc
+of_numbers rows (Solve n k q g) e v = absurd cc
+of_numbers rows (Trace n k g) e v = absurd cc
+of_numbers rows (Cert n k g) e v = absurd cc
+of_numbers rows (Script n k g) e v = absurd cc
 of_numbers rows (Gen s v k) e r = record {
   budget = refl;
+  restarts = refl;
   qdo = refl;
   name = refl;
   small = (omega (arith, r.0.1.1), (omega (arith, r.1.1.1), (omega (arith, r.2.1.1), tt)));
@@ -98,6 +110,7 @@ of_numbers rows (Gen s v k) e r = record {
 }
 of_numbers rows (Demo s k) e r = record {
   budget = refl;
+  restarts = refl;
   qdo = refl;
   name = refl;
   small = (omega (arith, r.0.1.1), (omega (arith, r.1.1.1), tt));
@@ -121,11 +134,10 @@ alike rows c d word v w = go (takes_numbers (word_of c)) refl
     go false e =
         let x = of_input rows c e v in
         let y = of_input rows d (ap takes_numbers (sym word) ∙ e) w in
-        let text : decimal (budget_of c) ≡ decimal (budget_of d) = ap (λ o. unwrap_or o []) (sym x.input.1
-        ∙ y.input.1) in
         record {
           words = word;
-          budgets = decimal_injective (budget_of c) (budget_of d) x.input.0 y.input.0 text;
+          budgets = one_number the_budget rows (budget_of c) (budget_of d) x.input.0 y.input.0;
+          restarts = one_number the_restarts rows (restarts_of c) (restarts_of d) x.input.1 y.input.1;
           qdo = x.qdo ∙ ap (λ t. cond (bytes_eq t (codes "solve")) (is_set rows) false) word ∙ sym y.qdo;
           names = sym x.input.2 ∙ y.input.2;
           numbers = x.numbers ∙ sym y.numbers;
@@ -137,6 +149,7 @@ alike rows c d word v w = go (takes_numbers (word_of c)) refl
         record {
           words = word;
           budgets = x.budget ∙ sym y.budget;
+          restarts = x.restarts ∙ sym y.restarts;
           qdo = x.qdo ∙ sym y.qdo;
           names = x.name ∙ sym y.name;
           numbers = same_numbers (numbers_of c) (numbers_of d) x.small y.small texts;

@@ -1,5 +1,5 @@
 -- The words of a command, between the form that asks for it and `clap`'s account.
-use Rattle.std.proofs.Common.{◌≡◌, ◌⊎◌, ◌∙◌, ◌<◌, ◌^◌, ℕ, Bool, true, false, List, [], ◌∷◌, map, fold, Option, Some, codes, decimal, is_some, option_map, refl, sym, ap, subst, inl, inr, arith}
+use Rattle.std.proofs.Common.{◌≡◌, ◌⊎◌, ◌∙◌, ◌<◌, ◌≤◌, ◌^◌, ℕ, Bool, true, false, List, [], ◌∷◌, map, fold, Option, Some, codes, decimal, is_some, option_map, refl, sym, ap, subst, inl, inr, arith}
 use Rattle.std.specs.List.{list_any}
 use Rattle.std.specs.Option.{option_map_or}
 use Rattle.std.specs.Str.{bytes_eq}
@@ -7,15 +7,16 @@ use Rattle.clap.specs.Words.{Row, Rule, Text, fault_of, subcommand_of}
 use Rattle.clap.specs.Walk.{nothing_held, rows_after, with_default}
 use Rattle.clap.specs.Faults.{level_fault}
 use Rattle.command.specs.Account.{AreInput, AreValues, IsFoundAs, command_apps, has_dashes, is_set, qbf_app}
-use Rattle.command.specs.Forms.{Asks, AsksInput, AsksWith, GivesBudget, GivesInput, Part, word_of}
+use Rattle.command.specs.Forms.{Asks, AsksInput, AsksWith, GivesInput, GivesSetting, Part, Setting, default_of, greatest_of, word_of}
+use Rattle.command.specs.Forms.Setting.{the_budget, the_restarts}
 use Rattle.command.specs.declared.command.Command.{Command}
 use Rattle.command.specs.declared.command.Command.TheVariants.{Cert, Demo, Gen, Script, Solve, Trace}
 use Rattle.command.proofs.Turns.{leaf, rules_of}
-use Rattle.command.proofs.WordKinds.{IsNotDashes, KnowsBudget, KnowsQdo}
+use Rattle.command.proofs.WordKinds.{IsNotDashes, KnowsQdo, KnowsSetting}
 use Rattle.command.proofs.PartWalk.{LacksDashes}
 use Rattle.command.proofs.PartUses.{AreOnce, either_false, name, new_row, part_at}
 use Rattle.command.proofs.InputWords.{AreInputRules, AreRead, are_read, input_are, input_rules, solve_are, solve_rules}
-use Rattle.command.proofs.InputForms.{are_told, in_form, no_qdo, qdo_set}
+use Rattle.command.proofs.InputForms.{are_told, in_form, no_qdo, qdo_set, two}
 use Rattle.command.proofs.NumberWords.{demo_found, demo_in_form, gen_found, gen_in_form}
 use Rattle.command.proofs.TopWalk.{app_for, command_account, command_fault, is_command, known_or_other, name_alone, no_words, other_word, word_is, IsCommandWord, IsNoneOf}
 
@@ -114,75 +115,93 @@ told words c h = subst (λ ws. IsTold ws c) (sym h.words_are) (record {
 -- words that pass, and their account, are those of a form
 input_asks : (c : List Rule) → AreInputRules c → (word : Text) (words : List Text) (program : Text) (args : List Text)
     → words ≡ program ∷ word ∷ args → LacksDashes args → level_fault (leaf c) [] nothing_held args false [] ≡ []
-    → (n : ℕ) (given : Option Text) → AreInput (rows_after c [] args) n given → (q : Bool)
-    → ((a : AreRead c args) → q ≡ is_some (part_at (codes "qdo") a.parts)) → AsksInput word words n q given
-input_asks c r word words program args is lacks passes n given values q qdo =
+    → (n k : ℕ) (given : Option Text) → AreInput (rows_after c [] args) n k given → (q : Bool)
+    → ((a : AreRead c args) → q ≡ is_some (part_at (codes "qdo") a.parts)) → AsksInput word words n k q given
+input_asks c r word words program args is lacks passes n k given values q qdo =
     let a = are_read c r args lacks passes in
-    (program, args, is, subst (λ b. GivesInput args n b given) (sym (qdo a)) (in_form c r args a n given values))
+    (program, args, is, subst (λ b. GivesInput args n k b given) (sym (qdo a)) (in_form c r args a n k given values))
 
 plain_asks : (word : Text) (words : List Text) (program : Text) (args : List Text) → words ≡ program ∷ word ∷ args
     → LacksDashes args → level_fault (leaf input_rules) [] nothing_held args false [] ≡ []
-    → (n : ℕ) (given : Option Text)
-    → AreInput (rows_after input_rules [] args) n given → AsksWith word words n given
-plain_asks word words program args is lacks passes n given values =
-    input_asks input_rules input_are word words program args is lacks passes n given values false
+    → (n k : ℕ) (given : Option Text)
+    → AreInput (rows_after input_rules [] args) n k given → AsksWith word words n k given
+plain_asks word words program args is lacks passes n k given values =
+    input_asks input_rules input_are word words program args is lacks passes n k given values false
     (λ a. sym (ap is_some (no_qdo (name ∷ []) a.parts a.taken)))
 
-budget_small : (parts : List Part) (n : ℕ) → GivesBudget parts n → n < 2 ^ 64
-budget_small parts n (inl h) = omega (arith, h.1)
-budget_small parts n (inr h) = h.0
+default_most : (s : Setting) → default_of s ≤ greatest_of s
+default_most the_budget = omega arith
+default_most the_restarts = omega arith
+
+setting_most : (s : Setting) (parts : List Part) (n : ℕ) → GivesSetting s parts n → n ≤ greatest_of s
+setting_most s parts n (inl h) = subst (λ m. m ≤ greatest_of s) (sym h.1) (default_most s)
+setting_most s parts n (inr h) = h.0
 
 -- what `clap` makes of words that give an input
-pub record IsInput (c : List Rule) (args : List Text) (n : ℕ) (q : Bool) (given : Option Text) : Type 0 where
+pub record IsInput (c : List Rule) (args : List Text) (n k : ℕ) (q : Bool) (given : Option Text) : Type 0 where
   pub lacks : LacksDashes args
   pub passes : level_fault (leaf c) [] nothing_held args false [] ≡ []
-  pub values : AreInput (rows_after c [] args) n given
+  pub values : AreInput (rows_after c [] args) n k given
   pub order : List Part
   pub once : AreOnce [] order
   pub rows_are : rows_after c [] args ≡ fold with_default (map new_row order) c
   pub qdo : is_some (part_at (codes "qdo") order) ≡ q
 
-is_input : (c : List Rule) → AreInputRules c → KnowsBudget c → (q : Bool) → (q ≡ true → KnowsQdo c)
-    → (args : List Text) (n : ℕ) (given : Option Text) → GivesInput args n q given → IsInput c args n q given
-is_input c r knows q knows_qdo args n given s =
-    let t = are_told c knows n (budget_small s.budget_parts n s.gives_budget) given r args q knows_qdo s in
-    subst (λ ws. IsInput c ws n q given) (sym t.words_are) (record {
+is_input : (c : List Rule) → AreInputRules c → ((s : Setting) → KnowsSetting s c) → (q : Bool)
+    → (q ≡ true → KnowsQdo c) → (args : List Text) (n k : ℕ) (given : Option Text) → GivesInput args n k q given
+    → IsInput c args n k q given
+is_input c r knows q knows_qdo args n k given s =
+    let t = are_told c knows (two n k) most given r args q knows_qdo s in
+    subst (λ ws. IsInput c ws n k q given) (sym t.words_are) (record {
       lacks = t.lacks;
       passes = t.passes;
-      values = subst (λ rows. AreInput rows n given) (sym t.rows_are) t.values;
+      values = subst (λ rows. AreInput rows n k given) (sym t.rows_are) t.values;
       order = t.order;
       once = t.once;
       rows_are = t.rows_are;
       qdo = t.qdo;
     })
+  where
+    most : (x : Setting) → two n k x ≤ greatest_of x
+    most the_budget = setting_most the_budget s.budget_parts n s.gives_budget
+    most the_restarts = setting_most the_restarts s.restarts_parts k s.gives_restarts
 
-is_plain_input : (args : List Text) (n : ℕ) (given : Option Text) → GivesInput args n false given
-    → IsInput input_rules args n false given
-is_plain_input = is_input input_rules input_are (refl, refl) false (λ e. absurd cc)
+input_knows : (s : Setting) → KnowsSetting s input_rules
+input_knows the_budget = (refl, refl)
+input_knows the_restarts = (refl, refl)
 
-pub is_solve_input : (args : List Text) (n : ℕ) (q : Bool) (given : Option Text) → GivesInput args n q given
-    → IsInput solve_rules args n q given
-is_solve_input args n q given = is_input solve_rules solve_are (refl, refl) q (λ e. refl) args n given
+solve_knows : (s : Setting) → KnowsSetting s solve_rules
+solve_knows the_budget = (refl, refl)
+solve_knows the_restarts = (refl, refl)
+
+is_plain_input : (args : List Text) (n k : ℕ) (given : Option Text) → GivesInput args n k false given
+    → IsInput input_rules args n k false given
+is_plain_input = is_input input_rules input_are input_knows false (λ e. absurd cc)
+
+pub is_solve_input : (args : List Text) (n k : ℕ) (q : Bool) (given : Option Text) → GivesInput args n k q given
+    → IsInput solve_rules args n k q given
+is_solve_input args n k q given = is_input solve_rules solve_are solve_knows q (λ e. refl) args n k given
 
 -- `--qdo` as `clap` reads it
-pub qdo_is : (args : List Text) (n : ℕ) (q : Bool) (given : Option Text) → IsInput solve_rules args n q given
+pub qdo_is : (args : List Text) (n k : ℕ) (q : Bool) (given : Option Text) → IsInput solve_rules args n k q given
     → q ≡ is_set (rows_after solve_rules [] args)
-qdo_is args n q given i = sym (ap is_set i.rows_are ∙ qdo_set i.order i.once ∙ i.qdo)
+qdo_is args n k q given i = sym (ap is_set i.rows_are ∙ qdo_set i.order i.once ∙ i.qdo)
 
 -- ---- each command
 
 pub asked : (words : List Text) (c : Command) → IsCalled words c → Asks words c
-asked words (Solve n q g) h =
-    input_asks solve_rules solve_are (codes "solve") words h.program h.args h.words_are h.lacks h.passes n
+asked words (Solve n k q g) h =
+    input_asks solve_rules solve_are (codes "solve") words h.program h.args h.words_are h.lacks h.passes n k
     (option_map (λ s. s.now) g)
     h.values.0 q (λ a. h.values.1 ∙ ap is_set a.rows_are ∙ qdo_set a.parts a.once)
-asked words (Trace n g) h =
-    plain_asks (codes "trace") words h.program h.args h.words_are h.lacks h.passes n (option_map
+asked words (Trace n k g) h =
+    plain_asks (codes "trace") words h.program h.args h.words_are h.lacks h.passes n k (option_map
     (λ s. s.now) g) h.values
-asked words (Cert n g) h =
-    plain_asks (codes "cert") words h.program h.args h.words_are h.lacks h.passes n (option_map (λ s. s.now) g) h.values
-asked words (Script n g) h =
-    plain_asks (codes "script") words h.program h.args h.words_are h.lacks h.passes n (option_map
+asked words (Cert n k g) h =
+    plain_asks (codes "cert") words h.program h.args h.words_are h.lacks h.passes n k (option_map (λ s. s.now) g)
+    h.values
+asked words (Script n k g) h =
+    plain_asks (codes "script") words h.program h.args h.words_are h.lacks h.passes n k (option_map
     (λ s. s.now) g) h.values
 asked words (Gen s v k) h =
     let args = gen_in_form h.args h.lacks h.passes s v k h.values in
@@ -194,24 +213,24 @@ asked words (Demo s k) h =
     ((h.program, h.words_are ∙ ap (λ ws. h.program ∷ codes "demo" ∷ ws) args), small, h.values.1.1)
 
 pub calls : (words : List Text) (c : Command) → Asks words c → IsCalled words c
-calls words (Solve n q g) (program, args, is, form) =
-    let i = is_solve_input args n q (option_map (λ s. s.now) g) form in
+calls words (Solve n k q g) (program, args, is, form) =
+    let i = is_solve_input args n k q (option_map (λ s. s.now) g) form in
     record {
       program = program;
       args = args;
       words_are = is;
       lacks = i.lacks;
       passes = i.passes;
-      values = (i.values, qdo_is args n q (option_map (λ s. s.now) g) i);
+      values = (i.values, qdo_is args n k q (option_map (λ s. s.now) g) i);
     }
-calls words (Trace n g) (program, args, is, form) =
-    let i = is_plain_input args n (option_map (λ s. s.now) g) form in
+calls words (Trace n k g) (program, args, is, form) =
+    let i = is_plain_input args n k (option_map (λ s. s.now) g) form in
     record { program = program; args = args; words_are = is; lacks = i.lacks; passes = i.passes; values = i.values }
-calls words (Cert n g) (program, args, is, form) =
-    let i = is_plain_input args n (option_map (λ s. s.now) g) form in
+calls words (Cert n k g) (program, args, is, form) =
+    let i = is_plain_input args n k (option_map (λ s. s.now) g) form in
     record { program = program; args = args; words_are = is; lacks = i.lacks; passes = i.passes; values = i.values }
-calls words (Script n g) (program, args, is, form) =
-    let i = is_plain_input args n (option_map (λ s. s.now) g) form in
+calls words (Script n k g) (program, args, is, form) =
+    let i = is_plain_input args n k (option_map (λ s. s.now) g) form in
     record { program = program; args = args; words_are = is; lacks = i.lacks; passes = i.passes; values = i.values }
 calls words (Gen s v k) (asks, small, vars, clauses) =
     let f = gen_found s v k (omega arith, omega (arith, small)) vars (omega arith, clauses) in

@@ -1,5 +1,5 @@
--- The form `[--budget N] [--qdo] [NAME]`, and `clap`'s account of the words.
-use Rattle.std.proofs.Common.{◌≡◌, ◌≢◌, ◌⊎◌, ◌∙◌, ◌++◌, ◌+◌, ◌≤◌, ◌<◌, ◌^◌, ◌-◌, ℕ, zero, suc, Bool, Decides, true, false, List, [], ◌∷◌, map, fold, Option, Some, None, codes, decimal, option_map, slice_get, is_some, unwrap_or, refl, sym, ap, subst, inl, inr, arith}
+-- The form `[--budget N] [--restarts R] [--qdo] [NAME]`, and `clap`'s account of the words.
+use Rattle.std.proofs.Common.{◌≡◌, ◌≢◌, ◌⊎◌, ◌∙◌, ◌++◌, ◌+◌, ◌≤◌, ◌<◌, ◌^◌, ℕ, zero, suc, Bool, Decides, true, false, List, [], ◌∷◌, map, fold, Option, Some, None, codes, decimal, option_map, slice_get, is_some, unwrap_or, refl, sym, ap, subst, inl, inr, arith}
 use Rattle.std.specs.Fmt.{digits}
 use Rattle.std.specs.List.{AllByRecursion, filter, flat_map}
 use Rattle.std.specs.Option.{option_map_or}
@@ -12,19 +12,39 @@ use Rattle.std.proofs.lemmas.Slice.Eq.{bytes_eq-Decides}
 use Rattle.clap.specs.Words.{Rule, Text, first_of}
 use Rattle.clap.specs.Faults.{level_fault}
 use Rattle.clap.specs.Walk.{nothing_held, rows_after, with_default}
-use Rattle.command.specs.Account.{AreInput, HasNoHyphen, is_set}
-use Rattle.command.specs.Forms.{GivesBudget, GivesInput, GivesName, GivesQdo, Part, spelled}
-use Rattle.command.specs.Forms.Part.{budget_part, joined_budget, qdo_part, name_part}
+use Rattle.command.specs.Account.{AreInput, HasNoHyphen, IsSet, default_text, is_set}
+use Rattle.command.specs.Forms.{GivesInput, GivesName, GivesQdo, GivesSetting, Part, Setting, default_of, greatest_of, setting_name, spelled}
+use Rattle.command.specs.Forms.Part.{setting_part, joined_part, qdo_part, name_part}
+use Rattle.command.specs.Forms.Setting.{the_budget, the_restarts}
 use Rattle.command.proofs.DecimalWords.{decimal_passes, decimal_word, plain_word}
+use Rattle.command.proofs.Spelled.{joined_not_dashes, option_not_dashes}
 use Rattle.command.proofs.Turns.{IsPlainWord, leaf}
-use Rattle.command.proofs.WordKinds.{KnowsBudget, KnowsQdo}
+use Rattle.command.proofs.WordKinds.{KnowsQdo, KnowsSetting}
 use Rattle.command.proofs.PartWalk.{AreTaken, LacksDashes}
 use Rattle.command.proofs.PartUses.{AreOnce, IsAccepted, IsUnused, IsUsedOnce, argument_order, bit, holds_of_part, of_itself, id_of, is_of, name_left, new_row, part_at, tally, tally-cons, unused, used_once, value_of}
-use Rattle.command.proofs.InputWords.{AreInputRules, AreRead, budget_read, default_text, input_rules, name_read, parts_pass, qdo_read, rows_of_passing, solve_rules}
+use Rattle.command.proofs.InputWords.{AreInputRules, AreRead, input_rules, name_read, parts_pass, qdo_read, rows_of_passing, setting_read, solve_rules}
 
-greatest_text : decimal (2 ^ 64 - 1) ≡ default_text
+default_is : (s : Setting) → decimal (default_of s) ≡ default_text s
 unfolding digits
-greatest_text = refl
+default_is the_budget = refl
+default_is the_restarts = refl
+
+default_small : (s : Setting) → default_of s < 2 ^ 64
+default_small the_budget = omega arith
+default_small the_restarts = omega arith
+
+-- numbers of options have 64 bits
+pub greatest_small : (s : Setting) → greatest_of s < 2 ^ 64
+greatest_small the_budget = omega arith
+greatest_small the_restarts = omega arith
+
+pub setting_small : (s : Setting) (n : ℕ) → n ≤ greatest_of s → n < 2 ^ 64
+setting_small s n most = let small = greatest_small s in omega (arith, most, small)
+
+-- the numbers of the two
+abbrev pub two : ℕ → ℕ → Setting → ℕ
+two n k the_budget = n
+two n k the_restarts = k
 
 -- an argument is used once, or not at all
 once_or_not : (id : Text) (ps : List Part) → tally id ps ≤ 1 → IsUnused id ps ⊎ IsUsedOnce id ps
@@ -37,36 +57,64 @@ once_or_not id ps h = go (tally id ps) refl h
 
 -- ---- from the account to the form
 
-module _ (n : ℕ) (small : n < 2 ^ 64) (parts : List Part) where
-  budget_alone : (p : Part) → is_of (codes "budget") p ≡ true → parts ≡ p ∷ [] → value_of p ≡ decimal n
-      → GivesBudget parts n
-  budget_alone (budget_part t) is alone e = inr (small, inl (alone ∙ ap (λ x. budget_part x ∷ []) e))
-  budget_alone (joined_budget t) is alone e = inr (small, inr (alone ∙ ap (λ x. joined_budget x ∷ []) e))
-  budget_alone qdo_part is alone e = absurd cc
-  budget_alone (name_part w) is alone e = absurd cc
+-- a part of an option
+record IsSettingPart (s : Setting) (p : Part) : Type 0 where
+  pub either : (p ≡ setting_part s (value_of p)) ⊎ (p ≡ joined_part s (value_of p))
+
+setting_part_is : (s : Setting) (p : Part) → is_of (setting_name s) p ≡ true → IsSettingPart s p
+setting_part_is the_budget (setting_part the_budget t) is = record { either = inl refl }
+setting_part_is the_budget (joined_part the_budget t) is = record { either = inr refl }
+setting_part_is the_budget (setting_part the_restarts t) is = absurd cc
+setting_part_is the_budget (joined_part the_restarts t) is = absurd cc
+setting_part_is the_budget qdo_part is = absurd cc
+setting_part_is the_budget (name_part w) is = absurd cc
+setting_part_is the_restarts (setting_part the_restarts t) is = record { either = inl refl }
+setting_part_is the_restarts (joined_part the_restarts t) is = record { either = inr refl }
+setting_part_is the_restarts (setting_part the_budget t) is = absurd cc
+setting_part_is the_restarts (joined_part the_budget t) is = absurd cc
+setting_part_is the_restarts qdo_part is = absurd cc
+setting_part_is the_restarts (name_part w) is = absurd cc
+
+module _ (s : Setting) (n : ℕ) (most : n ≤ greatest_of s) (parts : List Part) where
+  setting_alone : (p : Part) → IsSettingPart s p → parts ≡ p ∷ [] → value_of p ≡ decimal n → GivesSetting s parts n
+  setting_alone p is alone e = go is.either
+    where
+      go : (p ≡ setting_part s (value_of p)) ⊎ (p ≡ joined_part s (value_of p)) → GivesSetting s parts n
+      go (inl same) = inr (most, inl (alone ∙ ap (λ q. q ∷ []) (same ∙ ap (setting_part s) e)))
+      go (inr same) = inr (most, inr (alone ∙ ap (λ q. q ∷ []) (same ∙ ap (joined_part s) e)))
 
 qdo_alone : (parts : List Part) (p : Part) → is_of (codes "qdo") p ≡ true → parts ≡ p ∷ [] → GivesQdo parts true
-qdo_alone parts (budget_part t) is alone = absurd cc
-qdo_alone parts (joined_budget t) is alone = absurd cc
+qdo_alone parts (setting_part the_budget t) is alone = absurd cc
+qdo_alone parts (setting_part the_restarts t) is alone = absurd cc
+qdo_alone parts (joined_part the_budget t) is alone = absurd cc
+qdo_alone parts (joined_part the_restarts t) is alone = absurd cc
 qdo_alone parts qdo_part is alone = alone
 qdo_alone parts (name_part w) is alone = absurd cc
 
 name_alone : (parts : List Part) (p : Part) → is_of (codes "name") p ≡ true → parts ≡ p ∷ []
     → HasNoHyphen (Some (value_of p))
     → GivesName parts (Some (value_of p))
-name_alone parts (budget_part t) is alone h = absurd cc
-name_alone parts (joined_budget t) is alone h = absurd cc
+name_alone parts (setting_part the_budget t) is alone h = absurd cc
+name_alone parts (setting_part the_restarts t) is alone h = absurd cc
+name_alone parts (joined_part the_budget t) is alone h = absurd cc
+name_alone parts (joined_part the_restarts t) is alone h = absurd cc
 name_alone parts qdo_part is alone h = absurd cc
 name_alone parts (name_part w) is alone h = (alone, h)
 
-module _ (ps : List Part) (n : ℕ) (small : n < 2 ^ 64) where
-  budget_given : IsUnused (codes "budget") ps ⊎ IsUsedOnce (codes "budget") ps
-      → option_map_or value_of (part_at (codes "budget") ps) default_text ≡ decimal n
-      → GivesBudget (filter (is_of (codes "budget")) ps) n
-  budget_given (inl u) e =
-      let same : default_text ≡ decimal n = rw u.none at e in
-      inl (u.empty, sym (decimal_injective (2 ^ 64 - 1) n (omega arith) small (greatest_text ∙ same)))
-  budget_given (inr o) e = budget_alone n small _ o.part o.is o.alone (rw o.some at e)
+module _ (ps : List Part) where
+  setting_given : (s : Setting) (n : ℕ) → n ≤ greatest_of s
+      → IsUnused (setting_name s) ps ⊎ IsUsedOnce (setting_name s) ps
+      → option_map_or value_of (part_at (setting_name s) ps) (default_text s) ≡ decimal n
+      → GivesSetting s (filter (is_of (setting_name s)) ps) n
+  setting_given s n most (inl u) e =
+      let same : default_text s ≡ decimal n = rw u.none at e in
+      inl (
+        u.empty,
+        sym (decimal_injective (default_of s) n (default_small s) (setting_small s n most)
+            (default_is s ∙ same)),
+      )
+  setting_given s n most (inr o) e =
+      setting_alone s n most _ o.part (setting_part_is s o.part o.is) o.alone (rw o.some at e)
 
   qdo_given : IsUnused (codes "qdo") ps ⊎ IsUsedOnce (codes "qdo") ps
       → GivesQdo (filter (is_of (codes "qdo")) ps) (is_some (part_at (codes "qdo") ps))
@@ -80,25 +128,29 @@ module _ (ps : List Part) (n : ℕ) (small : n < 2 ^ 64) where
   name_given (inr o) h = rw o.some (name_alone _ o.part o.is o.alone (rw o.some at h))
 
 -- the account of words that don't fail, where its values are in form
-pub in_form : (c : List Rule) (r : AreInputRules c) (args : List Text) (a : AreRead c args) (n : ℕ)
-    (given : Option Text)
-    → AreInput (rows_after c [] args) n given → GivesInput args n (is_some (part_at (codes "qdo") a.parts)) given
-in_form c r args a n given v =
+pub in_form : (c : List Rule) (r : AreInputRules c) (args : List Text) (a : AreRead c args) (n k : ℕ)
+    (given : Option Text) → AreInput (rows_after c [] args) n k given
+    → GivesInput args n k (is_some (part_at (codes "qdo") a.parts)) given
+in_form c r args a n k given v =
     let ps = a.parts in
     let each = λ (id : Text). once_or_not id ps (omega (arith, a.once id)) in
     let final = a.rows_are in
-    let text : option_map_or value_of (part_at (codes "budget") ps) default_text ≡ decimal n =
-    ap (λ o. unwrap_or o []) (sym (budget_read ps c r) ∙ ap (first_of (codes "budget")) (sym final) ∙ v.1) in
+    let setting : (s : Setting) (m : ℕ) → IsSet s (rows_after c [] args) m
+    → GivesSetting s (filter (is_of (setting_name s)) ps) m = λ s m set.
+    setting_given ps s m set.1.1 (each (setting_name s)) (ap (λ o. unwrap_or o []) (sym (setting_read ps c r s)
+    ∙ ap (first_of (setting_name s)) (sym final) ∙ set.0)) in
     let named : option_map value_of (part_at (codes "name") ps) ≡ given =
     sym (name_read ps c r) ∙ ap (first_of (codes "name")) (sym final) ∙ v.2 in
     record {
       budget_parts = filter (is_of (codes "budget")) ps;
+      restarts_parts = filter (is_of (codes "restarts")) ps;
       qdo_parts = filter (is_of (codes "qdo")) ps;
       name_parts = filter (is_of (codes "name")) ps;
-      gives_budget = budget_given ps n v.0 (each (codes "budget")) text;
-      gives_qdo = qdo_given ps n v.0 (each (codes "qdo"));
+      gives_budget = setting the_budget n v.0;
+      gives_restarts = setting the_restarts k v.1;
+      gives_qdo = qdo_given ps (each (codes "qdo"));
       gives_name = subst (GivesName (filter (is_of (codes "name")) ps)) named
-          (name_given ps n v.0 (each (codes "name")) (subst HasNoHyphen (sym named) v.3));
+          (name_given ps (each (codes "name")) (subst HasNoHyphen (sym named) v.3));
       in_any_order = record { order = ps; permutation = argument_order ps; words_are = a.words_are };
     }
 
@@ -108,8 +160,10 @@ pub qdo_set : (ps : List Part) → AreOnce [] ps
 qdo_set ps once = qdo_read ps ∙ go (once_or_not (codes "qdo") ps (omega (arith, once (codes "qdo"))))
   where
     is_true : (p : Part) → is_of (codes "qdo") p ≡ true → bytes_eq (value_of p) (codes "true") ≡ true
-    is_true (budget_part t) is = absurd cc
-    is_true (joined_budget t) is = absurd cc
+    is_true (setting_part the_budget t) is = absurd cc
+    is_true (setting_part the_restarts t) is = absurd cc
+    is_true (joined_part the_budget t) is = absurd cc
+    is_true (joined_part the_restarts t) is = absurd cc
     is_true qdo_part is = refl
     is_true (name_part w) is = absurd cc
 
@@ -122,8 +176,10 @@ qdo_set ps once = qdo_read ps ∙ go (once_or_not (codes "qdo") ps (omega (arith
 -- the other commands have no `--qdo`
 pub no_qdo : (left : List Rule) (ps : List Part) → AreTaken input_rules left ps → part_at (codes "qdo") ps ≡ None
 no_qdo left [] taken = refl
-no_qdo left (budget_part t ∷ ps) taken = no_qdo left ps taken.1
-no_qdo left (joined_budget t ∷ ps) taken = no_qdo left ps taken.1
+no_qdo left (setting_part the_budget t ∷ ps) taken = no_qdo left ps taken.1
+no_qdo left (setting_part the_restarts t ∷ ps) taken = no_qdo left ps taken.1
+no_qdo left (joined_part the_budget t ∷ ps) taken = no_qdo left ps taken.1
+no_qdo left (joined_part the_restarts t ∷ ps) taken = no_qdo left ps taken.1
 no_qdo left (qdo_part ∷ ps) taken = let bad = taken.0 in absurd cc
 no_qdo [] (name_part w ∷ ps) taken = absurd taken.0
 no_qdo (a ∷ left) (name_part w ∷ ps) taken = no_qdo left ps taken.1
@@ -131,11 +187,11 @@ no_qdo (a ∷ left) (name_part w ∷ ps) taken = no_qdo left ps taken.1
 -- ---- from the form to the account
 
 -- what the values say of a part
-abbrev IsGiven : List Rule → ℕ → Option Text → Part → Type 0
-IsGiven c n given (budget_part t) = t ≡ decimal n
-IsGiven c n given (joined_budget t) = t ≡ decimal n
-IsGiven c n given qdo_part = KnowsQdo c
-IsGiven c n given (name_part w) = (given ≡ Some w) × (slice_get w 0 ≢ Some 45)
+abbrev IsGiven : List Rule → (Setting → ℕ) → Option Text → Part → Type 0
+IsGiven c at given (setting_part s t) = t ≡ decimal (at s)
+IsGiven c at given (joined_part s t) = t ≡ decimal (at s)
+IsGiven c at given qdo_part = KnowsQdo c
+IsGiven c at given (name_part w) = (given ≡ Some w) × (slice_get w 0 ≢ Some 45)
 
 all_append : (P : Part → Type 0) (xs ys : List Part) → AllByRecursion P xs → AllByRecursion P ys
     → AllByRecursion P (xs ++ ys)
@@ -151,28 +207,40 @@ lacks_append : (xs ys : List Text) → LacksDashes xs → LacksDashes ys → Lac
 lacks_append [] ys a b = b
 lacks_append (x ∷ xs) ys a b = (a.0, lacks_append xs ys a.1 b)
 
--- an argument is one of the three at most
+-- an argument is one of the four at most
 one_argument : (id : Text)
-    → bit (bytes_eq (codes "budget") id) + bit (bytes_eq (codes "qdo") id) + bit (bytes_eq (codes "name") id) ≤ 1
+    → bit (bytes_eq (codes "budget") id) + bit (bytes_eq (codes "restarts") id) + bit (bytes_eq (codes "qdo") id)
+    + bit (bytes_eq (codes "name") id) ≤ 1
 one_argument id = go (bytes_eq (codes "budget") id) (bytes_eq-Decides (codes "budget") id)
+    (bytes_eq (codes "restarts") id) refl (bytes_eq-Decides (codes "restarts") id)
     (bytes_eq (codes "qdo") id) refl (bytes_eq-Decides (codes "qdo") id)
   where
-    go : (b : Bool) → Decides b (codes "budget" ≡ id) → (d : Bool) → bytes_eq (codes "qdo") id ≡ d
-        → Decides d (codes "qdo" ≡ id)
-        → bit b + bit (bytes_eq (codes "qdo") id) + bit (bytes_eq (codes "name") id) ≤ 1
-    go true x d e y =
-        subst (λ t. 1 + bit (bytes_eq (codes "qdo") t) + bit (bytes_eq (codes "name") t) ≤ 1) (x.0 refl) (omega arith)
-    go false x true e y =
-        subst (λ t. 0 + bit (bytes_eq (codes "qdo") t) + bit (bytes_eq (codes "name") t) ≤ 1) (y.0 refl) (omega arith)
-    go false x false e y = rw e (rest (bytes_eq (codes "name") id))
+    go : (b : Bool) → Decides b (codes "budget" ≡ id) → (d : Bool) → bytes_eq (codes "restarts") id ≡ d
+        → Decides d (codes "restarts" ≡ id) → (q : Bool) → bytes_eq (codes "qdo") id ≡ q → Decides q (codes "qdo" ≡ id)
+        → bit b + bit (bytes_eq (codes "restarts") id) + bit (bytes_eq (codes "qdo") id)
+        + bit (bytes_eq (codes "name") id) ≤ 1
+    go true x d e y q f z =
+        subst (λ t. 1 + bit (bytes_eq (codes "restarts") t) + bit (bytes_eq (codes "qdo") t)
+        + bit (bytes_eq (codes "name") t) ≤ 1) (x.0 refl) (omega arith)
+    go false x true e y q f z =
+        subst (λ t. 0 + bit (bytes_eq (codes "restarts") t) + bit (bytes_eq (codes "qdo") t)
+        + bit (bytes_eq (codes "name") t) ≤ 1) (y.0 refl) (omega arith)
+    go false x false e y true f z =
+        subst (λ t. 0 + bit (bytes_eq (codes "restarts") t) + bit (bytes_eq (codes "qdo") t)
+        + bit (bytes_eq (codes "name") t) ≤ 1) (z.0 refl) (omega arith)
+    go false x false e y false f z = rw (e, f) (rest (bytes_eq (codes "name") id))
       where
-        rest : (b : Bool) → 0 + 0 + bit b ≤ 1
+        rest : (b : Bool) → 0 + 0 + 0 + bit b ≤ 1
         rest true = omega arith
         rest false = omega arith
 
-module _ (c : List Rule) (knows : KnowsBudget c) (n : ℕ) (small : n < 2 ^ 64) (given : Option Text) where
+module _ (c : List Rule) (knows : (s : Setting) → KnowsSetting s c) (at : Setting → ℕ)
+    (most : (s : Setting) → at s ≤ greatest_of s) (given : Option Text) where
   abbrev Given : Part → Type 0
-  Given p = IsGiven c n given p
+  Given p = IsGiven c at given p
+
+  small : (s : Setting) → at s < 2 ^ 64
+  small s = setting_small s (at s) (most s)
 
   -- ---- one part of an argument, or none
 
@@ -185,10 +253,13 @@ module _ (c : List Rule) (knows : KnowsBudget c) (n : ℕ) (small : n < 2 ^ 64) 
   abbrev AtMostOne : Text → List Part → Type 0
   AtMostOne id ps = (ps ≡ []) ⊎ IsOne id ps
 
-  one_budget : (ps : List Part) → (ps ≡ budget_part (decimal n) ∷ []) ⊎ (ps ≡ joined_budget (decimal n) ∷ [])
-      → IsOne (codes "budget") ps
-  one_budget ps (inl e) = record { part = budget_part (decimal n); alone = e; own = refl; is_given = refl }
-  one_budget ps (inr e) = record { part = joined_budget (decimal n); alone = e; own = refl; is_given = refl }
+  one_setting : (s : Setting) (ps : List Part)
+      → (ps ≡ setting_part s (decimal (at s)) ∷ []) ⊎ (ps ≡ joined_part s (decimal (at s)) ∷ [])
+      → IsOne (setting_name s) ps
+  one_setting s ps (inl e) =
+      record { part = setting_part s (decimal (at s)); alone = e; own = refl; is_given = refl }
+  one_setting s ps (inr e) =
+      record { part = joined_part s (decimal (at s)); alone = e; own = refl; is_given = refl }
 
   one_qdo : (ps : List Part) → KnowsQdo c → GivesQdo ps true → IsOne (codes "qdo") ps
   one_qdo ps k e = record { part = qdo_part; alone = e; own = refl; is_given = k }
@@ -196,9 +267,9 @@ module _ (c : List Rule) (knows : KnowsBudget c) (n : ℕ) (small : n < 2 ^ 64) 
   one_name : (ps : List Part) (w : Text) → given ≡ Some w → GivesName ps (Some w) → IsOne (codes "name") ps
   one_name ps w is h = record { part = name_part w; alone = h.0; own = refl; is_given = (is, h.1) }
 
-  some_budget : (ps : List Part) → GivesBudget ps n → AtMostOne (codes "budget") ps
-  some_budget ps (inl h) = inl h.0
-  some_budget ps (inr h) = inr (one_budget ps h.1)
+  some_setting : (s : Setting) (ps : List Part) → GivesSetting s ps (at s) → AtMostOne (setting_name s) ps
+  some_setting s ps (inl h) = inl h.0
+  some_setting s ps (inr h) = inr (one_setting s ps h.1)
 
   some_qdo : (ps : List Part) (q : Bool) → (q ≡ true → KnowsQdo c) → GivesQdo ps q → AtMostOne (codes "qdo") ps
   some_qdo ps false k e = inl e
@@ -222,12 +293,12 @@ module _ (c : List Rule) (knows : KnowsBudget c) (n : ℕ) (small : n < 2 ^ 64) 
   taken_from : (b : Bool) (ps : List Part) → AllByRecursion Given ps → tally (codes "name") ps ≤ bit b
       → AreTaken c (name_left b) ps
   taken_from b [] all h = tt
-  taken_from b (budget_part t ∷ ps) all h = (
-    (knows, subst IsPlainWord (sym all.0) (decimal_word n small)),
-    taken_from b ps all.1 (omega (arith, h, tally-cons (codes "name") (budget_part t) ps)),
+  taken_from b (setting_part s t ∷ ps) all h = (
+    (knows s, subst IsPlainWord (sym all.0) (decimal_word (at s) (small s))),
+    taken_from b ps all.1 (omega (arith, h, tally-cons (codes "name") (setting_part s t) ps)),
   )
-  taken_from b (joined_budget t ∷ ps) all h =
-      (knows, taken_from b ps all.1 (omega (arith, h, tally-cons (codes "name") (joined_budget t) ps)))
+  taken_from b (joined_part s t ∷ ps) all h =
+      (knows s, taken_from b ps all.1 (omega (arith, h, tally-cons (codes "name") (joined_part s t) ps)))
   taken_from b (qdo_part ∷ ps) all h =
       (all.0, taken_from b ps all.1 (omega (arith, h, tally-cons (codes "name") qdo_part ps)))
   taken_from true (name_part w ∷ ps) all h =
@@ -235,16 +306,17 @@ module _ (c : List Rule) (knows : KnowsBudget c) (n : ℕ) (small : n < 2 ^ 64) 
   taken_from false (name_part w ∷ ps) all h = absurd (omega (arith, h, tally-cons (codes "name") (name_part w) ps))
 
   accepted : (p : Part) → Given p → IsAccepted p
-  accepted (budget_part t) e = subst (λ x. IsAccepted (budget_part x)) (sym e)
-      (decimal_passes 0 18446744073709551615 n (omega arith) (omega arith, omega (arith, small)))
-  accepted (joined_budget t) e = subst (λ x. IsAccepted (joined_budget x)) (sym e)
-      (decimal_passes 0 18446744073709551615 n (omega arith) (omega arith, omega (arith, small)))
+  accepted (setting_part s t) e = subst (λ x. IsAccepted (setting_part s x)) (sym e)
+      (decimal_passes 0 (greatest_of s) (at s) (greatest_small s) (omega arith, most s))
+  accepted (joined_part s t) e = subst (λ x. IsAccepted (joined_part s x)) (sym e)
+      (decimal_passes 0 (greatest_of s) (at s) (greatest_small s) (omega arith, most s))
   accepted qdo_part k = refl
   accepted (name_part w) h = refl
 
   lacks : (p : Part) → Given p → LacksDashes (spelled p)
-  lacks (budget_part t) e = (refl, ((subst IsPlainWord (sym e) (decimal_word n small)).dashes, tt))
-  lacks (joined_budget t) e = (refl, tt)
+  lacks (setting_part s t) e =
+      (option_not_dashes s, ((subst IsPlainWord (sym e) (decimal_word (at s) (small s))).dashes, tt))
+  lacks (joined_part s t) e = (joined_not_dashes s t, tt)
   lacks qdo_part k = (refl, tt)
   lacks (name_part w) h = ((plain_word w h.1).dashes, tt)
 
@@ -254,15 +326,18 @@ module _ (c : List Rule) (knows : KnowsBudget c) (n : ℕ) (small : n < 2 ^ 64) 
 
   -- ---- what `clap` reads
 
-  budget_value : (p : Part) → is_of (codes "budget") p ≡ true → Given p → value_of p ≡ decimal n
-  budget_value (budget_part t) is e = e
-  budget_value (joined_budget t) is e = e
-  budget_value qdo_part is k = absurd cc
-  budget_value (name_part w) is h = absurd cc
+  setting_value : (s : Setting) (p : Part) → IsSettingPart s p → Given p → value_of p ≡ decimal (at s)
+  setting_value s p is e = go is.either
+    where
+      go : (p ≡ setting_part s (value_of p)) ⊎ (p ≡ joined_part s (value_of p)) → value_of p ≡ decimal (at s)
+      go (inl same) = subst Given same e
+      go (inr same) = subst Given same e
 
   name_value : (p : Part) → is_of (codes "name") p ≡ true → Given p → Some (value_of p) ≡ given
-  name_value (budget_part t) is e = absurd cc
-  name_value (joined_budget t) is e = absurd cc
+  name_value (setting_part the_budget t) is e = absurd cc
+  name_value (setting_part the_restarts t) is e = absurd cc
+  name_value (joined_part the_budget t) is e = absurd cc
+  name_value (joined_part the_restarts t) is e = absurd cc
   name_value qdo_part is k = absurd cc
   name_value (name_part w) is h = sym h.0
 
@@ -273,17 +348,20 @@ module _ (c : List Rule) (knows : KnowsBudget c) (n : ℕ) (small : n < 2 ^ 64) 
     pub once : AreOnce [] order
     pub passes : level_fault (leaf c) [] nothing_held (flat_map spelled order) false [] ≡ []
     pub rows_are : rows_after c [] (flat_map spelled order) ≡ fold with_default (map new_row order) c
-    pub values : AreInput (fold with_default (map new_row order) c) n given
+    pub values : AreInput (fold with_default (map new_row order) c) (at the_budget) (at the_restarts) given
     pub qdo : is_some (part_at (codes "qdo") order) ≡ q
     pub lacks : LacksDashes (flat_map spelled order)
 
   module _ (r : AreInputRules c) (args : List Text) (q : Bool) (knows_qdo : q ≡ true → KnowsQdo c)
-      (s : GivesInput args n q given) where
+      (s : GivesInput args (at the_budget) (at the_restarts) q given) where
     abbrev order : List Part
     order = s.in_any_order.order
 
     budget_group : AtMostOne (codes "budget") s.budget_parts
-    budget_group = some_budget s.budget_parts s.gives_budget
+    budget_group = some_setting the_budget s.budget_parts s.gives_budget
+
+    restarts_group : AtMostOne (codes "restarts") s.restarts_parts
+    restarts_group = some_setting the_restarts s.restarts_parts s.gives_restarts
 
     qdo_group : AtMostOne (codes "qdo") s.qdo_parts
     qdo_group = some_qdo s.qdo_parts q knows_qdo s.gives_qdo
@@ -293,25 +371,32 @@ module _ (c : List Rule) (knows : KnowsBudget c) (n : ℕ) (small : n < 2 ^ 64) 
 
     all : AllByRecursion Given order
     all =
-        let parts = s.budget_parts ++ s.qdo_parts ++ s.name_parts in
-        let before = all_append Given (s.budget_parts ++ s.qdo_parts) s.name_parts
-        (all_append Given s.budget_parts s.qdo_parts (all_given (codes "budget") s.budget_parts budget_group)
+        let parts = s.budget_parts ++ s.restarts_parts ++ s.qdo_parts ++ s.name_parts in
+        let options = all_append Given s.budget_parts s.restarts_parts
+        (all_given (codes "budget") s.budget_parts budget_group)
+        (all_given (codes "restarts") s.restarts_parts restarts_group) in
+        let before = all_append Given (s.budget_parts ++ s.restarts_parts ++ s.qdo_parts) s.name_parts
+        (all_append Given (s.budget_parts ++ s.restarts_parts) s.qdo_parts options
         (all_given (codes "qdo") s.qdo_parts qdo_group)) (all_given (codes "name") s.name_parts name_group) in
         recursion_from_All Given order
         (All-permutation Given parts order s.in_any_order.permutation (All-from_recursion Given parts before))
 
-    count : (id : Text) → tally id order ≡ tally id s.budget_parts + tally id s.qdo_parts + tally id s.name_parts
+    count : (id : Text) → tally id order
+        ≡ tally id s.budget_parts + tally id s.restarts_parts + tally id s.qdo_parts + tally id s.name_parts
     count id =
         let f = λ (p : Part). bit (is_of id p) in
         sum_by-IsPermutation f _ order s.in_any_order.permutation
-        ∙ sum_by-append f (s.budget_parts ++ s.qdo_parts) s.name_parts
-        ∙ ap (λ k. k + tally id s.name_parts) (sum_by-append f s.budget_parts s.qdo_parts)
+        ∙ sum_by-append f (s.budget_parts ++ s.restarts_parts ++ s.qdo_parts) s.name_parts
+        ∙ ap (λ k. k + tally id s.name_parts) (sum_by-append f (s.budget_parts ++ s.restarts_parts) s.qdo_parts
+        ∙ ap (λ k. k + tally id s.qdo_parts) (sum_by-append f s.budget_parts s.restarts_parts))
 
     limits : (id : Text) → (tally id s.budget_parts ≤ bit (bytes_eq (codes "budget") id))
+        × (tally id s.restarts_parts ≤ bit (bytes_eq (codes "restarts") id))
         × (tally id s.qdo_parts ≤ bit (bytes_eq (codes "qdo") id))
         × (tally id s.name_parts ≤ bit (bytes_eq (codes "name") id))
     limits id = (
       one_tally (codes "budget") id s.budget_parts budget_group,
+      one_tally (codes "restarts") id s.restarts_parts restarts_group,
       one_tally (codes "qdo") id s.qdo_parts qdo_group,
       one_tally (codes "name") id s.name_parts name_group,
     )
@@ -319,7 +404,7 @@ module _ (c : List Rule) (knows : KnowsBudget c) (n : ℕ) (small : n < 2 ^ 64) 
     order_once : AreOnce [] order
     order_once id =
         let l = limits id in
-        omega (arith, count id, l.0, l.1, l.2, one_argument id)
+        omega (arith, count id, l.0, l.1, l.2, l.3, one_argument id)
 
     -- an argument whose parts are none, and one with a part
     not_found : (id : Text) → tally id order ≡ 0 → part_at id order ≡ None
@@ -333,18 +418,43 @@ module _ (c : List Rule) (knows : KnowsBudget c) (n : ℕ) (small : n < 2 ^ 64) 
         let u = used_once id order (omega (arith, order_once id, within, one)) in
         (u.part, u.some, u.is, holds_of_part Given id order u.part all u.some)
 
-    budget_told : GivesBudget s.budget_parts n → option_map_or value_of (part_at
-        (codes "budget") order) default_text ≡ decimal n
-    budget_told (inl h) =
+    abbrev parts_of : Setting → List Part
+    parts_of the_budget = s.budget_parts
+    parts_of the_restarts = s.restarts_parts
+
+    -- the parts of an option are among all, and all its parts are these
+    some_of : (x : Setting) → tally (setting_name x) (parts_of x) ≤ tally (setting_name x) order
+    some_of the_budget = omega (arith, count (codes "budget"))
+    some_of the_restarts = omega (arith, count (codes "restarts"))
+
+    none_of : (x : Setting) → tally (setting_name x) (parts_of x) ≡ 0 → tally (setting_name x) order ≡ 0
+    none_of the_budget none =
         let id = codes "budget" in
-        let none : tally id s.budget_parts ≡ 0 = ap (tally id) h.0 in
-        let q_none : tally id s.qdo_parts ≤ 0 = (limits id).1 in
-        let n_none : tally id s.name_parts ≤ 0 = (limits id).2 in
-        rw (not_found id (omega (arith, count id, none, q_none, n_none))) (sym greatest_text ∙ ap decimal (sym h.1))
-    budget_told (inr h) =
-        let p = found (codes "budget") s.budget_parts (omega (arith, count (codes "budget")))
-        (one_budget s.budget_parts h.1) in
-        rw p.1 (budget_value p.0 p.2 p.3)
+        let r_none : tally id s.restarts_parts ≤ 0 = (limits id).1 in
+        let q_none : tally id s.qdo_parts ≤ 0 = (limits id).2 in
+        let n_none : tally id s.name_parts ≤ 0 = (limits id).3 in
+        omega (arith, count id, none, r_none, q_none, n_none)
+    none_of the_restarts none =
+        let id = codes "restarts" in
+        let b_none : tally id s.budget_parts ≤ 0 = (limits id).0 in
+        let q_none : tally id s.qdo_parts ≤ 0 = (limits id).2 in
+        let n_none : tally id s.name_parts ≤ 0 = (limits id).3 in
+        omega (arith, count id, none, b_none, q_none, n_none)
+
+    setting_told : (x : Setting) → GivesSetting x (parts_of x) (at x)
+        → option_map_or value_of (part_at (setting_name x) order) (default_text x) ≡ decimal (at x)
+    setting_told x (inl h) =
+        let id = setting_name x in
+        let none : tally id (parts_of x) ≡ 0 = ap (tally id) h.0 in
+        rw (not_found id (none_of x none)) (sym (default_is x) ∙ ap decimal (sym h.1))
+    setting_told x (inr h) =
+        let p = found (setting_name x) (parts_of x) (some_of x) (one_setting x (parts_of x) h.1) in
+        rw p.1 (setting_value x p.0 (setting_part_is x p.0 p.2) p.3)
+
+    setting_set : (x : Setting) → GivesSetting x (parts_of x) (at x)
+        → IsSet x (fold with_default (map new_row order) c) (at x)
+    setting_set x gives =
+        (setting_read order c r x ∙ ap (λ t. Some t) (setting_told x gives), (omega arith, most x))
 
     name_told : (g : Option Text) → given ≡ g → GivesName s.name_parts g
         → option_map value_of (part_at (codes "name") order) ≡ g
@@ -352,8 +462,9 @@ module _ (c : List Rule) (knows : KnowsBudget c) (n : ℕ) (small : n < 2 ^ 64) 
         let id = codes "name" in
         let none : tally id s.name_parts ≡ 0 = ap (tally id) h in
         let b_none : tally id s.budget_parts ≤ 0 = (limits id).0 in
-        let q_none : tally id s.qdo_parts ≤ 0 = (limits id).1 in
-        rw (not_found id (omega (arith, count id, none, b_none, q_none))) refl
+        let r_none : tally id s.restarts_parts ≤ 0 = (limits id).1 in
+        let q_none : tally id s.qdo_parts ≤ 0 = (limits id).2 in
+        rw (not_found id (omega (arith, count id, none, b_none, r_none, q_none))) refl
     name_told (Some w) is h =
         let p =
         found (codes "name") s.name_parts (omega (arith, count (codes "name"))) (one_name s.name_parts w is h) in
@@ -364,8 +475,9 @@ module _ (c : List Rule) (knows : KnowsBudget c) (n : ℕ) (small : n < 2 ^ 64) 
         let id = codes "qdo" in
         let none : tally id s.qdo_parts ≡ 0 = ap (tally id) h in
         let b_none : tally id s.budget_parts ≤ 0 = (limits id).0 in
-        let n_none : tally id s.name_parts ≤ 0 = (limits id).2 in
-        rw (not_found id (omega (arith, count id, none, b_none, n_none))) refl
+        let r_none : tally id s.restarts_parts ≤ 0 = (limits id).1 in
+        let n_none : tally id s.name_parts ≤ 0 = (limits id).3 in
+        rw (not_found id (omega (arith, count id, none, b_none, r_none, n_none))) refl
     qdo_told true k h =
         let p = found (codes "qdo") s.qdo_parts (omega (arith, count (codes "qdo"))) (one_qdo s.qdo_parts (k refl) h) in
         rw p.1 refl
@@ -379,7 +491,6 @@ module _ (c : List Rule) (knows : KnowsBudget c) (n : ℕ) (small : n < 2 ^ 64) 
         let names : tally (codes "name") order ≤ bit true = omega (arith, order_once (codes "name")) in
         let taken = taken_from true order all names in
         let fine = all_map Given IsAccepted accepted order all in
-        let budget_is = budget_read order c r ∙ ap (λ t. Some t) (budget_told s.gives_budget) in
         let name_is = name_read order c r ∙ name_told given refl s.gives_name in
         record {
           order = order;
@@ -387,7 +498,12 @@ module _ (c : List Rule) (knows : KnowsBudget c) (n : ℕ) (small : n < 2 ^ 64) 
           once = order_once;
           passes = parts_pass c r order taken fine order_once;
           rows_are = rows_of_passing c r order taken fine order_once;
-          values = (small, budget_is, name_is, no_hyphen given s.gives_name);
+          values = (
+            setting_set the_budget s.gives_budget,
+            setting_set the_restarts s.gives_restarts,
+            name_is,
+            no_hyphen given s.gives_name,
+          );
           qdo = qdo_told q knows_qdo s.gives_qdo;
           lacks = all_lack order all;
         }

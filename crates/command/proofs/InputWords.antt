@@ -11,10 +11,11 @@ use Rattle.clap.specs.Walk.{has_row, is_empty, nothing_held, rows_after, with_de
 use Rattle.clap.specs.Faults.{defaults_fault, given_default_fault, level_fault}
 use Rattle.clap.specs.declared.builder.value_parser.Reading.TheVariants.{AsWritten}
 use Rattle.clap.specs.declared.parser.matches.ValueSource.TheVariants.{DefaultValue}
-use Rattle.command.specs.Account.{command_app, is_set, solve_app}
-use Rattle.command.specs.Forms.{Part, spelled}
+use Rattle.command.specs.Account.{command_app, default_text, is_set, solve_app}
+use Rattle.command.specs.Forms.{Part, Setting, setting_name, spelled}
+use Rattle.command.specs.Forms.Setting.{the_budget, the_restarts}
 use Rattle.command.proofs.Turns.{leaf, no_kinds, rules_of}
-use Rattle.command.proofs.WordKinds.{Long, long_budget, long_qdo, long_refused}
+use Rattle.command.proofs.WordKinds.{Long, long_qdo, long_refused, long_setting}
 use Rattle.clap.proofs.WalkLemmas.{find-map}
 use Rattle.command.proofs.PartWalk.{AreRules, AreTaken, LacksDashes, end_fault, fault_of_parts, parts_of_words, rows_of_parts, used_rows, uses_fault, uses_of}
 use Rattle.command.proofs.PartUses.{AreOnce, AreUsed, IsAccepted, joins, name, part_use, uses_are, uses_are_once, uses_pass, new_row, part_at, value_of}
@@ -28,20 +29,26 @@ solve_rules = rules_of solve_app
 
 input_long : (n : Text) → Long input_rules n
 input_long n = go (bytes_eq (codes "budget") n) refl (bytes_eq-Decides (codes "budget") n)
+    (bytes_eq (codes "restarts") n) refl (bytes_eq-Decides (codes "restarts") n)
   where
-    go : (b : Bool) → bytes_eq (codes "budget") n ≡ b → Decides b (codes "budget" ≡ n) → Long input_rules n
-    go true e d = long_budget (d.0 refl) (refl, refl)
-    go false e d = long_refused (rw e refl)
+    go : (b : Bool) → bytes_eq (codes "budget") n ≡ b → Decides b (codes "budget" ≡ n)
+        → (d : Bool) → bytes_eq (codes "restarts") n ≡ d → Decides d (codes "restarts" ≡ n) → Long input_rules n
+    go true e x d f y = long_setting the_budget (x.0 refl) (refl, refl)
+    go false e x true f y = long_setting the_restarts (y.0 refl) (refl, refl)
+    go false e x false f y = long_refused (rw (e, f) refl)
 
 solve_long : (n : Text) → Long solve_rules n
 solve_long n = go (bytes_eq (codes "budget") n) refl (bytes_eq-Decides (codes "budget") n)
+    (bytes_eq (codes "restarts") n) refl (bytes_eq-Decides (codes "restarts") n)
     (bytes_eq (codes "qdo") n) refl (bytes_eq-Decides (codes "qdo") n)
   where
     go : (b : Bool) → bytes_eq (codes "budget") n ≡ b → Decides b (codes "budget" ≡ n)
-        → (d : Bool) → bytes_eq (codes "qdo") n ≡ d → Decides d (codes "qdo" ≡ n) → Long solve_rules n
-    go true e d b f g = long_budget (d.0 refl) (refl, refl)
-    go false e d true f g = long_qdo (g.0 refl) refl
-    go false e d false f g = long_refused (rw (e, f) refl)
+        → (d : Bool) → bytes_eq (codes "restarts") n ≡ d → Decides d (codes "restarts" ≡ n)
+        → (q : Bool) → bytes_eq (codes "qdo") n ≡ q → Decides q (codes "qdo" ≡ n) → Long solve_rules n
+    go true e x d f y q g z = long_setting the_budget (x.0 refl) (refl, refl)
+    go false e x true f y q g z = long_setting the_restarts (y.0 refl) (refl, refl)
+    go false e x false f y true g z = long_qdo (z.0 refl) refl
+    go false e x false f y false g z = long_refused (rw (e, f, g) refl)
 
 -- ---- defaults
 
@@ -52,9 +59,6 @@ same_either false x = refl
 -- a default for an argument that has no row
 abbrev defaulted : Text → Text → List Row → List Row
 defaulted id v rows = cond (has_row id rows) rows (with_values id AsWritten DefaultValue (v ∷ []) rows)
-
-abbrev pub default_text : Text
-default_text = codes "18446744073709551615"
 
 -- the argument has no default, or one that doesn't fail
 abbrev IsHarmless : Rule → Type 0
@@ -90,56 +94,7 @@ module _ (own id v : Text) (rows : List Row) (other : bytes_eq own id ≡ false)
   kept : first_of id (defaulted own v rows) ≡ first_of id rows
   kept = ap (option_and_then (λ (r : Row). slice_get r.values 0)) kept_find
 
--- the rules are of a command that reads an input
-pub record AreInputRules (c : List Rule) : Type 0 where
-  pub rules : AreRules c (name ∷ [])
-  pub ends : (rows : List Row) → end_fault c rows ≡ []
-  pub budget_last : (rows : List Row) → first_of (codes "budget") (fold with_default rows c)
-      ≡ first_of (codes "budget") (defaulted (codes "budget") default_text rows)
-  pub name_last : (rows : List Row) → first_of (codes "name") (fold with_default rows c) ≡ first_of (codes "name") rows
-
--- an argument without a default
-none_by : (id : Text) (rows : List Row) → cond (has_row id rows) rows rows ≡ rows
-none_by id rows = same_either (has_row id rows) rows
-
-input_last : (rows : List Row) → fold with_default rows input_rules ≡ defaulted (codes "budget") default_text rows
-input_last rows = none_by (codes "help") _ ∙ none_by (codes "name") (defaulted (codes "budget") default_text rows)
-
-solve_last : (rows : List Row) → fold with_default rows solve_rules
-    ≡ defaulted (codes "qdo") (codes "false") (defaulted (codes "budget") default_text rows)
-solve_last rows = none_by (codes "help") _
-    ∙ ap (defaulted (codes "qdo") (codes "false")) (none_by (codes "name") (defaulted
-    (codes "budget") default_text rows))
-
-pub input_are : AreInputRules input_rules
-input_are = record {
-  rules = record {
-    help_alone = λ x. refl;
-    long = input_long;
-    left = (refl, record { found = refl; one_use = refl; one_value = refl; no_trail = refl }, refl, refl);
-  };
-  ends = λ rows. ap (λ k. or_else k []) (harmless rows input_rules (inr refl, (inl refl, (inl refl, tt))));
-  budget_last = λ rows. ap (first_of (codes "budget")) (input_last rows);
-  name_last = λ rows.
-      ap (first_of (codes "name")) (input_last rows) ∙ kept (codes "budget") (codes "name") default_text rows refl;
-}
-
-pub solve_are : AreInputRules solve_rules
-solve_are = record {
-  rules = record {
-    help_alone = λ x. refl;
-    long = solve_long;
-    left = (refl, record { found = refl; one_use = refl; one_value = refl; no_trail = refl }, refl, refl);
-  };
-  ends = λ rows. ap (λ k. or_else k []) (harmless rows solve_rules (inr refl, (inl refl, (inr refl, (inl refl, tt)))));
-  budget_last = λ rows. ap (first_of (codes "budget")) (solve_last rows)
-      ∙ kept (codes "qdo") (codes "budget") (codes "false") (defaulted (codes "budget") default_text rows) refl;
-  name_last = λ rows. ap (first_of (codes "name")) (solve_last rows)
-      ∙ kept (codes "qdo") (codes "name") (codes "false") (defaulted (codes "budget") default_text rows) refl
-      ∙ kept (codes "budget") (codes "name") default_text rows refl;
-}
-
--- ---- what `clap` reads of parts
+-- ---- what `clap` reads of an argument with a default
 
 any_is_find : {X : Type 0} (p : X → Bool) (xs : List X) → list_any p xs ≡ is_some (find p xs)
 any_is_find p [] = refl
@@ -167,6 +122,94 @@ own_default id v rows same = go (row_at id rows) refl
         let some : has_row id rows ≡ true = any_is_find (λ r. bytes_eq r.id id) rows ∙ ap is_some e in
         rw (some, e) refl
 
+-- the rows with the defaults of the options
+abbrev with_settings : List Row → List Row
+with_settings rows = defaulted (codes "restarts") (default_text the_restarts)
+    (defaulted (codes "budget") (default_text the_budget) rows)
+
+-- what `clap` reads of an option
+abbrev setting_in : Setting → List Row → Option Text
+setting_in s rows = value_or (default_text s) (row_at (setting_name s) rows)
+
+settings_in : (s : Setting) (rows : List Row) → first_of (setting_name s) (with_settings rows) ≡ setting_in s rows
+settings_in the_budget rows =
+    kept (codes "restarts") (codes "budget") (default_text the_restarts)
+    (defaulted (codes "budget") (default_text the_budget) rows) refl
+    ∙ own_default (codes "budget") (default_text the_budget) rows refl
+settings_in the_restarts rows =
+    own_default (codes "restarts") (default_text the_restarts)
+    (defaulted (codes "budget") (default_text the_budget) rows) refl
+    ∙ ap (value_or (default_text the_restarts))
+    (kept_find (codes "budget") (codes "restarts") (default_text the_budget) rows refl)
+
+-- another argument is found as before
+other_find : (id : Text) (rows : List Row) → bytes_eq (codes "budget") id ≡ false
+    → bytes_eq (codes "restarts") id ≡ false → row_at id (with_settings rows) ≡ row_at id rows
+other_find id rows b r =
+    kept_find (codes "restarts") id (default_text the_restarts)
+    (defaulted (codes "budget") (default_text the_budget) rows) r
+    ∙ kept_find (codes "budget") id (default_text the_budget) rows b
+
+other_in : (id : Text) (rows : List Row) → bytes_eq (codes "budget") id ≡ false
+    → bytes_eq (codes "restarts") id ≡ false → first_of id (with_settings rows) ≡ first_of id rows
+other_in id rows b r = ap (option_and_then (λ (r : Row). slice_get r.values 0)) (other_find id rows b r)
+
+-- the rules are of a command that reads an input
+pub record AreInputRules (c : List Rule) : Type 0 where
+  pub rules : AreRules c (name ∷ [])
+  pub ends : (rows : List Row) → end_fault c rows ≡ []
+  pub setting_last : (s : Setting) (rows : List Row)
+      → first_of (setting_name s) (fold with_default rows c) ≡ setting_in s rows
+  pub name_last : (rows : List Row) → first_of (codes "name") (fold with_default rows c) ≡ first_of (codes "name") rows
+
+-- an argument without a default
+none_by : (id : Text) (rows : List Row) → cond (has_row id rows) rows rows ≡ rows
+none_by id rows = same_either (has_row id rows) rows
+
+input_last : (rows : List Row) → fold with_default rows input_rules ≡ with_settings rows
+input_last rows = none_by (codes "help") _ ∙ none_by (codes "name") (with_settings rows)
+
+solve_last : (rows : List Row) → fold with_default rows solve_rules
+    ≡ defaulted (codes "qdo") (codes "false") (with_settings rows)
+solve_last rows = none_by (codes "help") _
+    ∙ ap (defaulted (codes "qdo") (codes "false")) (none_by (codes "name") (with_settings rows))
+
+pub input_are : AreInputRules input_rules
+input_are = record {
+  rules = record {
+    help_alone = λ x. refl;
+    long = input_long;
+    left = (refl, record { found = refl; one_use = refl; one_value = refl; no_trail = refl }, refl, refl);
+  };
+  ends = λ rows. ap (λ k. or_else k []) (harmless rows input_rules
+      (inr refl, (inr refl, (inl refl, (inl refl, tt)))));
+  setting_last = λ s rows. ap (first_of (setting_name s)) (input_last rows) ∙ settings_in s rows;
+  name_last = λ rows. ap (first_of (codes "name")) (input_last rows) ∙ other_in (codes "name") rows refl refl;
+}
+
+-- `--qdo` is no option with a number
+qdo_apart : (s : Setting) → bytes_eq (codes "qdo") (setting_name s) ≡ false
+qdo_apart the_budget = refl
+qdo_apart the_restarts = refl
+
+pub solve_are : AreInputRules solve_rules
+solve_are = record {
+  rules = record {
+    help_alone = λ x. refl;
+    long = solve_long;
+    left = (refl, record { found = refl; one_use = refl; one_value = refl; no_trail = refl }, refl, refl);
+  };
+  ends = λ rows. ap (λ k. or_else k []) (harmless rows solve_rules
+      (inr refl, (inr refl, (inl refl, (inr refl, (inl refl, tt))))));
+  setting_last = λ s rows. ap (first_of (setting_name s)) (solve_last rows)
+      ∙ kept (codes "qdo") (setting_name s) (codes "false") (with_settings rows) (qdo_apart s) ∙ settings_in s rows;
+  name_last = λ rows. ap (first_of (codes "name")) (solve_last rows)
+      ∙ kept (codes "qdo") (codes "name") (codes "false") (with_settings rows) refl
+      ∙ other_in (codes "name") rows refl refl;
+}
+
+-- ---- what `clap` reads of parts
+
 row_of_part : (id : Text) (ps : List Part) → row_at id (map new_row ps) ≡ option_map new_row (part_at id ps)
 row_of_part id ps = sym (find-map (λ r. bytes_eq r.id id) new_row ps)
 
@@ -174,16 +217,14 @@ module _ (ps : List Part) where
   abbrev rows : List Row
   rows = map new_row ps
 
-  abbrev after_budget : List Row
-  after_budget = defaulted (codes "budget") default_text rows
-
-  pub budget_read : (c : List Rule) → AreInputRules c → first_of (codes "budget") (fold with_default rows c)
-      ≡ Some (option_map_or value_of (part_at (codes "budget") ps) default_text)
-  budget_read c r = r.budget_last rows ∙ own_default (codes "budget") default_text rows refl
-      ∙ ap (value_or default_text) (row_of_part (codes "budget") ps) ∙ go (part_at (codes "budget") ps)
+  pub setting_read : (c : List Rule) → AreInputRules c → (s : Setting)
+      → first_of (setting_name s) (fold with_default rows c)
+      ≡ Some (option_map_or value_of (part_at (setting_name s) ps) (default_text s))
+  setting_read c r s = r.setting_last s rows
+      ∙ ap (value_or (default_text s)) (row_of_part (setting_name s) ps) ∙ go (part_at (setting_name s) ps)
     where
-      go : (o : Option Part) → value_or default_text (option_map new_row o)
-          ≡ Some (option_map_or value_of o default_text)
+      go : (o : Option Part) → value_or (default_text s) (option_map new_row o)
+          ≡ Some (option_map_or value_of o (default_text s))
       go None = refl
       go (Some p) = refl
 
@@ -202,9 +243,8 @@ module _ (ps : List Part) where
       ≡ bytes_eq (option_map_or value_of (part_at (codes "qdo") ps) (codes "false")) (codes "true")
   qdo_read =
       let read = ap (first_of (codes "qdo")) (solve_last rows)
-      ∙ own_default (codes "qdo") (codes "false") after_budget refl
-      ∙ ap (value_or (codes "false")) (kept_find (codes "budget") (codes "qdo") default_text rows refl
-      ∙ row_of_part (codes "qdo") ps) in
+      ∙ own_default (codes "qdo") (codes "false") (with_settings rows) refl
+      ∙ ap (value_or (codes "false")) (other_find (codes "qdo") rows refl refl ∙ row_of_part (codes "qdo") ps) in
       ap (λ o. option_map_or (λ text. bytes_eq text (codes "true")) o false) read ∙ go (part_at (codes "qdo") ps)
     where
       go : (o : Option Part) → option_map_or (λ text. bytes_eq text (codes "true")) (value_or (codes "false")

@@ -1,4 +1,4 @@
--- What the parts `[--budget N] [--qdo] [NAME]` use: each argument once at most.
+-- What the parts `[--budget N] [--restarts R] [--qdo] [NAME]` use: each argument once at most.
 use Rattle.std.proofs.Common.{◌≡◌, ◌≢◌, ◌∙◌, ◌++◌, ◌||◌, ◌+◌, ◌≤◌, ℕ, Bool, cond, true, false, List, [], ◌∷◌, map, Option, Some, None, IsPermutation, codes, option_map, slice_get, refl, sym, ap, subst, arith, append-nil, append_assoc}
 use Rattle.std.specs.List.{AllByRecursion, filter, find, sum_by}
 use Rattle.std.specs.Prelude.{option_and_then}
@@ -16,10 +16,11 @@ use Rattle.clap.specs.declared.builder.value_parser.Reading.TheVariants.{AsWritt
 use Rattle.clap.specs.declared.parser.matches.ValueSource.{ValueSource}
 use Rattle.clap.specs.declared.parser.matches.ValueSource.TheVariants.{CommandLine}
 use Rattle.command.specs.Account.{name_rule}
-use Rattle.command.specs.Forms.{Part}
-use Rattle.command.specs.Forms.Part.{budget_part, joined_budget, qdo_part, name_part}
+use Rattle.command.specs.Forms.{Part, setting_name}
+use Rattle.command.specs.Forms.Part.{setting_part, joined_part, qdo_part, name_part}
+use Rattle.command.specs.Forms.Setting.{the_budget, the_restarts}
 use Rattle.command.proofs.Turns.{no_kinds}
-use Rattle.command.proofs.WordKinds.{budget, qdo}
+use Rattle.command.proofs.WordKinds.{qdo, setting}
 use Rattle.command.proofs.PartWalk.{AreTaken, Use, used_rows, uses_fault, uses_of}
 
 abbrev pub name : Rule
@@ -27,14 +28,14 @@ name = with_index 1 (filled name_rule)
 
 -- the argument of a part, and its value
 abbrev pub id_of : Part → Text
-id_of (budget_part t) = codes "budget"
-id_of (joined_budget t) = codes "budget"
+id_of (setting_part s t) = setting_name s
+id_of (joined_part s t) = setting_name s
 id_of qdo_part = codes "qdo"
 id_of (name_part w) = codes "name"
 
 abbrev pub value_of : Part → Text
-value_of (budget_part t) = t
-value_of (joined_budget t) = t
+value_of (setting_part s t) = t
+value_of (joined_part s t) = t
 value_of qdo_part = codes "true"
 value_of (name_part w) = w
 
@@ -43,8 +44,8 @@ abbrev pub is_of : Text → Part → Bool
 is_of id p = bytes_eq (id_of p) id
 
 abbrev pub part_use : Part → Use
-part_use (budget_part t) = (budget, t ∷ [])
-part_use (joined_budget t) = (budget, t ∷ [])
+part_use (setting_part s t) = (setting s, t ∷ [])
+part_use (joined_part s t) = (setting s, t ∷ [])
 part_use qdo_part = (qdo, [])
 part_use (name_part w) = (name, w ∷ [])
 
@@ -56,8 +57,8 @@ name_left false = []
 pub uses_are : (c : List Rule) (b : Bool) (ps : List Part) → AreTaken c (name_left b) ps
     → uses_of (name_left b) ps ≡ map part_use ps
 uses_are c b [] taken = refl
-uses_are c b (budget_part t ∷ ps) taken = ap (λ us. part_use (budget_part t) ∷ us) (uses_are c b ps taken.1)
-uses_are c b (joined_budget t ∷ ps) taken = ap (λ us. part_use (joined_budget t) ∷ us) (uses_are c b ps taken.1)
+uses_are c b (setting_part s t ∷ ps) taken = ap (λ us. part_use (setting_part s t) ∷ us) (uses_are c b ps taken.1)
+uses_are c b (joined_part s t ∷ ps) taken = ap (λ us. part_use (joined_part s t) ∷ us) (uses_are c b ps taken.1)
 uses_are c b (qdo_part ∷ ps) taken = ap (λ us. part_use qdo_part ∷ us) (uses_are c b ps taken.1)
 uses_are c true (name_part w ∷ ps) taken = ap (λ us. part_use (name_part w) ∷ us) (uses_are c false ps taken.1)
 uses_are c false (name_part w ∷ ps) taken = absurd taken.0
@@ -104,23 +105,23 @@ module _ (rows : List Row) where
 
   used_is : (p : Part) → has_row (id_of p) rows ≡ false → used (part_use p).0 (part_use p).1 rows
       ≡ rows ++ new_row p ∷ []
-  used_is (budget_part t) none = replaces (codes "budget") (t ∷ []) none
-  used_is (joined_budget t) none = replaces (codes "budget") (t ∷ []) none
+  used_is (setting_part s t) none = replaces (setting_name s) (t ∷ []) none
+  used_is (joined_part s t) none = replaces (setting_name s) (t ∷ []) none
   used_is qdo_part none = replaces (codes "qdo") (codes "true" ∷ []) none
   used_is (name_part w) none = replaces (codes "name") (w ∷ []) none
 
   -- a second use fails
   fails_twice : (p : Part) → has_row (id_of p) rows ≡ true → use_fault false (part_use p).0 (part_use p).1 rows ≢ []
-  fails_twice (budget_part t) has = rw has (λ e. absurd cc)
-  fails_twice (joined_budget t) has = rw has (λ e. absurd cc)
+  fails_twice (setting_part s t) has = rw has (λ e. absurd cc)
+  fails_twice (joined_part s t) has = rw has (λ e. absurd cc)
   fails_twice qdo_part has = rw has (λ e. absurd cc)
   fails_twice (name_part w) has = rw has (λ e. absurd cc)
 
   -- a first one doesn't, where `clap` accepts the value
   passes_once : (p : Part) → IsAccepted p → has_row (id_of p) rows ≡ false
       → use_fault false (part_use p).0 (part_use p).1 rows ≡ []
-  passes_once (budget_part t) accepted none = rw (none, accepted) refl
-  passes_once (joined_budget t) accepted none = rw (none, accepted) refl
+  passes_once (setting_part s t) accepted none = rw (none, accepted) refl
+  passes_once (joined_part s t) accepted none = rw (none, accepted) refl
   passes_once qdo_part accepted none = rw none refl
   passes_once (name_part w) accepted none = rw none refl
 
@@ -136,8 +137,10 @@ pub tally-cons : (id : Text) (p : Part) (ps : List Part) → tally id (p ∷ ps)
 tally-cons id p ps = sum_by-cons (λ q. bit (is_of id q)) p ps
 
 pub of_itself : (p : Part) → is_of (id_of p) p ≡ true
-of_itself (budget_part t) = refl
-of_itself (joined_budget t) = refl
+of_itself (setting_part the_budget t) = refl
+of_itself (setting_part the_restarts t) = refl
+of_itself (joined_part the_budget t) = refl
+of_itself (joined_part the_restarts t) = refl
 of_itself qdo_part = refl
 of_itself (name_part w) = refl
 
@@ -288,21 +291,39 @@ holds_of_part P id (q ∷ ps) p all e = go (is_of id q) refl (λ f. holds_of_par
 
 -- the parts by their arguments
 abbrev pub by_argument : List Part → List Part
-by_argument ps =
-    filter (is_of (codes "budget")) ps ++ filter (is_of (codes "qdo")) ps ++ filter (is_of (codes "name")) ps
+by_argument ps = filter (is_of (codes "budget")) ps ++ filter (is_of (codes "restarts")) ps
+    ++ filter (is_of (codes "qdo")) ps ++ filter (is_of (codes "name")) ps
+
+-- one more in the middle
+one_more : (p : Part) (a b d : List Part) → IsPermutation (a ++ (p ∷ b) ++ d) (p ∷ (a ++ b ++ d))
+one_more p a b d = rw (append_assoc a (p ∷ b) d, append_assoc a b d) (IsPermutation-middle a p (b ++ d))
+
+-- one more of the restarts, behind those of the budget
+one_restarts : (p : Part) (a b d e : List Part) → IsPermutation (a ++ (p ∷ b) ++ d ++ e) (p ∷ (a ++ b ++ d ++ e))
+one_restarts p a b d e =
+    rw (append_assoc (a ++ (p ∷ b)) d e, append_assoc (a ++ b) d e) (one_more p a b (d ++ e))
 
 pub argument_order : (ps : List Part) → IsPermutation (by_argument ps) ps
 argument_order [] = IsPermutation-refl []
-argument_order (budget_part t ∷ ps) = IsPermutation-cons (budget_part t) (by_argument ps) ps (argument_order ps)
-argument_order (joined_budget t ∷ ps) = IsPermutation-cons (joined_budget t) (by_argument ps) ps (argument_order ps)
+argument_order (setting_part the_budget t ∷ ps) =
+    IsPermutation-cons (setting_part the_budget t) (by_argument ps) ps (argument_order ps)
+argument_order (joined_part the_budget t ∷ ps) =
+    IsPermutation-cons (joined_part the_budget t) (by_argument ps) ps (argument_order ps)
+argument_order (setting_part the_restarts t ∷ ps) = IsPermutation-trans _ _ _
+    (one_restarts (setting_part the_restarts t) (filter (is_of (codes "budget")) ps)
+    (filter (is_of (codes "restarts")) ps) (filter (is_of (codes "qdo")) ps) (filter (is_of (codes "name")) ps))
+    (IsPermutation-cons (setting_part the_restarts t) (by_argument ps) ps (argument_order ps))
+argument_order (joined_part the_restarts t ∷ ps) = IsPermutation-trans _ _ _
+    (one_restarts (joined_part the_restarts t) (filter (is_of (codes "budget")) ps)
+    (filter (is_of (codes "restarts")) ps) (filter (is_of (codes "qdo")) ps) (filter (is_of (codes "name")) ps))
+    (IsPermutation-cons (joined_part the_restarts t) (by_argument ps) ps (argument_order ps))
 argument_order (qdo_part ∷ ps) =
-    let a = filter (is_of (codes "budget")) ps in
-    let b = filter (is_of (codes "qdo")) ps in
-    let d = filter (is_of (codes "name")) ps in
-    let first : IsPermutation (a ++ (qdo_part ∷ b) ++ d) (qdo_part ∷ by_argument ps) =
-    rw (append_assoc a (qdo_part ∷ b) d, append_assoc a b d) (IsPermutation-middle a qdo_part (b ++ d)) in
-    IsPermutation-trans _ _ _ first (IsPermutation-cons qdo_part (by_argument ps) ps (argument_order ps))
+    let options = filter (is_of (codes "budget")) ps ++ filter (is_of (codes "restarts")) ps in
+    IsPermutation-trans _ _ _
+    (one_more qdo_part options (filter (is_of (codes "qdo")) ps) (filter (is_of (codes "name")) ps))
+    (IsPermutation-cons qdo_part (by_argument ps) ps (argument_order ps))
 argument_order (name_part w ∷ ps) =
-    let ab = filter (is_of (codes "budget")) ps ++ filter (is_of (codes "qdo")) ps in
-    IsPermutation-trans _ _ _ (IsPermutation-middle ab (name_part w) (filter (is_of (codes "name")) ps))
+    let others = filter (is_of (codes "budget")) ps ++ filter (is_of (codes "restarts")) ps
+    ++ filter (is_of (codes "qdo")) ps in
+    IsPermutation-trans _ _ _ (IsPermutation-middle others (name_part w) (filter (is_of (codes "name")) ps))
     (IsPermutation-cons (name_part w) (by_argument ps) ps (argument_order ps))

@@ -5,14 +5,15 @@ use Rattle.std.specs.List.{flat_map}
 use Rattle.clap.specs.Lexer.{long_of}
 use Rattle.clap.specs.Words.{Row, Rule, Kinds}
 use Rattle.clap.specs.Kinds.{or_else}
-use Rattle.clap.specs.Walk.{Held, Step, Text, Waiting, Walk, idle, option, positional, after_step, arg_by_id, arg_by_index, arg_by_long, long_word, next, is_multiple, is_pending, next_position, nothing_held, pushed, rows_after, settled, settled_rows, subcommand_met, takes_several, to_positional, used, value, walked, with_default, word_met}
+use Rattle.clap.specs.Walk.{Held, Step, Text, Waiting, Walk, idle, option, positional, after_step, arg_by_id, arg_by_index, arg_by_long, long_word, next, is_multiple, is_pending, next_position, nothing_held, plain_word, pushed, rows_after, settled, settled_rows, subcommand_met, takes_several, to_positional, used, value, walked, with_default, word_met}
 use Rattle.clap.specs.Faults.{check_fault, defaults_fault, level_fault, long_fault, settle_fault, step_fault, turn_fault, use_fault, walk_fault, word_fault}
 use Rattle.clap.proofs.WalkLemmas.{walked_is}
-use Rattle.command.specs.Forms.{Part, spelled}
-use Rattle.command.specs.Forms.Part.{budget_part, joined_budget, qdo_part, name_part}
-use Rattle.command.proofs.Turns.{IsPlainWord, Pending, as_budget, at, first_of_three, for_budget, held, leaf, no_budget_yet, no_kinds, nothing_after, plain_fault, plain_met}
-use Rattle.command.proofs.Spelled.{long_spelled}
-use Rattle.command.proofs.WordKinds.{IsNotDashes, IsRefused, Kind, KnowsBudget, KnowsHelpAlone, KnowsQdo, Long, budget, is_budget, is_plain, is_qdo, is_refused, kind_of_word, long_fault_is, long_met_is, qdo, sets_budget}
+use Rattle.command.specs.Forms.{Part, Setting, setting_name, spelled}
+use Rattle.command.specs.Forms.Part.{setting_part, joined_part, qdo_part, name_part}
+use Rattle.command.specs.Forms.Setting.{the_budget, the_restarts}
+use Rattle.command.proofs.Turns.{IsPlainWord, Pending, as_setting, at, first_of_three, for_setting, held, leaf, no_value_yet, no_kinds, nothing_after, plain_fault, plain_met}
+use Rattle.command.proofs.Spelled.{joined_long, joined_not_dashes, joined_spelled, joined_word, long_spelled, option_long, option_not_dashes, option_spelled, option_word}
+use Rattle.command.proofs.WordKinds.{IsNotDashes, IsRefused, Kind, KnowsHelpAlone, KnowsQdo, KnowsSetting, Long, is_plain, is_qdo, is_refused, is_setting, kind_of_word, long_fault_is, long_met_is, qdo, sets, setting}
 
 pub no_subcommand : (waiting : Waiting) (w : Text) → subcommand_met [] waiting w ≡ None
 no_subcommand idle w = refl
@@ -87,19 +88,19 @@ module _ (c : List Rule) where
           let t = turn h st (long_met_is (leaf c) [] waiting x unmet dashes rows pending position name v l ∙ met) in
           failing _ _ _ _ _ faults t (ap (λ k. or_else k (step_fault (leaf c) position h st)) fault ∙ are)
 
-      -- `--budget`
-      by_budget : KnowsBudget c → long_of x ≡ Some (codes "budget", None)
-          → Leads here (x ∷ rest) settling (at for_budget settled_here no_budget_yet position) rest
-      by_budget knows l =
-          by_long (codes "budget") None l (held settled_here no_budget_yet) (next for_budget) (rw knows.0 refl)
-          settling (rw knows.0 (nothing_after settling))
+      -- `--OPTION`
+      by_option : (s : Setting) → KnowsSetting s c → long_of x ≡ Some (setting_name s, None)
+          → Leads here (x ∷ rest) settling (at (for_setting s) settled_here (no_value_yet s) position) rest
+      by_option s knows l =
+          by_long (setting_name s) None l (held settled_here (no_value_yet s)) (next (for_setting s))
+          (rw knows.0 refl) settling (rw knows.0 (nothing_after settling))
 
-      -- `--budget=t`
-      by_setting : KnowsBudget c → (t : Text) → long_of x ≡ Some (codes "budget", Some t)
-          → Leads here (x ∷ rest) (or_else settling (use_fault false budget (t ∷ []) settled_here))
-          (at idle (used budget (t ∷ []) settled_here) None position) rest
-      by_setting knows t l =
-          by_long (codes "budget") (Some t) l (held (used budget (t ∷ []) settled_here) None) (next idle)
+      -- `--OPTION=t`
+      by_setting : (s : Setting) → KnowsSetting s c → (t : Text) → long_of x ≡ Some (setting_name s, Some t)
+          → Leads here (x ∷ rest) (or_else settling (use_fault false (setting s) (t ∷ []) settled_here))
+          (at idle (used (setting s) (t ∷ []) settled_here) None position) rest
+      by_setting s knows t l =
+          by_long (setting_name s) (Some t) l (held (used (setting s) (t ∷ []) settled_here) None) (next idle)
           (rw knows.0 refl) _ (rw knows.0 (nothing_after _))
 
       -- `--qdo`
@@ -110,14 +111,21 @@ module _ (c : List Rule) where
           by_long (codes "qdo") None l (held (used qdo [] settled_here) None) (next idle) (rw knows refl) _
           (rw knows (nothing_after _))
 
-  -- a value that `--budget` waits for
-  by_value : KnowsBudget c → (rows : List Row) (position : ℕ) (x : Text) (rest : List Text) → IsPlainWord x
-      → Leads (at for_budget rows no_budget_yet position) (x ∷ rest) [] (at idle rows (as_budget x) position) rest
-  by_value knows rows position x rest plain =
-      let met = plain_met (leaf c) [] for_budget x refl rows no_budget_yet position plain in
-      let t = turn for_budget rows no_budget_yet position x rest (held rows (as_budget x)) (next idle)
-      (met ∙ rw knows.1 refl) in
-      let none = plain_fault (leaf c) [] for_budget x refl rows no_budget_yet plain in
+  -- the option that waits takes the value
+  value_met : (s : Setting) → KnowsSetting s c → (rows : List Row) (x : Text)
+      → plain_word c (for_setting s) x (held rows (no_value_yet s)) ≡ (held rows (as_setting s x), next idle)
+  value_met the_budget knows rows x = rw knows.1 refl
+  value_met the_restarts knows rows x = rw knows.1 refl
+
+  -- a value that an option waits for
+  by_value : (s : Setting) → KnowsSetting s c → (rows : List Row) (position : ℕ) (x : Text) (rest : List Text)
+      → IsPlainWord x → Leads (at (for_setting s) rows (no_value_yet s) position) (x ∷ rest) []
+      (at idle rows (as_setting s x) position) rest
+  by_value s knows rows position x rest plain =
+      let met = plain_met (leaf c) [] (for_setting s) x refl rows (no_value_yet s) position plain in
+      let t = turn (for_setting s) rows (no_value_yet s) position x rest (held rows (as_setting s x)) (next idle)
+      (met ∙ value_met s knows rows x) in
+      let none = plain_fault (leaf c) [] (for_setting s) x refl rows (no_value_yet s) plain in
       failing _ _ _ _ _ [] t (ap (λ k. or_else k []) none)
 
   -- ---- words that go to a place
@@ -195,8 +203,8 @@ Use = Rule × List Text
 
 -- the use that a part makes, where these places are left
 abbrev pub use_of : List Rule → Part → List Use
-use_of left (budget_part t) = (budget, t ∷ []) ∷ []
-use_of left (joined_budget t) = (budget, t ∷ []) ∷ []
+use_of left (setting_part s t) = (setting s, t ∷ []) ∷ []
+use_of left (joined_part s t) = (setting s, t ∷ []) ∷ []
 use_of left qdo_part = (qdo, []) ∷ []
 use_of [] (name_part w) = []
 use_of (a ∷ left) (name_part w) = (a, w ∷ []) ∷ []
@@ -221,8 +229,8 @@ used_rows rows (u ∷ us) = used_rows (used u.0 u.1 rows) us
 module _ (c : List Rule) where
   -- `clap` takes the part for what it is, where these places are left
   abbrev pub IsTaken : List Rule → Part → Type 0
-  IsTaken left (budget_part t) = KnowsBudget c × IsPlainWord t
-  IsTaken left (joined_budget t) = KnowsBudget c
+  IsTaken left (setting_part s t) = KnowsSetting s c × IsPlainWord t
+  IsTaken left (joined_part s t) = KnowsSetting s c
   IsTaken left qdo_part = KnowsQdo c
   IsTaken [] (name_part w) = ⊥
   IsTaken (a ∷ left) (name_part w) = IsPlainWord w
@@ -256,18 +264,20 @@ module _ (c : List Rule) where
   unfolding walk_fault
   follow [] rows pending i left at_place taken =
       record { fate_is = sym (nothing_after (settle_fault c false (held rows pending))); rows_are = refl }
-  follow (budget_part t ∷ ps) rows pending i left at_place taken =
+  follow (setting_part s t ∷ ps) rows pending i left at_place taken =
       let settled_here = settled_rows c pending rows in
       let rest = flat_map spelled ps in
       let knows = taken.0.0 in
-      let ih = rw knows.1 at (follow ps settled_here (as_budget t) i left at_place taken.1) in
-      let flag = by_budget c idle rows pending i (codes "--budget") (t ∷ rest) refl knows refl in
-      then _ _ _ _ _ _ _ _ flag (then _ _ _ _ _ _ _ _ (by_value c knows settled_here i t rest taken.0.1) ih refl) refl
-  follow (joined_budget t ∷ ps) rows pending i left at_place taken =
+      let ih = rw knows.1 at (follow ps settled_here (as_setting s t) i left at_place taken.1) in
+      let flag = by_option c idle rows pending i (option_word s) (t ∷ rest) (option_not_dashes s) s knows
+      (option_long s) in
+      then _ _ _ _ _ _ _ _ flag (then _ _ _ _ _ _ _ _ (by_value c s knows settled_here i t rest taken.0.1) ih refl)
+      refl
+  follow (joined_part s t ∷ ps) rows pending i left at_place taken =
       let settled_here = settled_rows c pending rows in
-      let ih = follow ps (used budget (t ∷ []) settled_here) None i left at_place taken.1 in
-      let value =
-      by_setting c idle rows pending i (codes "--budget=" ++ t) (flat_map spelled ps) refl taken.0 t refl in
+      let ih = follow ps (used (setting s) (t ∷ []) settled_here) None i left at_place taken.1 in
+      let value = by_setting c idle rows pending i (joined_word s t) (flat_map spelled ps) (joined_not_dashes s t) s
+      taken.0 t (joined_long s t) in
       then _ _ _ _ _ _ _ _ value ih (first_of_three (settle_fault c false (held rows pending)) _ _)
   follow (qdo_part ∷ ps) rows pending i left at_place taken =
       let settled_here = settled_rows c pending rows in
@@ -290,94 +300,96 @@ LacksDashes (x ∷ xs) = IsNotDashes x × LacksDashes xs
 
 module _ (c : List Rule) (help_alone : KnowsHelpAlone c) (long : (name : Text) → Long c name) where
   -- the words begin with a value
-  record BeginWithValue (left : List Rule) (words : List Text) : Type 0 where
-    pub knows : KnowsBudget c
+  record BeginWithValue (s : Setting) (left : List Rule) (words : List Text) : Type 0 where
+    pub knows : KnowsSetting s c
     pub word : Text
     pub rest : List Text
     pub all : words ≡ word ∷ rest
     pub plain : IsPlainWord word
     pub others : ArePartsOf c left rest
 
-  -- `--budget` waits for its value, or not
-  abbrev Waits : Bool → Type 0
-  Waits true = KnowsBudget c
-  Waits false = ⊤
+  -- an option waits for its value, or none does
+  abbrev Waits : Option Setting → Type 0
+  Waits (Some s) = KnowsSetting s c
+  Waits None = ⊤
 
-  abbrev state : Bool → List Row → Pending → ℕ → Walk
-  state true rows pending i = at for_budget rows no_budget_yet i
-  state false rows pending i = at idle rows pending i
+  abbrev state : Option Setting → List Row → Pending → ℕ → Walk
+  state (Some s) rows pending i = at (for_setting s) rows (no_value_yet s) i
+  state None rows pending i = at idle rows pending i
 
-  abbrev AreReadFrom : Bool → List Rule → List Text → Type 0
-  AreReadFrom true left words = BeginWithValue left words
-  AreReadFrom false left words = ArePartsOf c left words
+  abbrev AreReadFrom : Option Setting → List Rule → List Text → Type 0
+  AreReadFrom (Some s) left words = BeginWithValue s left words
+  AreReadFrom None left words = ArePartsOf c left words
 
   -- the words pass from the state on
-  abbrev Pass : Bool → ℕ → List Rule → List Text → Type 0
+  abbrev Pass : Option Setting → ℕ → List Rule → List Text → Type 0
   Pass b i left words = (rows : List Row) (pending : Pending) → AreLeft c i left → Waits b
       → fate c (state b rows pending i) words ≡ [] → AreReadFrom b left words
 
-  no_value : (rows : List Row) → KnowsBudget c → settle_fault c false (held rows no_budget_yet) ≢ []
-  no_value rows knows e = let bad = rw knows.1 at e in absurd cc
+  no_value : (s : Setting) (rows : List Row) → KnowsSetting s c
+      → settle_fault c false (held rows (no_value_yet s)) ≢ []
+  no_value s rows knows e = let bad = rw knows.1 at e in absurd cc
 
   -- a word that an option waits for
-  waited : (x : Text) (xs : List Text) (dashes : IsNotDashes x) → Kind c x
-      → ((i : ℕ) (left : List Rule) → Pass false i left xs) → (i : ℕ) (left : List Rule) → Pass true i left (x ∷ xs)
-  waited x xs dashes (is_plain plain) ih i left rows pending at_place knows e =
-      let next = sym (by_value c knows rows i x xs plain).fate_is ∙ e in
+  waited : (w : Setting) (x : Text) (xs : List Text) (dashes : IsNotDashes x) → Kind c x
+      → ((i : ℕ) (left : List Rule) → Pass None i left xs) → (i : ℕ) (left : List Rule)
+      → Pass (Some w) i left (x ∷ xs)
+  waited w x xs dashes (is_plain plain) ih i left rows pending at_place knows e =
+      let next = sym (by_value c w knows rows i x xs plain).fate_is ∙ e in
       record {
         knows = knows;
         word = x;
         rest = xs;
         all = refl;
         plain = plain;
-        others = ih i left rows (as_budget x) at_place tt next;
+        others = ih i left rows (as_setting w x) at_place tt next;
       }
-  waited x xs dashes (is_budget k l) ih i left rows pending at_place knows e =
-      let s = by_budget c for_budget rows no_budget_yet i x xs dashes knows l in
-      absurd (no_value rows knows (no_kinds _ _ (sym s.fate_is ∙ e)).0)
-  waited x xs dashes (sets_budget k t l) ih i left rows pending at_place knows e =
-      let s = by_setting c for_budget rows no_budget_yet i x xs dashes knows t l in
-      absurd (no_value rows knows (no_kinds _ _ (no_kinds _ _ (sym s.fate_is ∙ e)).0).0)
-  waited x xs dashes (is_qdo k l) ih i left rows pending at_place knows e =
-      let s = by_qdo c for_budget rows no_budget_yet i x xs dashes k l in
-      absurd (no_value rows knows (no_kinds _ _ (no_kinds _ _ (sym s.fate_is ∙ e)).0).0)
-  waited x xs dashes (is_refused bad) ih i left rows pending at_place knows e =
-      absurd (refused c for_budget rows no_budget_yet i x xs bad e)
+  waited w x xs dashes (is_setting s k l) ih i left rows pending at_place knows e =
+      let f = by_option c (for_setting w) rows (no_value_yet w) i x xs dashes s k l in
+      absurd (no_value w rows knows (no_kinds _ _ (sym f.fate_is ∙ e)).0)
+  waited w x xs dashes (sets s k t l) ih i left rows pending at_place knows e =
+      let f = by_setting c (for_setting w) rows (no_value_yet w) i x xs dashes s k t l in
+      absurd (no_value w rows knows (no_kinds _ _ (no_kinds _ _ (sym f.fate_is ∙ e)).0).0)
+  waited w x xs dashes (is_qdo k l) ih i left rows pending at_place knows e =
+      let f = by_qdo c (for_setting w) rows (no_value_yet w) i x xs dashes k l in
+      absurd (no_value w rows knows (no_kinds _ _ (no_kinds _ _ (sym f.fate_is ∙ e)).0).0)
+  waited w x xs dashes (is_refused bad) ih i left rows pending at_place knows e =
+      absurd (refused c (for_setting w) rows (no_value_yet w) i x xs bad e)
 
   -- a word that nothing waits for
   unwaited : (x : Text) (xs : List Text) (dashes : IsNotDashes x) → Kind c x
-      → ((b : Bool) (i : ℕ) (left : List Rule) → Pass b i left xs)
-      → (i : ℕ) (left : List Rule) → Pass false i left (x ∷ xs)
+      → ((b : Option Setting) (i : ℕ) (left : List Rule) → Pass b i left xs)
+      → (i : ℕ) (left : List Rule) → Pass None i left (x ∷ xs)
   unwaited x xs dashes (is_plain plain) ih i [] rows pending at_place _ e =
       absurd (stray c rows pending i x xs plain at_place e)
   unwaited x xs dashes (is_plain plain) ih i (a ∷ left) rows pending at_place _ e =
       let s = by_place c rows pending i x xs plain a left at_place in
-      let next = ih false (suc i) left _ _ at_place.3 tt (no_kinds _ _ (sym s.fate_is ∙ e)).1 in
+      let next = ih None (suc i) left _ _ at_place.3 tt (no_kinds _ _ (sym s.fate_is ∙ e)).1 in
       record {
         parts = name_part x ∷ next.parts;
         taken = (plain, next.taken);
         words_are = ap (λ ws. x ∷ ws) next.words_are;
       }
-  unwaited x xs dashes (is_budget knows l) ih i left rows pending at_place _ e =
-      let s = by_budget c idle rows pending i x xs dashes knows l in
-      let next = ih true i left _ None at_place knows (no_kinds _ _ (sym s.fate_is ∙ e)).1 in
+  unwaited x xs dashes (is_setting s knows l) ih i left rows pending at_place _ e =
+      let f = by_option c idle rows pending i x xs dashes s knows l in
+      let next = ih (Some s) i left _ None at_place knows (no_kinds _ _ (sym f.fate_is ∙ e)).1 in
       let tail = next.all ∙ ap (λ ws. next.word ∷ ws) next.others.words_are in
       record {
-        parts = budget_part next.word ∷ next.others.parts;
+        parts = setting_part s next.word ∷ next.others.parts;
         taken = ((knows, next.plain), next.others.taken);
-        words_are = λ j. long_spelled x (codes "budget") None l j ∷ tail j;
+        words_are = λ j. option_spelled s x l j ∷ tail j;
       }
-  unwaited x xs dashes (sets_budget knows t l) ih i left rows pending at_place _ e =
-      let s = by_setting c idle rows pending i x xs dashes knows t l in
-      let next = ih false i left _ None at_place tt (no_kinds _ _ (sym s.fate_is ∙ e)).1 in
+  unwaited x xs dashes (sets s knows t l) ih i left rows pending at_place _ e =
+      let f = by_setting c idle rows pending i x xs dashes s knows t l in
+      let next = ih None i left _ None at_place tt (no_kinds _ _ (sym f.fate_is ∙ e)).1 in
       record {
-        parts = joined_budget t ∷ next.parts;
+        parts = joined_part s t ∷ next.parts;
         taken = (knows, next.taken);
-        words_are = λ j. long_spelled x (codes "budget") (Some t) l j ∷ next.words_are j;
+        words_are = λ j. joined_spelled s x t l j ∷ next.words_are j;
       }
   unwaited x xs dashes (is_qdo knows l) ih i left rows pending at_place _ e =
       let s = by_qdo c idle rows pending i x xs dashes knows l in
-      let next = ih false i left _ None at_place tt (no_kinds _ _ (sym s.fate_is ∙ e)).1 in
+      let next = ih None i left _ None at_place tt (no_kinds _ _ (sym s.fate_is ∙ e)).1 in
       record {
         parts = qdo_part ∷ next.parts;
         taken = (knows, next.taken);
@@ -386,16 +398,17 @@ module _ (c : List Rule) (help_alone : KnowsHelpAlone c) (long : (name : Text) �
   unwaited x xs dashes (is_refused bad) ih i left rows pending at_place _ e =
       absurd (refused c idle rows pending i x xs bad e)
 
-  no_words : (b : Bool) (i : ℕ) (left : List Rule) → Pass b i left []
+  no_words : (b : Option Setting) (i : ℕ) (left : List Rule) → Pass b i left []
   unfolding walk_fault
-  no_words true i left rows pending at_place knows e = absurd (no_value rows knows e)
-  no_words false i left rows pending at_place _ e = record { parts = []; taken = tt; words_are = refl }
+  no_words (Some s) i left rows pending at_place knows e = absurd (no_value s rows knows e)
+  no_words None i left rows pending at_place _ e = record { parts = []; taken = tt; words_are = refl }
 
-  read_from : (words : List Text) → LacksDashes words → (b : Bool) (i : ℕ) (left : List Rule) → Pass b i left words
+  read_from : (words : List Text) → LacksDashes words → (b : Option Setting) (i : ℕ) (left : List Rule)
+      → Pass b i left words
   read_from [] d b = no_words b
-  read_from (x ∷ xs) d true =
-      waited x xs d.0 (kind_of_word c help_alone long x d.0) (read_from xs d.1 false)
-  read_from (x ∷ xs) d false =
+  read_from (x ∷ xs) d (Some s) =
+      waited s x xs d.0 (kind_of_word c help_alone long x d.0) (read_from xs d.1 None)
+  read_from (x ∷ xs) d None =
       unwaited x xs d.0 (kind_of_word c help_alone long x d.0) (read_from xs d.1)
 
 -- ---- a whole command
@@ -438,4 +451,4 @@ module _ (c places : List Rule) (r : AreRules c places) where
       → level_fault (leaf c) [] nothing_held words false [] ≡ [] → ArePartsOf c places words
   parts_of_words words d e =
       let passes = (no_kinds (fate c start words) _ (sym (level_is words) ∙ e)).0 in
-      read_from c r.help_alone r.long words d false 1 places [] None r.left tt passes
+      read_from c r.help_alone r.long words d None 1 places [] None r.left tt passes

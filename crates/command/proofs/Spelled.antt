@@ -1,9 +1,12 @@
 -- A word with two hyphens is spelled by its name and its value.
-use Rattle.std.proofs.Common.{◌≡◌, ◌+◌, ◌++◌, ◌==◌, ℕ, suc, take, drop, arith, Bool, cond, true, false, [], ◌∷◌, Option, Some, None, refl, ap, subst, eqb-true}
+use Rattle.std.proofs.Common.{◌≡◌, ◌+◌, ◌++◌, ◌==◌, ℕ, suc, take, drop, arith, Bool, cond, true, false, [], ◌∷◌, Option, Some, None, codes, refl, ap, subst, eqb-true}
 use Rattle.std.specs.Prelude.{unwrap_or}
 use Rattle.std.specs.List.{list_any}
 use Rattle.clap.specs.Lexer.{long_of, long_of_rest, name_and_value}
+use Rattle.std.specs.Str.{bytes_eq}
 use Rattle.clap.specs.Words.{Text}
+use Rattle.command.specs.Forms.{Setting, setting_name}
+use Rattle.command.specs.Forms.Setting.{the_budget, the_restarts}
 
 -- what stands behind a name: nothing, or `=` and the value
 abbrev pub value_tail : Option Text → Text
@@ -53,3 +56,38 @@ long_spelled (x ∷ y ∷ rest) name v e = go (x == 45) refl (y == 45) refl
     go true t true u =
         let same = rw (t, u) at e in
         (λ i. eqb-true x 45 t i ∷ eqb-true y 45 u i ∷ rest_spelled rest name v same i)
+
+-- ---- the words of an option
+
+abbrev pub option_word : Setting → Text
+option_word s = codes "--" ++ setting_name s
+
+abbrev pub joined_word : Setting → Text → Text
+joined_word s t = codes "--" ++ (setting_name s ++ (codes "=" ++ t))
+
+-- a word with this name is spelled so
+pub option_spelled : (s : Setting) (w : Text) → long_of w ≡ Some (setting_name s, None) → w ≡ option_word s
+option_spelled the_budget w e = long_spelled w (codes "budget") None e
+option_spelled the_restarts w e = long_spelled w (codes "restarts") None e
+
+pub joined_spelled : (s : Setting) (w t : Text) → long_of w ≡ Some (setting_name s, Some t) → w ≡ joined_word s t
+joined_spelled the_budget w t e = long_spelled w (codes "budget") (Some t) e
+joined_spelled the_restarts w t e = long_spelled w (codes "restarts") (Some t) e
+
+-- and what is spelled so has this name
+pub option_long : (s : Setting) → long_of (option_word s) ≡ Some (setting_name s, None)
+option_long the_budget = refl
+option_long the_restarts = refl
+
+pub joined_long : (s : Setting) (t : Text) → long_of (joined_word s t) ≡ Some (setting_name s, Some t)
+joined_long the_budget t = refl
+joined_long the_restarts t = refl
+
+-- it isn't `--`
+pub option_not_dashes : (s : Setting) → bytes_eq (option_word s) (45 ∷ 45 ∷ []) ≡ false
+option_not_dashes the_budget = refl
+option_not_dashes the_restarts = refl
+
+pub joined_not_dashes : (s : Setting) (t : Text) → bytes_eq (joined_word s t) (45 ∷ 45 ∷ []) ≡ false
+joined_not_dashes the_budget t = refl
+joined_not_dashes the_restarts t = refl

@@ -1,5 +1,5 @@
 -- What `clap` makes of one word behind the word of a command.
-use Rattle.std.proofs.Common.{◌≡◌, ◌≢◌, ◌⊎◌, ℕ, false, List, [], ◌∷◌, length, Option, Some, None, chars, codes, slice_get, refl, sym, ap, inl, inr}
+use Rattle.std.proofs.Common.{◌≡◌, ◌≢◌, ◌⊎◌, ℕ, false, List, [], ◌∷◌, length, Option, Some, None, chars, slice_get, refl, sym, ap, inl, inr}
 use Rattle.std.specs.Str.{bytes_eq}
 use Rattle.clap.specs.Lexer.{long_of, short_of}
 use Rattle.clap.specs.Words.{App, Row, Rule, Shape, Kinds, new_app}
@@ -10,6 +10,7 @@ use Rattle.clap.specs.Faults.{flag_word_fault, word_fault}
 use Rattle.clap.proofs.WalkLemmas.{bundle_ends}
 use Rattle.clap.proofs.FaultLemmas.{fault_ends}
 use Rattle.command.specs.Account.{qbf_app}
+use Rattle.command.specs.Forms.{Setting, setting_name}
 
 -- a command of the program as it is built
 abbrev pub command_shape : App → Shape
@@ -28,15 +29,15 @@ leaf rules = record (command_shape (new_app [])) { rules = rules }
 abbrev pub Pending : Type 0
 Pending = Option (Text × List Text)
 
--- `--budget` waits for its value
-abbrev pub for_budget : Waiting
-for_budget = option (codes "budget")
+-- an option waits for its value
+abbrev pub for_setting : Setting → Waiting
+for_setting s = option (setting_name s)
 
-abbrev pub no_budget_yet : Pending
-no_budget_yet = Some (codes "budget", [])
+abbrev pub no_value_yet : Setting → Pending
+no_value_yet s = Some (setting_name s, [])
 
-abbrev pub as_budget : Text → Pending
-as_budget t = Some (codes "budget", t ∷ [])
+abbrev pub as_setting : Setting → Text → Pending
+as_setting s t = Some (setting_name s, t ∷ [])
 
 abbrev pub held : List Row → Pending → Held
 held rows pending = record { rows = rows; pending = pending; skip = 0 }

@@ -1,12 +1,13 @@
 -- The values that `clap` found for a command, as the code reads them.
-use Rattle.std.proofs.Common.{◌≡◌, ◌∙◌, ◌<◌, ◌≤◌, ◌^◌, ℕ, List, [], Option, Some, None, IfSome, IfNone, false, codes, decimal, unwrap_or, sym, ap, subst}
+use Rattle.std.proofs.Common.{◌≡◌, ◌∙◌, ◌<◌, ◌≤◌, ◌^◌, ℕ, List, [], Option, Some, None, IfSome, IfNone, false, codes, decimal, unwrap_or, sym, ap, subst, arith}
 use Rattle.std.specs.Option.{option_map_or}
 use Rattle.std.specs.Str.{bytes_eq}
 use Rattle.clap.specs.Words.{Row, Text, first_value, found_of, rows_of}
 use Rattle.clap.specs.declared.ArgMatches.{ArgMatches}
 use Rattle.clap.proofs.WalkLemmas.{first_value-rows}
-use Rattle.command.specs.Account.{AreInput, AreValues, HasNoHyphen, IsNumberAt, is_set}
+use Rattle.command.specs.Account.{AreInput, AreValues, HasNoHyphen, IsNumberAt, IsSet, is_set}
 use Rattle.command.specs.Forms.{word_of}
+use Rattle.command.specs.Forms.Setting.{the_restarts}
 use Rattle.command.specs.declared.command.Command.{Command}
 use Rattle.command.specs.declared.command.Command.TheVariants.{Cert, Demo, Gen, Script, Solve, Trace}
 
@@ -14,7 +15,7 @@ pub if_none : {X : Type 0} (o : Option X) (P : Type 0) → P → IfNone o P
 if_none None P p = p
 if_none (Some x) P p = tt
 
-module _ (m : ArgMatches) (n : ℕ) (given : Option Text) where
+module _ (m : ArgMatches) (n k : ℕ) (given : Option Text) where
   abbrev budget_found : Option Text
   budget_found = first_value (found_of m) (codes "budget")
 
@@ -22,25 +23,32 @@ module _ (m : ArgMatches) (n : ℕ) (given : Option Text) where
   name_found = first_value (found_of m) (codes "name")
 
   abbrev Found : Type 0
-  Found = AreInput (rows_of (found_of m)) n given
+  Found = AreInput (rows_of (found_of m)) n k given
 
   pub no_budget : None ≡ budget_found → Found → ⊥
-  no_budget is v = let bad = is ∙ first_value-rows (found_of m) (codes "budget") ∙ v.1 in absurd cc
+  no_budget is v = let bad = is ∙ first_value-rows (found_of m) (codes "budget") ∙ v.0.0 in absurd cc
 
   pub other_budget : (t : Text) → Some t ≡ budget_found → ((k : ℕ) → k < 2 ^ 64 → t ≡ decimal k → ⊥) → Found → ⊥
   other_budget t is none v =
-      none n v.0 (ap (λ o. unwrap_or o []) (is ∙ first_value-rows (found_of m) (codes "budget") ∙ v.1))
+      let small : n < 2 ^ 64 = omega (arith, v.0.1.1) in
+      none n small (ap (λ o. unwrap_or o []) (is ∙ first_value-rows (found_of m) (codes "budget") ∙ v.0.0))
+
+  pub other_restarts : ((j : ℕ) → IsSet the_restarts (rows_of (found_of m)) j → ⊥) → Found → ⊥
+  other_restarts none v = none k v.1
 
   pub other_name : (o : Option Text) → o ≡ name_found → (HasNoHyphen o → ⊥) → Found → ⊥
   other_name o is bad v =
       let same = sym v.2 ∙ sym (first_value-rows (found_of m) (codes "name")) ∙ sym is in
       bad (subst HasNoHyphen same v.3)
 
-  pub values : (t : Text) → n < 2 ^ 64 → Some t ≡ budget_found → t ≡ decimal n → given ≡ name_found
-      → HasNoHyphen given → Found
-  values t small budget_at text name_at fine = (
-    small,
-    sym (first_value-rows (found_of m) (codes "budget")) ∙ sym budget_at ∙ ap (λ x. Some x) text,
+  pub values : (t : Text) → n < 2 ^ 64 → Some t ≡ budget_found → t ≡ decimal n
+      → IsSet the_restarts (rows_of (found_of m)) k → given ≡ name_found → HasNoHyphen given → Found
+  values t small budget_at text restarts name_at fine = (
+    (
+      sym (first_value-rows (found_of m) (codes "budget")) ∙ sym budget_at ∙ ap (λ x. Some x) text,
+      (omega arith, omega (arith, small)),
+    ),
+    restarts,
     sym (first_value-rows (found_of m) (codes "name")) ∙ sym name_at,
     fine,
   )
@@ -82,10 +90,10 @@ module _ (rows : List Row) (word : Text) where
 
   -- without an input there is a command of numbers at most
   pub no_input : (word ≡ codes "gen" → ⊥) → (word ≡ codes "demo" → ⊥)
-      → ((n : ℕ) (g : Option Text) → AreInput rows n g → ⊥) → IsNoCommand
-  no_input gen demo none (Solve n q g) e v = none n _ v.0
-  no_input gen demo none (Trace n g) e v = none n _ v
-  no_input gen demo none (Cert n g) e v = none n _ v
-  no_input gen demo none (Script n g) e v = none n _ v
+      → ((n k : ℕ) (g : Option Text) → AreInput rows n k g → ⊥) → IsNoCommand
+  no_input gen demo none (Solve n k q g) e v = none n k _ v.0
+  no_input gen demo none (Trace n k g) e v = none n k _ v
+  no_input gen demo none (Cert n k g) e v = none n k _ v
+  no_input gen demo none (Script n k g) e v = none n k _ v
   no_input gen demo none (Gen s v k) e h = gen (sym e)
   no_input gen demo none (Demo s k) e h = demo (sym e)

@@ -1,5 +1,5 @@
 -- The command line as `clap` is told of it, and `clap`'s account of the words.
-use Rattle.std.specs.Prelude.{◌≡◌, ◌≢◌, ⊤, ℕ, ◌<◌, ◌^◌, List, Option, Some, None, [], ◌∷◌, Bool, true, codes, drop, false, fold, option_map, slice_get}
+use Rattle.std.specs.Prelude.{◌≡◌, ◌≢◌, ⊤, ℕ, List, Option, Some, None, [], ◌∷◌, Bool, true, codes, drop, false, fold, option_map, slice_get}
 use Rattle.std.specs.Fmt.{decimal}
 use Rattle.std.specs.List.{list_any}
 use Rattle.std.specs.Option.{option_map_or}
@@ -10,17 +10,23 @@ use Rattle.clap.specs.declared.builder.ArgAction.TheVariants.{SetTrue}
 use Rattle.clap.specs.declared.builder.ValueParser.TheVariants as parser
 use Rattle.command.specs.declared.command.Command.{Command}
 use Rattle.command.specs.declared.command.Command.TheVariants.{Solve, Trace, Cert, Script, Gen, Demo}
-use Rattle.command.specs.Forms.{IsBetween, word_of}
+use Rattle.command.specs.Forms.{IsBetween, Setting, greatest_of, setting_name, word_of}
+use Rattle.command.specs.Forms.Setting.{the_budget, the_restarts}
 
 -- ---- what `clap` is told
 
--- `--budget N`, with N of 64 bits, and 2^64 - 1 where it isn't given
-abbrev pub budget_rule : Rule
-budget_rule = record (new_rule (codes "budget")) {
-  long = Some (codes "budget");
+-- the number of an option where it isn't given, in decimal
+abbrev pub default_text : Setting → Text
+default_text the_budget = codes "18446744073709551615"
+default_text the_restarts = codes "0"
+
+-- `--budget N`, or `--restarts R`
+abbrev pub setting_rule : Setting → Rule
+setting_rule s = record (new_rule (setting_name s)) {
+  long = Some (setting_name s);
   value_names = 1;
-  parser = Some (parser.Unsigned 0 18446744073709551615);
-  defaults = codes "18446744073709551615" ∷ [];
+  parser = Some (parser.Unsigned 0 (greatest_of s));
+  defaults = default_text s ∷ [];
 }
 
 -- `--qdo`
@@ -35,11 +41,12 @@ name_rule = record (new_rule (codes "name")) { value_names = 1 }
 abbrev pub number_rule : Text → ℕ → ℕ → Rule
 number_rule id least most = record (new_rule id) { required = true; parser = Some (parser.Unsigned least most) }
 
--- `WORD [--budget N] [NAME]`, for the word of a command
+-- `WORD [--budget N] [--restarts R] [NAME]`, for the word of a command
 abbrev pub command_app : Text → App
-command_app word = with_rule (with_rule (new_app word) budget_rule) name_rule
+command_app word =
+    with_rule (with_rule (with_rule (new_app word) (setting_rule the_budget)) (setting_rule the_restarts)) name_rule
 
--- `solve [--budget N] [--qdo] [NAME]`
+-- `solve [--budget N] [--restarts R] [--qdo] [NAME]`
 abbrev pub solve_app : App
 solve_app = with_rule (command_app (codes "solve")) qdo_rule
 
@@ -73,11 +80,6 @@ abbrev pub HasNoHyphen : Option Text → Type 0
 HasNoHyphen None = ⊤
 HasNoHyphen (Some word) = slice_get word 0 ≢ Some 45
 
--- the budget and the name are these, and in form
-abbrev pub AreInput : List Row → ℕ → Option Text → Type 0
-AreInput rows budget name = (budget < 2 ^ 64) × (first_of (codes "budget") rows ≡ Some (decimal budget))
-    × (first_of (codes "name") rows ≡ name) × HasNoHyphen name
-
 -- `--qdo` is given
 abbrev pub is_set : List Row → Bool
 is_set rows = option_map_or (λ text. bytes_eq text (codes "true")) (first_of (codes "qdo") rows) false
@@ -85,6 +87,15 @@ is_set rows = option_map_or (λ text. bytes_eq text (codes "true")) (first_of (c
 -- the number of this name is this one, from the least to the most
 abbrev pub IsNumberAt : Text → ℕ → ℕ → List Row → ℕ → Type 0
 IsNumberAt id least most rows n = (first_of id rows ≡ Some (decimal n)) × IsBetween least most n
+
+-- the number of the option is this one, and in form
+abbrev pub IsSet : Setting → List Row → ℕ → Type 0
+IsSet s rows n = IsNumberAt (setting_name s) 0 (greatest_of s) rows n
+
+-- the budget, the number of restarts and the name are these, and in form
+abbrev pub AreInput : List Row → (budget restarts : ℕ) → Option Text → Type 0
+AreInput rows budget restarts name = IsSet the_budget rows budget × IsSet the_restarts rows restarts
+    × (first_of (codes "name") rows ≡ name) × HasNoHyphen name
 
 -- the numbers of `gen`
 abbrev pub AreGen : List Row → ℕ → ℕ → ℕ → Type 0
@@ -98,10 +109,11 @@ AreDemo rows seed count = IsNumberAt (codes "SEED") 0 4294967295 rows seed
 
 -- the values that `clap` found are those of the command, and in form
 abbrev pub AreValues : List Row → Command → Type 0
-AreValues rows (Solve budget qdo name) = AreInput rows budget (option_map (λ s. s.now) name) × (qdo ≡ is_set rows)
-AreValues rows (Trace budget name) = AreInput rows budget (option_map (λ s. s.now) name)
-AreValues rows (Cert budget name) = AreInput rows budget (option_map (λ s. s.now) name)
-AreValues rows (Script budget name) = AreInput rows budget (option_map (λ s. s.now) name)
+AreValues rows (Solve budget restarts qdo name) =
+    AreInput rows budget restarts (option_map (λ s. s.now) name) × (qdo ≡ is_set rows)
+AreValues rows (Trace budget restarts name) = AreInput rows budget restarts (option_map (λ s. s.now) name)
+AreValues rows (Cert budget restarts name) = AreInput rows budget restarts (option_map (λ s. s.now) name)
+AreValues rows (Script budget restarts name) = AreInput rows budget restarts (option_map (λ s. s.now) name)
 AreValues rows (Gen seed vars clauses) = AreGen rows seed vars clauses
 AreValues rows (Demo seed count) = AreDemo rows seed count
 

@@ -10,14 +10,34 @@ use Rattle.command.specs.declared.refused.Refused.TheVariants.{Usage, NoMemory}
 abbrev pub Text : Type 0
 Text = List ℕ
 
--- ---- a command that reads an input: `WORD [--budget N] [--qdo] [NAME]`
+-- ---- a command that reads an input: `WORD [--budget N] [--restarts R] [--qdo] [NAME]`
+
+-- an option with a number: `--budget N`, or `--restarts R`
+pub data Setting : Type 0 where
+  the_budget : Setting
+  the_restarts : Setting
+
+-- its name
+abbrev pub setting_name : Setting → Text
+setting_name the_budget = codes "budget"
+setting_name the_restarts = codes "restarts"
+
+-- its greatest number
+abbrev pub greatest_of : Setting → ℕ
+greatest_of the_budget = 2 ^ 64 - 1
+greatest_of the_restarts = 1000000
+
+-- its number where it isn't given
+abbrev pub default_of : Setting → ℕ
+default_of the_budget = 2 ^ 64 - 1
+default_of the_restarts = 0
 
 -- a part of the words behind the word of a command
 pub data Part : Type 0 where
-  -- `--budget TEXT`
-  budget_part : Text → Part
-  -- `--budget=TEXT`
-  joined_budget : Text → Part
+  -- `--OPTION TEXT`
+  setting_part : Setting → Text → Part
+  -- `--OPTION=TEXT`
+  joined_part : Setting → Text → Part
   -- `--qdo`
   qdo_part : Part
   -- NAME
@@ -25,8 +45,8 @@ pub data Part : Type 0 where
 
 -- the words of a part
 abbrev pub spelled : Part → List Text
-spelled (budget_part text) = codes "--budget" ∷ text ∷ []
-spelled (joined_budget text) = (codes "--budget=" ++ text) ∷ []
+spelled (setting_part s text) = (codes "--" ++ setting_name s) ∷ text ∷ []
+spelled (joined_part s text) = (codes "--" ++ (setting_name s ++ (codes "=" ++ text))) ∷ []
 spelled qdo_part = codes "--qdo" ∷ []
 spelled (name_part word) = word ∷ []
 
@@ -36,10 +56,10 @@ pub record AreInAnyOrder (words : List Text) (parts : List Part) : Type 0 where
   pub permutation : IsPermutation parts order
   pub words_are : words ≡ flat_map spelled order
 
--- `[--budget N]`, with N in decimal, below 2^64: without it N is 2^64 - 1
-abbrev pub GivesBudget : List Part → ℕ → Type 0
-GivesBudget parts n = ((parts ≡ []) × (n ≡ 2 ^ 64 - 1))
-    ⊎ ((n < 2 ^ 64) × ((parts ≡ budget_part (decimal n) ∷ []) ⊎ (parts ≡ joined_budget (decimal n) ∷ [])))
+-- `[--OPTION N]`, with N in decimal, up to the option's greatest number
+abbrev pub GivesSetting : Setting → List Part → ℕ → Type 0
+GivesSetting s parts n = ((parts ≡ []) × (n ≡ default_of s))
+    ⊎ ((n ≤ greatest_of s) × ((parts ≡ setting_part s (decimal n) ∷ []) ⊎ (parts ≡ joined_part s (decimal n) ∷ [])))
 
 -- `[--qdo]`
 abbrev pub GivesQdo : List Part → Bool → Type 0
@@ -51,40 +71,42 @@ abbrev pub GivesName : List Part → Option Text → Type 0
 GivesName parts None = parts ≡ []
 GivesName parts (Some name) = (parts ≡ name_part name ∷ []) × (slice_get name 0 ≢ Some 45)
 
--- `[--budget N] [--qdo] [NAME]`, in any order
-pub record GivesInput (words : List Text) (budget : ℕ) (qdo : Bool) (name : Option Text) : Type 0 where
+-- `[--budget N] [--restarts R] [--qdo] [NAME]`, in any order
+pub record GivesInput (words : List Text) (budget restarts : ℕ) (qdo : Bool) (name : Option Text) : Type 0 where
   pub budget_parts : List Part
+  pub restarts_parts : List Part
   pub qdo_parts : List Part
   pub name_parts : List Part
-  pub gives_budget : GivesBudget budget_parts budget
+  pub gives_budget : GivesSetting the_budget budget_parts budget
+  pub gives_restarts : GivesSetting the_restarts restarts_parts restarts
   pub gives_qdo : GivesQdo qdo_parts qdo
   pub gives_name : GivesName name_parts name
-  pub in_any_order : AreInAnyOrder words (budget_parts ++ qdo_parts ++ name_parts)
+  pub in_any_order : AreInAnyOrder words (budget_parts ++ restarts_parts ++ qdo_parts ++ name_parts)
 
--- behind the program's name, the word of a command and then `[--budget N] [--qdo] [NAME]`
-abbrev pub AsksInput : Text → List Text → ℕ → Bool → Option Text → Type 0
-AsksInput word words budget qdo name = (program : Text) × (rest : List Text) × (words ≡ program ∷ word ∷ rest)
-    × GivesInput rest budget qdo name
+-- behind the program's name, the word of a command and then `[--budget N] [--restarts R] [--qdo] [NAME]`
+abbrev pub AsksInput : Text → List Text → (budget restarts : ℕ) → Bool → Option Text → Type 0
+AsksInput word words budget restarts qdo name = (program : Text) × (rest : List Text)
+    × (words ≡ program ∷ word ∷ rest) × GivesInput rest budget restarts qdo name
 
--- behind the program's name, the word of a command and then `[--budget N] [NAME]`
-abbrev pub AsksWith : Text → List Text → ℕ → Option Text → Type 0
-AsksWith word words budget name = AsksInput word words budget false name
+-- behind the program's name, the word of a command and then `[--budget N] [--restarts R] [NAME]`
+abbrev pub AsksWith : Text → List Text → (budget restarts : ℕ) → Option Text → Type 0
+AsksWith word words budget restarts name = AsksInput word words budget restarts false name
 
--- `solve [--budget N] [--qdo] [NAME]`
-abbrev pub AsksSolve : List Text → ℕ → Bool → Option Text → Type 0
-AsksSolve words budget qdo name = AsksInput (codes "solve") words budget qdo name
+-- `solve [--budget N] [--restarts R] [--qdo] [NAME]`
+abbrev pub AsksSolve : List Text → (budget restarts : ℕ) → Bool → Option Text → Type 0
+AsksSolve words budget restarts qdo name = AsksInput (codes "solve") words budget restarts qdo name
 
--- `trace [--budget N] [NAME]`
-abbrev pub AsksTrace : List Text → ℕ → Option Text → Type 0
-AsksTrace words budget name = AsksWith (codes "trace") words budget name
+-- `trace [--budget N] [--restarts R] [NAME]`
+abbrev pub AsksTrace : List Text → (budget restarts : ℕ) → Option Text → Type 0
+AsksTrace words budget restarts name = AsksWith (codes "trace") words budget restarts name
 
--- `cert [--budget N] [NAME]`
-abbrev pub AsksCert : List Text → ℕ → Option Text → Type 0
-AsksCert words budget name = AsksWith (codes "cert") words budget name
+-- `cert [--budget N] [--restarts R] [NAME]`
+abbrev pub AsksCert : List Text → (budget restarts : ℕ) → Option Text → Type 0
+AsksCert words budget restarts name = AsksWith (codes "cert") words budget restarts name
 
--- `script [--budget N] [NAME]`
-abbrev pub AsksScript : List Text → ℕ → Option Text → Type 0
-AsksScript words budget name = AsksWith (codes "script") words budget name
+-- `script [--budget N] [--restarts R] [NAME]`
+abbrev pub AsksScript : List Text → (budget restarts : ℕ) → Option Text → Type 0
+AsksScript words budget restarts name = AsksWith (codes "script") words budget restarts name
 
 -- ---- a command of numbers: `WORD NUMBER ..`
 
@@ -110,42 +132,51 @@ AsksDemo words seed count = AsksNumbers (codes "demo") words (seed ∷ count ∷
 
 -- the words ask for the command
 abbrev pub Asks : List Text → Command → Type 0
-Asks words (Solve budget qdo name) = AsksSolve words budget qdo (option_map (λ s. s.now) name)
-Asks words (Trace budget name) = AsksTrace words budget (option_map (λ s. s.now) name)
-Asks words (Cert budget name) = AsksCert words budget (option_map (λ s. s.now) name)
-Asks words (Script budget name) = AsksScript words budget (option_map (λ s. s.now) name)
+Asks words (Solve budget restarts qdo name) = AsksSolve words budget restarts qdo (option_map (λ s. s.now) name)
+Asks words (Trace budget restarts name) = AsksTrace words budget restarts (option_map (λ s. s.now) name)
+Asks words (Cert budget restarts name) = AsksCert words budget restarts (option_map (λ s. s.now) name)
+Asks words (Script budget restarts name) = AsksScript words budget restarts (option_map (λ s. s.now) name)
 Asks words (Gen seed vars clauses) = AsksGen words seed vars clauses
 Asks words (Demo seed count) = AsksDemo words seed count
 
 -- the word of the command
 abbrev pub word_of : Command → Text
-word_of (Solve budget qdo name) = codes "solve"
-word_of (Trace budget name) = codes "trace"
-word_of (Cert budget name) = codes "cert"
-word_of (Script budget name) = codes "script"
+word_of (Solve budget restarts qdo name) = codes "solve"
+word_of (Trace budget restarts name) = codes "trace"
+word_of (Cert budget restarts name) = codes "cert"
+word_of (Script budget restarts name) = codes "script"
 word_of (Gen seed vars clauses) = codes "gen"
 word_of (Demo seed count) = codes "demo"
 
 -- the budget of the command: 2^64 - 1 for one that takes none
 abbrev pub budget_of : Command → ℕ
-budget_of (Solve budget qdo name) = budget
-budget_of (Trace budget name) = budget
-budget_of (Cert budget name) = budget
-budget_of (Script budget name) = budget
+budget_of (Solve budget restarts qdo name) = budget
+budget_of (Trace budget restarts name) = budget
+budget_of (Cert budget restarts name) = budget
+budget_of (Script budget restarts name) = budget
 budget_of (Gen seed vars clauses) = 2 ^ 64 - 1
 budget_of (Demo seed count) = 2 ^ 64 - 1
 
+-- the number of restarts of the command: none for one that takes none
+abbrev pub restarts_of : Command → ℕ
+restarts_of (Solve budget restarts qdo name) = restarts
+restarts_of (Trace budget restarts name) = restarts
+restarts_of (Cert budget restarts name) = restarts
+restarts_of (Script budget restarts name) = restarts
+restarts_of (Gen seed vars clauses) = 0
+restarts_of (Demo seed count) = 0
+
 -- whether the command asks for QDIMACS output
 abbrev pub qdo_of : Command → Bool
-qdo_of (Solve budget qdo name) = qdo
+qdo_of (Solve budget restarts qdo name) = qdo
 qdo_of _ = false
 
 -- the text of the name of the command's input, if it has one
 abbrev pub name_of : Command → Option Text
-name_of (Solve budget qdo name) = option_map (λ s. s.now) name
-name_of (Trace budget name) = option_map (λ s. s.now) name
-name_of (Cert budget name) = option_map (λ s. s.now) name
-name_of (Script budget name) = option_map (λ s. s.now) name
+name_of (Solve budget restarts qdo name) = option_map (λ s. s.now) name
+name_of (Trace budget restarts name) = option_map (λ s. s.now) name
+name_of (Cert budget restarts name) = option_map (λ s. s.now) name
+name_of (Script budget restarts name) = option_map (λ s. s.now) name
 name_of (Gen seed vars clauses) = None
 name_of (Demo seed count) = None
 
@@ -159,6 +190,7 @@ numbers_of _ = []
 pub record AreAlike (c d : Command) : Type 0 where
   pub words : word_of c ≡ word_of d
   pub budgets : budget_of c ≡ budget_of d
+  pub restarts : restarts_of c ≡ restarts_of d
   pub qdo : qdo_of c ≡ qdo_of d
   pub names : name_of c ≡ name_of d
   pub numbers : numbers_of c ≡ numbers_of d

@@ -1,27 +1,33 @@
 //! What the words ask for.
 
-/// A command, with the values that its words give. Without a name its text is read from standard input.
+/// A command, with the values that its words give. Without a name its text is read from standard input. There are at
+/// most 1,000,000 restarts, and none where the words give no number of them.
 #[derive(Clone, Copy, Debug, PartialEq, Eq)]
 pub enum Command<'a> {
-    /// Decide one formula, with at most this many steps, and reply in the lines of QDIMACS where `qdo` asks for them.
+    /// Decide one formula, with at most this many steps and restarts, and reply in the lines of QDIMACS where `qdo`
+    /// asks for them.
     Solve {
         budget: u64,
+        restarts: u32,
         qdo: bool,
         name: Option<&'a str>,
     },
-    /// Write the derivation that a formula's verdict rests on, with at most this many steps.
+    /// Write the derivation that a formula's verdict rests on, with at most this many steps and restarts.
     Trace {
         budget: u64,
+        restarts: u32,
         name: Option<&'a str>,
     },
-    /// Write the circuit that wins for a formula's verdict, with at most this many steps.
+    /// Write the circuit that wins for a formula's verdict, with at most this many steps and restarts.
     Cert {
         budget: u64,
+        restarts: u32,
         name: Option<&'a str>,
     },
-    /// Reply to a script of incremental commands, with at most this many steps in each of its solves.
+    /// Reply to a script of incremental commands, with at most this many steps and restarts in each of its solves.
     Script {
         budget: u64,
+        restarts: u32,
         name: Option<&'a str>,
     },
     /// Write the formula that the generator makes of this seed, with 3 to 32,000 variables and at most 1,000,000

@@ -2,11 +2,14 @@
 ghost use Rattle.std.specs.Prelude.{◌≡◌, IfOk, false};
 ghost use Rattle.clap.specs.Words.{app_of, rule_of};
 ghost use Rattle.clap.specs.declared.builder.Command.TheViews.{out-Command as fields_of};
-ghost use Rattle.command.specs.Account.{command_app, demo_app, gen_app, number_rule, qbf_app, solve_app};
+ghost use Rattle.command.specs.Account.{command_app, demo_app, gen_app, number_rule, qbf_app, setting_rule, solve_app};
+ghost use Rattle.command.specs.Forms.Setting.{the_budget, the_restarts};
 
 use clap::builder::ValueParser;
 use clap::{Arg, ArgAction, Command, value_parser};
 use std::alloc::{AllocError, Global};
+
+pub(crate) const GREATEST_RESTARTS: u32 = 1_000_000;
 
 pub(crate) const GREATEST_SEED: u32 = u32::MAX;
 
@@ -60,19 +63,40 @@ fn command<'a>(alloc: Global, word: &'a str, about: &'a str) -> Result<Command<'
     ensures app { IfOk result (λ c. app_of c ≡ command_app word.entry.now) }
     ensures local { IfOk result (λ c. (fields_of c).has_globals ≡ false) }
 {
-    let budget = Arg::new(alloc, "budget")
-        .long("budget")
-        .value_name("N")
-        .help("The most steps that a search may take")
-        .value_parser(value_parser!(u64))
-        .default_value("18446744073709551615");
     let name = Arg::new(alloc, "name")
         .value_name("NAME")
         .help("The file to read; without it standard input is read");
     Command::new(alloc, word)
         .about(about)
-        .arg(budget)?
+        .arg(budget(alloc))?
+        .arg(restarts(alloc))?
         .arg(name)
+}
+
+// The option `--budget N`.
+fn budget<'a>(alloc: Global) -> Arg<'a>
+    ensures rule { rule_of result ≡ setting_rule the_budget }
+    ensures local { result.global ≡ false }
+{
+    Arg::new(alloc, "budget")
+        .long("budget")
+        .value_name("N")
+        .help("The most steps that a search may take")
+        .value_parser(value_parser!(u64))
+        .default_value("18446744073709551615")
+}
+
+// The option `--restarts R`.
+fn restarts<'a>(alloc: Global) -> Arg<'a>
+    ensures rule { rule_of result ≡ setting_rule the_restarts }
+    ensures local { result.global ≡ false }
+{
+    Arg::new(alloc, "restarts")
+        .long("restarts")
+        .value_name("R")
+        .help("How often a search may begin anew, at most 1000000")
+        .value_parser(ValueParser::unsigned(0, u64::from(GREATEST_RESTARTS)))
+        .default_value("0")
 }
 
 // The command that writes a generated formula.

@@ -7,7 +7,8 @@ ghost use Rattle.command.specs.declared.command.Command.{Command as CommandSpec}
 
 use super::command::Command;
 use super::form::{
-    GREATEST_CLAUSES, GREATEST_COUNT, GREATEST_SEED, GREATEST_VARS, LEAST_COUNT, LEAST_VARS,
+    GREATEST_CLAUSES, GREATEST_COUNT, GREATEST_RESTARTS, GREATEST_SEED, GREATEST_VARS, LEAST_COUNT,
+    LEAST_VARS,
 };
 use super::number::{number_between, number_of};
 use clap::ArgMatches;
@@ -31,16 +32,29 @@ fn input_command<'a>(word: &str, found: &ArgMatches<'a>) -> Option<Command<'a>>
     ensures none { word.now ≢ codes "gen" → word.now ≢ codes "demo" → IfNone result ((c : CommandSpec)
         → word_of c ≡ word.now → ¬ AreValues (rows_of (found_of found.now)) c) }
 {
-    let (budget, name) = input_of(found)?;
+    let (budget, restarts, name) = input_of(found)?;
     match word {
         "solve" => Some(Command::Solve {
             budget,
+            restarts,
             qdo: is_set(found),
             name,
         }),
-        "trace" => Some(Command::Trace { budget, name }),
-        "cert" => Some(Command::Cert { budget, name }),
-        "script" => Some(Command::Script { budget, name }),
+        "trace" => Some(Command::Trace {
+            budget,
+            restarts,
+            name,
+        }),
+        "cert" => Some(Command::Cert {
+            budget,
+            restarts,
+            name,
+        }),
+        "script" => Some(Command::Script {
+            budget,
+            restarts,
+            name,
+        }),
         _ => None,
     }
 }
@@ -55,17 +69,18 @@ fn is_set(found: &ArgMatches<'_>) -> bool
     }
 }
 
-// The budget and the name in the matches of a command, if they are in form.
-fn input_of<'a>(found: &ArgMatches<'a>) -> Option<(u64, Option<&'a str>)>
-    ensures some { IfSome result (λ v. AreInput (rows_of (found_of found.now)) v.0 (option_map (λ s. s.now) v.1)) }
-    ensures none { IfNone result ((n : ℕ) (g : Option Text) → ¬ AreInput (rows_of (found_of found.now)) n g) }
+// The budget, the number of restarts and the name in the matches of a command, if they are in form.
+fn input_of<'a>(found: &ArgMatches<'a>) -> Option<(u64, u32, Option<&'a str>)>
+    ensures some { IfSome result (λ v. AreInput (rows_of (found_of found.now)) v.0 v.1 (option_map (λ s. s.now) v.2)) }
+    ensures none { IfNone result ((n k : ℕ) (g : Option Text) → ¬ AreInput (rows_of (found_of found.now)) n k g) }
 {
     let budget = number_of(found.get_str("budget")?)?;
+    let restarts = number_at(found, "restarts", 0, GREATEST_RESTARTS)?;
     let name = found.get_str("name");
     if !has_no_hyphen(name) {
         return None;
     }
-    Some((budget, name))
+    Some((budget, restarts, name))
 }
 
 // Whether a name, if there is one, doesn't begin with `-`.

@@ -20,6 +20,7 @@ use Rattle.qbf_cli.specs.Asked.{known_for}
 use Rattle.qbf_cli.specs.Complete.{IsFormula, IsScript, IsValid}
 use Rattle.qbf_cli.specs.Run.{Carried, IsMade, IsWorkOf, status_of}
 use Rattle.qbf_cli.proofs.Solving.{Content}
+use Rattle.session.specs.Terms.{Terms, terms_of}
 
 -- the statuses of an input that is answered
 abbrev pub Complete : ℕ → Type 0
@@ -62,17 +63,17 @@ module _ (one : OneOutcome) (single : OneReading) where
       let same : parsed valid.0 ≡ limit quantity at = one text _ _ valid.1 h in cc
 
   -- a formula is answered
-  formula_complete : (budget : ℕ) (known : Option Text) → IsFormula known → (f : Ending)
-      → IfSome known (λ text. IsEnding budget text f) → ((s : ℕ) → f ≡ Done s → HasAnswer s)
+  formula_complete : (terms : Terms) (known : Option Text) → IsFormula known → (f : Ending)
+      → IfSome known (λ text. IsEnding terms text f) → ((s : ℕ) → f ≡ Done s → HasAnswer s)
       → (f ≡ ReadFault → ⊥) → (f ≡ WriteFault → ⊥) → Complete (status_of (Worked f))
-  formula_complete budget known valid (Done s) ending status read write = answer_complete s (status s refl)
-  formula_complete budget known valid (Refused number at) ending status read write =
+  formula_complete terms known valid (Done s) ending status read write = answer_complete s (status s refl)
+  formula_complete terms known valid (Refused number at) ending status read write =
       absurd (unrefused known number at valid ending)
-  formula_complete budget known valid (Limit quantity at) ending status read write =
+  formula_complete terms known valid (Limit quantity at) ending status read write =
       absurd (unlimited known quantity at valid ending)
-  formula_complete budget known valid ReadFault ending status read write = absurd (read refl)
-  formula_complete budget known valid WriteFault ending status read write = absurd (write refl)
-  formula_complete budget known valid NoMemory ending status read write = (3, omega arith, refl)
+  formula_complete terms known valid ReadFault ending status read write = absurd (read refl)
+  formula_complete terms known valid WriteFault ending status read write = absurd (write refl)
+  formula_complete terms known valid NoMemory ending status read write = (3, omega arith, refl)
 
   ends_well : (known : Option Text) → IsScript known → (e : ScriptEnding)
       → IfSome known (λ text. (cs : List ScriptCommand) × ReadsScript text cs e) → done ≡ e
@@ -98,14 +99,17 @@ module _ (one : OneOutcome) (single : OneReading) where
     -- the work of a command
     by : (c : Command) (f : Ending) → Asks words c → IsWorkOf c (known_for content c) left output told f
         → (f ≡ ReadFault → ⊥) → (f ≡ WriteFault → ⊥) → Complete (status_of (Worked f))
-    by (Solve budget qdo name) f asks so read write =
-        formula_complete budget _ (valid.valid (Solve budget qdo name) asks) f so.ending so.status read write
-    by (Trace budget name) f asks so read write =
-        formula_complete budget _ (valid.valid (Trace budget name) asks) f so.ending so.status read write
-    by (Cert budget name) f asks so read write =
-        formula_complete budget _ (valid.valid (Cert budget name) asks) f so.ending so.status read write
-    by (Script budget name) f asks so read write =
-        script_complete _ (valid.valid (Script budget name) asks) f so.ending so.status read write
+    by (Solve budget restarts qdo name) f asks so read write =
+        formula_complete (terms_of budget restarts) _ (valid.valid (Solve budget restarts qdo name) asks) f so.ending
+        so.status read write
+    by (Trace budget restarts name) f asks so read write =
+        formula_complete (terms_of budget restarts) _ (valid.valid (Trace budget restarts name) asks) f so.ending
+        so.status read write
+    by (Cert budget restarts name) f asks so read write =
+        formula_complete (terms_of budget restarts) _ (valid.valid (Cert budget restarts name) asks) f so.ending
+        so.status read write
+    by (Script budget restarts name) f asks so read write =
+        script_complete _ (valid.valid (Script budget restarts name) asks) f so.ending so.status read write
     by (Gen seed vars clauses) f asks so read write =
         sample_complete _ output told f so write
     by (Demo seed count) f asks so read write =

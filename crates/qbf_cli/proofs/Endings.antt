@@ -19,6 +19,7 @@ use Rattle.qbf_cli.proofs.Sampling.{sample_line, sample_output, sample_status, s
 use Rattle.qbf_cli.proofs.Scripting.{script_line, script_output, script_read, script_verdict}
 use Rattle.qbf_cli.proofs.Solving.{Content, other_verdict, plain_line, solve_line, solve_output, solve_read, solve_verdict}
 use Rattle.qbf_cli.proofs.Statuses.{is_answer, no_answer}
+use Rattle.session.specs.Terms.{terms_of}
 
 -- the statuses of all endings
 abbrev Listed : ℕ → Type 0
@@ -89,14 +90,18 @@ module _ (words : List Text) (content : Content) (left : Option Text) (output : 
     where
       by : (c : Command) (f : Ending) → Asks words c → IsWorkOf c (known_for content c) left output told f
           → IsVerdict words content (status_of (Worked f))
-      by (Solve budget qdo name) f asks so =
-          solve_verdict words content left output told (solve_job qdo) budget (Solve budget qdo name) asks (λ P h. h) f so
-      by (Trace budget name) f asks so =
-          solve_verdict words content left output told TraceJob budget (Trace budget name) asks (λ P h. h) f so
-      by (Cert budget name) f asks so =
-          solve_verdict words content left output told CertJob budget (Cert budget name) asks (λ P h. h) f so
-      by (Script budget name) f asks so =
-          script_verdict words content left output told budget (Script budget name) asks (λ P h. h) f so
+      by (Solve budget restarts qdo name) f asks so =
+          solve_verdict words content left output told (solve_job qdo) (terms_of budget restarts)
+          (Solve budget restarts qdo name) asks (λ P h. h) f so
+      by (Trace budget restarts name) f asks so =
+          solve_verdict words content left output told TraceJob (terms_of budget restarts)
+          (Trace budget restarts name) asks (λ P h. h) f so
+      by (Cert budget restarts name) f asks so =
+          solve_verdict words content left output told CertJob (terms_of budget restarts) (Cert budget restarts name)
+          asks (λ P h. h) f so
+      by (Script budget restarts name) f asks so =
+          script_verdict words content left output told (terms_of budget restarts) (Script budget restarts name) asks
+          (λ P h. h) f so
       by (Gen seed vars clauses) f asks so =
           sample_verdict words content output told _ (Gen seed vars clauses) asks tt f so
       by (Demo seed count) f asks so = sample_verdict words content output told _ (Demo seed count) asks tt f so
@@ -110,10 +115,13 @@ module _ (words : List Text) (content : Content) (left : Option Text) (output : 
     where
       by : (c : Command) (f : Ending) → IsWorkOf c (known_for content c) left output told f
           → IsOutputOf c (known_for content c) output told.1 (status_of (Worked f))
-      by (Solve budget qdo name) f so = solve_output (solve_job qdo) budget _ left output told empty f so
-      by (Trace budget name) f so = solve_output TraceJob budget _ left output told empty f so
-      by (Cert budget name) f so = solve_output CertJob budget _ left output told empty f so
-      by (Script budget name) f so = script_output budget _ output told empty f so.answered
+      by (Solve budget restarts qdo name) f so = solve_output (solve_job qdo) (terms_of budget restarts) _ left
+          output told empty f so
+      by (Trace budget restarts name) f so = solve_output TraceJob (terms_of budget restarts) _ left output told
+          empty f so
+      by (Cert budget restarts name) f so = solve_output CertJob (terms_of budget restarts) _ left output told empty
+          f so
+      by (Script budget restarts name) f so = script_output (terms_of budget restarts) _ output told empty f so.answered
       by (Gen seed vars clauses) f so = sample_output _ output told empty f so
       by (Demo seed count) f so = sample_output _ output told empty f so
 
@@ -130,14 +138,18 @@ module _ (words : List Text) (content : Content) (left : Option Text) (output : 
     where
       by : (c : Command) (f : Ending) → Asks words c → IsWorkOf c (known_for content c) left output told f
           → IsErrorLine words content (status_of (Worked f)) (line_of (Worked f))
-      by (Solve budget qdo name) f asks so =
-          solve_line words content left output told (solve_job qdo) budget (Solve budget qdo name) asks (λ P h. h) f so
-      by (Trace budget name) f asks so =
-          solve_line words content left output told TraceJob budget (Trace budget name) asks (λ P h. h) f so
-      by (Cert budget name) f asks so =
-          solve_line words content left output told CertJob budget (Cert budget name) asks (λ P h. h) f so
-      by (Script budget name) f asks so =
-          script_line words content left output told budget (Script budget name) asks (λ P h. h) f so
+      by (Solve budget restarts qdo name) f asks so =
+          solve_line words content left output told (solve_job qdo) (terms_of budget restarts)
+          (Solve budget restarts qdo name) asks (λ P h. h) f so
+      by (Trace budget restarts name) f asks so =
+          solve_line words content left output told TraceJob (terms_of budget restarts) (Trace budget restarts name)
+          asks (λ P h. h) f so
+      by (Cert budget restarts name) f asks so =
+          solve_line words content left output told CertJob (terms_of budget restarts) (Cert budget restarts name)
+          asks (λ P h. h) f so
+      by (Script budget restarts name) f asks so =
+          script_line words content left output told (terms_of budget restarts) (Script budget restarts name) asks
+          (λ P h. h) f so
       by (Gen seed vars clauses) f asks so = sample_line words content output told _ f so
       by (Demo seed count) f asks so = sample_line words content output told _ f so
 
@@ -154,24 +166,28 @@ module _ (words : List Text) (content : Content) (left : Option Text) (output : 
     where
       by : (c : Command) (f : Ending) → Asks words c → IsWorkOf c (known_for content c) left output told f
           → HasAnswer (status_of (Worked f)) → Read
-      by (Solve budget qdo name) f asks so h =
-          inl (inl (solve_read words content left output told (solve_job qdo) budget (Solve budget qdo name) asks (λ P h. h) f so h))
-      by (Trace budget name) f asks so h =
-          inl (inl (solve_read words content left output told TraceJob budget (Trace budget name) asks (λ P h. h) f so h))
-      by (Cert budget name) f asks so h =
-          inl (inl (solve_read words content left output told CertJob budget (Cert budget name) asks (λ P h. h) f so h))
-      by (Script budget name) f asks so h =
-          inl (inr (script_read words content left output told budget (Script budget name) asks (λ P h. h) f so h))
+      by (Solve budget restarts qdo name) f asks so h =
+          inl (inl (solve_read words content left output told (solve_job qdo) (terms_of budget restarts)
+          (Solve budget restarts qdo name) asks (λ P h. h) f so h))
+      by (Trace budget restarts name) f asks so h =
+          inl (inl (solve_read words content left output told TraceJob (terms_of budget restarts)
+          (Trace budget restarts name) asks (λ P h. h) f so h))
+      by (Cert budget restarts name) f asks so h =
+          inl (inl (solve_read words content left output told CertJob (terms_of budget restarts)
+          (Cert budget restarts name) asks (λ P h. h) f so h))
+      by (Script budget restarts name) f asks so h =
+          inl (inr (script_read words content left output told (terms_of budget restarts)
+          (Script budget restarts name) asks (λ P h. h) f so h))
       by (Gen seed vars clauses) f asks so h = inr (Gen seed vars clauses, asks, tt)
       by (Demo seed count) f asks so h = inr (Demo seed count, asks, tt)
 
   -- what ends with an answer's status, where it ends well
   done_status : (c : Command) (f : Ending) → IsWorkOf c (known_for content c) left output told f → (s : ℕ)
       → f ≡ Done s → HasAnswer s
-  done_status (Solve budget qdo name) f so = so.status
-  done_status (Trace budget name) f so = so.status
-  done_status (Cert budget name) f so = so.status
-  done_status (Script budget name) f so = λ s is. (Unknown, so.status s is)
+  done_status (Solve budget restarts qdo name) f so = so.status
+  done_status (Trace budget restarts name) f so = so.status
+  done_status (Cert budget restarts name) f so = so.status
+  done_status (Script budget restarts name) f so = λ s is. (Unknown, so.status s is)
   done_status (Gen seed vars clauses) f so = λ s is. (Unknown, sample_status _ output told f so s is)
   done_status (Demo seed count) f so = λ s is. (Unknown, sample_status _ output told f so s is)
 

@@ -20,6 +20,7 @@ use Rattle.qbf_cli.specs.Run.{EndsIn, IsErrorLine, IsLimitedScript, IsRefusedScr
 use Rattle.qbf_cli.specs.Told.{IsScriptOutput}
 use Rattle.qbf_cli.proofs.Solving.{Content, other_verdict, plain_line, plain_verdict, some_map}
 use Rattle.qbf_cli.proofs.Statuses.{absent, no_answer}
+use Rattle.session.specs.Terms.{Terms}
 
 nothing_more : (w : Option Text) → Appends w w []
 nothing_more None = tt
@@ -34,9 +35,9 @@ first_none reads None = tt
 first_none reads (Some text) = reads text
 
 -- without any command nothing is written or told
-pub untouched : (budget : ℕ) (known w : Option Text) (told : List Account) (e : Ending) → HaveReadings
-    → (IsReadOut e → ⊥) → AreAnswered budget known (w, w) (told, told) e
-untouched budget known w told e reads early = record {
+pub untouched : (terms : Terms) (known w : Option Text) (told : List Account) (e : Ending) → HaveReadings
+    → (IsReadOut e → ⊥) → AreAnswered terms known (w, w) (told, told) e
+untouched terms known w told e reads early = record {
   commands = [];
   out = says [];
   after = start;
@@ -49,13 +50,13 @@ untouched budget known w told e reads early = record {
 }
 
 -- the input can't be chosen
-pub unchosen : (budget : ℕ) (known left w : Option Text) (told : List Account) → HaveReadings
-    → IsReplied budget known left (w, w) (told, told) ReadFault
-unchosen budget known left w told reads = record {
+pub unchosen : (terms : Terms) (known left w : Option Text) (told : List Account) → HaveReadings
+    → IsReplied terms known left (w, w) (told, told) ReadFault
+unchosen terms known left w told reads = record {
   ending = by known;
   status = λ s is. absurd (let same : ReadFault ≡ Done s = is in cc);
   read = λ h. absurd h;
-  answered = untouched budget known w told ReadFault reads (λ h. h);
+  answered = untouched terms known w told ReadFault reads (λ h. h);
 }
   where
     by : (known : Option Text) → IfSome known (λ text. IsScriptEnding text ReadFault)
@@ -63,11 +64,11 @@ unchosen budget known left w told reads = record {
     by (Some text) = tt
 
 -- what a script leaves on the output
-module _ (budget : ℕ) (known : Option Text) (output : Option Text × Option Text) (told : List Account × List Account)
+module _ (terms : Terms) (known : Option Text) (output : Option Text × Option Text) (told : List Account × List Account)
     (empty : told.0 ≡ []) where
-  with_status : (f : Ending) (n : ℕ) → AreAnswered budget known output told f
+  with_status : (f : Ending) (n : ℕ) → AreAnswered terms known output told f
       → (Contains (0 ∷ 2 ∷ 6 ∷ []) n → IsReadOut f) → (n ≢ 4 → f ≢ WriteFault)
-      → IsScriptOutput budget known output told.1 n
+      → IsScriptOutput terms known output told.1 n
   with_status f n so all whole = record {
     commands = so.commands;
     out = so.out;
@@ -80,8 +81,8 @@ module _ (budget : ℕ) (known : Option Text) (output : Option Text × Option Te
     told = so.told ∙ ap (λ before. before ++ so.out.stops) empty;
   }
 
-  pub script_output : (f : Ending) → AreAnswered budget known output told f
-      → IsScriptOutput budget known output told.1 (status_of (Worked f))
+  pub script_output : (f : Ending) → AreAnswered terms known output told f
+      → IsScriptOutput terms known output told.1 (status_of (Worked f))
   script_output (Done s) so =
       with_status (Done s) s so (λ _. tt) (λ _ is. absurd (let same : Done s ≡ WriteFault = is in cc))
   script_output (Refused number at) so =
@@ -100,10 +101,10 @@ module _ (budget : ℕ) (known : Option Text) (output : Option Text × Option Te
       (λ _ is. absurd (let same : NoMemory ≡ WriteFault = is in cc))
 
 module _ (words : List Text) (content : Content) (left : Option Text) (output : Option Text × Option Text)
-    (told : List Account × List Account) (budget : ℕ) (c : Command) (asks : Asks words c)
-    (of : (P : ℕ → Text → Type 0) → IfSome (content (input_of c)) (P budget) → OfScript c content P) where
+    (told : List Account × List Account) (terms : Terms) (c : Command) (asks : Asks words c)
+    (of : (P : Terms → Text → Type 0) → IfSome (content (input_of c)) (P terms) → OfScript c content P) where
   -- what is so of the text is so of the input that was asked for
-  asked : (P : ℕ → Text → Type 0) → IfSome (content (input_of c)) (P budget) → AskedScript words content P
+  asked : (P : Terms → Text → Type 0) → IfSome (content (input_of c)) (P terms) → AskedScript words content P
   asked P h = (c, asks, of P h)
 
   some_form : HasNoForm words → ⊥
@@ -130,7 +131,7 @@ module _ (words : List Text) (content : Content) (left : Option Text) (output : 
       good = asked (λ n text. EndsIn text done)
           (some_map _ (λ text. IsScriptEnding text (Done s)) (λ text. EndsIn text done) (λ text e. (e.1, e.2)) ending)
 
-  pub script_verdict : (f : Ending) → IsReplied budget (content (input_of c)) left output told f
+  pub script_verdict : (f : Ending) → IsReplied terms (content (input_of c)) left output told f
       → IsVerdict words content (status_of (Worked f))
   script_verdict (Done s) so = well s (so.status s refl) so.ending
   script_verdict (Refused number at) so =
@@ -155,7 +156,7 @@ module _ (words : List Text) (content : Content) (left : Option Text) (output : 
       plain_verdict words content 5 refl (λ e. omega (arith, e)) (λ e. omega (arith, e)) (λ e. omega (arith, e))
       some_form
 
-  pub script_line : (f : Ending) → IsReplied budget (content (input_of c)) left output told f
+  pub script_line : (f : Ending) → IsReplied terms (content (input_of c)) left output told f
       → IsErrorLine words content (status_of (Worked f)) (line_of (Worked f))
   script_line (Done s) so =
       let zero_is : s ≡ 0 = so.status s refl in
@@ -183,7 +184,7 @@ module _ (words : List Text) (content : Content) (left : Option Text) (output : 
   script_line WriteFault so = plain_line words content 4 _ (λ e. omega (arith, e)) (λ e. omega (arith, e)) refl
   script_line NoMemory so = plain_line words content 5 _ (λ e. omega (arith, e)) (λ e. omega (arith, e)) refl
 
-  pub script_read : (f : Ending) → IsReplied budget (content (input_of c)) left output told f
+  pub script_read : (f : Ending) → IsReplied terms (content (input_of c)) left output told f
       → HasAnswer (status_of (Worked f)) → AskedScript words content (λ n text. left ≡ Some [])
   script_read (Done s) so h = asked (λ n text. left ≡ Some []) (so.read tt)
   script_read (Refused number at) so h = no_answer 2 refl h

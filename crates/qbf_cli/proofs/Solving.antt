@@ -21,6 +21,7 @@ use Rattle.qbf_cli.specs.Asked.{Asked, AskedEither, OfFormula, input_of}
 use Rattle.qbf_cli.specs.Run.{HasTruth, IsBeyond, IsErrorLine, IsLimited, IsLimitedScript, IsRefused, IsRefusedScript, IsSlow, IsSolved, IsVerdict, line_of, status_of, fixed_line}
 use Rattle.qbf_cli.specs.Told.{IsJobOutput}
 use Rattle.qbf_cli.proofs.Statuses.{absent, answer_absent, answers, is_among, is_answer, no_answer}
+use Rattle.session.specs.Terms.{Terms}
 
 abbrev pub Content : Type 0
 Content = Text → Option Text
@@ -32,39 +33,39 @@ some_map None P Q f h = tt
 some_map (Some text) P Q f h = f text h
 
 -- what the statuses of answers say of a formula
-is_true : (budget : ℕ) (f : Formula) (a : Answer) → IsAnswerTo budget f a → 10 ≡ answer_status a
+is_true : (terms : Terms) (f : Formula) (a : Answer) → IsAnswerTo terms f a → 10 ≡ answer_status a
     → truth f.prefix f.clauses ≡ true
-is_true budget f Sat e at = e
-is_true budget f Unsat e at = absurd (omega (arith, at))
-is_true budget f Unknown e at = absurd (omega (arith, at))
+is_true terms f Sat e at = e
+is_true terms f Unsat e at = absurd (omega (arith, at))
+is_true terms f Unknown e at = absurd (omega (arith, at))
 
-is_false : (budget : ℕ) (f : Formula) (a : Answer) → IsAnswerTo budget f a → 20 ≡ answer_status a
+is_false : (terms : Terms) (f : Formula) (a : Answer) → IsAnswerTo terms f a → 20 ≡ answer_status a
     → truth f.prefix f.clauses ≡ false
-is_false budget f Sat e at = absurd (omega (arith, at))
-is_false budget f Unsat e at = e
-is_false budget f Unknown e at = absurd (omega (arith, at))
+is_false terms f Sat e at = absurd (omega (arith, at))
+is_false terms f Unsat e at = e
+is_false terms f Unknown e at = absurd (omega (arith, at))
 
-is_short : (budget : ℕ) (f : Formula) (a : Answer) → IsAnswerTo budget f a → 0 ≡ answer_status a → IsShort budget f
-is_short budget f Sat e at = absurd (omega (arith, at))
-is_short budget f Unsat e at = absurd (omega (arith, at))
-is_short budget f Unknown e at = e
+is_short : (terms : Terms) (f : Formula) (a : Answer) → IsAnswerTo terms f a → 0 ≡ answer_status a → IsShort terms f
+is_short terms f Sat e at = absurd (omega (arith, at))
+is_short terms f Unsat e at = absurd (omega (arith, at))
+is_short terms f Unknown e at = e
 
-true_of : (budget s : ℕ) → s ≡ 10 → (text : Text) → OfAnswer s (Solves budget text) → HasTruth text true
-true_of budget s is text (a, at, (f, reads, e)) = (f, reads, is_true budget f a e (sym is ∙ at))
+true_of : (terms : Terms) (s : ℕ) → s ≡ 10 → (text : Text) → OfAnswer s (Solves terms text) → HasTruth text true
+true_of terms s is text (a, at, (f, reads, e)) = (f, reads, is_true terms f a e (sym is ∙ at))
 
-false_of : (budget s : ℕ) → s ≡ 20 → (text : Text) → OfAnswer s (Solves budget text) → HasTruth text false
-false_of budget s is text (a, at, (f, reads, e)) = (f, reads, is_false budget f a e (sym is ∙ at))
+false_of : (terms : Terms) (s : ℕ) → s ≡ 20 → (text : Text) → OfAnswer s (Solves terms text) → HasTruth text false
+false_of terms s is text (a, at, (f, reads, e)) = (f, reads, is_false terms f a e (sym is ∙ at))
 
-beyond_of : (budget s : ℕ) → s ≡ 0 → (text : Text) → OfAnswer s (Solves budget text) → IsBeyond budget text
-beyond_of budget s is text (a, at, (f, reads, e)) = (f, reads, (is_short budget f a e (sym is ∙ at)).limit)
+beyond_of : (terms : Terms) (s : ℕ) → s ≡ 0 → (text : Text) → OfAnswer s (Solves terms text) → IsBeyond terms text
+beyond_of terms s is text (a, at, (f, reads, e)) = (f, reads, (is_short terms f a e (sym is ∙ at)).limit)
 
-slow_of : (budget s : ℕ) → s ≡ 0 → (text : Text) → OfAnswer s (Solves budget text) → IsSlow budget text
-slow_of budget s is text (a, at, (f, reads, e)) = (f, reads, (is_short budget f a e (sym is ∙ at)).propagation)
+slow_of : (terms : Terms) (s : ℕ) → s ≡ 0 → (text : Text) → OfAnswer s (Solves terms text) → IsSlow terms text
+slow_of terms s is text (a, at, (f, reads, e)) = (f, reads, (is_short terms f a e (sym is ∙ at)).propagation)
 
 -- a status that no answer has
 pub other_verdict : (words : List Text) (content : Content) (n : ℕ) → is_among answers n ≡ false
-    → (n ≡ 2 → AskedEither words content (λ budget text. IsRefused text) (λ budget text. IsRefusedScript text))
-    → (n ≡ 6 → AskedEither words content (λ budget text. IsLimited text) (λ budget text. IsLimitedScript text))
+    → (n ≡ 2 → AskedEither words content (λ terms text. IsRefused text) (λ terms text. IsRefusedScript text))
+    → (n ≡ 6 → AskedEither words content (λ terms text. IsLimited text) (λ terms text. IsLimitedScript text))
     → (n ≡ 7 → HasNoForm words) → (HasNoForm words → Contains (5 ∷ 7 ∷ []) n) → IsVerdict words content n
 other_verdict words content n none two six seven unasked = record {
   sat = λ h. no_answer n none (Sat, h);
@@ -91,11 +92,11 @@ pub plain_line : (words : List Text) (content : Content) (n : ℕ) (line : Text)
 plain_line words content n line two six is =
     record { refused = λ h. absurd (two h); limit = λ h. absurd (six h); other = λ _ _ _. is }
 
-module _ (job : Job) (budget : ℕ) (known left : Option Text) (output : Option Text × Option Text)
+module _ (job : Job) (terms : Terms) (known left : Option Text) (output : Option Text × Option Text)
     (told : List Account × List Account) (empty : told.0 ≡ []) where
   -- nothing written, and nothing told
   quiet : (n : ℕ) → is_among answers n ≡ false → n ≢ 4 → Keeps output.0 output.1 × (told.1 ≡ told.0)
-      → IsJobOutput job budget known output told.1 n
+      → IsJobOutput job terms known output told.1 n
   quiet n none four same = record {
     reply = λ h. no_answer n none h;
     front = λ h. absurd (four h);
@@ -103,13 +104,13 @@ module _ (job : Job) (budget : ℕ) (known left : Option Text) (output : Option 
   }
 
   -- a reply where none was told before
-  first_reply : (a : Answer) (text : Text) → IsReplyOn job budget known told a text
-      → IsReplyOn job budget known ([], told.1) a text
-  first_reply a text h = subst (λ before. IsReplyOn job budget known (before, told.1) a text) empty h
+  first_reply : (a : Answer) (text : Text) → IsReplyOn job terms known told a text
+      → IsReplyOn job terms known ([], told.1) a text
+  first_reply a text h = subst (λ before. IsReplyOn job terms known (before, told.1) a text) empty h
 
   -- what a job leaves on the output
-  pub solve_output : (f : Ending) → IsSolved job budget known left output told f
-      → IsJobOutput job budget known output told.1 (status_of (Worked f))
+  pub solve_output : (f : Ending) → IsSolved job terms known left output told f
+      → IsJobOutput job terms known output told.1 (status_of (Worked f))
   solve_output (Done s) so =
       let has : HasAnswer s = so.status s refl in
       let out = so.output_of in
@@ -130,24 +131,24 @@ module _ (job : Job) (budget : ℕ) (known left : Option Text) (output : Option 
   solve_output NoMemory so = quiet 5 refl (λ e. omega (arith, e)) so.output_of
 
 module _ (words : List Text) (content : Content) (left : Option Text) (output : Option Text × Option Text)
-    (told : List Account × List Account) (job : Job) (budget : ℕ) (c : Command) (asks : Asks words c)
-    (of : (P : ℕ → Text → Type 0) → IfSome (content (input_of c)) (P budget) → OfFormula c content P) where
+    (told : List Account × List Account) (job : Job) (terms : Terms) (c : Command) (asks : Asks words c)
+    (of : (P : Terms → Text → Type 0) → IfSome (content (input_of c)) (P terms) → OfFormula c content P) where
   -- what is so of the text is so of the input that was asked for
-  asked : (P : ℕ → Text → Type 0) → IfSome (content (input_of c)) (P budget) → Asked words content P
+  asked : (P : Terms → Text → Type 0) → IfSome (content (input_of c)) (P terms) → Asked words content P
   asked P h = (c, asks, of P h)
 
   some_form : HasNoForm words → ⊥
   some_form none = none c asks
 
-  pub solve_verdict : (f : Ending) → IsSolved job budget (content (input_of c)) left output told f
+  pub solve_verdict : (f : Ending) → IsSolved job terms (content (input_of c)) left output told f
       → IsVerdict words content (status_of (Worked f))
   solve_verdict (Done s) so =
       let has : HasAnswer s = so.status s refl in
       record {
-        sat = λ h. asked (λ n text. HasTruth text true) (some_map _ _ _ (true_of budget s h) so.ending);
-        unsat = λ h. asked (λ n text. HasTruth text false) (some_map _ _ _ (false_of budget s h) so.ending);
-        unknown = λ h. inl (inl (asked IsBeyond (some_map _ _ _ (beyond_of budget s h) so.ending)));
-        slow = λ h. inl (inl (asked IsSlow (some_map _ _ _ (slow_of budget s h) so.ending)));
+        sat = λ h. asked (λ n text. HasTruth text true) (some_map _ _ _ (true_of terms s h) so.ending);
+        unsat = λ h. asked (λ n text. HasTruth text false) (some_map _ _ _ (false_of terms s h) so.ending);
+        unknown = λ h. inl (inl (asked IsBeyond (some_map _ _ _ (beyond_of terms s h) so.ending)));
+        slow = λ h. inl (inl (asked IsSlow (some_map _ _ _ (slow_of terms s h) so.ending)));
         solved = λ _. inl (inl (asked (λ n text. OfAnswer s (Solves n text)) so.ending));
         refused = λ h. is_answer s 2 refl has h;
         limit = λ h. is_answer s 6 refl has h;
@@ -174,7 +175,7 @@ module _ (words : List Text) (content : Content) (left : Option Text) (output : 
       plain_verdict words content 5 refl (λ e. omega (arith, e)) (λ e. omega (arith, e)) (λ e. omega (arith, e))
       some_form
 
-  pub solve_line : (f : Ending) → IsSolved job budget (content (input_of c)) left output told f
+  pub solve_line : (f : Ending) → IsSolved job terms (content (input_of c)) left output told f
       → IsErrorLine words content (status_of (Worked f)) (line_of (Worked f))
   solve_line (Done s) so =
       let has : HasAnswer s = so.status s refl in
@@ -202,7 +203,7 @@ module _ (words : List Text) (content : Content) (left : Option Text) (output : 
   solve_line WriteFault so = plain_line words content 4 _ (λ e. omega (arith, e)) (λ e. omega (arith, e)) refl
   solve_line NoMemory so = plain_line words content 5 _ (λ e. omega (arith, e)) (λ e. omega (arith, e)) refl
 
-  pub solve_read : (f : Ending) → IsSolved job budget (content (input_of c)) left output told f
+  pub solve_read : (f : Ending) → IsSolved job terms (content (input_of c)) left output told f
       → HasAnswer (status_of (Worked f)) → Asked words content (λ n text. left ≡ Some [])
   solve_read (Done s) so h = asked (λ n text. left ≡ Some []) (so.read tt)
   solve_read (Refused number at) so h = no_answer 2 refl h

@@ -8,6 +8,7 @@ use Rattle.qdimacs_out.specs.Texts.{formula_text}
 use Rattle.samples.specs.Samples.{counts_text}
 use Rattle.session.specs.Jobs.{RoomForJob}
 use Rattle.session.specs.Scripts.{RoomForReplies}
+use Rattle.session.specs.Terms.{Terms, terms_of}
 use Rattle.session.specs.declared.ending.Job.{Job}
 use Rattle.session.specs.declared.ending.Job.TheVariants.{Solve as SolveJob, Qdo as QdoJob, Trace as TraceJob, Cert as CertJob}
 
@@ -27,47 +28,51 @@ solve_job false = SolveJob
 
 -- What is known of the text of a command's input, where the desk tells.
 abbrev pub known_for : (Text → Option Text) → Command → Option Text
-known_for content (Solve budget qdo name) = content (input_of (Solve budget qdo name))
-known_for content (Trace budget name) = content (input_of (Trace budget name))
-known_for content (Cert budget name) = content (input_of (Cert budget name))
-known_for content (Script budget name) = content (input_of (Script budget name))
+known_for content (Solve budget restarts qdo name) = content (input_of (Solve budget restarts qdo name))
+known_for content (Trace budget restarts name) = content (input_of (Trace budget restarts name))
+known_for content (Cert budget restarts name) = content (input_of (Cert budget restarts name))
+known_for content (Script budget restarts name) = content (input_of (Script budget restarts name))
 known_for content (Gen seed vars clauses) = None
 known_for content (Demo seed count) = None
 
--- The command is about one formula, and this is so of its budget and of the text that its input holds, where the desk
+-- The command is about one formula, and this is so of its terms and of the text that its input holds, where the desk
 -- tells.
-abbrev pub OfFormula : Command → (Text → Option Text) → (ℕ → Text → Type 0) → Type 0
-OfFormula (Solve budget qdo name) content P = IfSome (content (input_of (Solve budget qdo name))) (P budget)
-OfFormula (Trace budget name) content P = IfSome (content (input_of (Trace budget name))) (P budget)
-OfFormula (Cert budget name) content P = IfSome (content (input_of (Cert budget name))) (P budget)
-OfFormula (Script budget name) content P = ⊥
+abbrev pub OfFormula : Command → (Text → Option Text) → (Terms → Text → Type 0) → Type 0
+OfFormula (Solve budget restarts qdo name) content P = IfSome (content (input_of (Solve budget restarts qdo name)))
+    (P (terms_of budget restarts))
+OfFormula (Trace budget restarts name) content P = IfSome (content (input_of (Trace budget restarts name)))
+    (P (terms_of budget restarts))
+OfFormula (Cert budget restarts name) content P = IfSome (content (input_of (Cert budget restarts name)))
+    (P (terms_of budget restarts))
+OfFormula (Script budget restarts name) content P = ⊥
 OfFormula (Gen seed vars clauses) content P = ⊥
 OfFormula (Demo seed count) content P = ⊥
 
 -- The command is about a script, and this is so of both.
-abbrev pub OfScript : Command → (Text → Option Text) → (ℕ → Text → Type 0) → Type 0
-OfScript (Solve budget qdo name) content P = ⊥
-OfScript (Trace budget name) content P = ⊥
-OfScript (Cert budget name) content P = ⊥
-OfScript (Script budget name) content P = IfSome (content (input_of (Script budget name))) (P budget)
+abbrev pub OfScript : Command → (Text → Option Text) → (Terms → Text → Type 0) → Type 0
+OfScript (Solve budget restarts qdo name) content P = ⊥
+OfScript (Trace budget restarts name) content P = ⊥
+OfScript (Cert budget restarts name) content P = ⊥
+OfScript (Script budget restarts name) content P = IfSome (content (input_of (Script budget restarts name)))
+    (P (terms_of budget restarts))
 OfScript (Gen seed vars clauses) content P = ⊥
 OfScript (Demo seed count) content P = ⊥
 
 -- The command makes formulas from a seed, and has no input.
 abbrev pub IsSample : Command → Type 0
-IsSample (Solve budget qdo name) = ⊥
-IsSample (Trace budget name) = ⊥
-IsSample (Cert budget name) = ⊥
-IsSample (Script budget name) = ⊥
+IsSample (Solve budget restarts qdo name) = ⊥
+IsSample (Trace budget restarts name) = ⊥
+IsSample (Cert budget restarts name) = ⊥
+IsSample (Script budget restarts name) = ⊥
 IsSample (Gen seed vars clauses) = ⊤
 IsSample (Demo seed count) = ⊤
 
--- The words ask for a command about one formula, and this is so of budget and text.
-abbrev pub Asked : List Text → (Text → Option Text) → (ℕ → Text → Type 0) → Type 0
+-- The words ask for a command about one formula, and this is so of terms and text.
+abbrev pub Asked : List Text → (Text → Option Text) → (Terms → Text → Type 0) → Type 0
 Asked words content P = (c : Command) × Asks words c × OfFormula c content P
 
--- The words ask for a script, and this is so of budget and text.
-abbrev pub AskedScript : List Text → (Text → Option Text) → (ℕ → Text → Type 0) → Type 0
+-- The words ask for a script, and this is so of terms and text.
+abbrev pub AskedScript : List Text → (Text → Option Text) → (Terms → Text → Type 0) → Type 0
 AskedScript words content P = (c : Command) × Asks words c × OfScript c content P
 
 -- The words ask for a command that makes formulas from a seed.
@@ -75,19 +80,19 @@ abbrev pub AskedSample : List Text → Type 0
 AskedSample words = (c : Command) × Asks words c × IsSample c
 
 -- The words ask for a command about one formula of which the one is so, or for a script of which the other is so.
-abbrev pub AskedEither : List Text → (Text → Option Text) → (P Q : ℕ → Text → Type 0) → Type 0
+abbrev pub AskedEither : List Text → (Text → Option Text) → (P Q : Terms → Text → Type 0) → Type 0
 AskedEither words content P Q = Asked words content P ⊎ AskedScript words content Q
 
 -- The same, or for a command without an input.
-abbrev pub AskedAny : List Text → (Text → Option Text) → (P Q : ℕ → Text → Type 0) → Type 0
+abbrev pub AskedAny : List Text → (Text → Option Text) → (P Q : Terms → Text → Type 0) → Type 0
 AskedAny words content P Q = AskedEither words content P Q ⊎ AskedSample words
 
 -- The desk is steady for a command's input, if it has one.
 abbrev pub SteadyFor : Command → (Text → Type 0) → Type 0
-SteadyFor (Solve budget qdo name) steady = steady (input_of (Solve budget qdo name))
-SteadyFor (Trace budget name) steady = steady (input_of (Trace budget name))
-SteadyFor (Cert budget name) steady = steady (input_of (Cert budget name))
-SteadyFor (Script budget name) steady = steady (input_of (Script budget name))
+SteadyFor (Solve budget restarts qdo name) steady = steady (input_of (Solve budget restarts qdo name))
+SteadyFor (Trace budget restarts name) steady = steady (input_of (Trace budget restarts name))
+SteadyFor (Cert budget restarts name) steady = steady (input_of (Cert budget restarts name))
+SteadyFor (Script budget restarts name) steady = steady (input_of (Script budget restarts name))
 SteadyFor (Gen seed vars clauses) steady = ⊤
 SteadyFor (Demo seed count) steady = ⊤
 
@@ -97,10 +102,12 @@ SteadyForInput words steady = (c : Command) → Asks words c → SteadyFor c ste
 
 -- The output has room for each text that a command can write whose input is this text, where it is told.
 abbrev pub RoomForCommand : Command → Option Text → (ℕ → Type 0) → Type 0
-RoomForCommand (Solve budget qdo name) known has_room = RoomForJob (solve_job qdo) budget known has_room
-RoomForCommand (Trace budget name) known has_room = RoomForJob TraceJob budget known has_room
-RoomForCommand (Cert budget name) known has_room = RoomForJob CertJob budget known has_room
-RoomForCommand (Script budget name) known has_room = RoomForReplies budget known has_room
+RoomForCommand (Solve budget restarts qdo name) known has_room = RoomForJob (solve_job qdo)
+    (terms_of budget restarts) known has_room
+RoomForCommand (Trace budget restarts name) known has_room = RoomForJob TraceJob (terms_of budget restarts) known
+    has_room
+RoomForCommand (Cert budget restarts name) known has_room = RoomForJob CertJob (terms_of budget restarts) known has_room
+RoomForCommand (Script budget restarts name) known has_room = RoomForReplies (terms_of budget restarts) known has_room
 RoomForCommand (Gen seed vars clauses) known has_room = has_room (length (formula_text (made seed vars clauses)))
 RoomForCommand (Demo seed count) known has_room = has_room (length (counts_text seed count))
 

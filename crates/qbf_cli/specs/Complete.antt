@@ -20,10 +20,10 @@ IsScript known = IsSomeAnd known (λ text. EndsIn text done)
 
 -- The input of a command is valid: a formula, or a script that ends well; some commands have none.
 abbrev pub IsValidFor : Command → (Text → Option Text) → Type 0
-IsValidFor (Solve budget qdo name) content = IsFormula (content (input_of (Solve budget qdo name)))
-IsValidFor (Trace budget name) content = IsFormula (content (input_of (Trace budget name)))
-IsValidFor (Cert budget name) content = IsFormula (content (input_of (Cert budget name)))
-IsValidFor (Script budget name) content = IsScript (content (input_of (Script budget name)))
+IsValidFor (Solve budget restarts qdo name) content = IsFormula (content (input_of (Solve budget restarts qdo name)))
+IsValidFor (Trace budget restarts name) content = IsFormula (content (input_of (Trace budget restarts name)))
+IsValidFor (Cert budget restarts name) content = IsFormula (content (input_of (Cert budget restarts name)))
+IsValidFor (Script budget restarts name) content = IsScript (content (input_of (Script budget restarts name)))
 IsValidFor (Gen seed vars clauses) content = ⊤
 IsValidFor (Demo seed count) content = ⊤
 

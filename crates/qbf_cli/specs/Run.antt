@@ -7,11 +7,13 @@ use Rattle.ports.specs.Causes.{Rose}
 use Rattle.command.specs.Forms.{Asks, HasNoForm, Text}
 use Rattle.command.specs.declared.command.Command.{Command}
 use Rattle.command.specs.declared.command.Command.TheVariants.{Solve, Trace, Cert, Script, Gen, Demo}
+use Rattle.calculus.specs.Limits.{propagation_limit}
 use Rattle.calculus.specs.Search.{IsRefuted}
 use Rattle.trail.specs.State.{Account}
 use Rattle.search.specs.Counting.{size_of}
 use Rattle.session.specs.Jobs.{LeavesOutput}
 use Rattle.session.specs.Scripts.{AreAnswered, IsScriptEnding}
+use Rattle.session.specs.Terms.{Terms, terms_of}
 use Rattle.session.specs.Solve.{HasAnswer, IsDone, IsEnding, OfAnswer, Solves}
 use Rattle.session.specs.declared.ending.Ending.{Ending}
 use Rattle.session.specs.declared.ending.Ending.TheVariants.{Done, Refused, Limit, ReadFault, WriteFault, NoMemory}
@@ -38,14 +40,15 @@ abbrev pub HasTruth : Text → Bool → Type 0
 HasTruth text value = (f : Formula) × Reads text (parsed f) × (truth f.prefix f.clauses ≡ value)
 
 -- The text is a formula, and the budget is below the step limit of its variables.
-abbrev pub IsBeyond : ℕ → Text → Type 0
-IsBeyond budget text = (f : Formula) × Reads text (parsed f) × (budget < step_limit (size_of f.prefix))
+abbrev pub IsBeyond : Terms → Text → Type 0
+IsBeyond terms text = (f : Formula) × Reads text (parsed f) ×
+    (terms.budget < step_limit terms.restarts (size_of f.prefix))
 
--- The text is a formula, and where propagation alone refutes its clauses, the budget is below n * (n + 3), for n
--- variables.
-abbrev pub IsSlow : ℕ → Text → Type 0
-IsSlow budget text = (f : Formula) × Reads text (parsed f)
-    × (IsRefuted f.prefix f.clauses [] → budget < size_of f.prefix * (size_of f.prefix + 3))
+-- The text is a formula, and where propagation alone refutes its clauses, the budget is below the limit of propagation
+-- of its variables.
+abbrev pub IsSlow : Terms → Text → Type 0
+IsSlow terms text = (f : Formula) × Reads text (parsed f)
+    × (IsRefuted f.prefix f.clauses [] → terms.budget < propagation_limit (size_of f.prefix))
 
 -- The text is malformed.
 abbrev pub IsRefused : Text → Type 0
@@ -70,16 +73,16 @@ IsLimitedScript text = (at : ℕ) × EndsIn text (script_limit at)
 -- What the status says of the words and the input: a true formula, a false one, one for which the budget may be too
 -- low, a script that ends well or no input at all, a malformed text, one beyond a limit, or words that ask for no command.
 pub record IsVerdict (words : List Text) (content : Text → Option Text) (status : ℕ) : Type 0 where
-  pub sat : status ≡ 10 → Asked words content (λ budget text. HasTruth text true)
-  pub unsat : status ≡ 20 → Asked words content (λ budget text. HasTruth text false)
-  pub unknown : status ≡ 0 → AskedAny words content IsBeyond (λ budget text. EndsIn text done)
-  pub slow : status ≡ 0 → AskedAny words content IsSlow (λ budget text. EndsIn text done)
-  pub solved : HasAnswer status → AskedAny words content (λ budget text. OfAnswer status (Solves budget text))
-      (λ budget text. (status ≡ 0) × EndsIn text done)
-  pub refused : status ≡ 2 → AskedEither words content (λ budget text. IsRefused text)
-      (λ budget text. IsRefusedScript text)
-  pub limit : status ≡ 6 → AskedEither words content (λ budget text. IsLimited text)
-      (λ budget text. IsLimitedScript text)
+  pub sat : status ≡ 10 → Asked words content (λ terms text. HasTruth text true)
+  pub unsat : status ≡ 20 → Asked words content (λ terms text. HasTruth text false)
+  pub unknown : status ≡ 0 → AskedAny words content IsBeyond (λ terms text. EndsIn text done)
+  pub slow : status ≡ 0 → AskedAny words content IsSlow (λ terms text. EndsIn text done)
+  pub solved : HasAnswer status → AskedAny words content (λ terms text. OfAnswer status (Solves terms text))
+      (λ terms text. (status ≡ 0) × EndsIn text done)
+  pub refused : status ≡ 2 → AskedEither words content (λ terms text. IsRefused text)
+      (λ terms text. IsRefusedScript text)
+  pub limit : status ≡ 6 → AskedEither words content (λ terms text. IsLimited text)
+      (λ terms text. IsLimitedScript text)
   pub usage : status ≡ 7 → HasNoForm words
   pub unasked : HasNoForm words → Contains (5 ∷ 7 ∷ []) status
 
@@ -133,11 +136,11 @@ fixed_line status =
 -- where the words ask for no command.
 pub record IsErrorLine (words : List Text) (content : Text → Option Text) (status : ℕ) (line : Text) : Type 0 where
   pub refused : status ≡ 2 → (number at : ℕ) × (line ≡ refused_line number at)
-      × AskedEither words content (λ budget text. Reads text (refused number at))
-      (λ budget text. EndsIn text (script_refused number at))
+      × AskedEither words content (λ terms text. Reads text (refused number at))
+      (λ terms text. EndsIn text (script_refused number at))
   pub limit : status ≡ 6 → (quantity : Quantity) × (at : ℕ) × (line ≡ limit_line quantity at)
-      × AskedEither words content (λ budget text. Reads text (limit quantity at))
-      (λ budget text. (quantity ≡ Bytes) × EndsIn text (script_limit at))
+      × AskedEither words content (λ terms text. Reads text (limit quantity at))
+      (λ terms text. (quantity ≡ Bytes) × EndsIn text (script_limit at))
   pub other : status ≢ 2 → status ≢ 6 → status ≢ 7 → line ≡ fixed_line status
 
 -- What stands on the error output: a front of the line, and all of it where no fault was counted.
@@ -150,20 +153,20 @@ pub record IsErrorOutput (words : List Text) (content : Text → Option Text) (f
 
 -- What is known of the work of a job on a formula that an input holds. `output` is what stood on the output and stands on it,
 -- `told` the list of stopped searches before and after.
-pub record IsSolved (job : Job) (budget : ℕ) (known left : Option Text) (output : Option Text × Option Text)
+pub record IsSolved (job : Job) (terms : Terms) (known left : Option Text) (output : Option Text × Option Text)
     (told : List Account × List Account) (e : Ending) : Type 0 where
-  pub ending : IfSome known (λ text. IsEnding budget text e)
+  pub ending : IfSome known (λ text. IsEnding terms text e)
   pub status : (s : ℕ) → e ≡ Done s → HasAnswer s
   pub read : IsDone e → IfSome known (λ text. left ≡ Some [])
-  pub output_of : LeavesOutput job budget known output told e
+  pub output_of : LeavesOutput job terms known output told e
 
 -- What is known of the work on a script that an input holds.
-pub record IsReplied (budget : ℕ) (known left : Option Text) (output : Option Text × Option Text)
+pub record IsReplied (terms : Terms) (known left : Option Text) (output : Option Text × Option Text)
     (told : List Account × List Account) (e : Ending) : Type 0 where
   pub ending : IfSome known (λ text. IsScriptEnding text e)
   pub status : (s : ℕ) → e ≡ Done s → s ≡ 0
   pub read : IsDone e → IfSome known (λ text. left ≡ Some [])
-  pub answered : AreAnswered budget known output told e
+  pub answered : AreAnswered terms known output told e
 
 -- What is known of the work of a command that makes formulas and writes this text.
 pub record IsMade (text : Text) (output : Option Text × Option Text) (told : List Account × List Account) (e : Ending)
@@ -174,10 +177,14 @@ pub record IsMade (text : Text) (output : Option Text × Option Text) (told : Li
 -- what is known of the work of a command
 abbrev pub IsWorkOf : Command → (known left : Option Text) (output : Option Text × Option Text)
     (told : List Account × List Account) → Ending → Type 0
-IsWorkOf (Solve budget qdo name) known left output told e = IsSolved (solve_job qdo) budget known left output told e
-IsWorkOf (Trace budget name) known left output told e = IsSolved TraceJob budget known left output told e
-IsWorkOf (Cert budget name) known left output told e = IsSolved CertJob budget known left output told e
-IsWorkOf (Script budget name) known left output told e = IsReplied budget known left output told e
+IsWorkOf (Solve budget restarts qdo name) known left output told e = IsSolved (solve_job qdo)
+    (terms_of budget restarts) known left output told e
+IsWorkOf (Trace budget restarts name) known left output told e = IsSolved TraceJob (terms_of budget restarts) known
+    left output told e
+IsWorkOf (Cert budget restarts name) known left output told e = IsSolved CertJob (terms_of budget restarts) known
+    left output told e
+IsWorkOf (Script budget restarts name) known left output told e = IsReplied (terms_of budget restarts) known left
+    output told e
 IsWorkOf (Gen seed vars clauses) known left output told e = IsMade (formula_text (made seed vars clauses)) output told e
 IsWorkOf (Demo seed count) known left output told e = IsMade (counts_text seed count) output told e
 

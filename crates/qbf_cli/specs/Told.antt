@@ -14,6 +14,7 @@ use Rattle.session.specs.Scripts.{AreFirst}
 use Rattle.session.specs.Jobs.{IsReplyOn}
 use Rattle.session.specs.Solve.{HasAnswer, OfAnswer}
 use Rattle.session.specs.Standing.{Standing, start}
+use Rattle.session.specs.Terms.{Terms, terms_of}
 use Rattle.session.specs.declared.ending.Job.{Job}
 use Rattle.session.specs.declared.ending.Job.TheVariants.{Trace as TraceJob, Cert as CertJob}
 use Rattle.generate.specs.Made.{made}
@@ -24,23 +25,23 @@ use Rattle.qbf_cli.specs.Asked.{known_for, solve_job}
 -- What a job on a formula leaves on the output and tells: its reply with an answer, a front of one after a write fault,
 -- and else nothing. With UNKNOWN an entry is told of its search, and else none. `written` is what stood on the output
 -- and stands on it.
-pub record IsJobOutput (job : Job) (budget : ℕ) (known : Option Text) (written : Option Text × Option Text)
+pub record IsJobOutput (job : Job) (terms : Terms) (known : Option Text) (written : Option Text × Option Text)
     (stops : List Account) (status : ℕ) : Type 0 where
   pub reply : HasAnswer status → OfAnswer status (λ answer. (text : Text)
-      × IsReplyOn job budget known ([], stops) answer text × Appends written.0 written.1 text)
-  pub front : status ≡ 4 → (answer : Answer) × (text : Text) × IsReplyOn job budget known ([], stops) answer text
+      × IsReplyOn job terms known ([], stops) answer text × Appends written.0 written.1 text)
+  pub front : status ≡ 4 → (answer : Answer) × (text : Text) × IsReplyOn job terms known ([], stops) answer text
       × AppendsFront written.0 written.1 text
   pub nothing : Contains (2 ∷ 3 ∷ 5 ∷ 6 ∷ []) status → Keeps written.0 written.1 × (stops ≡ [])
 
 -- What a script leaves on the output: allowed replies to commands, all of them, or after a write fault a front of them.
 -- The commands are the first of the text's script, if the text is told, and all of them where it was read to its
 -- ending. What is told of searches is an entry for each UNKNOWN among the replies, in their order.
-pub record IsScriptOutput (budget : ℕ) (known : Option Text) (written : Option Text × Option Text)
+pub record IsScriptOutput (terms : Terms) (known : Option Text) (written : Option Text × Option Text)
     (stops : List Account) (status : ℕ) : Type 0 where
   pub commands : List ScriptCommand
   pub out : Output
   pub after : Standing
-  pub allowed : Leads budget start commands out after
+  pub allowed : Leads terms start commands out after
   pub first : IfSome known (λ text. AreFirst text commands)
   pub all : Contains (0 ∷ 2 ∷ 6 ∷ []) status →
       IfSome known (λ text. (ending : ScriptEnding) × ReadsScript text commands ending)
@@ -61,11 +62,14 @@ pub record IsSampleOutput (text : Text) (written : Option Text × Option Text) (
 -- what a command leaves on the output and tells, whose input is this text, where it is told
 abbrev pub IsOutputOf : Command → (known : Option Text) (written : Option Text × Option Text)
     (stops : List Account) → ℕ → Type 0
-IsOutputOf (Solve budget qdo name) known written stops status =
-    IsJobOutput (solve_job qdo) budget known written stops status
-IsOutputOf (Trace budget name) known written stops status = IsJobOutput TraceJob budget known written stops status
-IsOutputOf (Cert budget name) known written stops status = IsJobOutput CertJob budget known written stops status
-IsOutputOf (Script budget name) known written stops status = IsScriptOutput budget known written stops status
+IsOutputOf (Solve budget restarts qdo name) known written stops status =
+    IsJobOutput (solve_job qdo) (terms_of budget restarts) known written stops status
+IsOutputOf (Trace budget restarts name) known written stops status = IsJobOutput TraceJob (terms_of budget restarts)
+    known written stops status
+IsOutputOf (Cert budget restarts name) known written stops status = IsJobOutput CertJob (terms_of budget restarts)
+    known written stops status
+IsOutputOf (Script budget restarts name) known written stops status = IsScriptOutput (terms_of budget restarts) known
+    written stops status
 IsOutputOf (Gen seed vars clauses) known written stops status =
     IsSampleOutput (formula_text (made seed vars clauses)) written stops status
 IsOutputOf (Demo seed count) known written stops status = IsSampleOutput (counts_text seed count) written stops status

@@ -6,9 +6,10 @@ ghost use Rattle.ports.specs.Causes.{IsCounted, Rose};
 ghost use Rattle.session.specs.Jobs.{RoomForJob};
 ghost use Rattle.session.specs.Scripts.{RoomForReplies};
 ghost use Rattle.session.specs.Solve.{HasAnswer, IsDone};
-ghost use Rattle.qbf_cli.specs.Asked.{AskedAny, RoomForOutput, SteadyForInput, input_name as name_of_input, solve_job};
+ghost use Rattle.session.specs.Terms.{terms_of};
+ghost use Rattle.qbf_cli.specs.Asked.{AskedAny, RoomForCommand, RoomForOutput, SteadyFor, SteadyForInput, input_name as name_of_input, known_for, solve_job};
 ghost use Rattle.qbf_cli.specs.Complete.{IsValid};
-ghost use Rattle.qbf_cli.specs.Run.{Carried, IsAnswered, IsErrorOutput, IsReplied, IsSolved, IsVerdict, line_of, status_of};
+ghost use Rattle.qbf_cli.specs.Run.{Carried, IsAnswered, IsErrorOutput, IsReplied, IsSolved, IsVerdict, IsWorkOf, line_of, status_of};
 ghost use Rattle.qbf_cli.specs.Told.{IsOutput};
 
 use super::ending::RunEnding;
@@ -22,12 +23,13 @@ use std::alloc::Global;
 use trail::Stopped;
 
 /// Carries out the command that the words ask for, the program's name first:
-/// - `solve [--budget N] [NAME]` decides the formula of the file NAME, or of standard input, by search with at most N
-///   steps, and writes `SAT`, `UNSAT` or `UNKNOWN` to `out`; with `--qdo` the lines of QDIMACS 1.1's output format.
+/// - `solve [--budget N] [--restarts R] [NAME]` decides the formula of the file NAME, or of standard input, by search
+///   with at most N steps, which may begin anew R times, and writes `SAT`, `UNSAT` or `UNKNOWN` to `out`; with `--qdo`
+///   the lines of QDIMACS 1.1's output format.
 /// - `trace` and `cert` with the same words write in the place of `SAT` and `UNSAT` the trace of the verdict's proof
 ///   (QRP), and the circuit by which its winner wins (AIGER 1.9, ASCII).
-/// - `script [--budget N] [NAME]` replies on `out` to the commands of that input, each of its solves with at most N
-///   steps.
+/// - `script [--budget N] [--restarts R] [NAME]` replies on `out` to the commands of that input, each of its solves
+///   with at most N steps and R restarts.
 /// - `gen SEED VARS CLAUSES` writes a formula that is made from a seed, and `demo SEED COUNT` how many of so many of
 ///   these are true and false.
 ///
@@ -114,30 +116,57 @@ fn ending_of<D: Desk, O: Sink>(
     ensures flushed { IsAnswered result → AllFlushed (O.written out.new) (O.flushed out.old) (O.flushed out.new) }
 {
     match read_command(alloc, words) {
-        Ok(Command::Solve { budget, qdo, name }) => {
-            RunEnding::Worked(work(alloc, job_of(qdo), budget, name, desk, out, stops))
-        }
-        Ok(Command::Trace { budget, name }) => {
-            RunEnding::Worked(work(alloc, Job::Trace, budget, name, desk, out, stops))
-        }
-        Ok(Command::Cert { budget, name }) => {
-            RunEnding::Worked(work(alloc, Job::Cert, budget, name, desk, out, stops))
-        }
-        Ok(Command::Script { budget, name }) => {
-            RunEnding::Worked(reply(alloc, budget, name, desk, out, stops))
-        }
-        Ok(
-            Command::Gen {
-                seed,
-                vars,
-                clauses,
-            },
-        ) => RunEnding::Worked(write_sample(alloc, seed, vars, clauses, out)),
-        Ok(Command::Demo { seed, count }) => {
-            RunEnding::Worked(count_samples(alloc, seed, count, out))
-        }
+        Ok(command) => RunEnding::Worked(carry_out(alloc, command, desk, out, stops)),
         Err(Refused::Usage(text)) => RunEnding::Usage(text),
         Err(Refused::NoMemory) => RunEnding::Worked(Ending::NoMemory),
+    }
+}
+
+// Does the work of a command.
+fn carry_out<D: Desk, O: Sink>(
+    alloc: Global,
+    command: Command<'_>,
+    desk: &mut D,
+    out: &mut O,
+    stops: &mut Vec<Stopped>,
+) -> Ending
+    ensures work { IsWorkOf command.entry (known_for (D.content desk.old) command.entry) (D.left desk.new)
+        (O.written out.old, O.written out.new) (stops.old.items, stops.new.items) result }
+    ensures read_fault { IsCounted (result ≡ Ending.ReadFault) (IsDone result) (D.faults desk.old) (D.faults desk.new) }
+    ensures write_fault { IsCounted (result ≡ Ending.WriteFault) (IsDone result) (O.faults out.old) (O.faults out.new) }
+    ensures steady { SteadyFor command.entry (D.steady desk.old) → result ≢ Ending.ReadFault }
+    ensures room { RoomForCommand command.entry (known_for (D.content desk.old) command.entry) (O.has_room out.old)
+        → result ≢ Ending.WriteFault }
+    ensures flushed { IsDone result → AllFlushed (O.written out.new) (O.flushed out.old) (O.flushed out.new) }
+{
+    match command {
+        Command::Solve {
+            budget,
+            restarts,
+            qdo,
+            name,
+        } => work(alloc, job_of(qdo), budget, restarts, name, desk, out, stops),
+        Command::Trace {
+            budget,
+            restarts,
+            name,
+        } => work(alloc, Job::Trace, budget, restarts, name, desk, out, stops),
+        Command::Cert {
+            budget,
+            restarts,
+            name,
+        } => work(alloc, Job::Cert, budget, restarts, name, desk, out, stops),
+        Command::Script {
+            budget,
+            restarts,
+            name,
+        } => reply(alloc, budget, restarts, name, desk, out, stops),
+        Command::Gen {
+            seed,
+            vars,
+            clauses,
+        } => write_sample(alloc, seed, vars, clauses, out),
+        Command::Demo { seed, count } => count_samples(alloc, seed, count, out),
     }
 }
 
@@ -153,43 +182,49 @@ fn work<D: Desk, O: Sink>(
     alloc: Global,
     job: Job,
     budget: u64,
+    restarts: u32,
     name: Option<&str>,
     desk: &mut D,
     out: &mut O,
     stops: &mut Vec<Stopped>,
 ) -> Ending
-    ensures solved { IsSolved job budget (D.content desk.old (name_of_input (option_map (λ s. s.now) name.entry)))
+    ensures solved { IsSolved job (terms_of budget restarts)
+        (D.content desk.old (name_of_input (option_map (λ s. s.now) name.entry)))
         (D.left desk.new) (O.written out.old, O.written out.new) (stops.old.items, stops.new.items) result }
     ensures read_fault { IsCounted (result ≡ Ending.ReadFault) (IsDone result) (D.faults desk.old) (D.faults desk.new) }
     ensures write_fault { IsCounted (result ≡ Ending.WriteFault) (IsDone result) (O.faults out.old) (O.faults out.new) }
     ensures steady { D.steady desk.old (name_of_input (option_map (λ s. s.now) name.entry))
         → result ≢ Ending.ReadFault }
-    ensures room { RoomForJob job budget (D.content desk.old (name_of_input (option_map (λ s. s.now) name.entry)))
+    ensures room { RoomForJob job (terms_of budget restarts)
+        (D.content desk.old (name_of_input (option_map (λ s. s.now) name.entry)))
         (O.has_room out.old) → result ≢ Ending.WriteFault }
     ensures flushed { IsDone result → AllFlushed (O.written out.new) (O.flushed out.old) (O.flushed out.new) }
 {
     if desk.choose(input_name(name)).is_err() {
         return Ending::ReadFault;
     }
-    run_file(alloc, job, budget, desk, out, stops)
+    run_file(alloc, job, budget, restarts, desk, out, stops)
 }
 
 // Replies to the script of an input.
 fn reply<D: Desk, O: Sink>(
     alloc: Global,
     budget: u64,
+    restarts: u32,
     name: Option<&str>,
     desk: &mut D,
     out: &mut O,
     stops: &mut Vec<Stopped>,
 ) -> Ending
-    ensures replied { IsReplied budget (D.content desk.old (name_of_input (option_map (λ s. s.now) name.entry)))
+    ensures replied { IsReplied (terms_of budget restarts) (D.content desk.old
+        (name_of_input (option_map (λ s. s.now) name.entry)))
         (D.left desk.new) (O.written out.old, O.written out.new) (stops.old.items, stops.new.items) result }
     ensures read_fault { IsCounted (result ≡ Ending.ReadFault) (IsDone result) (D.faults desk.old) (D.faults desk.new) }
     ensures write_fault { IsCounted (result ≡ Ending.WriteFault) (IsDone result) (O.faults out.old) (O.faults out.new) }
     ensures steady { D.steady desk.old (name_of_input (option_map (λ s. s.now) name.entry))
         → result ≢ Ending.ReadFault }
-    ensures room { RoomForReplies budget (D.content desk.old (name_of_input (option_map (λ s. s.now) name.entry)))
+    ensures room { RoomForReplies (terms_of budget restarts)
+        (D.content desk.old (name_of_input (option_map (λ s. s.now) name.entry)))
         (O.has_room out.old) → result ≢ Ending.WriteFault }
     ensures flushed { IsDone result → AllFlushed (O.written out.new) (O.flushed out.old) (O.flushed out.new) }
 {
@@ -198,7 +233,7 @@ fn reply<D: Desk, O: Sink>(
     if desk.choose(input).is_err() {
         return Ending::ReadFault;
     }
-    run_script(alloc, budget, desk, out, stops)
+    run_script(alloc, budget, restarts, desk, out, stops)
 }
 
 // The name of the input: without one it is standard input.

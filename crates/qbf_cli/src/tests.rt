@@ -3,6 +3,7 @@ ghost use Rattle.std.specs.Prelude.{◌<◌};
 
 mod jobs;
 mod made;
+mod restarts;
 mod scripts;
 
 use super::run::{report, run};
@@ -332,9 +333,9 @@ fn words_choose_the_input_and_the_budget(rt: HostRuntime) -> Result<(), Fail> {
         (&["qbf", "solve", "f"], 20, "UNSAT\n"),
         (&["qbf", "solve", "--budget", "0"], 0, "UNKNOWN\n"),
         (&["qbf", "solve", "--budget=0"], 0, "UNKNOWN\n"),
-        (&["qbf", "solve", "--budget", "32"], 10, "SAT\n"),
-        (&["qbf", "solve", "--budget", "32", "f"], 20, "UNSAT\n"),
-        (&["qbf", "solve", "f", "--budget=32"], 20, "UNSAT\n"),
+        (&["qbf", "solve", "--budget", "64"], 10, "SAT\n"),
+        (&["qbf", "solve", "--budget", "64", "f"], 20, "UNSAT\n"),
+        (&["qbf", "solve", "f", "--budget=64"], 20, "UNSAT\n"),
         (
             &["qbf", "solve", "--budget", "18446744073709551615"],
             10,
@@ -346,9 +347,21 @@ fn words_choose_the_input_and_the_budget(rt: HostRuntime) -> Result<(), Fail> {
             "p qrp 1 2\na 1 0\n1 1 0 0\n2 0 1 0\nr UNSAT\n",
         ),
         (
-            &["qbf", "cert", "--budget=32"],
+            &["qbf", "cert", "--budget=64"],
             10,
             "aag 0 0 0 1 0\n1\no0 1\nc\nskolem\n",
+        ),
+        (&["qbf", "solve", "--restarts", "2"], 10, "SAT\n"),
+        (&["qbf", "solve", "--restarts=1000000", "f"], 20, "UNSAT\n"),
+        (
+            &["qbf", "solve", "--restarts", "2", "--budget", "192"],
+            10,
+            "SAT\n",
+        ),
+        (
+            &["qbf", "solve", "--budget=0", "--restarts=2"],
+            0,
+            "UNKNOWN\n",
         ),
         (&["qbf", "trace", "--budget", "0"], 0, "UNKNOWN\n"),
         (&["qbf", "cert", "--budget", "0"], 0, "UNKNOWN\n"),
@@ -391,6 +404,11 @@ fn other_words_are_usage(rt: HostRuntime) -> Result<(), Fail> {
         &["qbf", "solve", "--budget="],
         &["qbf", "solve", "--budget", "18446744073709551616"],
         &["qbf", "solve", "--budget", "1", "--budget", "2"],
+        &["qbf", "solve", "--restarts", "1000001"],
+        &["qbf", "cert", "--restarts=1000001"],
+        &["qbf", "solve", "--restarts", "1", "--restarts", "2"],
+        &["qbf", "trace", "--restarts", "01"],
+        &["qbf", "script", "--restarts"],
         &["qbf", "script", "f", "g"],
         &["qbf", "script", "-"],
         &["qbf", "script", "--budget", "x"],

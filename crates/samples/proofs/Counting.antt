@@ -56,13 +56,15 @@ module _ (seed i : ℕ) where
   true_same is = counted_no (is_true seed) i is
 
 -- the greatest budget suffices for twelve variables
-pub enough : (v : ℕ) → v ≤ 12 → step_limit v < 2 ^ 64 - 1
+pub enough : (v : ℕ) → v ≤ 12 → step_limit 0 v < 2 ^ 64 - 1
 enough v few =
     let two : 0 < 2 = omega arith in
-    let most : (4 * v + 4) * 2 ^ (v + 1) ≤ 52 * 2 ^ 13 =
-    mul-le-mul (let h : 4 * v + 4 ≤ 52 = omega arith in h)
+    let weights : 1 * 2 ^ (v + 1) ≤ 1 * 2 ^ 13 =
+    mul-le-mul (let h : 1 ≤ 1 = omega arith in h)
     (pow-le-pow_right two (let h : v + 1 ≤ 13 = omega arith in h)) in
-    let small : 52 * 2 ^ 13 < 2 ^ 64 - 1 = lit< tt in
+    let most : (8 * v + 8) * (1 * 2 ^ (v + 1)) ≤ 104 * (1 * 2 ^ 13) =
+    mul-le-mul (let h : 8 * v + 8 ≤ 104 = omega arith in h) weights in
+    let small : 104 * (1 * 2 ^ 13) < 2 ^ 64 - 1 = lit< tt in
     omega (arith, most, small)
 
 pub three_more : (i : ℕ) → 3 + i % 10 ≤ 12

@@ -26,6 +26,7 @@ use Rattle.session.specs.Standing.{Standing}
 use Rattle.session.specs.State.{Holds, given_of}
 use Rattle.session.specs.Steps.{Refuses, Steps, left_by}
 use Rattle.session.proofs.Telling.{stepped}
+use Rattle.session.specs.Terms.{Terms}
 
 -- each refusal of a command has a number
 
@@ -131,6 +132,8 @@ pub record HasChanged (change : FrameCommand) (before e : EngineState) : Type 0 
   pub solves : e.counts.solves ≡ before.counts.solves
   pub budget : e.counts.budget ≡ before.counts.budget
   pub vars : e.counts.vars ≡ before.counts.vars
+  pub restarts : e.restarts ≡ before.restarts
+  pub most_restarts : e.counts.restarts ≡ before.counts.restarts
 
 pub has_changed : (change : FrameCommand) (before e : EngineState) → e ≡ changed before change
     → clauses_after before.counts.clauses change ≡ before.counts.clauses → HasChanged change before e
@@ -141,6 +144,8 @@ has_changed change before e same none_more = record {
   solves = ap (λ (f : EngineState). f.counts.solves) same;
   budget = ap (λ (f : EngineState). f.counts.budget) same;
   vars = ap (λ (f : EngineState). f.counts.vars) same;
+  restarts = ap (λ (f : EngineState). f.restarts) same;
+  most_restarts = ap (λ (f : EngineState). f.counts.restarts) same;
 }
 
 pub has_clause : (clause : List ℤ) (before e : EngineState)
@@ -155,13 +160,15 @@ has_clause clause before e same = record {
   solves = ap (λ (f : EngineState). f.counts.solves) same;
   budget = ap (λ (f : EngineState). f.counts.budget) same;
   vars = ap (λ (f : EngineState). f.counts.vars) same;
+  restarts = ap (λ (f : EngineState). f.restarts) same;
+  most_restarts = ap (λ (f : EngineState). f.counts.restarts) same;
 }
 
 module _ {S : Type 0} (written flushed : S → Option (List ℕ)) (faults : S → ℕ) (has_room : S → ℕ → Type 0)
-    (budget : ℕ) (command : Command) (change : FrameCommand) (s : Standing) (before e : EngineState)
-    (holds : Holds budget before s) (number : refusal_number s command ≡ no_change s.script.formula change)
+    (terms : Terms) (command : Command) (change : FrameCommand) (s : Standing) (before e : EngineState)
+    (holds : Holds terms before s) (number : refusal_number s command ≡ no_change s.script.formula change)
     (changes : (out : Output) (after : Standing) → Changes s change out after
-    → IsAccepted budget s command out after) (left : left_by command s ≡ s)
+    → IsAccepted terms s command out after) (left : left_by command s ≡ s)
     (drops : verdict_after s.script.formula change ≡ None)
     (same_solves : (counted s.script change).solves ≡ s.script.solves)
     (same_clauses : (counted s.script change).clauses ≡ clauses_after s.script.clauses change)
@@ -182,7 +189,7 @@ module _ {S : Type 0} (written flushed : S → Option (List ℕ)) (faults : S �
   no_state : (w : VerdictState) {P : Type 0} → e.verdict ≡ None → e.verdict ≡ Some w → P
   no_state w none some = absurd (let both : None ≡ Some w = sym none ∙ some in cc)
 
-  holds_next : refusal_of before.formula change ≡ None → HasChanged change before e → Holds budget e next
+  holds_next : refusal_of before.formula change ≡ None → HasChanged change before e → Holds terms e next
   holds_next none leaves = record {
     formula = ap (λ (t : ScriptState). t.formula) (state_is none) ∙ ap (λ f. formula_after f change) holds.formula
         ∙ sym leaves.formula;
@@ -198,6 +205,12 @@ module _ {S : Type 0} (written flushed : S → Option (List ℕ)) (faults : S �
         let all = ap (λ (t : ScriptState). t.clauses) (state_is none) ∙ same_clauses in
         omega (arith, few, more, all);
     budgets = let same = leaves.budget in let low = holds.budgets in omega (arith, same, low);
+    restarts = leaves.restarts ∙ holds.restarts;
+    most_restarts =
+        let same = leaves.most_restarts in
+        let now = leaves.restarts in
+        let low = holds.most_restarts in
+        omega (arith, same, now, low);
     variables =
         let same = leaves.vars in
         let low = holds.variables in
@@ -206,7 +219,7 @@ module _ {S : Type 0} (written flushed : S → Option (List ℕ)) (faults : S �
   }
 
   abbrev Goal : S → S → Result Reply SessionStop → Type 0
-  Goal old new result = Steps written flushed faults has_room budget command s old new e result
+  Goal old new result = Steps written flushed faults has_room terms command s old new e result
 
   silent : (old new : S) (result : Result Reply SessionStop) → refusal_of before.formula change ≡ None
       → HasChanged change before e → result ≡ Ok Silent → new ≡ old → Goal old new result
@@ -214,7 +227,7 @@ module _ {S : Type 0} (written flushed : S → Option (List ℕ)) (faults : S �
       subst (Goal old new) (sym is) (subst (λ n. Goal old n (Ok Silent)) (sym same) (
         [],
         next,
-        subst (λ n. IsReplyWith n budget s command (says []) next) (sym (number_is None none))
+        subst (λ n. IsReplyWith n terms s command (says []) next) (sym (number_is None none))
             (changes (says []) next (record { silent = refl; state = refl })),
         refl,
         nothing written flushed faults has_room old,
@@ -226,16 +239,16 @@ module _ {S : Type 0} (written flushed : S → Option (List ℕ)) (faults : S �
   wants old new result kept is same =
       subst (Goal old new) (sym is) (subst (λ n. Goal old n (Err NoMemory)) (sym same) (
         nothing written flushed faults has_room old,
-        subst (λ t. Holds budget e t) (sym left) (subst (λ f. Holds budget f s) (sym kept) holds),
+        subst (λ t. Holds terms e t) (sym left) (subst (λ f. Holds terms f s) (sym kept) holds),
       ))
 
   refused : (old new : S) (result : Result Reply SessionStop) (x : FrameRefusal) (n : ℕ)
       → refusal_of before.formula change ≡ Some x → number_of x ≡ Some n → e ≡ before
       → Refuses written flushed faults has_room (number_of x) old new result → Goal old new result
   refused old new result x n some numbers kept refuses =
-      stepped written flushed faults has_room budget command s s old new e (Refused n) (refused_text n) result
-      (subst (λ m. IsReplyWith m budget s command (says (refused_text n)) s)
-      (sym (number_is (Some x) some ∙ numbers)) (refl, refl)) refl (subst (λ f. Holds budget f s) (sym kept) holds)
+      stepped written flushed faults has_room terms command s s old new e (Refused n) (refused_text n) result
+      (subst (λ m. IsReplyWith m terms s command (says (refused_text n)) s)
+      (sym (number_is (Some x) some ∙ numbers)) (refl, refl)) refl (subst (λ f. Holds terms f s) (sym kept) holds)
       (subst (λ m. Refuses written flushed faults has_room m old new result) numbers refuses)
 
   pub accepts : (P : Type 0) (r : Result (Unit {0}) FrameRefusal) (old new : S) (result : Result Reply SessionStop)

@@ -1,9 +1,9 @@
 -- Replies to solves.
-use Rattle.std.proofs.Common.{◌≡◌, ◌<◌, ℕ, ◌+◌, ◌-◌, ◌*◌, ◌^◌, Bool, true, false, [], Some, None, refl, sym, ap, ap₂, subst, ◌∙◌, arith, inl, inr}
+use Rattle.std.proofs.Common.{◌≡◌, ◌<◌, ℕ, ◌+◌, ◌-◌, ◌^◌, Bool, true, false, [], Some, None, refl, sym, ap, ap₂, subst, ◌∙◌, arith, inl, inr}
 use Rattle.std.specs.Prelude.{◌≤◌, IfSome, max, min, option_map}
 use Rattle.std.proofs.lemmas.Bool.Decides.{nat_tests}
 use Rattle.prefix.specs.Scopes.{quantifier_at}
-use Rattle.steps.specs.Counter.{Counter, step_limit}
+use Rattle.steps.specs.Counter.{Counter, left, step_limit}
 use Rattle.truth.specs.Truth.{truth_under}
 use Rattle.calculus.specs.Search.{IsRefuted}
 use Rattle.calculus.specs.Verdicts.{IsProof}
@@ -11,6 +11,7 @@ use Rattle.trail.specs.State.{Account}
 use Rattle.frames.specs.Commands.{Solve as Decide, Stop, Verdict as Found}
 use Rattle.frames.specs.Fold.{state_after}
 use Rattle.frames.specs.State.{OpenFormula, clauses_in}
+use Rattle.calculus.specs.Limits.{propagation_limit}
 use Rattle.search.specs.Counting.{size_of}
 use Rattle.search.specs.Stops.{IsQuickStop}
 use Rattle.search.specs.declared.outcome.SolveStop.TheVariants.{Spent}
@@ -27,25 +28,32 @@ use Rattle.session.specs.Standing.{IsWitness, Standing}
 use Rattle.session.specs.Stops.{IsStopAt}
 use Rattle.session.specs.State.{Holds, given_of}
 use Rattle.session.specs.Steps.{HasText, IsDecided, answered, reply_of, told_by}
+use Rattle.session.specs.Terms.{Terms}
 
 -- a count goes on, up to its last value
 pub one_more_solve : (a most : ℕ) → min (min a most + 1) most ≡ min (a + 1) most
 one_more_solve a most = grind (arith, nat_tests)
 
-module _ (budget : ℕ) (s : Standing) (before e : EngineState) (holds : Holds budget before s) where
-  counted : (n : ℕ) → e.counts ≡ with_solve budget n before.counts
+module _ (terms : Terms) (s : Standing) (before e : EngineState) (holds : Holds terms before s) where
+  counted : (n : ℕ) → e.counts ≡ with_solve terms.budget before.restarts n before.counts
       → e.counts.solves ≡ min (s.script.solves + 1) (2 ^ 64 - 1)
   counted n counts = ap (λ c. c.solves) counts ∙ ap (λ m. min (m + 1) (2 ^ 64 - 1)) holds.solves
       ∙ one_more_solve s.script.solves (2 ^ 64 - 1)
 
-  module _ (counts : e.counts ≡ with_solve budget (size_of before.formula.scopes) before.counts) where
+  module _ (counts : e.counts ≡ with_solve terms.budget before.restarts (size_of before.formula.scopes)
+      before.counts) where
     no_more_clauses : e.counts.clauses ≤ s.script.clauses
     no_more_clauses = let same = ap (λ c. c.clauses) counts in let low = holds.clauses in omega (arith, same, low)
 
-    no_greater_budget : e.counts.budget ≤ budget
+    no_greater_budget : e.counts.budget ≤ terms.budget
     no_greater_budget =
-        let same : e.counts.budget ≡ max before.counts.budget budget = ap (λ c. c.budget) counts in
+        let same : e.counts.budget ≡ max before.counts.budget terms.budget = ap (λ c. c.budget) counts in
         let low = holds.budgets in omega (arith, same, low)
+
+    no_more_restarts : e.restarts ≡ before.restarts → max e.counts.restarts e.restarts ≤ terms.greatest
+    no_more_restarts kept =
+        let same : e.counts.restarts ≡ max before.counts.restarts before.restarts = ap (λ c. c.restarts) counts in
+        let low = holds.most_restarts in omega (arith, same, kept, low)
 
     no_more_variables : e.counts.vars ≤ max s.script.greatest (size_of s.script.formula.scopes)
     no_more_variables =
@@ -57,8 +65,9 @@ module _ (budget : ℕ) (s : Standing) (before e : EngineState) (holds : Holds b
   module _ (v : Verdict) (t : Bool) (same : v.truth ≡ t)
       (truth : v.truth ≡ truth_under before.formula.assumptions before.formula.scopes
       (clauses_in before.formula.frames)) (proof : HasProof before.formula v e.verdict)
-      (emptied : e.formula ≡ record before.formula { assumptions = [] })
-      (counts : e.counts ≡ with_solve budget (size_of before.formula.scopes) before.counts) (plays : IfSome e.verdict (PlaysFirst e.formula)) where
+      (emptied : e.formula ≡ record before.formula { assumptions = [] }) (same_restarts : e.restarts ≡ before.restarts)
+      (counts : e.counts ≡ with_solve terms.budget before.restarts (size_of before.formula.scopes) before.counts)
+      (plays : IfSome e.verdict (PlaysFirst e.formula)) where
     abbrev state : VerdictState
     state = proof.state
 
@@ -71,7 +80,7 @@ module _ (budget : ℕ) (s : Standing) (before e : EngineState) (holds : Holds b
     is_state : (w : VerdictState) → e.verdict ≡ Some w → state ≡ w
     is_state w some = let both : Some state ≡ Some w = sym proof.there ∙ some in cc
 
-    held : Holds budget e after
+    held : Holds terms e after
     held = record {
       formula = ap (λ (f : OpenFormula). record f { assumptions = [] }) holds.formula ∙ sym emptied;
       verdict = ap₂ (λ (b : Bool) (f : OpenFormula). Some (record { truth = b; assumptions = f.assumptions }))
@@ -83,6 +92,8 @@ module _ (budget : ℕ) (s : Standing) (before e : EngineState) (holds : Holds b
       clauses = no_more_clauses counts;
       solves = counted (size_of before.formula.scopes) counts;
       budgets = no_greater_budget counts;
+      restarts = same_restarts ∙ holds.restarts;
+      most_restarts = no_more_restarts counts same_restarts;
       variables = no_more_variables counts;
     }
 
@@ -111,7 +122,7 @@ module _ (budget : ℕ) (s : Standing) (before e : EngineState) (holds : Holds b
       values = first;
     }
 
-    pub found : IsDecided budget s (reply_of t) e
+    pub found : IsDecided terms s (reply_of t) e
     found = record {
       after = after;
       reply_is = inl (record {
@@ -136,10 +147,12 @@ module _ (budget : ℕ) (s : Standing) (before e : EngineState) (holds : Holds b
         has true = refl
         has false = refl
 
-  module _ (counter now : Counter) (stopped : Account) (fresh : counter.spent ≡ 0) (whole : counter.budget ≡ budget)
+  module _ (counter now : Counter) (stopped : Account) (fresh : counter.spent ≡ 0)
+      (whole : counter.budget ≡ terms.budget)
       (ends : now.budget ≡ counter.budget) (kept : e.formula ≡ before.formula) (none : e.verdict ≡ None)
-      (counts : e.counts ≡ with_solve counter.budget (size_of before.formula.scopes) before.counts)
-      (stop : IsStopFor before.formula counter now (Spent stopped))
+      (same_restarts : e.restarts ≡ before.restarts)
+      (counts : e.counts ≡ with_solve counter.budget before.restarts (size_of before.formula.scopes) before.counts)
+      (stop : IsStopFor before.restarts before.formula counter now (Spent stopped))
       (quick : before.counts.solves ≡ 0 → IsRefuted before.formula.scopes (clauses_in before.formula.frames)
       before.formula.assumptions → IsQuickStop (size_of before.formula.scopes) counter (Spent stopped)) where
     abbrev left_over : Standing
@@ -148,18 +161,19 @@ module _ (budget : ℕ) (s : Standing) (before e : EngineState) (holds : Holds b
     none_is : (w : VerdictState) {P : Type 0} → e.verdict ≡ Some w → P
     none_is w some = absurd (let both : None ≡ Some w = sym none ∙ some in cc)
 
-    gives_up : (f : OpenFormula) → f ≡ before.formula → budget < step_limit (size_of f.scopes)
-    gives_up f same = subst (λ (g : OpenFormula). budget < step_limit (size_of g.scopes)) (sym same)
-        (let short = stop.stops.short in let zero = fresh in let all = whole in omega arith)
+    gives_up : (f : OpenFormula) → f ≡ before.formula → terms.budget < step_limit terms.restarts (size_of f.scopes)
+    gives_up f same = subst (λ (g : OpenFormula). terms.budget < step_limit terms.restarts (size_of g.scopes))
+        (sym same) (let short = subst (λ r. left counter < step_limit r (size_of before.formula.scopes)) holds.restarts
+        stop.stops.short in let zero = fresh in let all = whole in omega arith)
 
-    pub gave_up : IsDecided budget s (Unknown stopped) e
+    pub gave_up : IsDecided terms s (Unknown stopped) e
     gave_up = record {
       after = left_over;
       reply_is = inr (record {
         stopped = stopped;
         short = gives_up s.script.formula holds.formula;
         slow = slow;
-        stop = subst (λ (g : OpenFormula). IsStopAt budget (size_of g.scopes) stopped) (sym holds.formula) at;
+        stop = subst (λ (g : OpenFormula). IsStopAt terms (size_of g.scopes) stopped) (sym holds.formula) at;
         says_unknown = refl;
         state = refl;
       });
@@ -172,25 +186,28 @@ module _ (budget : ℕ) (s : Standing) (before e : EngineState) (holds : Holds b
         clauses = no_more_clauses same_counts;
         solves = counted (size_of before.formula.scopes) same_counts;
         budgets = no_greater_budget same_counts;
+        restarts = same_restarts ∙ holds.restarts;
+        most_restarts = no_more_restarts same_counts same_restarts;
         variables = no_more_variables same_counts;
       };
     }
       where
-        same_counts : e.counts ≡ with_solve budget (size_of before.formula.scopes) before.counts
-        same_counts = subst (λ b. e.counts ≡ with_solve b (size_of before.formula.scopes) before.counts) whole counts
+        same_counts : e.counts ≡ with_solve terms.budget before.restarts (size_of before.formula.scopes) before.counts
+        same_counts = subst (λ b. e.counts ≡ with_solve b before.restarts (size_of before.formula.scopes)
+            before.counts) whole counts
 
-        at : IsStopAt budget (size_of before.formula.scopes) stopped
+        at : IsStopAt terms (size_of before.formula.scopes) stopped
         at = record {
           budget = stop.stops.budget ∙ whole;
           vars = stop.stops.vars;
           few = let few = stop.stops.few in let spent = stop.stops.spent in omega (arith, ends, whole, fresh);
+          restarts = subst (λ r. stopped.restarts ≤ r) holds.restarts stop.stops.restarts;
         }
 
         slow : s.script.solves ≡ 0 → IsRefuted s.script.formula.scopes (clauses_in s.script.formula.frames)
-            s.script.formula.assumptions → budget
-            < size_of s.script.formula.scopes * (size_of s.script.formula.scopes + 3)
+            s.script.formula.assumptions → terms.budget < propagation_limit (size_of s.script.formula.scopes)
         slow zero refuted =
             let first : before.counts.solves ≡ 0 = holds.solves ∙ ap (λ m. min m (2 ^ 64 - 1)) zero in
-            subst (λ (g : OpenFormula). budget < size_of g.scopes * (size_of g.scopes + 3)) (sym holds.formula)
+            subst (λ (g : OpenFormula). terms.budget < propagation_limit (size_of g.scopes)) (sym holds.formula)
             (let fast = quick first (subst (λ (g : OpenFormula). IsRefuted g.scopes (clauses_in g.frames)
             g.assumptions) holds.formula refuted) in omega (arith, fresh, whole))

@@ -142,6 +142,8 @@ module _ (scopes : List Scope) (clauses : List (List Literal)) (valid : IsPrefix
     unsolved = ap (λ (e : EngineState). e.counts.solves) is_new ∙ holds.unsolved;
     unbudgeted = ap (λ (e : EngineState). e.counts.budget) is_new ∙ holds.unbudgeted;
     unsized = ap (λ (e : EngineState). e.counts.vars) is_new ∙ holds.unsized;
+    restarts = ap (λ (e : EngineState). e.restarts) is_new ∙ holds.restarts;
+    never = ap (λ (e : EngineState). e.counts.restarts) is_new ∙ holds.never;
   }
 
 -- one more variable of a scope
@@ -158,6 +160,8 @@ module _ (scopes : List Scope) (q : Quant) (vs : List ℕ) (i n v : ℕ) (low : 
     unsolved = ap (λ (e : EngineState). e.counts.solves) is_new ∙ holds.unsolved;
     unbudgeted = ap (λ (e : EngineState). e.counts.budget) is_new ∙ holds.unbudgeted;
     unsized = ap (λ (e : EngineState). e.counts.vars) is_new ∙ holds.unsized;
+    restarts = ap (λ (e : EngineState). e.restarts) is_new ∙ holds.restarts;
+    never = ap (λ (e : EngineState). e.counts.restarts) is_new ∙ holds.never;
   }
 
 -- a scope without variables
@@ -169,6 +173,8 @@ scope_fed old new q holds is_new = record {
   unsolved = ap (λ (e : EngineState). e.counts.solves) is_new ∙ holds.unsolved;
   unbudgeted = ap (λ (e : EngineState). e.counts.budget) is_new ∙ holds.unbudgeted;
   unsized = ap (λ (e : EngineState). e.counts.vars) is_new ∙ holds.unsized;
+  restarts = ap (λ (e : EngineState). e.restarts) is_new ∙ holds.restarts;
+  never = ap (λ (e : EngineState). e.counts.restarts) is_new ∙ holds.never;
 }
 
 -- The scopes of a prefix one after another.

@@ -20,25 +20,26 @@ use Rattle.session.specs.Scripts.{Answers, IsLeftAt, IsSentAt, IsUnderWay}
 use Rattle.session.specs.Standing.{Standing}
 use Rattle.session.specs.State.{Holds}
 use Rattle.session.specs.Steps.{Goes}
+use Rattle.session.specs.Terms.{Terms}
 
 output_is : (t u : Text) (l m : List Account) → t ≡ u → l ≡ m
     → ◌≡◌ {A = Output} (record { text = t; stops = l }) (record { text = u; stops = m })
 output_is t u l m first second = ap₂ (λ (t : Text) (l : List Account). record { text = t; stops = l }) first second
 
 -- one reply more
-leads_on : (budget : ℕ) (s : Standing) (commands : List Command) (out : Output) (middle : Standing) (c : Command)
-    (reply : Output) (after : Standing) → Leads budget s commands out middle → IsReply budget middle c reply after
-    → Leads budget s (commands ++ c ∷ []) (joined out reply) after
-leads_on budget s [] out middle c reply after leads is = (
+leads_on : (terms : Terms) (s : Standing) (commands : List Command) (out : Output) (middle : Standing) (c : Command)
+    (reply : Output) (after : Standing) → Leads terms s commands out middle → IsReply terms middle c reply after
+    → Leads terms s (commands ++ c ∷ []) (joined out reply) after
+leads_on terms s [] out middle c reply after leads is = (
   reply,
   says [],
   after,
   ap (λ o. joined o reply) leads.0
       ∙ output_is _ _ _ _ (sym (append-nil reply.text)) (sym (append-nil reply.stops)),
-  subst (λ t. IsReply budget t c reply after) leads.1 is,
+  subst (λ t. IsReply terms t c reply after) leads.1 is,
   (refl, refl),
 )
-leads_on budget s (d ∷ ds) out middle c reply after leads is = (
+leads_on terms s (d ∷ ds) out middle c reply after leads is = (
   leads.0,
   joined leads.1 reply,
   leads.2,
@@ -46,7 +47,7 @@ leads_on budget s (d ∷ ds) out middle c reply after leads is = (
       ∙ output_is _ _ _ _ (append_assoc leads.0.text leads.1.text reply.text)
       (append_assoc leads.0.stops leads.1.stops reply.stops),
   leads.4,
-  leads_on budget leads.2 ds leads.1 middle c reply after leads.5 is,
+  leads_on terms leads.2 ds leads.1 middle c reply after leads.5 is,
 )
 
 -- the first command of what is left
@@ -112,16 +113,17 @@ no_command None none = refl
 no_command (Some c) none = absurd (none c refl)
 
 module _ {S : Type 0} (written flushed : S → Option (List ℕ)) (faults : S → ℕ) (has_room : S → ℕ → Type 0)
-    (budget : ℕ) (s : Standing) (script : Option Script) where
+    (terms : Terms) (s : Standing) (script : Option Script) where
   abbrev pub UnderWay : Option Script → EngineState → S → S → List Account → List Account → Type 0
-  UnderWay to_come e old new first last = IsUnderWay budget s script to_come e
+  UnderWay to_come e old new first last = IsUnderWay terms s script to_come e
       (λ text. Wrote written flushed faults has_room old new text) (first, last)
 
   abbrev pub Replied : Result (Unit {0}) Ending → S → S → List Account → List Account → Type 0
-  Replied result old new first last = Answers budget s script (IsLeftAt result)
+  Replied result old new first last = Answers terms s script (IsLeftAt result)
       (λ text. IsSentAt written flushed faults has_room old new text result) (first, last)
 
-  pub begun : (e : EngineState) (sink : S) (stops : List Account) → Holds budget e s → UnderWay script e sink sink stops stops
+  pub begun : (e : EngineState) (sink : S) (stops : List Account) → Holds terms e s → UnderWay script e sink sink
+      stops stops
   begun e sink stops holds = record {
     so_far = record {
       commands = [];
@@ -142,7 +144,7 @@ module _ {S : Type 0} (written flushed : S → Option (List ℕ)) (faults : S �
   pub gone_on : (before after : Option Script) (c : Command) (e f : EngineState) (old middle new : S)
       (first between last : List Account) → (way : UnderWay before e old middle first between)
       → IsFirst c before after
-      → ((t : Standing) → Holds budget e t → Goes written flushed faults has_room budget c t middle new f (between, last)
+      → ((t : Standing) → Holds terms e t → Goes written flushed faults has_room terms c t middle new f (between, last)
       (Ok tt)) → UnderWay after f old new first last
   gone_on before after c e f old middle new first between last way is goes =
       let far = way.so_far in
@@ -152,7 +154,7 @@ module _ {S : Type 0} (written flushed : S → Option (List ℕ)) (faults : S �
           commands = far.commands ++ c ∷ [];
           out = joined far.out go.0;
           after = go.1;
-          leads = leads_on budget s far.commands far.out far.after c go.0 go.1 far.leads go.2;
+          leads = leads_on terms s far.commands far.out far.after c go.0 go.1 far.leads go.2;
           first = first_on script before after far.commands c far.first is;
           sent = whole_then written flushed faults has_room old middle new far.out.text go.0.text far.sent go.3;
           told = go.4 ∙ ap (λ l. l ++ go.0.stops) far.told ∙ append_assoc first far.out.stops go.0.stops;
@@ -218,7 +220,7 @@ module _ {S : Type 0} (written flushed : S → Option (List ℕ)) (faults : S �
   pub failed_at : (before after : Option Script) (c : Command) (e f : EngineState) (old middle new : S)
       (first between last : List Account) → (way : UnderWay before e old middle first between)
       → IsFirst c before after → (ending : Ending)
-      → ((t : Standing) → Holds budget e t → Goes written flushed faults has_room budget c t middle new f (between, last)
+      → ((t : Standing) → Holds terms e t → Goes written flushed faults has_room terms c t middle new f (between, last)
       (Err ending)) → Replied (Err ending) old new first last
   failed_at before after c e f old middle new first between last way is WriteFault goes =
       let far = way.so_far in
@@ -227,7 +229,7 @@ module _ {S : Type 0} (written flushed : S → Option (List ℕ)) (faults : S �
         commands = far.commands ++ c ∷ [];
         out = joined far.out go.0;
         after = go.1;
-        leads = leads_on budget s far.commands far.out far.after c go.0 go.1 far.leads go.2;
+        leads = leads_on terms s far.commands far.out far.after c go.0 go.1 far.leads go.2;
         first = left_any script after (far.commands ++ c ∷ []) _
             (first_on script before after far.commands c far.first is) (λ r. tt);
         sent = part_then written flushed faults has_room old middle new far.out.text go.0.text far.sent go.3;

@@ -41,19 +41,29 @@ use Rattle.session.specs.State.{Holds, given_of}
 use Rattle.session.specs.Steps.{IsDecided, Steps, answered, listed, told_by}
 use Rattle.session.proofs.Scripting.{flushed_kept, front_all, some_map}
 use Rattle.session.specs.Stops.{AddsEntry, IsStopAt}
+use Rattle.session.specs.Terms.{Terms, terms_of}
 
--- an engine that holds a formula holds what the commands come to that build it
-pub built_held : (budget : ℕ) (f : Formula) (e : EngineState) → HoldsFormula f.prefix f.clauses e → Holds budget e (built f)
-built_held budget f e holds = record {
-  formula = sym holds.formula;
-  verdict = sym (ap (option_map given_of) holds.undecided);
-  proof = λ v some. absurd (let g : None ≡ Some v = sym holds.undecided ∙ some in cc);
-  values = λ v some. absurd (let g : None ≡ Some v = sym holds.undecided ∙ some in cc);
-  clauses = holds.counted;
-  solves = holds.unsolved;
-  budgets = let none = holds.unbudgeted in omega (arith, none);
-  variables = let none = holds.unsized in omega (arith, none);
-}
+-- an engine that holds a formula holds what the commands come to that build it, however often it may begin anew
+pub built_held : (budget restarts : ℕ) (f : Formula) (e now : EngineState) → HoldsFormula f.prefix f.clauses e
+    → now ≡ record e { restarts = restarts } → Holds (terms_of budget restarts) now (built f)
+built_held budget restarts f e now holds is =
+    subst (λ n. Holds (terms_of budget restarts) n (built f)) (sym is) (record {
+      formula = sym holds.formula;
+      verdict = sym (ap (option_map given_of) holds.undecided);
+      proof = λ v some. absurd (let g : None ≡ Some v = sym holds.undecided ∙ some in cc);
+      values = λ v some. absurd (let g : None ≡ Some v = sym holds.undecided ∙ some in cc);
+      clauses = holds.counted;
+      solves = holds.unsolved;
+      budgets = let none = holds.unbudgeted in omega (arith, none);
+      restarts = refl;
+      most_restarts = let none = holds.never in omega (arith, none);
+      variables = let none = holds.unsized in omega (arith, none);
+    })
+
+-- the same where it never begins anew
+pub never_begun : (budget : ℕ) (f : Formula) (e : EngineState) → HoldsFormula f.prefix f.clauses e
+    → Holds (terms_of budget 0) e (built f)
+never_begun budget f e holds = built_held budget 0 f e e holds (ap (λ r. record e { restarts = r }) holds.restarts)
 
 line_is : (a : Answer) (t : Bool) → answer_line a ≡ verdict_text t → a ≡ answer_with t
 line_is Sat true e = refl
@@ -69,20 +79,20 @@ unknown_is Unsat e = absurd (let n : 6 ≡ 8 = ap length e in omega (arith, n))
 unknown_is Unknown e = refl
 
 -- what a decision of the formula comes to
-pub record Decided (budget : ℕ) (f : Formula) (a : Answer) (told : List Account) (s : Standing) : Type 0 where
+pub record Decided (terms : Terms) (f : Formula) (a : Answer) (told : List Account) (s : Standing) : Type 0 where
   pub is : IsAnsweredBy f a s
-  pub right : IsAnswerTo budget f a
-  pub entry : (old : List Account) → AddsEntry (IsStopAt budget (size_of f.prefix)) old (old ++ told) a
+  pub right : IsAnswerTo terms f a
+  pub entry : (old : List Account) → AddsEntry (IsStopAt terms (size_of f.prefix)) old (old ++ told) a
 
 module _ (plain : (scopes : _) (clauses : List Row) → truth_under [] scopes clauses ≡ truth scopes clauses)
-    (budget : ℕ) (f : Formula) where
+    (terms : Terms) (f : Formula) where
   size : max 0 (size_of f.prefix) ≡ size_of f.prefix
   size = omega arith
 
   by_truth : (t : Bool) (after : Standing) (told : List Account) → told ≡ []
       → truth_under [] f.prefix (clauses_in (opened f).frames) ≡ t
       → IsWitness (opened f) (unassumed t) after.witness
-      → after.script ≡ state_after (built f).script (Decide (Found t)) → Decided budget f (answer_with t) told after
+      → after.script ≡ state_after (built f).script (Decide (Found t)) → Decided terms f (answer_with t) told after
   by_truth t after told none right witness state = record {
     is = record {
       formula = ap (λ (s : ScriptState). s.formula) state;
@@ -101,29 +111,29 @@ module _ (plain : (scopes : _) (clauses : List Row) → truth_under [] scopes cl
       of true v w = (v, w)
       of false v w = (v, w)
 
-      rightly : (t : Bool) → truth f.prefix f.clauses ≡ t → IsAnswerTo budget f (answer_with t)
+      rightly : (t : Bool) → truth f.prefix f.clauses ≡ t → IsAnswerTo terms f (answer_with t)
       rightly true e = e
       rightly false e = e
 
       none_told : (t : Bool) (old : List Account) → old ++ told ≡ old
-          → AddsEntry (IsStopAt budget (size_of f.prefix)) old (old ++ told) (answer_with t)
+          → AddsEntry (IsStopAt terms (size_of f.prefix)) old (old ++ told) (answer_with t)
       none_told true old e = e
       none_told false old e = e
 
-  pub decided : (reply : Reply) (e : EngineState) → (d : IsDecided budget (built f) reply e)
-      → Decided budget f (answered reply) (told_by reply) d.after
+  pub decided : (reply : Reply) (e : EngineState) → (d : IsDecided terms (built f) reply e)
+      → Decided terms f (answered reply) (told_by reply) d.after
   decided reply e d = ⊎_elim found gave_up d.reply_is
     where
       found : Decides (built f) (record { text = answer_line (answered reply); stops = told_by reply }) d.after
-          → Decided budget f (answered reply) (told_by reply) d.after
-      found h = subst (λ a. Decided budget f a (told_by reply) d.after)
+          → Decided terms f (answered reply) (told_by reply) d.after
+      found h = subst (λ a. Decided terms f a (told_by reply) d.after)
           (sym (line_is (answered reply) h.truth (ap (λ (o : Output). o.text) h.says_truth)))
           (by_truth h.truth d.after (told_by reply) (ap (λ (o : Output). o.stops) h.says_truth) h.right h.witness
           h.state)
 
-      gave_up : GivesUp budget (built f) (record { text = answer_line (answered reply); stops = told_by reply }) d.after
-          → Decided budget f (answered reply) (told_by reply) d.after
-      gave_up h = subst (λ a. Decided budget f a (told_by reply) d.after)
+      gave_up : GivesUp terms (built f) (record { text = answer_line (answered reply); stops = told_by reply }) d.after
+          → Decided terms f (answered reply) (told_by reply) d.after
+      gave_up h = subst (λ a. Decided terms f a (told_by reply) d.after)
           (sym (unknown_is (answered reply) (ap (λ (o : Output). o.text) h.says_unknown))) (record {
             is = record {
               formula = ap (λ (s : Standing). s.script.formula) h.state;
@@ -145,22 +155,22 @@ module _ (plain : (scopes : _) (clauses : List Row) → truth_under [] scopes cl
           })
 
 -- a question that is asked of a verdict is answered
-told_with : (budget : ℕ) (command : Command) (s after : Standing) (out : Output) (given : Given)
-    → s.script.verdict ≡ Some given → IsReplyWith (no_verdict s.script.verdict) budget s command out after
-    → IsAccepted budget s command out after
-told_with budget command s after out given some reply =
-    subst (λ o. IsReplyWith (no_verdict o) budget s command out after) some reply
+told_with : (terms : Terms) (command : Command) (s after : Standing) (out : Output) (given : Given)
+    → s.script.verdict ≡ Some given → IsReplyWith (no_verdict s.script.verdict) terms s command out after
+    → IsAccepted terms s command out after
+told_with terms command s after out given some reply =
+    subst (λ o. IsReplyWith (no_verdict o) terms s command out after) some reply
 
 -- what is asked of the verdict of a formula
-module _ (budget : ℕ) (f : Formula) (s after : Standing) (out : Output) where
+module _ (terms : Terms) (f : Formula) (s after : Standing) (out : Output) where
   same_text : (told : Text) → out ≡ says told → out.text ≡ told
   same_text told e = ap (λ (o : Output). o.text) e
 
   trace_of : (t : Bool) → s.script.formula ≡ opened f → s.script.verdict ≡ Some (unassumed t)
-      → IsWitness (opened f) (unassumed t) s.witness → IsReply budget s TraceCommand out after
-      → HasVerdictText Trace budget f t out.text
+      → IsWitness (opened f) (unassumed t) s.witness → IsReply terms s TraceCommand out after
+      → HasVerdictText Trace terms f t out.text
   trace_of t formula verdict witness reply =
-      let tells = told_with budget TraceCommand s after out (unassumed t) verdict reply in
+      let tells = told_with terms TraceCommand s after out (unassumed t) verdict reply in
       let told = subst (λ o. IfSome o (λ given. IsTraceText s.script.formula.scopes given.truth s.witness.proof
       tells.text)) verdict tells.told in
       record {
@@ -170,48 +180,48 @@ module _ (budget : ℕ) (f : Formula) (s after : Standing) (out : Output) where
             (subst (λ (g : OpenFormula). IsTraceText g.scopes t s.witness.proof tells.text) formula told);
       }
 
-  circuit_of : (t : Bool) → gates_after budget s.script ≡ gates_for budget f → s.script.formula ≡ opened f
+  circuit_of : (t : Bool) → gates_after terms s.script ≡ gates_for terms f → s.script.formula ≡ opened f
       → s.script.verdict ≡ Some (unassumed t)
-      → IsWitness (opened f) (unassumed t) s.witness → IsReply budget s CertCommand out after
-      → HasVerdictText Cert budget f t out.text
+      → IsWitness (opened f) (unassumed t) s.witness → IsReply terms s CertCommand out after
+      → HasVerdictText Cert terms f t out.text
   circuit_of t gates formula verdict witness reply =
-      let tells = told_with budget CertCommand s after out (unassumed t) verdict reply in
+      let tells = told_with terms CertCommand s after out (unassumed t) verdict reply in
       let told = subst (λ o. IfSome o (λ given. IsCertText s.script.formula given s.witness.values
-      (gates_after budget s.script) tells.text)) verdict tells.told in
+      (gates_after terms s.script) tells.text)) verdict tells.told in
       record {
         witness = s.witness;
         is_witness = witness;
-        says = subst (IsCertText (opened f) (unassumed t) s.witness.values (gates_for budget f))
+        says = subst (IsCertText (opened f) (unassumed t) s.witness.values (gates_for terms f))
             (sym (same_text tells.text tells.says_text))
             (subst (λ n. IsCertText (opened f) (unassumed t) s.witness.values n tells.text) gates
-            (subst (λ g. IsCertText g (unassumed t) s.witness.values (gates_after budget s.script) tells.text) formula
+            (subst (λ g. IsCertText g (unassumed t) s.witness.values (gates_after terms s.script) tells.text) formula
             told));
       }
 
-  gates_are : (a : Answer) → IsAnsweredBy f a s → gates_after budget s.script ≡ gates_for budget f
+  gates_are : (a : Answer) → IsAnsweredBy f a s → gates_after terms s.script ≡ gates_for terms f
   gates_are a is =
-      ap (λ c. weight_bound c s.script.solves budget s.script.greatest) is.clauses
-      ∙ ap (λ k. weight_bound (length f.clauses) k budget s.script.greatest) is.solves
-      ∙ ap (weight_bound (length f.clauses) 1 budget) is.greatest
+      ap (λ c. weight_bound c s.script.solves terms.budget terms.greatest s.script.greatest) is.clauses
+      ∙ ap (λ k. weight_bound (length f.clauses) k terms.budget terms.greatest s.script.greatest) is.solves
+      ∙ ap (weight_bound (length f.clauses) 1 terms.budget terms.greatest) is.greatest
 
-  pub traced : (a : Answer) → IsVerdict a → IsAnsweredBy f a s → IsReply budget s TraceCommand out after
-      → IsJobText Trace budget f a out.text
+  pub traced : (a : Answer) → IsVerdict a → IsAnsweredBy f a s → IsReply terms s TraceCommand out after
+      → IsJobText Trace terms f a out.text
   traced Sat there is reply = trace_of true is.formula is.verdict.0 is.verdict.1 reply
   traced Unsat there is reply = trace_of false is.formula is.verdict.0 is.verdict.1 reply
   traced Unknown there is reply = absurd there
 
-  pub certified : (a : Answer) → IsVerdict a → IsAnsweredBy f a s → IsReply budget s CertCommand out after
-      → IsJobText Cert budget f a out.text
+  pub certified : (a : Answer) → IsVerdict a → IsAnsweredBy f a s → IsReply terms s CertCommand out after
+      → IsJobText Cert terms f a out.text
   certified Sat there is reply = circuit_of true (gates_are Sat is) is.formula is.verdict.0 is.verdict.1 reply
   certified Unsat there is reply = circuit_of false (gates_are Unsat is) is.formula is.verdict.0 is.verdict.1 reply
   certified Unknown there is reply = absurd there
 
 -- the line of a verdict is the text of a solve
-pub solved : (budget : ℕ) (f : Formula) (a : Answer) (s : Standing) → IsAnsweredBy f a s
-    → IsJobText Solve budget f a (answer_line a)
-solved budget f Sat s is = record { witness = s.witness; is_witness = is.verdict.1; says = refl }
-solved budget f Unsat s is = record { witness = s.witness; is_witness = is.verdict.1; says = refl }
-solved budget f Unknown s is = refl
+pub solved : (terms : Terms) (f : Formula) (a : Answer) (s : Standing) → IsAnsweredBy f a s
+    → IsJobText Solve terms f a (answer_line a)
+solved terms f Sat s is = record { witness = s.witness; is_witness = is.verdict.1; says = refl }
+solved terms f Unsat s is = record { witness = s.witness; is_witness = is.verdict.1; says = refl }
+solved terms f Unknown s is = refl
 
 -- an answer that is unknown has the same line for each job but one
 pub unknown_line : (job : Job) (f : Formula) → (job ≡ Qdo → ⊥) → answer_line Unknown ≡ unknown_text job f
@@ -228,64 +238,65 @@ is_verdict Unknown apart = absurd (apart refl)
 
 module _ {S : Type 0} (written flushed : S → Option (List ℕ)) (faults : S → ℕ) (has_room : S → ℕ → Type 0) where
   -- the lines of a result are written, or a front of them before a fault
-  pub result_sent : (budget : ℕ) (f : Formula) (a : Answer) (s : Standing) (old new : S) (r : Result (Unit {0}) Failed)
+  pub result_sent : (terms : Terms) (f : Formula) (a : Answer) (s : Standing) (old new : S)
+      (r : Result (Unit {0}) Failed)
       → IsVerdict a → IsAnsweredBy f a s → ((truth : Bool) → s.script.formula ≡ opened f
       → s.script.verdict ≡ Some (unassumed truth) → a ≡ answer_with truth
       → Writes written flushed faults has_room old new
       (solution_line a f ++ value_lines f.prefix truth s.witness.values) r)
-      → MatchResult r (λ _. WritesJob written flushed faults has_room Qdo budget f a old new (Ok tt))
-      (λ _. WritesJob written flushed faults has_room Qdo budget f a old new (Err WriteFault))
-  result_sent budget f Sat s old new r there is writes = by r (writes true is.formula is.verdict.0 refl)
+      → MatchResult r (λ _. WritesJob written flushed faults has_room Qdo terms f a old new (Ok tt))
+      (λ _. WritesJob written flushed faults has_room Qdo terms f a old new (Err WriteFault))
+  result_sent terms f Sat s old new r there is writes = by r (writes true is.formula is.verdict.0 refl)
     where
       text : Text
       text = solution_line Sat f ++ value_lines f.prefix true s.witness.values
 
-      says : HasVerdictText Qdo budget f true text
+      says : HasVerdictText Qdo terms f true text
       says = record { witness = s.witness; is_witness = is.verdict.1; says = refl }
 
       by : (r : Result (Unit {0}) Failed) → Writes written flushed faults has_room old new text r
-          → MatchResult r (λ _. WritesJob written flushed faults has_room Qdo budget f Sat old new (Ok tt))
-          (λ _. WritesJob written flushed faults has_room Qdo budget f Sat old new (Err WriteFault))
+          → MatchResult r (λ _. WritesJob written flushed faults has_room Qdo terms f Sat old new (Ok tt))
+          (λ _. WritesJob written flushed faults has_room Qdo terms f Sat old new (Err WriteFault))
       by (Ok u) w = (text, says, w)
       by (Err e) w = (text, says, w)
-  result_sent budget f Unsat s old new r there is writes = by r (writes false is.formula is.verdict.0 refl)
+  result_sent terms f Unsat s old new r there is writes = by r (writes false is.formula is.verdict.0 refl)
     where
       text : Text
       text = solution_line Unsat f ++ value_lines f.prefix false s.witness.values
 
-      says : HasVerdictText Qdo budget f false text
+      says : HasVerdictText Qdo terms f false text
       says = record { witness = s.witness; is_witness = is.verdict.1; says = refl }
 
       by : (r : Result (Unit {0}) Failed) → Writes written flushed faults has_room old new text r
-          → MatchResult r (λ _. WritesJob written flushed faults has_room Qdo budget f Unsat old new (Ok tt))
-          (λ _. WritesJob written flushed faults has_room Qdo budget f Unsat old new (Err WriteFault))
+          → MatchResult r (λ _. WritesJob written flushed faults has_room Qdo terms f Unsat old new (Ok tt))
+          (λ _. WritesJob written flushed faults has_room Qdo terms f Unsat old new (Err WriteFault))
       by (Ok u) w = (text, says, w)
       by (Err e) w = (text, says, w)
-  result_sent budget f Unknown s old new r there is writes = absurd there
+  result_sent terms f Unknown s old new r there is writes = absurd there
 
   -- a line is written
-  pub line_sent : (job : Job) (budget : ℕ) (f : Formula) (a : Answer) (text : Text) (old new : S)
-      → IsJobText job budget f a text → Wrote written flushed faults has_room old new text
-      → WritesJob written flushed faults has_room job budget f a old new (Ok tt)
-  line_sent job budget f a text old new is wrote = (text, is, wrote)
+  pub line_sent : (job : Job) (terms : Terms) (f : Formula) (a : Answer) (text : Text) (old new : S)
+      → IsJobText job terms f a text → Wrote written flushed faults has_room old new text
+      → WritesJob written flushed faults has_room job terms f a old new (Ok tt)
+  line_sent job terms f a text old new is wrote = (text, is, wrote)
 
   -- an answer to a question is written, or not
-  pub job_sent : (job : Job) (budget : ℕ) (f : Formula) (a : Answer) (command : Command) (s : Standing) (old new : S)
+  pub job_sent : (job : Job) (terms : Terms) (f : Formula) (a : Answer) (command : Command) (s : Standing) (old new : S)
       (e : EngineState) (reply : Reply)
-      → ((out : Output) (after : Standing) → IsReply budget s command out after → IsJobText job budget f a out.text)
-      → Steps written flushed faults has_room budget command s old new e (Ok reply)
-      → WritesJob written flushed faults has_room job budget f a old new (Ok tt)
-  job_sent job budget f a command s old new e reply is steps =
+      → ((out : Output) (after : Standing) → IsReply terms s command out after → IsJobText job terms f a out.text)
+      → Steps written flushed faults has_room terms command s old new e (Ok reply)
+      → WritesJob written flushed faults has_room job terms f a old new (Ok tt)
+  job_sent job terms f a command s old new e reply is steps =
       (steps.0, is (record { text = steps.0; stops = told_by reply }) steps.1 steps.2, steps.4)
 
-  pub job_failed : (job : Job) (budget : ℕ) (f : Formula) (a : Answer) (command : Command) (s : Standing)
+  pub job_failed : (job : Job) (terms : Terms) (f : Formula) (a : Answer) (command : Command) (s : Standing)
       (old new : S) (e : EngineState) (stop : SessionStop) → IsVerdict a
-      → ((out : Output) (after : Standing) → IsReply budget s command out after → IsJobText job budget f a out.text)
-      → Steps written flushed faults has_room budget command s old new e (Err stop)
-      → WritesJob written flushed faults has_room job budget f a old new (Err (ending_at stop))
-  job_failed job budget f a command s old new e (Unwritten told) there is steps =
+      → ((out : Output) (after : Standing) → IsReply terms s command out after → IsJobText job terms f a out.text)
+      → Steps written flushed faults has_room terms command s old new e (Err stop)
+      → WritesJob written flushed faults has_room job terms f a old new (Err (ending_at stop))
+  job_failed job terms f a command s old new e (Unwritten told) there is steps =
       (steps.0, is (record { text = steps.0; stops = listed told }) steps.1 steps.2, steps.3)
-  job_failed job budget f a command s old new e NoRoomLeft there is steps = (there, steps.0)
+  job_failed job terms f a command s old new e NoRoomLeft there is steps = (there, steps.0)
 
   -- What a job leaves where its text was not written.
   untouched : (old new : S) → Wrote written flushed faults has_room old new [] → IsUntouched written faults old new
@@ -296,23 +307,23 @@ module _ {S : Type 0} (written flushed : S → Option (List ℕ)) (faults : S �
       by (Some x) None h = absurd h
       by (Some x) (Some y) h = h ∙ append-nil x
 
-  no_entry : (budget n : ℕ) (a : Answer) (old new : List Account) → IsVerdict a
-      → AddsEntry (IsStopAt budget n) old new a → new ≡ old
-  no_entry budget n Sat old new there e = e
-  no_entry budget n Unsat old new there e = e
-  no_entry budget n Unknown old new there e = absurd there
+  no_entry : (terms : Terms) (n : ℕ) (a : Answer) (old new : List Account) → IsVerdict a
+      → AddsEntry (IsStopAt terms n) old new a → new ≡ old
+  no_entry terms n Sat old new there e = e
+  no_entry terms n Unsat old new there e = e
+  no_entry terms n Unknown old new there e = absurd there
 
-  module _ (job : Job) (budget : ℕ) (f : Formula) (a : Answer) (told : List Account) (s : Standing)
-      (d : Decided budget f a told s) (old : S) (before after : List Account) (entries : after ≡ before ++ told) where
-    reply_is : (text : Text) → IsJobText job budget f a text → IsReplyTo job budget f (before, after) a text
+  module _ (job : Job) (terms : Terms) (f : Formula) (a : Answer) (told : List Account) (s : Standing)
+      (d : Decided terms f a told s) (old : S) (before after : List Account) (entries : after ≡ before ++ told) where
+    reply_is : (text : Text) → IsJobText job terms f a text → IsReplyTo job terms f (before, after) a text
     reply_is text says = record {
       right = d.right;
       says = says;
-      told = subst (λ l. AddsEntry (IsStopAt budget (size_of f.prefix)) before l a) (sym entries) (d.entry before);
+      told = subst (λ l. AddsEntry (IsStopAt terms (size_of f.prefix)) before l a) (sym entries) (d.entry before);
     }
 
-    pub reply_failed : (new : S) (e : Ending) → WritesJob written flushed faults has_room job budget f a old new (Err e)
-        → RepliesTo written flushed faults has_room job budget f old new (before, after) (Err e)
+    pub reply_failed : (new : S) (e : Ending) → WritesJob written flushed faults has_room job terms f a old new (Err e)
+        → RepliesTo written flushed faults has_room job terms f old new (before, after) (Err e)
     reply_failed new WriteFault w = (
       a,
       w.0,
@@ -326,18 +337,18 @@ module _ {S : Type 0} (written flushed : S → Option (List ℕ)) (faults : S �
     )
     reply_failed new NoMemory w = (
       untouched old new w.1,
-      no_entry budget (size_of f.prefix) a before after w.0
-          (subst (λ l. AddsEntry (IsStopAt budget (size_of f.prefix)) before l a) (sym entries) (d.entry before)),
+      no_entry terms (size_of f.prefix) a before after w.0
+          (subst (λ l. AddsEntry (IsStopAt terms (size_of f.prefix)) before l a) (sym entries) (d.entry before)),
     )
     reply_failed new (Done status) w = absurd w
     reply_failed new (Refused number line) w = absurd w
     reply_failed new (Limit quantity line) w = absurd w
     reply_failed new ReadFault w = absurd w
 
-    module _ (middle new : S) (w : WritesJob written flushed faults has_room job budget f a old middle (Ok tt))
+    module _ (middle new : S) (w : WritesJob written flushed faults has_room job terms f a old middle (Ok tt))
         (kept : Keeps (written middle) (written new)) where
       pub reply_flushed : AllFlushed (written new) (flushed middle) (flushed new) → faults new ≡ faults middle
-          → RepliesTo written flushed faults has_room job budget f old new (before, after) (Ok a)
+          → RepliesTo written flushed faults has_room job terms f old new (before, after) (Ok a)
       reply_flushed all same = (
         w.0,
         reply_is w.0 w.1,
@@ -350,7 +361,7 @@ module _ {S : Type 0} (written flushed : S → Option (List ℕ)) (faults : S �
 
       pub flush_failed : faults middle ≤ faults new → Rose (faults middle) (faults new)
           → ((n : ℕ) → has_room middle n → ⊥)
-          → RepliesTo written flushed faults has_room job budget f old new (before, after) (Err WriteFault)
+          → RepliesTo written flushed faults has_room job terms f old new (before, after) (Err WriteFault)
       flush_failed later rose no_room = (
         a,
         w.0,
@@ -366,21 +377,21 @@ module _ {S : Type 0} (written flushed : S → Option (List ℕ)) (faults : S �
 
 -- What the work on an input comes to, of which this formula was read.
 module _ {S : Type 0} (written flushed : S → Option (List ℕ)) (faults : S → ℕ) (has_room : S → ℕ → Type 0) (job : Job)
-    (budget : ℕ) (known : Option Text) (f : Formula) (reads : IfSome known (λ bytes. Reads bytes (parsed f)))
+    (terms : Terms) (known : Option Text) (f : Formula) (reads : IfSome known (λ bytes. Reads bytes (parsed f)))
     (old new : S) (before after : List Account) where
   abbrev pub Came : Result Answer Ending → Type 0
-  Came r = RepliesTo written flushed faults has_room job budget f old new (before, after) r
+  Came r = RepliesTo written flushed faults has_room job terms f old new (before, after) r
 
   known_as : (P Q : Text → Type 0) → ((text : Text) → P text → Q text) → IfSome known P → IfSome known Q
   known_as P Q by h = some_map known P Q by h
 
   pub answers_known : (r : Result Answer Ending) → Came r
-      → IfOk r (λ a. IfSome known (λ text. Solves budget text a))
+      → IfOk r (λ a. IfSome known (λ text. Solves terms text a))
   answers_known (Ok a) came = known_as _ _ (λ text read. (f, read, came.1.right)) reads
   answers_known (Err e) came = tt
 
   pub ending_known : (r : Result Answer Ending) → Came r
-      → IfErr r (λ e. ¬ IsDone e × IfSome known (λ text. IsEnding budget text e))
+      → IfErr r (λ e. ¬ IsDone e × IfSome known (λ text. IsEnding terms text e))
   ending_known (Ok a) came = tt
   ending_known (Err WriteFault) came = (λ h. h, known_as _ _ (λ text read. tt) reads)
   ending_known (Err NoMemory) came = (λ h. h, known_as _ _ (λ text read. tt) reads)
@@ -413,7 +424,7 @@ module _ {S : Type 0} (written flushed : S → Option (List ℕ)) (faults : S �
   counted_known (Err (Limit quantity line)) came = absurd came
   counted_known (Err ReadFault) came = absurd came
 
-  pub room_known : (r : Result Answer Ending) → Came r → RoomForJob job budget known (has_room old)
+  pub room_known : (r : Result Answer Ending) → Came r → RoomForJob job terms known (has_room old)
       → IsErrOf r WriteFault → ⊥
   room_known (Ok a) came room is = absurd (cc)
   room_known (Err WriteFault) came room is =
@@ -425,7 +436,7 @@ module _ {S : Type 0} (written flushed : S → Option (List ℕ)) (faults : S �
   room_known (Err ReadFault) came room is = came
 
   pub output_known : (r : Result Answer Ending) → Came r
-      → LeavesOutput job budget known (written old, written new) (before, after) (ending_with r)
+      → LeavesOutput job terms known (written old, written new) (before, after) (ending_with r)
   output_known (Ok a) came =
       (a, refl, (came.0, record { formula = f; read = reads; reply = came.1 }, came.2.appended))
   output_known (Err WriteFault) came =

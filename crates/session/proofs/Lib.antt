@@ -8,5 +8,6 @@ pub mod Gates
 pub mod Going
 pub mod Jobs
 pub mod Outermost
+pub mod Restarting
 pub mod Scripting
 pub mod Working

@@ -17,6 +17,7 @@ use Rattle.session.specs.Replies.{Text, says}
 use Rattle.session.specs.Scripts.{Answers, AreAnswered, AreFirst, IsLeftAt, IsReadOut, IsScriptEnding, IsSentAt, RoomForReplies, ending_of}
 use Rattle.session.specs.Solve.{IsDone}
 use Rattle.session.specs.Standing.{start}
+use Rattle.session.specs.Terms.{Terms}
 
 -- each text is read in some way
 abbrev pub AllRead : Type 0
@@ -42,9 +43,9 @@ first_none : (known : Option (List ℕ)) → AllRead → IfSome known (λ text. 
 first_none None all = tt
 first_none (Some text) all = all text
 
-pub none_answered : (budget : ℕ) (known a : Option (List ℕ)) (stops : List Account) → AllRead
-    → AreAnswered budget known (a, a) (stops, stops) NoMemory
-none_answered budget known a stops all = record {
+pub none_answered : (terms : Terms) (known a : Option (List ℕ)) (stops : List Account) → AllRead
+    → AreAnswered terms known (a, a) (stops, stops) NoMemory
+none_answered terms known a stops all = record {
   commands = [];
   out = says [];
   after = start;
@@ -110,9 +111,9 @@ some_map None P Q f h = tt
 some_map (Some x) P Q f h = f x h
 
 module _ {S : Type 0} (written flushed : S → Option (List ℕ)) (faults : S → ℕ) (has_room : S → ℕ → Type 0)
-    (budget : ℕ) (known : Option (List ℕ)) (script : Option Script) (of : IsOfText known script)
+    (terms : Terms) (known : Option (List ℕ)) (script : Option Script) (of : IsOfText known script)
     (result : Result (Unit {0}) Ending) (old new : S) (before after : List Account)
-    (replied : Answers budget start script (IsLeftAt result)
+    (replied : Answers terms start script (IsLeftAt result)
     (λ text. IsSentAt written flushed faults has_room old new text result) (before, after)) where
   abbrev left : IfSome known (λ text. (rest : Script) × ReadsScript text (replied.commands ++ rest.0) rest.1
       × IsLeftAt result rest)
@@ -168,7 +169,7 @@ module _ {S : Type 0} (written flushed : S → Option (List ℕ)) (faults : S �
       by (Err WriteFault) h apart = absurd (apart refl)
       by (Err NoMemory) h apart = h.appended
 
-  pub answered_is : AreAnswered budget known (written old, written new) (before, after) (ending_of result)
+  pub answered_is : AreAnswered terms known (written old, written new) (before, after) (ending_of result)
   answered_is = record {
     commands = replied.commands;
     out = replied.out;
@@ -231,10 +232,10 @@ module _ {S : Type 0} (written flushed : S → Option (List ℕ)) (faults : S �
       by (Err NoMemory) h = λ is. is
 
   -- where there is room for what may be replied
-  has : RoomForReplies budget known (has_room old) → has_room old (length replied.out.text)
+  has : RoomForReplies terms known (has_room old) → has_room old (length replied.out.text)
   has room = room replied.commands replied.out replied.after replied.leads (first_only known replied.commands _ left)
 
-  pub room_is : RoomForReplies budget known (has_room old) → IsErrOf result WriteFault → ⊥
+  pub room_is : RoomForReplies terms known (has_room old) → IsErrOf result WriteFault → ⊥
   room_is room = by result replied.sent
     where
       by : (r : Result (Unit {0}) Ending)
@@ -259,9 +260,9 @@ flushed_kept None middle new written kept all = tt
 flushed_kept (Some x) None new written kept all = absurd kept
 flushed_kept (Some x) (Some y) new written kept all = all
 
-answered_kept : (budget : ℕ) (known a m n : Option (List ℕ)) (stops : List Account × List Account) (ending : Ending)
-    → AreAnswered budget known (a, m) stops ending → Keeps m n → AreAnswered budget known (a, n) stops ending
-answered_kept budget known a m n stops ending are kept = record {
+answered_kept : (terms : Terms) (known a m n : Option (List ℕ)) (stops : List Account × List Account) (ending : Ending)
+    → AreAnswered terms known (a, m) stops ending → Keeps m n → AreAnswered terms known (a, n) stops ending
+answered_kept terms known a m n stops ending are kept = record {
   commands = are.commands;
   out = are.out;
   after = are.after;
@@ -273,9 +274,9 @@ answered_kept budget known a m n stops ending are kept = record {
   told = are.told;
 }
 
-answered_fault : (budget : ℕ) (known a m n : Option (List ℕ)) (stops : List Account × List Account) (ending : Ending)
-    → AreAnswered budget known (a, m) stops ending → Keeps m n → AreAnswered budget known (a, n) stops WriteFault
-answered_fault budget known a m n stops ending are kept = record {
+answered_fault : (terms : Terms) (known a m n : Option (List ℕ)) (stops : List Account × List Account) (ending : Ending)
+    → AreAnswered terms known (a, m) stops ending → Keeps m n → AreAnswered terms known (a, n) stops WriteFault
+answered_fault terms known a m n stops ending are kept = record {
   commands = are.commands;
   out = are.out;
   after = are.after;
@@ -288,18 +289,18 @@ answered_fault budget known a m n stops ending are kept = record {
 }
 
 module _ {S : Type 0} (written flushed : S → Option (List ℕ)) (faults : S → ℕ) (has_room : S → ℕ → Type 0)
-    (budget : ℕ) (known : Option (List ℕ)) (script : Option Script) (of : IsOfText known script)
+    (terms : Terms) (known : Option (List ℕ)) (script : Option Script) (of : IsOfText known script)
     (old middle new : S) (before after : List Account)
-    (replied : Answers budget start script (IsLeftAt (Ok tt))
+    (replied : Answers terms start script (IsLeftAt (Ok tt))
     (λ text. IsSentAt written flushed faults has_room old middle text (Ok tt)) (before, after))
     (kept : Keeps (written middle) (written new)) where
-  pub flushed_answered : AreAnswered budget known (written old, written new) (before, after) (Done 0)
-  flushed_answered = answered_kept budget known (written old) (written middle) (written new) (before, after) (Done 0)
-      (answered_is written flushed faults has_room budget known script of (Ok tt) old middle before after replied) kept
+  pub flushed_answered : AreAnswered terms known (written old, written new) (before, after) (Done 0)
+  flushed_answered = answered_kept terms known (written old) (written middle) (written new) (before, after) (Done 0)
+      (answered_is written flushed faults has_room terms known script of (Ok tt) old middle before after replied) kept
 
-  pub fault_answered : AreAnswered budget known (written old, written new) (before, after) WriteFault
-  fault_answered = answered_fault budget known (written old) (written middle) (written new) (before, after) (Done 0)
-      (answered_is written flushed faults has_room budget known script of (Ok tt) old middle before after replied) kept
+  pub fault_answered : AreAnswered terms known (written old, written new) (before, after) WriteFault
+  fault_answered = answered_fault terms known (written old) (written middle) (written new) (before, after) (Done 0)
+      (answered_is written flushed faults has_room terms known script of (Ok tt) old middle before after replied) kept
 
   pub all_flushed : AllFlushed (written new) (flushed middle) (flushed new)
       → AllFlushed (written new) (flushed old) (flushed new)
@@ -317,9 +318,9 @@ module _ {S : Type 0} (written flushed : S → Option (List ℕ)) (faults : S �
   }
 
   -- and never where there is room for the replies
-  pub room_left : RoomForReplies budget known (has_room old) → (n : ℕ) × has_room middle n
+  pub room_left : RoomForReplies terms known (has_room old) → (n : ℕ) × has_room middle n
   room_left room = (
     length replied.out.text - length replied.out.text,
     replied.sent.room (length replied.out.text) (omega arith)
-        (has written flushed faults has_room budget known script of (Ok tt) old middle before after replied room),
+        (has written flushed faults has_room terms known script of (Ok tt) old middle before after replied room),
   )

@@ -36,6 +36,7 @@ use Rattle.engine.proofs.FirstScope.{first_among, level_is, literal_among, value
 use Rattle.session.specs.Standing.{Standing}
 use Rattle.session.specs.State.{Holds, given_of}
 use Rattle.session.specs.Steps.{HasText, IsSent, Sends, Steps, told_by}
+use Rattle.session.specs.Terms.{Terms}
 
 module _ {S : Type 0} (written flushed : S → Option (List ℕ)) (faults : S → ℕ) (has_room : S → ℕ → Type 0) where
   pub sent : (reply : Reply) (text : Text) (old new : S) (r : Result (Unit {0}) Failed) (result : Result Reply SessionStop)
@@ -46,36 +47,36 @@ module _ {S : Type 0} (written flushed : S → Option (List ℕ)) (faults : S �
   sent reply text old new (Err e) result stops is =
       subst (Sends written flushed faults has_room reply text old new) (sym is.1) (is.2, stops)
 
-  pub stepped : (budget : ℕ) (command : Command) (s after : Standing) (old new : S) (e : EngineState) (reply : Reply)
+  pub stepped : (terms : Terms) (command : Command) (s after : Standing) (old new : S) (e : EngineState) (reply : Reply)
       (text : Text) (result : Result Reply SessionStop)
-      → IsReply budget s command (record { text = text; stops = told_by reply }) after → HasText reply text
-      → Holds budget e after → Sends written flushed faults has_room reply text old new result
-      → Steps written flushed faults has_room budget command s old new e result
-  stepped budget command s after old new e reply text (Ok given) is has holds sends = (
+      → IsReply terms s command (record { text = text; stops = told_by reply }) after → HasText reply text
+      → Holds terms e after → Sends written flushed faults has_room reply text old new result
+      → Steps written flushed faults has_room terms command s old new e result
+  stepped terms command s after old new e reply text (Ok given) is has holds sends = (
     text,
     after,
-    subst (λ r. IsReply budget s command (record { text = text; stops = told_by r }) after) (sym sends.0) is,
+    subst (λ r. IsReply terms s command (record { text = text; stops = told_by r }) after) (sym sends.0) is,
     subst (λ r. HasText r text) (sym sends.0) has,
     sends.1,
     holds,
   )
-  stepped budget command s after old new e reply text (Err (WriteFault told)) is has holds sends = (
+  stepped terms command s after old new e reply text (Err (WriteFault told)) is has holds sends = (
     text,
     after,
-    subst (λ l. IsReply budget s command (record { text = text; stops = l }) after) (sym sends.0) is,
+    subst (λ l. IsReply terms s command (record { text = text; stops = l }) after) (sym sends.0) is,
     sends.1,
     holds,
   )
-  stepped budget command s after old new e reply text (Err NoMemory) is has holds sends = absurd sends
+  stepped terms command s after old new e reply text (Err NoMemory) is has holds sends = absurd sends
 
   -- the answer to a question
-  pub tells : (budget : ℕ) (command : Command) (s : Standing) (old new : S) (e : EngineState) (text : Text)
+  pub tells : (terms : Terms) (command : Command) (s : Standing) (old new : S) (e : EngineState) (text : Text)
       (r : Result (Unit {0}) Failed) (result : Result Reply SessionStop)
-      → IsReply budget s command (says text) s → Holds budget e s
+      → IsReply terms s command (says text) s → Holds terms e s
       → Writes written flushed faults has_room old new text r → IsSent Written r result
-      → Steps written flushed faults has_room budget command s old new e result
-  tells budget command s old new e text r result is holds writes is_sent =
-      stepped budget command s s old new e Written text result is tt holds
+      → Steps written flushed faults has_room terms command s old new e result
+  tells terms command s old new e text r result is holds writes is_sent =
+      stepped terms command s s old new e Written text result is tt holds
       (sent Written text old new r result writes is_sent)
 
 -- an answered question wasn't refused
@@ -132,7 +133,7 @@ value_of : (values : Assignment) (scopes : List Scope) (x : ℕ) → is_outermos
 value_of values scopes x outer = ap (λ (o : Option Bool). record { variable = x; positive = unwrap_or o false })
     (value_among values (variables_at scopes 1) x (first_among scopes x (level_is (level_of scopes x) outer)))
 
-module _ (budget : ℕ) (e : EngineState) (s : Standing) (holds : Holds budget e s) where
+module _ (terms : Terms) (e : EngineState) (s : Standing) (holds : Holds terms e s) where
   -- where there is a verdict, the standing has it
   verdict_is : (v : VerdictState) → e.verdict ≡ Some v → s.script.verdict ≡ Some (given_of v)
   verdict_is v some = holds.verdict ∙ ap (option_map given_of) some
@@ -155,14 +156,14 @@ module _ (budget : ℕ) (e : EngineState) (s : Standing) (holds : Holds budget e
 
   -- a question that any verdict answers isn't refused
   answered : (command : Command) (text : Text) (v : VerdictState) → e.verdict ≡ Some v
-      → IsAccepted budget s command (says text) s
-      → IsReplyWith (no_verdict s.script.verdict) budget s command (says text) s
+      → IsAccepted terms s command (says text) s
+      → IsReplyWith (no_verdict s.script.verdict) terms s command (says text) s
   answered command text v some accepted =
-      subst (λ o. IsReplyWith (no_verdict o) budget s command (says text) s) (sym (verdict_is v some)) accepted
+      subst (λ o. IsReplyWith (no_verdict o) terms s command (says text) s) (sym (verdict_is v some)) accepted
 
   pub tells_relevant : (list : List Literal) → ask_refusal e ≡ None
       → IfSome e.verdict (λ v. list ≡ relevant_of v.assumptions v.row) → IfSome e.verdict (IsVerdictOf e.formula)
-      → IsReply budget s Relevant (says (relevant_text list)) s
+      → IsReply terms s Relevant (says (relevant_text list)) s
   tells_relevant list asked value facts = unless_none e.verdict refl asked (λ v some.
       let is = subst (λ o. IfSome o (λ v. list ≡ relevant_of v.assumptions v.row)) some value in
       let fact = subst (λ o. IfSome o (IsVerdictOf e.formula)) some facts in
@@ -176,7 +177,7 @@ module _ (budget : ℕ) (e : EngineState) (s : Standing) (holds : Holds budget e
   pub tells_trace : (core : Trace) (scopes : List Scope) → scopes ≡ e.formula.scopes
       → ask_refusal e ≡ None → IfSome e.verdict (λ v. core.winner ≡ winner_of v.truth)
       → IfSome e.verdict (λ v. inferences_of core.lines ≡ v.proof) → IsNumbered core.lines
-      → IsReply budget s TraceCommand (says (qrp_text scopes core)) s
+      → IsReply terms s TraceCommand (says (qrp_text scopes core)) s
   tells_trace core scopes same asked winner list numbered = unless_none e.verdict refl asked (λ v some.
       let wins = subst (λ o. IfSome o (λ v. core.winner ≡ winner_of v.truth)) some winner in
       let is = subst (λ o. IfSome o (λ v. inferences_of core.lines ≡ v.proof)) some list in
@@ -192,27 +193,30 @@ module _ (budget : ℕ) (e : EngineState) (s : Standing) (holds : Holds budget e
 
   pub tells_circuit : (strategy : Strategy) (text : Text) → IsAagText text strategy
       → ask_refusal e ≡ None → IfSome e.verdict (λ v. IsCertificateOf e.formula v strategy)
-      → length strategy.aig.gates ≤ weight_bound e.counts.clauses e.counts.solves e.counts.budget e.counts.vars
-      → IsReply budget s Cert (says text) s
+      → length strategy.aig.gates ≤ weight_bound e.counts.clauses e.counts.solves e.counts.budget
+      e.counts.restarts e.counts.vars
+      → IsReply terms s Cert (says text) s
   tells_circuit strategy text denotes asked certifies few = unless_none e.verdict refl asked (λ v some.
       let solves : e.counts.solves ≤ s.script.solves = let same = holds.solves in omega (arith, same) in
-      let grown = weight_grows e.counts.clauses s.script.clauses e.counts.solves s.script.solves e.counts.budget budget
-      e.counts.vars s.script.greatest holds.clauses solves holds.budgets holds.variables in
-      let bound : length strategy.aig.gates ≤ gates_after budget s.script = omega (arith, few, grown) in
+      let most : e.counts.restarts ≤ terms.greatest = let low = holds.most_restarts in omega (arith, low) in
+      let grown = weight_grows e.counts.clauses s.script.clauses e.counts.solves s.script.solves e.counts.budget
+      terms.budget e.counts.restarts terms.greatest e.counts.vars s.script.greatest holds.clauses solves holds.budgets
+      most holds.variables in
+      let bound : length strategy.aig.gates ≤ gates_after terms s.script = omega (arith, few, grown) in
       let is = subst (λ o. IfSome o (λ v. IsCertificateOf e.formula v strategy)) some certifies in
       answered Cert text v some
-      (told_at (λ given text. IsCertText s.script.formula given s.witness.values (gates_after budget s.script) text)
+      (told_at (λ given text. IsCertText s.script.formula given s.witness.values (gates_after terms s.script) text)
       text v some
-      (subst (λ f. IsCertText f (given_of v) s.witness.values (gates_after budget s.script) text) (sym holds.formula)
-      (subst (λ l. IsCertText e.formula (given_of v) l (gates_after budget s.script) text) (sym (holds.values v some))
-      (cert_text e.formula v strategy (gates_after budget s.script) text denotes is bound)))))
+      (subst (λ f. IsCertText f (given_of v) s.witness.values (gates_after terms s.script) text) (sym holds.formula)
+      (subst (λ l. IsCertText e.formula (given_of v) l (gates_after terms s.script) text) (sym (holds.values v some))
+      (cert_text e.formula v strategy (gates_after terms s.script) text denotes is bound)))))
 
   pub tells_value : (x : ℕ) (lit : Literal) → value_refusal e x ≡ None
       → IfSome e.verdict (λ v. lit ≡ record { variable = x; positive = values_of e.formula v x })
-      → IsReply budget s (Value x) (says (value_text lit)) s
+      → IsReply terms s (Value x) (says (value_text lit)) s
   tells_value x lit asked value = by e.verdict refl
     where
-      by : (o : Option VerdictState) → e.verdict ≡ o → IsReply budget s (Value x) (says (value_text lit)) s
+      by : (o : Option VerdictState) → e.verdict ≡ o → IsReply terms s (Value x) (says (value_text lit)) s
       by None none = absurd (let f : Some NoVerdict ≡ None =
           subst (λ o. value_refusal (record e { verdict = o }) x ≡ None) none asked in cc)
       by (Some v) some =
@@ -231,6 +235,6 @@ module _ (budget : ℕ) (e : EngineState) (s : Standing) (holds : Holds budget e
           (not (is_of (quantifier_at e.formula.scopes 1) (winner_of v.truth))) tests) in
           let number : no_value s.script.formula.scopes s.script.verdict x ≡ None =
           ap (λ o. no_value s.script.formula.scopes o x) (verdict_is v some) ∙ numbers in
-          subst (λ n. IsReplyWith n budget s (Value x) (says (value_text lit)) s) (sym number)
+          subst (λ n. IsReplyWith n terms s (Value x) (says (value_text lit)) s) (sym number)
           (told_at (λ given text. text ≡ value_text (value_in s.witness.values x)) (value_text lit) v some
           (ap value_text (sym values)))

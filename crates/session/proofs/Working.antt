@@ -14,11 +14,12 @@ use Rattle.session.specs.declared.ending.Ending.TheVariants.{Done, Refused}
 use Rattle.session.specs.Replies.{AllowedReplies, Leads, Output, refused_text, says}
 use Rattle.session.specs.Scripts.{IsScriptEnding}
 use Rattle.session.specs.Standing.{Standing, start}
+use Rattle.session.specs.Terms.{terms_of}
 
-pub no_silence : AllowedReplies 0 (Pop ∷ []) (says []) → ⊥
+pub no_silence : AllowedReplies (terms_of 0 0) (Pop ∷ []) (says []) → ⊥
 no_silence h = at h.0 h.1
   where
-    at : (after : Standing) → Leads 0 start (Pop ∷ []) (says []) after → ⊥
+    at : (after : Standing) → Leads (terms_of 0 0) start (Pop ∷ []) (says []) after → ⊥
     at after l = absurd (let t : [] ≡ refused_text 40 ++ l.1.text =
         ap (λ (o : Output). o.text) l.3 ∙ ap (λ (o : Output). o.text ++ l.1.text) l.4.0 in cc)
 
@@ -43,7 +44,7 @@ empty_proof = record {
   used = tt;
 }
 
-pub one_row : AllowedReplies 0 (Clause [] ∷ Solve ∷ []) (says (codes "UNSAT\n"))
+pub one_row : AllowedReplies (terms_of 0 0) (Clause [] ∷ Solve ∷ []) (says (codes "UNSAT\n"))
 one_row = (
   decided,
   (

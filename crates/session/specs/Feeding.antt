@@ -13,7 +13,8 @@ formula_with scopes clauses = record {
   assumptions = [];
 }
 
--- The engine holds these scopes and clauses, accepted no more clauses than these, and has not decided any formula.
+-- The engine holds these scopes and clauses, accepted no more clauses than these, and has not decided any formula; a
+-- search never begins anew.
 pub record HoldsFormula (scopes : List Scope) (clauses : List (List Literal)) (e : EngineState) : Type 0 where
   pub formula : e.formula ≡ formula_with scopes clauses
   pub undecided : e.verdict ≡ None
@@ -21,3 +22,5 @@ pub record HoldsFormula (scopes : List Scope) (clauses : List (List Literal)) (e
   pub unsolved : e.counts.solves ≡ 0
   pub unbudgeted : e.counts.budget ≡ 0
   pub unsized : e.counts.vars ≡ 0
+  pub restarts : e.restarts ≡ 0
+  pub never : e.counts.restarts ≡ 0

@@ -30,6 +30,7 @@ use Rattle.session.specs.Replies.{IsCertText, IsTraceText, Text, literal_number,
 use Rattle.session.specs.Solve.{IsAnswerTo, OfAnswer, answer_line}
 use Rattle.session.specs.Standing.{IsWitness, Standing, Witness}
 use Rattle.session.specs.Stops.{AddsEntry, IsStopAt}
+use Rattle.session.specs.Terms.{Terms}
 
 -- a formula as commands would build it: its clauses in frame 0, no other frame, no assumption
 abbrev pub opened : Formula → OpenFormula
@@ -71,26 +72,26 @@ abbrev pub value_lines : List Scope → Bool → List Literal → Text
 value_lines scopes truth values =
     if is_of (quantifier_at scopes 1) (winner_of truth) then flat_map value_line values else []
 
--- how many gates a circuit for the formula may have, after one solve with a budget
-abbrev pub gates_for : ℕ → Formula → ℕ
-gates_for budget f = weight_bound (length f.clauses) 1 budget (size_of f.prefix)
+-- how many gates a circuit for the formula may have, after one solve
+abbrev pub gates_for : Terms → Formula → ℕ
+gates_for terms f = weight_bound (length f.clauses) 1 terms.budget terms.greatest (size_of f.prefix)
 
 -- The text of a job for a verdict with this witness: its line; the lines of its result, with the values of the first
 -- scope; the trace of its proof; or the text of a circuit that wins, where the first scope is the winner's with these
 -- values.
-abbrev pub IsVerdictText : Job → ℕ → Formula → Bool → Witness → Text → Type 0
-IsVerdictText Solve budget f truth witness text = text ≡ verdict_text truth
-IsVerdictText Qdo budget f truth witness text =
+abbrev pub IsVerdictText : Job → Terms → Formula → Bool → Witness → Text → Type 0
+IsVerdictText Solve terms f truth witness text = text ≡ verdict_text truth
+IsVerdictText Qdo terms f truth witness text =
     text ≡ solution_line (answer_with truth) f ++ value_lines f.prefix truth witness.values
-IsVerdictText Trace budget f truth witness text = IsTraceText f.prefix truth witness.proof text
-IsVerdictText Cert budget f truth witness text =
-    IsCertText (opened f) (unassumed truth) witness.values (gates_for budget f) text
+IsVerdictText Trace terms f truth witness text = IsTraceText f.prefix truth witness.proof text
+IsVerdictText Cert terms f truth witness text =
+    IsCertText (opened f) (unassumed truth) witness.values (gates_for terms f) text
 
 -- the same with some witness
-pub record HasVerdictText (job : Job) (budget : ℕ) (f : Formula) (truth : Bool) (text : Text) : Type 0 where
+pub record HasVerdictText (job : Job) (terms : Terms) (f : Formula) (truth : Bool) (text : Text) : Type 0 where
   pub witness : Witness
   pub is_witness : IsWitness (opened f) (unassumed truth) witness
-  pub says : IsVerdictText job budget f truth witness text
+  pub says : IsVerdictText job terms f truth witness text
 
 -- the text of a job where the answer is unknown
 abbrev pub unknown_text : Job → Formula → Text
@@ -100,45 +101,45 @@ unknown_text Trace f = answer_line Unknown
 unknown_text Cert f = answer_line Unknown
 
 -- The text of a job for an answer to a formula.
-abbrev pub IsJobText : Job → ℕ → Formula → Answer → Text → Type 0
-IsJobText job budget f Sat text = HasVerdictText job budget f true text
-IsJobText job budget f Unsat text = HasVerdictText job budget f false text
-IsJobText job budget f Unknown text = text ≡ unknown_text job f
+abbrev pub IsJobText : Job → Terms → Formula → Answer → Text → Type 0
+IsJobText job terms f Sat text = HasVerdictText job terms f true text
+IsJobText job terms f Unsat text = HasVerdictText job terms f false text
+IsJobText job terms f Unknown text = text ≡ unknown_text job f
 
 -- The reply of a job to a formula: a right answer, its text, and one more entry of what a search tells that stopped
 -- where the answer is unknown. `stops` is the list of entries before and after.
-pub record IsReplyTo (job : Job) (budget : ℕ) (f : Formula) (stops : List Account × List Account) (answer : Answer)
+pub record IsReplyTo (job : Job) (terms : Terms) (f : Formula) (stops : List Account × List Account) (answer : Answer)
     (text : Text) : Type 0 where
-  pub right : IsAnswerTo budget f answer
-  pub says : IsJobText job budget f answer text
-  pub told : AddsEntry (IsStopAt budget (size_of f.prefix)) stops.0 stops.1 answer
+  pub right : IsAnswerTo terms f answer
+  pub says : IsJobText job terms f answer text
+  pub told : AddsEntry (IsStopAt terms (size_of f.prefix)) stops.0 stops.1 answer
 
 -- The same to the formula of an input, whose text says it, where it is told.
-pub record IsReplyOn (job : Job) (budget : ℕ) (known : Option Text) (stops : List Account × List Account)
+pub record IsReplyOn (job : Job) (terms : Terms) (known : Option Text) (stops : List Account × List Account)
     (answer : Answer) (text : Text) : Type 0 where
   pub formula : Formula
   pub read : IfSome known (λ bytes. Reads bytes (parsed formula))
-  pub reply : IsReplyTo job budget formula stops answer text
+  pub reply : IsReplyTo job terms formula stops answer text
 
 -- What the work on an input leaves: its reply on the output, or after a write fault a front of that, and else nothing.
 -- `written` is what stood on the output and stands on it.
-abbrev pub LeavesOutput : Job → ℕ → (known : Option Text) → (written : Option Text × Option Text)
+abbrev pub LeavesOutput : Job → Terms → (known : Option Text) → (written : Option Text × Option Text)
     → (stops : List Account × List Account) → Ending → Type 0
-LeavesOutput job budget known written stops (Done status) = OfAnswer status (λ answer. (text : Text)
-    × IsReplyOn job budget known stops answer text × Appends written.0 written.1 text)
-LeavesOutput job budget known written stops WriteFault = (answer : Answer) × (text : Text)
-    × IsReplyOn job budget known stops answer text × AppendsFront written.0 written.1 text
-LeavesOutput job budget known written stops (Refused number line) =
+LeavesOutput job terms known written stops (Done status) = OfAnswer status (λ answer. (text : Text)
+    × IsReplyOn job terms known stops answer text × Appends written.0 written.1 text)
+LeavesOutput job terms known written stops WriteFault = (answer : Answer) × (text : Text)
+    × IsReplyOn job terms known stops answer text × AppendsFront written.0 written.1 text
+LeavesOutput job terms known written stops (Refused number line) =
     Keeps written.0 written.1 × (stops.1 ≡ stops.0)
-LeavesOutput job budget known written stops (Limit quantity line) =
+LeavesOutput job terms known written stops (Limit quantity line) =
     Keeps written.0 written.1 × (stops.1 ≡ stops.0)
-LeavesOutput job budget known written stops ReadFault = Keeps written.0 written.1 × (stops.1 ≡ stops.0)
-LeavesOutput job budget known written stops NoMemory = Keeps written.0 written.1 × (stops.1 ≡ stops.0)
+LeavesOutput job terms known written stops ReadFault = Keeps written.0 written.1 × (stops.1 ≡ stops.0)
+LeavesOutput job terms known written stops NoMemory = Keeps written.0 written.1 × (stops.1 ≡ stops.0)
 
 -- The output has room for each text that a job may write for the formula of an input.
-abbrev pub RoomForJob : Job → ℕ → Option Text → (ℕ → Type 0) → Type 0
-RoomForJob job budget known has_room = (f : Formula) (answer : Answer) (text : Text)
-    → IfSome known (λ bytes. Reads bytes (parsed f)) → IsAnswerTo budget f answer → IsJobText job budget f answer text
+abbrev pub RoomForJob : Job → Terms → Option Text → (ℕ → Type 0) → Type 0
+RoomForJob job terms known has_room = (f : Formula) (answer : Answer) (text : Text)
+    → IfSome known (λ bytes. Reads bytes (parsed f)) → IsAnswerTo terms f answer → IsJobText job terms f answer text
     → has_room (length text)
 
 -- the verdict of an answer to a formula, with its witness; an unknown one has none
@@ -168,17 +169,17 @@ IsVerdict Unknown = ⊥
 
 -- The text of a job is written, or a front of it before a fault; or nothing, for want of memory to tell of a verdict.
 abbrev pub WritesJob : {S : Type 0} → (written flushed : S → Option (List ℕ)) → (S → ℕ) → (S → ℕ → Type 0) → Job
-    → ℕ → Formula → Answer → S → S → Result (Unit {0}) Ending → Type 0
-WritesJob written flushed faults has_room job budget f answer old new (Ok u) = (text : Text)
-    × IsJobText job budget f answer text × Wrote written flushed faults has_room old new text
-WritesJob written flushed faults has_room job budget f answer old new (Err WriteFault) = (text : Text)
-    × IsJobText job budget f answer text × Stops written flushed faults has_room old new text
-WritesJob written flushed faults has_room job budget f answer old new (Err NoMemory) =
+    → Terms → Formula → Answer → S → S → Result (Unit {0}) Ending → Type 0
+WritesJob written flushed faults has_room job terms f answer old new (Ok u) = (text : Text)
+    × IsJobText job terms f answer text × Wrote written flushed faults has_room old new text
+WritesJob written flushed faults has_room job terms f answer old new (Err WriteFault) = (text : Text)
+    × IsJobText job terms f answer text × Stops written flushed faults has_room old new text
+WritesJob written flushed faults has_room job terms f answer old new (Err NoMemory) =
     IsVerdict answer × Wrote written flushed faults has_room old new []
-WritesJob written flushed faults has_room job budget f answer old new (Err (Done status)) = ⊥
-WritesJob written flushed faults has_room job budget f answer old new (Err (Refused number line)) = ⊥
-WritesJob written flushed faults has_room job budget f answer old new (Err (Limit quantity line)) = ⊥
-WritesJob written flushed faults has_room job budget f answer old new (Err ReadFault) = ⊥
+WritesJob written flushed faults has_room job terms f answer old new (Err (Done status)) = ⊥
+WritesJob written flushed faults has_room job terms f answer old new (Err (Refused number line)) = ⊥
+WritesJob written flushed faults has_room job terms f answer old new (Err (Limit quantity line)) = ⊥
+WritesJob written flushed faults has_room job terms f answer old new (Err ReadFault) = ⊥
 
 -- a text was written, and all that is written was flushed
 pub record Delivers {S : Type 0} (written flushed : S → Option (List ℕ)) (faults : S → ℕ) (old new : S) (text : Text)
@@ -201,15 +202,15 @@ pub record IsUntouched {S : Type 0} (written : S → Option (List ℕ)) (faults 
   pub no_fault : faults new ≡ faults old
 
 -- A job is replied to, and all is flushed; or a front of the reply is written, before a fault; or there is no memory.
-abbrev pub RepliesTo : {S : Type 0} → (written flushed : S → Option (List ℕ)) → (S → ℕ) → (S → ℕ → Type 0) → Job → ℕ
+abbrev pub RepliesTo : {S : Type 0} → (written flushed : S → Option (List ℕ)) → (S → ℕ) → (S → ℕ → Type 0) → Job → Terms
     → Formula → S → S → (stops : List Account × List Account) → Result Answer Ending → Type 0
-RepliesTo written flushed faults has_room job budget f old new stops (Ok answer) = (text : Text)
-    × IsReplyTo job budget f stops answer text × Delivers written flushed faults old new text
-RepliesTo written flushed faults has_room job budget f old new stops (Err WriteFault) = (answer : Answer)
-    × (text : Text) × IsReplyTo job budget f stops answer text × Fails written faults has_room old new text
-RepliesTo written flushed faults has_room job budget f old new stops (Err NoMemory) =
+RepliesTo written flushed faults has_room job terms f old new stops (Ok answer) = (text : Text)
+    × IsReplyTo job terms f stops answer text × Delivers written flushed faults old new text
+RepliesTo written flushed faults has_room job terms f old new stops (Err WriteFault) = (answer : Answer)
+    × (text : Text) × IsReplyTo job terms f stops answer text × Fails written faults has_room old new text
+RepliesTo written flushed faults has_room job terms f old new stops (Err NoMemory) =
     IsUntouched written faults old new × (stops.1 ≡ stops.0)
-RepliesTo written flushed faults has_room job budget f old new stops (Err (Done status)) = ⊥
-RepliesTo written flushed faults has_room job budget f old new stops (Err (Refused number line)) = ⊥
-RepliesTo written flushed faults has_room job budget f old new stops (Err (Limit quantity line)) = ⊥
-RepliesTo written flushed faults has_room job budget f old new stops (Err ReadFault) = ⊥
+RepliesTo written flushed faults has_room job terms f old new stops (Err (Done status)) = ⊥
+RepliesTo written flushed faults has_room job terms f old new stops (Err (Refused number line)) = ⊥
+RepliesTo written flushed faults has_room job terms f old new stops (Err (Limit quantity line)) = ⊥
+RepliesTo written flushed faults has_room job terms f old new stops (Err ReadFault) = ⊥

@@ -8,4 +8,5 @@ pub mod Standing
 pub mod State
 pub mod Steps
 pub mod Stops
+pub mod Terms
 pub mod Worked

@@ -1,5 +1,5 @@
 -- The replies that commands may have.
-use Rattle.std.specs.Prelude.{◌≡◌, ◌⊎◌, ℕ, ◌+◌, ◌*◌, ◌<◌, ◌≤◌, length, not, true, false, Bool, if◌then◌else◌, List, [], ◌∷◌, ◌++◌, filter, codes, Contains, Option, Some, None, IfSome, unwrap_or}
+use Rattle.std.specs.Prelude.{◌≡◌, ◌⊎◌, ℕ, ◌<◌, ◌≤◌, length, not, true, false, Bool, if◌then◌else◌, List, [], ◌∷◌, ◌++◌, filter, codes, Contains, Option, Some, None, IfSome, unwrap_or}
 use Rattle.std.specs.Fmt.{decimal}
 use Rattle.std.specs.List.{flat_map}
 use Rattle.std.specs.Option.{option_and_then}
@@ -10,7 +10,7 @@ use Rattle.prefix.specs.Scopes.{Scope, all_variables, quantifier_at, quantifier_
 use Rattle.steps.specs.Counter.{step_limit}
 use Rattle.truth.specs.Truth.{assumed_value, truth_under}
 use Rattle.calculus.specs.Derivations.{Inference}
-use Rattle.calculus.specs.Limits.{weight_bound}
+use Rattle.calculus.specs.Limits.{propagation_limit, weight_bound}
 use Rattle.calculus.specs.Plays.{DependsOnEarlier, Wins}
 use Rattle.calculus.specs.Rows.{Assignment, Row}
 use Rattle.calculus.specs.Search.{IsRefuted}
@@ -32,6 +32,7 @@ use Rattle.qscript.specs.declared.command.Command.{Command}
 use Rattle.qscript.specs.declared.command.Command.TheVariants.{Scope as ScopeCommand, Var, Clause, Push, Pop, Assume, Solve, Value, Relevant, Trace, Cert}
 use Rattle.session.specs.Standing.{IsWitness, Standing, start}
 use Rattle.session.specs.Stops.{IsStopAt}
+use Rattle.session.specs.Terms.{Terms}
 
 abbrev pub Text : Type 0
 Text = List ℕ
@@ -125,9 +126,9 @@ pub record IsTraceText (scopes : List Scope) (truth : Bool) (proof : List Infere
 abbrev pub variables_with : Quant → List Scope → List ℕ
 variables_with quant scopes = filter (λ v. is_of (quantifier_of scopes v) quant) (all_variables scopes)
 
--- how many gates a circuit may have after these commands, each solve of which had this budget
-abbrev pub gates_after : ℕ → ScriptState → ℕ
-gates_after budget s = weight_bound s.clauses s.solves budget s.greatest
+-- how many gates a circuit may have after these commands, each solve of which was made on such terms
+abbrev pub gates_after : Terms → ScriptState → ℕ
+gates_after terms s = weight_bound s.clauses s.solves terms.budget terms.greatest s.greatest
 
 -- The text denotes a circuit with all variables of the loser for inputs and all of the winner for outputs, in prefix
 -- order. It wins against all values of the inputs that the assumptions allow, each output depends on inputs of earlier
@@ -172,51 +173,52 @@ pub record Decides (s : Standing) (out : Output) (after : Standing) : Type 0 whe
   pub says_truth : out ≡ says (verdict_text truth)
   pub state : after.script ≡ state_after s.script (Decide (Verdict truth))
 
--- Without a verdict the budget is below the step limit of the formula's variables, and a search over these stopped at
--- it. At the first solve, where propagation refutes the clauses from the assumptions, the budget is below n * (n + 3).
-pub record GivesUp (budget : ℕ) (s : Standing) (out : Output) (after : Standing) : Type 0 where
+-- Without a verdict the budget is below the step limit of the formula's variables, for a search that may begin anew so
+-- often, and a search over these stopped at
+-- it. At the first solve, where propagation refutes the clauses from the assumptions, the budget is below the limit of
+-- propagation.
+pub record GivesUp (terms : Terms) (s : Standing) (out : Output) (after : Standing) : Type 0 where
   pub stopped : Account
-  pub short : budget < step_limit (size_of s.script.formula.scopes)
+  pub short : terms.budget < step_limit terms.restarts (size_of s.script.formula.scopes)
   pub slow : s.script.solves ≡ 0 → IsRefuted s.script.formula.scopes (clauses_in s.script.formula.frames)
-      s.script.formula.assumptions → budget
-      < size_of s.script.formula.scopes * (size_of s.script.formula.scopes + 3)
-  pub stop : IsStopAt budget (size_of s.script.formula.scopes) stopped
+      s.script.formula.assumptions → terms.budget < propagation_limit (size_of s.script.formula.scopes)
+  pub stop : IsStopAt terms (size_of s.script.formula.scopes) stopped
   pub says_unknown : out ≡ record { text = codes "UNKNOWN\n"; stops = stopped ∷ [] }
   pub state : after ≡ record s { script = state_after s.script (Decide Stop) }
 
-abbrev pub IsAccepted : ℕ → Standing → Command → Output → Standing → Type 0
-IsAccepted budget s (ScopeCommand quant at) out after = Changes s (AddScope quant at) out after
-IsAccepted budget s (Var var scope) out after = Changes s (AddVariable var scope) out after
-IsAccepted budget s (Clause lits) out after = Changes s (AddClause lits) out after
-IsAccepted budget s Push out after = Changes s PushFrame out after
-IsAccepted budget s Pop out after = Changes s PopFrame out after
-IsAccepted budget s (Assume lit) out after = Changes s (AssumeLiteral lit) out after
-IsAccepted budget s Solve out after = Decides s out after ⊎ GivesUp budget s out after
-IsAccepted budget s (Value v) out after =
+abbrev pub IsAccepted : Terms → Standing → Command → Output → Standing → Type 0
+IsAccepted terms s (ScopeCommand quant at) out after = Changes s (AddScope quant at) out after
+IsAccepted terms s (Var var scope) out after = Changes s (AddVariable var scope) out after
+IsAccepted terms s (Clause lits) out after = Changes s (AddClause lits) out after
+IsAccepted terms s Push out after = Changes s PushFrame out after
+IsAccepted terms s Pop out after = Changes s PopFrame out after
+IsAccepted terms s (Assume lit) out after = Changes s (AssumeLiteral lit) out after
+IsAccepted terms s Solve out after = Decides s out after ⊎ GivesUp terms s out after
+IsAccepted terms s (Value v) out after =
     Tells s (λ given text. text ≡ value_text (value_in s.witness.values v)) out after
-IsAccepted budget s Relevant out after =
+IsAccepted terms s Relevant out after =
     Tells s (λ given text. text ≡ relevant_text (relevant_of given.assumptions (last_row s.witness.proof))) out after
-IsAccepted budget s Trace out after =
+IsAccepted terms s Trace out after =
     Tells s (λ given text. IsTraceText s.script.formula.scopes given.truth s.witness.proof text) out after
-IsAccepted budget s Cert out after =
-    Tells s (λ given text. IsCertText s.script.formula given s.witness.values (gates_after budget s.script) text) out
+IsAccepted terms s Cert out after =
+    Tells s (λ given text. IsCertText s.script.formula given s.witness.values (gates_after terms s.script) text) out
     after
 
 -- A refused command says its number, and changes nothing.
-abbrev pub IsReplyWith : Option ℕ → ℕ → Standing → Command → Output → Standing → Type 0
-IsReplyWith None budget s command out after = IsAccepted budget s command out after
-IsReplyWith (Some number) budget s command out after = (out ≡ says (refused_text number)) × (after ≡ s)
+abbrev pub IsReplyWith : Option ℕ → Terms → Standing → Command → Output → Standing → Type 0
+IsReplyWith None terms s command out after = IsAccepted terms s command out after
+IsReplyWith (Some number) terms s command out after = (out ≡ says (refused_text number)) × (after ≡ s)
 
--- What a command may reply where others came to a standing, with a budget for each solve, and what it comes to then.
-abbrev pub IsReply : ℕ → Standing → Command → Output → Standing → Type 0
-IsReply budget s command out after = IsReplyWith (refusal_number s command) budget s command out after
+-- What a command may reply where others came to a standing, on these terms for each solve, and what it comes to then.
+abbrev pub IsReply : Terms → Standing → Command → Output → Standing → Type 0
+IsReply terms s command out after = IsReplyWith (refusal_number s command) terms s command out after
 
 -- What commands in a row may reply from a standing on, and what they come to.
-abbrev pub Leads : ℕ → Standing → List Command → Output → Standing → Type 0
-Leads budget s [] out after = (out ≡ says []) × (after ≡ s)
-Leads budget s (command ∷ commands) out after = (first rest : Output) × (next : Standing)
-    × (out ≡ joined first rest) × IsReply budget s command first next × Leads budget next commands rest after
+abbrev pub Leads : Terms → Standing → List Command → Output → Standing → Type 0
+Leads terms s [] out after = (out ≡ says []) × (after ≡ s)
+Leads terms s (command ∷ commands) out after = (first rest : Output) × (next : Standing)
+    × (out ≡ joined first rest) × IsReply terms s command first next × Leads terms next commands rest after
 
 -- What the commands of a script may reply.
-abbrev pub AllowedReplies : ℕ → List Command → Output → Type 0
-AllowedReplies budget commands out = (after : Standing) × Leads budget start commands out after
+abbrev pub AllowedReplies : Terms → List Command → Output → Type 0
+AllowedReplies terms commands out = (after : Standing) × Leads terms start commands out after

@@ -14,6 +14,7 @@ use Rattle.session.specs.declared.ending.Ending.TheVariants.{Done, Refused, Limi
 use Rattle.session.specs.Replies.{Leads, Output, Text}
 use Rattle.session.specs.Standing.{Standing, start}
 use Rattle.session.specs.State.{Holds}
+use Rattle.session.specs.Terms.{Terms}
 
 -- The ending is that of the script: all of it was answered, or a line is malformed or beyond the limit. Faults and want
 -- of memory say nothing of it.
@@ -43,12 +44,12 @@ AreFirst text commands = (rest : List Command) × (ending : ScriptEnding) × Rea
 -- ending. The replies are allowed ones; all of them were written, or after a write fault a front of them. The list of
 -- what is told of searches that stopped got an entry for each `UNKNOWN` among them. `written` is what stood on the
 -- output and stands on it, `stops` the list before and after.
-pub record AreAnswered (budget : ℕ) (known : Option (List ℕ)) (written : Option (List ℕ) × Option (List ℕ))
+pub record AreAnswered (terms : Terms) (known : Option (List ℕ)) (written : Option (List ℕ) × Option (List ℕ))
     (stops : List Account × List Account) (ending : Ending) : Type 0 where
   pub commands : List Command
   pub out : Output
   pub after : Standing
-  pub allowed : Leads budget start commands out after
+  pub allowed : Leads terms start commands out after
   pub first : IfSome known (λ text. AreFirst text commands)
   pub all : IsReadOut ending → IfSome known (λ text. (e : ScriptEnding) × ReadsScript text commands e)
   pub front : AppendsFront written.0 written.1 out.text
@@ -56,9 +57,9 @@ pub record AreAnswered (budget : ℕ) (known : Option (List ℕ)) (written : Opt
   pub told : stops.1 ≡ stops.0 ++ out.stops
 
 -- The output has room for all allowed replies to the first commands of the text's script, if the text is told.
-abbrev pub RoomForReplies : ℕ → Option (List ℕ) → (ℕ → Type 0) → Type 0
-RoomForReplies budget known has_room = (commands : List Command) (out : Output) (after : Standing) →
-    Leads budget start commands out after → IfSome known (λ text. AreFirst text commands) → has_room (length out.text)
+abbrev pub RoomForReplies : Terms → Option (List ℕ) → (ℕ → Type 0) → Type 0
+RoomForReplies terms known has_room = (commands : List Command) (out : Output) (after : Standing) →
+    Leads terms start commands out after → IfSome known (λ text. AreFirst text commands) → has_room (length out.text)
 
 -- the ending that a result stands for
 abbrev pub ending_of : Result (Unit {0}) Ending → Ending
@@ -94,18 +95,18 @@ IsSentAt written flushed faults has_room old new text (Err NoMemory) =
 
 -- From a standing on, commands were replied to: the first of the script, if this is known, up to this rest. `IsSent`
 -- says what was written of the replies, and `stops` is the list of what is told of searches before and after.
-pub record Answers (budget : ℕ) (s : Standing) (script : Option Script) (IsRest : Script → Type 0)
+pub record Answers (terms : Terms) (s : Standing) (script : Option Script) (IsRest : Script → Type 0)
     (IsSent : Text → Type 0) (stops : List Account × List Account) : Type 0 where
   pub commands : List Command
   pub out : Output
   pub after : Standing
-  pub leads : Leads budget s commands out after
+  pub leads : Leads terms s commands out after
   pub first : IfSome script (λ all. (rest : Script) × (all ≡ (commands ++ rest.0, rest.1)) × IsRest rest)
   pub sent : IsSent out.text
   pub told : stops.1 ≡ stops.0 ++ out.stops
 
 -- The same, where the engine holds what the commands came to.
-pub record IsUnderWay (budget : ℕ) (s : Standing) (script to_come : Option Script) (e : EngineState)
+pub record IsUnderWay (terms : Terms) (s : Standing) (script to_come : Option Script) (e : EngineState)
     (IsSent : Text → Type 0) (stops : List Account × List Account) : Type 0 where
-  pub so_far : Answers budget s script (λ rest. to_come ≡ Some rest) IsSent stops
-  pub holds : Holds budget e so_far.after
+  pub so_far : Answers terms s script (λ rest. to_come ≡ Some rest) IsSent stops
+  pub holds : Holds terms e so_far.after

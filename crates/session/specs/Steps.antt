@@ -19,6 +19,7 @@ use Rattle.session.specs.Replies.{IsReply, Output, Text, refused_text, verdict_t
 use Rattle.session.specs.Solve.{answer_line}
 use Rattle.session.specs.Standing.{Standing}
 use Rattle.session.specs.State.{Holds}
+use Rattle.session.specs.Terms.{Terms}
 
 -- what a reply tells of a search that stopped
 abbrev pub told_by : Reply → List Account
@@ -93,38 +94,38 @@ answered (Unknown stopped) = IsUnknown
 answered Written = IsUnsat
 
 -- The reply to a solve has the line of its answer, and the engine holds what it comes to.
-pub record IsDecided (budget : ℕ) (s : Standing) (reply : Reply) (e : EngineState) : Type 0 where
+pub record IsDecided (terms : Terms) (s : Standing) (reply : Reply) (e : EngineState) : Type 0 where
   pub after : Standing
-  pub reply_is : IsReply budget s Solve (record { text = answer_line (answered reply); stops = told_by reply }) after
+  pub reply_is : IsReply terms s Solve (record { text = answer_line (answered reply); stops = told_by reply }) after
   pub text : HasText reply (answer_line (answered reply))
-  pub holds : Holds budget e after
+  pub holds : Holds terms e after
 
 -- A command is replied to, and the reply is written; or a front of it is, before a fault; or there is no memory, and
 -- nothing is written. `old` and `new` are the sink, by what sinks of its type tell.
-abbrev pub Steps : {S : Type 0} → (written flushed : S → Option (List ℕ)) → (S → ℕ) → (S → ℕ → Type 0) → ℕ → Command
+abbrev pub Steps : {S : Type 0} → (written flushed : S → Option (List ℕ)) → (S → ℕ) → (S → ℕ → Type 0) → Terms → Command
     → Standing → S → S → EngineState → Result Reply SessionStop → Type 0
-Steps written flushed faults has_room budget command s old new e (Ok reply) = (text : Text) × (after : Standing)
-    × IsReply budget s command (record { text = text; stops = told_by reply }) after × HasText reply text
-    × Wrote written flushed faults has_room old new text × Holds budget e after
-Steps written flushed faults has_room budget command s old new e (Err (WriteFault told)) = (text : Text)
-    × (after : Standing) × IsReply budget s command (record { text = text; stops = listed told }) after
-    × Stops written flushed faults has_room old new text × Holds budget e after
-Steps written flushed faults has_room budget command s old new e (Err NoMemory) =
-    Wrote written flushed faults has_room old new [] × Holds budget e (left_by command s)
+Steps written flushed faults has_room terms command s old new e (Ok reply) = (text : Text) × (after : Standing)
+    × IsReply terms s command (record { text = text; stops = told_by reply }) after × HasText reply text
+    × Wrote written flushed faults has_room old new text × Holds terms e after
+Steps written flushed faults has_room terms command s old new e (Err (WriteFault told)) = (text : Text)
+    × (after : Standing) × IsReply terms s command (record { text = text; stops = listed told }) after
+    × Stops written flushed faults has_room old new text × Holds terms e after
+Steps written flushed faults has_room terms command s old new e (Err NoMemory) =
+    Wrote written flushed faults has_room old new [] × Holds terms e (left_by command s)
 
 -- A command of a script is replied to, and what the reply tells of a search that stopped is listed behind what was;
 -- after a fault too. Without memory nothing is written or listed. `stops` is the list before and after.
-abbrev pub Goes : {S : Type 0} → (written flushed : S → Option (List ℕ)) → (S → ℕ) → (S → ℕ → Type 0) → ℕ → Command
+abbrev pub Goes : {S : Type 0} → (written flushed : S → Option (List ℕ)) → (S → ℕ) → (S → ℕ → Type 0) → Terms → Command
     → Standing → S → S → EngineState → (stops : List Account × List Account) → Result (Unit {0}) Ending → Type 0
-Goes written flushed faults has_room budget command s old new e stops (Ok u) = (out : Output) × (after : Standing)
-    × IsReply budget s command out after × Wrote written flushed faults has_room old new out.text
-    × (stops.1 ≡ stops.0 ++ out.stops) × Holds budget e after
-Goes written flushed faults has_room budget command s old new e stops (Err EndsInFault) = (out : Output)
-    × (after : Standing) × IsReply budget s command out after
+Goes written flushed faults has_room terms command s old new e stops (Ok u) = (out : Output) × (after : Standing)
+    × IsReply terms s command out after × Wrote written flushed faults has_room old new out.text
+    × (stops.1 ≡ stops.0 ++ out.stops) × Holds terms e after
+Goes written flushed faults has_room terms command s old new e stops (Err EndsInFault) = (out : Output)
+    × (after : Standing) × IsReply terms s command out after
     × Stops written flushed faults has_room old new out.text × (stops.1 ≡ stops.0 ++ out.stops)
-Goes written flushed faults has_room budget command s old new e stops (Err EndsInWant) =
+Goes written flushed faults has_room terms command s old new e stops (Err EndsInWant) =
     Wrote written flushed faults has_room old new [] × (stops.1 ≡ stops.0)
-Goes written flushed faults has_room budget command s old new e stops (Err (Done status)) = ⊥
-Goes written flushed faults has_room budget command s old new e stops (Err (Malformed number line)) = ⊥
-Goes written flushed faults has_room budget command s old new e stops (Err (Beyond quantity line)) = ⊥
-Goes written flushed faults has_room budget command s old new e stops (Err Unreadable) = ⊥
+Goes written flushed faults has_room terms command s old new e stops (Err (Done status)) = ⊥
+Goes written flushed faults has_room terms command s old new e stops (Err (Malformed number line)) = ⊥
+Goes written flushed faults has_room terms command s old new e stops (Err (Beyond quantity line)) = ⊥
+Goes written flushed faults has_room terms command s old new e stops (Err Unreadable) = ⊥

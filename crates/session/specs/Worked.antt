@@ -18,6 +18,7 @@ use Rattle.session.specs.Scripts.{IsScriptEnding}
 use Rattle.session.specs.Solve.{IsAnswerTo}
 use Rattle.session.specs.Standing.{Standing, start}
 use Rattle.session.specs.Stops.{AddsEntry, IsStopAt}
+use Rattle.session.specs.Terms.{terms_of, with_restarts}
 
 -- 2 differs from 1, with these quantifiers of 1 and 2 in that order
 abbrev pub differs : Quant → Quant → Formula
@@ -29,26 +30,32 @@ differs first second = record {
   declared_clauses = 2;
 }
 
--- a search over two variables that stopped at twelve steps, after one assignment
-abbrev pub at_twelve : Account
-at_twelve = record { budget = 12; vars = 2; assigned = 1 }
+-- a search over two variables that stopped at 36 steps, after one assignment
+abbrev pub at_thirty_six : Account
+at_thirty_six = record { budget = 36; vars = 2; assigned = 1; restarts = 0 }
 
 pub record WorkedAnswers : Type 0 where
   -- for each value of 1 there is one of 2, whatever the budget
-  pub sat : IsAnswerTo 0 (differs Forall Exists) Sat
-  pub not_unsat : IsAnswerTo 0 (differs Forall Exists) Unsat → ⊥
+  pub sat : IsAnswerTo (terms_of 0 0) (differs Forall Exists) Sat
+  pub not_unsat : IsAnswerTo (terms_of 0 0) (differs Forall Exists) Unsat → ⊥
   -- no value of 1 differs from both of 2
-  pub unsat : IsAnswerTo 0 (differs Exists Forall) Unsat
-  pub not_sat : IsAnswerTo 0 (differs Exists Forall) Sat → ⊥
-  -- below 2 * (2 + 3) steps any formula of two variables may be unknown, and from 12 * 2 ^ 3 steps on none
-  pub nine : IsAnswerTo 9 (differs Forall Exists) Unknown
-  pub not_enough : IsAnswerTo 96 (differs Forall Exists) Unknown → ⊥
-  -- twelve steps are few for two assignments, and too many for one
-  pub told : IsStopAt 12 2 at_twelve
-  pub not_told : IsStopAt 12 2 (record { budget = 12; vars = 2; assigned = 0 }) → ⊥
+  pub unsat : IsAnswerTo (terms_of 0 0) (differs Exists Forall) Unsat
+  pub not_sat : IsAnswerTo (terms_of 0 0) (differs Exists Forall) Sat → ⊥
+  -- below 2 * 2 * (2 + 3) steps any formula of two variables may be unknown, and from 24 * 2 ^ 3 steps on none
+  pub nineteen : IsAnswerTo (terms_of 19 0) (differs Forall Exists) Unknown
+  pub not_enough : IsAnswerTo (terms_of 192 0) (differs Forall Exists) Unknown → ⊥
+  -- 36 steps are few for two assignments, and too many for one; and a search begins anew only as often as it may
+  pub told : IsStopAt (terms_of 36 0) 2 at_thirty_six
+  pub not_told : IsStopAt (terms_of 36 0) 2 (record { budget = 36; vars = 2; assigned = 0; restarts = 0 }) → ⊥
+  pub restarted : IsStopAt (terms_of 36 1) 2 (record at_thirty_six { restarts = 1 })
+  pub not_restarted : IsStopAt (terms_of 36 0) 2 (record at_thirty_six { restarts = 1 }) → ⊥
+  -- with one restart twice as many steps suffice
+  pub twice : IsAnswerTo (terms_of 384 1) (differs Forall Exists) Unknown → ⊥
+  -- the greatest number of restarts stays
+  pub fewer_restarts : with_restarts 2 (terms_of 9 7) ≡ record { budget = 9; restarts = 2; greatest = 7 }
   -- an entry where the answer is unknown alone
-  pub entry : AddsEntry (IsStopAt 12 2) [] (at_twelve ∷ []) Unknown
-  pub no_entry : AddsEntry (IsStopAt 12 2) [] (at_twelve ∷ []) Unsat → ⊥
+  pub entry : AddsEntry (IsStopAt (terms_of 36 0) 2) [] (at_thirty_six ∷ []) Unknown
+  pub no_entry : AddsEntry (IsStopAt (terms_of 36 0) 2) [] (at_thirty_six ∷ []) Unsat → ⊥
 
 -- The formula with the empty clause alone, where it was solved: it is false.
 abbrev pub contradiction : Standing
@@ -84,14 +91,14 @@ pub record WorkedReplies : Type 0 where
   pub none_relevant : relevant_text [] ≡ codes "relevant 0\n"
   pub one_relevant : relevant_text (record { variable = 1; positive = false } ∷ []) ≡ codes "relevant -1 0\n"
   -- refused commands, each with its line
-  pub lines : AllowedReplies 0 (Pop ∷ Assume (pos 5) ∷ Value 1 ∷ [])
+  pub lines : AllowedReplies (terms_of 0 0) (Pop ∷ Assume (pos 5) ∷ Value 1 ∷ [])
       (says (codes "refused 40\nrefused 41\nrefused 50\n"))
-  pub not_silent : AllowedReplies 0 (Pop ∷ []) (says []) → ⊥
+  pub not_silent : AllowedReplies (terms_of 0 0) (Pop ∷ []) (says []) → ⊥
   -- an accepted clause has no reply, and the empty one makes the formula false, whatever the budget
-  pub unsat : AllowedReplies 0 (Clause [] ∷ Solve ∷ []) (says (codes "UNSAT\n"))
+  pub unsat : AllowedReplies (terms_of 0 0) (Clause [] ∷ Solve ∷ []) (says (codes "UNSAT\n"))
   pub not_sat : (after : Standing) → Decides contradiction (says (codes "SAT\n")) after → ⊥
   -- with enough steps for its variables a solve doesn't give up
-  pub short : (out : Output) (after : Standing) → GivesUp 8 contradiction out after → ⊥
+  pub short : (out : Output) (after : Standing) → GivesUp (terms_of 16 0) contradiction out after → ⊥
   -- an empty script ends well
   pub empty : IsScriptEnding (codes "p qscript 1\n") (Done 0)
   pub not_refused : IsScriptEnding (codes "p qscript 1\n") (Refused 30 1) → ⊥
@@ -104,36 +111,37 @@ nothing_fits = record { prefix = []; clauses = [] ∷ []; declared_vars = 0; dec
 abbrev pub anything_fits : Formula
 anything_fits = record { prefix = []; clauses = []; declared_vars = 0; declared_clauses = 0 }
 
--- a search over two variables that stopped at nine steps, after one assignment
-abbrev pub at_nine : Account
-at_nine = record at_twelve { budget = 9 }
+-- a search over two variables that stopped at nineteen steps, after one assignment
+abbrev pub at_nineteen : Account
+at_nineteen = record at_thirty_six { budget = 19 }
 
 pub record WorkedJobs : Type 0 where
   -- a line for a solve, and no other
-  pub solved : IsJobText SolveJob 0 nothing_fits Unsat (codes "UNSAT\n")
-  pub not_solved : IsJobText SolveJob 0 nothing_fits Unsat (codes "SAT\n") → ⊥
+  pub solved : IsJobText SolveJob (terms_of 0 0) nothing_fits Unsat (codes "UNSAT\n")
+  pub not_solved : IsJobText SolveJob (terms_of 0 0) nothing_fits Unsat (codes "SAT\n") → ⊥
   -- the trace of the empty clause, which no line of an answer is
-  pub traced : IsJobText TraceJob 0 nothing_fits Unsat (codes "p qrp 0 1\n1 0 0\nr UNSAT\n")
-  pub not_traced : IsJobText TraceJob 0 nothing_fits Unsat (codes "UNSAT\n") → ⊥
+  pub traced : IsJobText TraceJob (terms_of 0 0) nothing_fits Unsat (codes "p qrp 0 1\n1 0 0\nr UNSAT\n")
+  pub not_traced : IsJobText TraceJob (terms_of 0 0) nothing_fits Unsat (codes "UNSAT\n") → ⊥
   -- a circuit without variables, which is no trace
-  pub certified : IsJobText CertJob 0 anything_fits Sat (codes "aag 0 0 0 0 0\nc\nskolem\n")
-  pub not_certified : IsJobText CertJob 0 anything_fits Sat (codes "p qrp 0 1\n1 0 0\nr SAT\n") → ⊥
+  pub certified : IsJobText CertJob (terms_of 0 0) anything_fits Sat (codes "aag 0 0 0 0 0\nc\nskolem\n")
+  pub not_certified : IsJobText CertJob (terms_of 0 0) anything_fits Sat (codes "p qrp 0 1\n1 0 0\nr SAT\n") → ⊥
   -- a solution line with the header's numbers, for each answer
   pub true_line : solution_line Sat (differs Forall Exists) ≡ codes "s cnf 1 2 2\n"
   pub false_line : solution_line Unsat nothing_fits ≡ codes "s cnf 0 0 1\n"
-  pub unknown_line : IsJobText QdoJob 0 nothing_fits Unknown (codes "s cnf -1 0 1\n")
-  pub not_false_line : IsJobText QdoJob 0 nothing_fits Unknown (codes "s cnf 0 0 1\n") → ⊥
+  pub unknown_line : IsJobText QdoJob (terms_of 0 0) nothing_fits Unknown (codes "s cnf -1 0 1\n")
+  pub not_false_line : IsJobText QdoJob (terms_of 0 0) nothing_fits Unknown (codes "s cnf 0 0 1\n") → ⊥
   -- a line for each value of the first scope, where this is the winner's
   pub values_won : value_lines (differs Exists Forall).prefix true
       (record { variable = 1; positive = false } ∷ []) ≡ codes "V -1 0\n"
   pub values_lost : value_lines (differs Exists Forall).prefix false
       (record { variable = 1; positive = false } ∷ []) ≡ []
   -- another line for each other job where the answer is unknown
-  pub unknown : IsJobText CertJob 0 nothing_fits Unknown (codes "UNKNOWN\n")
-  pub not_silent : IsJobText TraceJob 0 nothing_fits Unknown [] → ⊥
+  pub unknown : IsJobText CertJob (terms_of 0 0) nothing_fits Unknown (codes "UNKNOWN\n")
+  pub not_silent : IsJobText TraceJob (terms_of 0 0) nothing_fits Unknown [] → ⊥
   -- a reply with its entry, and none without
-  pub told : IsReplyTo SolveJob 9 (differs Forall Exists) ([], at_nine ∷ []) Unknown (codes "UNKNOWN\n")
-  pub untold : IsReplyTo SolveJob 9 (differs Forall Exists) ([], []) Unknown (codes "UNKNOWN\n") → ⊥
+  pub told : IsReplyTo SolveJob (terms_of 19 0) (differs Forall Exists) ([], at_nineteen ∷ []) Unknown
+      (codes "UNKNOWN\n")
+  pub untold : IsReplyTo SolveJob (terms_of 19 0) (differs Forall Exists) ([], []) Unknown (codes "UNKNOWN\n") → ⊥
   -- after an ending without an answer nothing more is written
-  pub kept : LeavesOutput SolveJob 12 None (Some [], Some []) ([], []) NoMemory
-  pub not_kept : LeavesOutput SolveJob 12 None (Some [], Some (codes "SAT\n")) ([], []) NoMemory → ⊥
+  pub kept : LeavesOutput SolveJob (terms_of 12 0) None (Some [], Some []) ([], []) NoMemory
+  pub not_kept : LeavesOutput SolveJob (terms_of 12 0) None (Some [], Some (codes "SAT\n")) ([], []) NoMemory → ⊥

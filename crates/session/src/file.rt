@@ -17,6 +17,7 @@ ghost use Rattle.session.specs.Jobs.{IsAnsweredBy, IsHeaderOf, LeavesOutput, Rep
 ghost use Rattle.session.specs.Solve.{HasAnswer, IsAnswerTo, IsDone, IsEnding, Solves};
 ghost use Rattle.session.specs.Standing.{Standing};
 ghost use Rattle.session.specs.State.{Holds};
+ghost use Rattle.session.specs.Terms.{Terms, terms_of};
 ghost use Rattle.truth.specs.declared.formula.Formula.{Formula as AnyFormula};
 
 use crate::answer::Answer;
@@ -41,24 +42,26 @@ pub(crate) struct Header {
     pub clauses: u32,
 }
 
-/// Reads the formula that is left of the chosen input, decides it by search with a budget of that many steps, and
-/// writes what the job asks for: the answer's line, `SAT` or `UNSAT`; its solution line with the values of outermost
-/// variables (QDIMACS 1.1, output format); the trace of the verdict's proof (QRP); or the circuit by which its winner wins
-/// (AIGER 1.9, ASCII). Where the budget was spent first, it writes `UNKNOWN`, or the solution line of that.
+/// Reads the formula that is left of the chosen input, decides it by search with a budget of that many steps, which may
+/// begin anew so often, and writes what the job asks for: the answer's line, `SAT` or `UNSAT`; its solution line with
+/// the values of outermost variables (QDIMACS 1.1, output format); the trace of the verdict's proof (QRP); or the
+/// circuit by which its winner wins (AIGER 1.9, ASCII). Where the budget was spent first, it writes `UNKNOWN`, or the
+/// solution line of that.
 ///
-/// UNKNOWN comes only where the budget is below the step limit of the formula's variables, and where propagation alone
-/// refutes the clauses only where it is below n * (n + 3), for n variables. What the search that stopped tells is then
-/// put into `stops`, before the line is written.
+/// UNKNOWN comes only where the budget is below the step limit of the formula's variables and of so many restarts, and
+/// where propagation alone refutes the clauses only where it is below 2 * n * (n + 3), for n variables. What the search
+/// that stopped tells is then put into `stops`, before the line is written.
 pub fn run_file<D: Desk, S: Sink>(
     alloc: Global,
     job: Job,
     budget: u64,
+    restarts: u32,
     desk: &mut D,
     sink: &mut S,
     stops: &mut Vec<Stopped>,
 ) -> Ending
     // The ending is what the text says, where the desk tells what it holds.
-    ensures ending { IfSome (D.left desk.old) (λ text. IsEnding budget text result) }
+    ensures ending { IfSome (D.left desk.old) (λ text. IsEnding (terms_of budget restarts) text result) }
     ensures status { (s : ℕ) → result ≡ Ending.Done s → HasAnswer s }
     // A text that is decided was read to its end.
     ensures read { IsDone result → IfSome (D.left desk.old) (λ _. D.left desk.new ≡ Some []) }
@@ -67,16 +70,18 @@ pub fn run_file<D: Desk, S: Sink>(
     ensures flows { D.flows desk.old → (result ≢ Ending.ReadFault) × D.flows desk.new }
     ensures write_fault { IsCounted (result ≡ Ending.WriteFault) (IsDone result) (S.faults sink.old)
         (S.faults sink.new) }
-    ensures room { RoomForJob job budget (D.left desk.old) (S.has_room sink.old) → result ≢ Ending.WriteFault }
+    ensures room { RoomForJob job (terms_of budget restarts) (D.left desk.old) (S.has_room sink.old) → result ≢
+        Ending.WriteFault }
     // What is written, with what a search tells that stopped, and that all of it is flushed where there is an answer.
-    ensures output { LeavesOutput job budget (D.left desk.old) (S.written sink.old, S.written sink.new)
+    ensures output { LeavesOutput job (terms_of budget restarts) (D.left desk.old)
+        (S.written sink.old, S.written sink.new)
         (stops.old.items, stops.new.items) result }
     ensures flushed { IsDone result → AllFlushed (S.written sink.new) (S.flushed sink.old) (S.flushed sink.new) }
     // What the desk holds, and whether it is steady, stays.
     ensures content { (n : List ℕ) → D.content desk.new n ≡ D.content desk.old n }
     ensures stays { (n : List ℕ) → D.steady desk.old n → D.steady desk.new n }
 {
-    match answer(alloc, job, budget, desk, sink, stops) {
+    match answer(alloc, job, budget, restarts, desk, sink, stops) {
         Ok(answer) => Ending::Done(answer.status()),
         Err(ending) => ending,
     }
@@ -87,27 +92,31 @@ fn answer<D: Desk, S: Sink>(
     alloc: Global,
     job: Job,
     budget: u64,
+    restarts: u32,
     desk: &mut D,
     sink: &mut S,
     stops: &mut Vec<Stopped>,
 ) -> Result<Answer, Ending>
-    ensures answer { IfOk result (λ a. IfSome (D.left desk.old) (λ text. Solves budget text a)) }
-    ensures ending { IfErr result (λ e. ¬ IsDone e × IfSome (D.left desk.old) (λ text. IsEnding budget text e)) }
+    ensures answer { IfOk result (λ a. IfSome (D.left desk.old) (λ text. Solves (terms_of budget restarts) text a)) }
+    ensures ending { IfErr result (λ e. ¬ IsDone e × IfSome (D.left desk.old)
+        (λ text. IsEnding (terms_of budget restarts) text e)) }
     ensures read { OnOk result (IfSome (D.left desk.old) (λ _. D.left desk.new ≡ Some [])) }
     ensures read_fault { IsCounted (IsErrOf result Ending.ReadFault) (IsOk result) (D.faults desk.old)
         (D.faults desk.new) }
     ensures flows { D.flows desk.old → ¬ IsErrOf result Ending.ReadFault × D.flows desk.new }
     ensures write_fault { IsCounted (IsErrOf result Ending.WriteFault) (IsOk result) (S.faults sink.old)
         (S.faults sink.new) }
-    ensures room { RoomForJob job budget (D.left desk.old) (S.has_room sink.old) → ¬ IsErrOf result Ending.WriteFault }
-    ensures output { LeavesOutput job budget (D.left desk.old) (S.written sink.old, S.written sink.new)
+    ensures room { RoomForJob job (terms_of budget restarts) (D.left desk.old) (S.has_room sink.old) → ¬ IsErrOf
+        result Ending.WriteFault }
+    ensures output { LeavesOutput job (terms_of budget restarts) (D.left desk.old)
+        (S.written sink.old, S.written sink.new)
         (stops.old.items, stops.new.items) (ending_with result) }
     ensures flushed { OnOk result (AllFlushed (S.written sink.new) (S.flushed sink.old) (S.flushed sink.new)) }
     ensures content { (n : List ℕ) → D.content desk.new n ≡ D.content desk.old n }
     ensures stays { (n : List ℕ) → D.steady desk.old n → D.steady desk.new n }
 {
     let (mut engine, header) = load(alloc, desk)?;
-    reply(&mut engine, header, job, budget, sink, stops)
+    reply(&mut engine, header, job, budget, restarts, sink, stops)
 }
 
 // An engine that holds the formula of the chosen input, and the numbers of its header.
@@ -115,7 +124,7 @@ fn load<D: Desk>(alloc: Global, desk: &mut D) -> Result<(Engine, Header), Ending
     ensures formula { IfOk result (λ loaded. (f : AnyFormula) × HoldsFormula f.prefix f.clauses loaded.0
         × IsHeaderOf f loaded.1 × IfSome (D.left desk.old) (λ text. Reads text (parsed f))) }
     ensures ending { IfErr result (λ e. IsUnread e
-        × ((budget : ℕ) → IfSome (D.left desk.old) (λ text. IsEnding budget text e))) }
+        × ((terms : Terms) → IfSome (D.left desk.old) (λ text. IsEnding terms text e))) }
     ensures read { OnOk result (IfSome (D.left desk.old) (λ _. D.left desk.new ≡ Some [])) }
     ensures read_fault { IsCounted (IsErrOf result Ending.ReadFault) (IsOk result) (D.faults desk.old)
         (D.faults desk.new) }
@@ -146,11 +155,11 @@ fn engine_with(alloc: Global, f: &Formula) -> Result<Engine, NoMemory>
 }
 
 /// Decides a formula by search with a budget of that many steps. UNKNOWN comes only where the budget is below the step
-/// limit of the formula's variables, and where propagation alone refutes the clauses only where it is below n * (n + 3),
-/// for n variables. It fails for want of memory alone.
+/// limit of the formula's variables, and where propagation alone refutes the clauses only where it is below
+/// 2 * n * (n + 3), for n variables. It fails for want of memory alone.
 pub fn decide_formula(alloc: Global, f: &Formula, budget: u64) -> Result<Answer, NoMemory>
     requires { IsFormed f.now }
-    ensures { IfOk result (IsAnswerTo budget f.now) }
+    ensures { IfOk result (IsAnswerTo (terms_of budget 0) f.now) }
 {
     no_assumptions();
     let mut engine = engine_with(alloc, f)?;
@@ -164,13 +173,16 @@ fn reply<S: Sink>(
     header: Header,
     job: Job,
     budget: u64,
+    restarts: u32,
     sink: &mut S,
     stops: &mut Vec<Stopped>,
 ) -> Result<Answer, Ending>
     ensures { (f : AnyFormula) → HoldsFormula f.prefix f.clauses engine.old → IsHeaderOf f header → RepliesTo S.written
-        S.flushed S.faults S.has_room job budget f sink.old sink.new (stops.old.items, stops.new.items) result }
+        S.flushed S.faults S.has_room job (terms_of budget restarts) f sink.old sink.new
+        (stops.old.items, stops.new.items) result }
 {
     no_assumptions();
+    engine.set_restarts(restarts);
     stops.reserve(1)?;
     let reply = decide(engine, budget)?;
     let answer = reply.answer();
@@ -188,8 +200,8 @@ fn write_reply<S: Sink>(
     answer: Answer,
     sink: &mut S,
 ) -> Result<(), Ending>
-    ensures { (budget : ℕ) (f : AnyFormula) (s : Standing) → Holds budget engine.now s → IsHeaderOf f header
-        → IsAnsweredBy f answer s → WritesJob S.written S.flushed S.faults S.has_room job budget f answer sink.old
+    ensures { (terms : Terms) (f : AnyFormula) (s : Standing) → Holds terms engine.now s → IsHeaderOf f header
+        → IsAnsweredBy f answer s → WritesJob S.written S.flushed S.faults S.has_room job terms f answer sink.old
         sink.new result }
 {
     match answer {
@@ -200,8 +212,8 @@ fn write_reply<S: Sink>(
 
 // The same where the budget was spent.
 fn write_unknown<S: Sink>(header: Header, job: Job, sink: &mut S) -> Result<(), Ending>
-    ensures { (budget : ℕ) (f : AnyFormula) → IsHeaderOf f header → WritesJob S.written S.flushed S.faults S.has_room
-        job budget f Answer.Unknown sink.old sink.new result }
+    ensures { (terms : Terms) (f : AnyFormula) → IsHeaderOf f header → WritesJob S.written S.flushed S.faults S.has_room
+        job terms f Answer.Unknown sink.old sink.new result }
 {
     match job {
         Job::Qdo => Ok(write_solution(Answer::Unknown, header, sink)?),
@@ -218,8 +230,8 @@ fn write_verdict<S: Sink>(
     sink: &mut S,
 ) -> Result<(), Ending>
     requires { answer ≢ Answer.Unknown }
-    ensures { (budget : ℕ) (f : AnyFormula) (s : Standing) → Holds budget engine.now s → IsHeaderOf f header
-        → IsAnsweredBy f answer s → WritesJob S.written S.flushed S.faults S.has_room job budget f answer sink.old
+    ensures { (terms : Terms) (f : AnyFormula) (s : Standing) → Holds terms engine.now s → IsHeaderOf f header
+        → IsAnsweredBy f answer s → WritesJob S.written S.flushed S.faults S.has_room job terms f answer sink.old
         sink.new result }
 {
     match job {
@@ -243,7 +255,8 @@ fn write_result<S: Sink>(
     answer: Answer,
     sink: &mut S,
 ) -> Result<(), Failed>
-    ensures { (budget : ℕ) (f : AnyFormula) (s : Standing) (truth : Bool) → Holds budget engine.now s → IsHeaderOf f header
+    ensures { (terms : Terms) (f : AnyFormula) (s : Standing) (truth : Bool) → Holds terms engine.now s → IsHeaderOf
+        f header
         → s.script.formula ≡ opened f → s.script.verdict ≡ Some (unassumed truth) → answer ≡ answer_with truth
         → Writes S.written S.flushed S.faults S.has_room sink.old sink.new
         (solution_line answer f ++ value_lines f.prefix truth s.witness.values) result }

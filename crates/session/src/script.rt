@@ -1,5 +1,5 @@
 //! A script, read from the chosen input and replied to.
-ghost use Rattle.std.specs.Prelude.{◌≡◌, ◌≢◌, ◌<◌, ◌++◌, ℕ, false, vec_len, vec_capacity, List, IfErr, IfSome, IsErrOf, IsOk, OnErr, OnOk, [], Some, None};
+ghost use Rattle.std.specs.Prelude.{◌≡◌, ◌≢◌, ◌<◌, ◌++◌, ℕ, false, vec_len, vec_capacity, List, IfErr, IfOk, IfSome, IsErrOf, IsOk, OnErr, OnOk, [], Some, None};
 ghost use Rattle.ports.specs.Bytes.{AllFlushed};
 ghost use Rattle.ports.specs.Causes.{IsCounted};
 ghost use Rattle.qscript.specs.declared.command.Command.{Command as AnyCommand};
@@ -10,6 +10,7 @@ ghost use Rattle.session.specs.Steps.{Goes, listed};
 ghost use Rattle.session.specs.Solve.{IsDone};
 ghost use Rattle.session.specs.Standing.{Standing, start};
 ghost use Rattle.session.specs.State.{Holds};
+ghost use Rattle.session.specs.Terms.{terms_of};
 
 use crate::ending::Ending;
 use crate::reply::{Reply, SessionStop};
@@ -17,16 +18,18 @@ use crate::session::Session;
 use ports::{Desk, Sink};
 use qscript::{Command, ScriptReader, each_script_has_one_reading};
 use std::alloc::Global;
+use steps::NoMemory;
 use trail::Stopped;
 
 /// Reads the script that is left of the chosen input, and replies to its commands as they come; each solve takes at
-/// most so many steps. The output is flushed once, at the end.
+/// most so many steps, and begins anew at most so often. The output is flushed once, at the end.
 ///
 /// The replies are allowed ones (`specs/Replies`) to the commands of the lines before the first malformed one, which
 /// ends the run, as want of memory and a fault do. What each search tells that stopped is put into `stops`.
 pub fn run_script<D: Desk, S: Sink>(
     alloc: Global,
     budget: u64,
+    restarts: u32,
     desk: &mut D,
     sink: &mut S,
     stops: &mut Vec<Stopped>,
@@ -41,16 +44,17 @@ pub fn run_script<D: Desk, S: Sink>(
     ensures flows { D.flows desk.old → (result ≢ Ending.ReadFault) × D.flows desk.new }
     ensures write_fault { IsCounted (result ≡ Ending.WriteFault) (IsDone result) (S.faults sink.old)
         (S.faults sink.new) }
-    ensures room { RoomForReplies budget (D.left desk.old) (S.has_room sink.old) → result ≢ Ending.WriteFault }
+    ensures room { RoomForReplies (terms_of budget restarts) (D.left desk.old) (S.has_room sink.old) → result ≢
+        Ending.WriteFault }
     // What is written, what is told of the searches that stopped, and that all of it is flushed at the end.
-    ensures answered { AreAnswered budget (D.left desk.old) (S.written sink.old, S.written sink.new)
+    ensures answered { AreAnswered (terms_of budget restarts) (D.left desk.old) (S.written sink.old, S.written sink.new)
         (stops.old.items, stops.new.items) result }
     ensures flushed { IsDone result → AllFlushed (S.written sink.new) (S.flushed sink.old) (S.flushed sink.new) }
     // What the desk holds, and whether it is steady, stays.
     ensures content { (n : List ℕ) → D.content desk.new n ≡ D.content desk.old n }
     ensures stays { (n : List ℕ) → D.steady desk.old n → D.steady desk.new n }
 {
-    match answer_script(alloc, budget, desk, sink, stops) {
+    match answer_script(alloc, budget, restarts, desk, sink, stops) {
         Ok(()) => Ending::Done(0),
         Err(ending) => ending,
     }
@@ -60,6 +64,7 @@ pub fn run_script<D: Desk, S: Sink>(
 fn answer_script<D: Desk, S: Sink>(
     alloc: Global,
     budget: u64,
+    restarts: u32,
     desk: &mut D,
     sink: &mut S,
     stops: &mut Vec<Stopped>,
@@ -72,8 +77,9 @@ fn answer_script<D: Desk, S: Sink>(
     ensures flows { D.flows desk.old → ¬ IsErrOf result Ending.ReadFault × D.flows desk.new }
     ensures write_fault { IsCounted (IsErrOf result Ending.WriteFault) (IsOk result) (S.faults sink.old)
         (S.faults sink.new) }
-    ensures room { RoomForReplies budget (D.left desk.old) (S.has_room sink.old) → ¬ IsErrOf result Ending.WriteFault }
-    ensures answered { AreAnswered budget (D.left desk.old) (S.written sink.old, S.written sink.new)
+    ensures room { RoomForReplies (terms_of budget restarts) (D.left desk.old) (S.has_room sink.old) → ¬ IsErrOf
+        result Ending.WriteFault }
+    ensures answered { AreAnswered (terms_of budget restarts) (D.left desk.old) (S.written sink.old, S.written sink.new)
         (stops.old.items, stops.new.items) (ending_of result) }
     ensures flushed { OnOk result (AllFlushed (S.written sink.new) (S.flushed sink.old) (S.flushed sink.new)) }
     ensures content { (n : List ℕ) → D.content desk.new n ≡ D.content desk.old n }
@@ -81,8 +87,19 @@ fn answer_script<D: Desk, S: Sink>(
 {
     each_script_has_one_reading();
     let mut reader = ScriptReader::new(alloc)?;
-    let mut session = Session::new(alloc, budget)?;
+    let mut session = session_with(alloc, budget, restarts)?;
     answer_and_flush(&mut session, &mut reader, desk, sink, stops)
+}
+
+// A session of no commands with this budget, each solve of which may begin anew so often.
+fn session_with(alloc: Global, budget: u64, restarts: u32) -> Result<Session, NoMemory>
+    ensures made { IsOk result }
+    ensures terms { IfOk result (λ s. s.terms ≡ terms_of budget restarts) }
+    ensures holds { IfOk result (λ s. Holds (terms_of budget restarts) s.engine start) }
+{
+    let mut session = Session::new(alloc, budget)?;
+    session.set_restarts(restarts);
+    Ok(session)
 }
 
 // Replies to the script that a reader is in front of, and flushes.
@@ -93,7 +110,7 @@ fn answer_and_flush<D: Desk, S: Sink>(
     sink: &mut S,
     stops: &mut Vec<Stopped>,
 ) -> Result<(), Ending>
-    requires holds { Holds session.old.budget session.old.engine start }
+    requires holds { Holds session.old.terms session.old.engine start }
     requires ready { reader.old.failed ≡ false }
     requires fresh { reader.old.ahead ≡ None }
     requires script { (text : List ℕ) (commands : List AnyCommand) (e : ScriptEnding) → ReadsScript text commands e →
@@ -106,9 +123,9 @@ fn answer_and_flush<D: Desk, S: Sink>(
     ensures flows { D.flows desk.old → ¬ IsErrOf result Ending.ReadFault × D.flows desk.new }
     ensures write_fault { IsCounted (IsErrOf result Ending.WriteFault) (IsOk result) (S.faults sink.old)
         (S.faults sink.new) }
-    ensures room { RoomForReplies session.old.budget (D.left desk.old) (S.has_room sink.old) →
+    ensures room { RoomForReplies session.old.terms (D.left desk.old) (S.has_room sink.old) →
         ¬ IsErrOf result Ending.WriteFault }
-    ensures answered { AreAnswered session.old.budget (D.left desk.old) (S.written sink.old, S.written sink.new)
+    ensures answered { AreAnswered session.old.terms (D.left desk.old) (S.written sink.old, S.written sink.new)
         (stops.old.items, stops.new.items) (ending_of result) }
     ensures flushed { OnOk result (AllFlushed (S.written sink.new) (S.flushed sink.old) (S.flushed sink.new)) }
     ensures content { (n : List ℕ) → D.content desk.new n ≡ D.content desk.old n }
@@ -130,7 +147,7 @@ fn answer_commands<D: Desk, S: Sink>(
     requires ready { reader.old.failed ≡ false }
     requires end { EndsWith reader.old.ahead (D.left desk.old) }
     requires telling { is_fault reader.old.ahead ≡ false }
-    ensures replied { (s : Standing) → Holds session.old.budget session.old.engine s → Answers session.old.budget s
+    ensures replied { (s : Standing) → Holds session.old.terms session.old.engine s → Answers session.old.terms s
         (upcoming reader.old (D.left desk.old)) (IsLeftAt result)
         (λ text. IsSentAt S.written S.flushed S.faults S.has_room sink.old sink.new text result)
         (stops.old.items, stops.new.items) }
@@ -154,10 +171,10 @@ fn answer<S: Sink>(
     sink: &mut S,
     stops: &mut Vec<Stopped>,
 ) -> Result<(), Ending>
-    ensures budget { session.new.budget ≡ session.old.budget }
+    ensures terms { session.new.terms ≡ session.old.terms }
     ensures unread { ¬ IsErrOf result Ending.ReadFault }
-    ensures goes { (s : Standing) → Holds session.old.budget session.old.engine s → Goes S.written S.flushed S.faults
-        S.has_room session.old.budget command.now s sink.old sink.new session.new.engine
+    ensures goes { (s : Standing) → Holds session.old.terms session.old.engine s → Goes S.written S.flushed S.faults
+        S.has_room session.old.terms command.now s sink.old sink.new session.new.engine
         (stops.old.items, stops.new.items) result }
 {
     stops.reserve(1)?;

@@ -1,10 +1,11 @@
 //! Sessions: the commands of a script, replied to.
-ghost use Rattle.std.specs.Prelude.{◌≡◌, ℕ, Ok, IsOk, IfOk, IfSome, OnErr, MatchResult};
+ghost use Rattle.std.specs.Prelude.{◌≡◌, Ok, IsOk, IfOk, IfSome, OnErr, MatchResult};
 ghost use Rattle.frames.specs.Refusal.{number_of};
 ghost use Rattle.engine.specs.Asks.{IsVerdictOf, PlaysFirst};
 ghost use Rattle.session.specs.Standing.{Standing, start};
 ghost use Rattle.session.specs.State.{Holds};
 ghost use Rattle.session.specs.Steps.{IsDecided, IsSent, Refuses, Steps as StepsOf, left_by, reply_of};
+ghost use Rattle.session.specs.Terms.{Terms, terms_of, with_restarts};
 
 use crate::lines::{
     write_answer, write_circuit, write_core, write_refused, write_relevant, write_value,
@@ -18,11 +19,14 @@ use std::alloc::Global;
 use std::marker::Model;
 use steps::{NoMemory, Steps};
 
-/// An engine that takes the commands of a script and writes their replies. Contracts see the budget of each solve and
+/// An engine that takes the commands of a script and writes their replies. Contracts see the terms of each solve and
 /// the engine.
 #[derive(Debug, Drop)]
 pub struct Session {
     budget: u64,
+    restarts: u32,
+    // The greatest number of restarts that was set so far.
+    greatest: u32,
     engine: Engine,
 }
 
@@ -31,20 +35,38 @@ impl Model for Session {
 
     ghost Value = { SessionState };
 
-    ghost view = { λ s. record { budget = s.budget; engine = s.engine } };
+    ghost view = { λ s. record {
+      terms = record { budget = s.budget; restarts = s.restarts; greatest = s.greatest };
+      engine = s.engine;
+    } };
 }
 
 impl Session {
-    /// A session of no commands, in which each solve takes at most so many steps. This takes no memory.
+    /// A session of no commands, in which each solve takes at most so many steps, and never begins anew. This takes no
+    /// memory.
     pub fn new(alloc: Global, budget: u64) -> Result<Self, NoMemory>
         ensures made { IsOk result }
-        ensures budget { IfOk result (λ s. s.budget ≡ budget) }
-        ensures holds { IfOk result (λ s. Holds budget s.engine start) }
+        ensures terms { IfOk result (λ s. s.terms ≡ terms_of budget 0) }
+        ensures holds { IfOk result (λ s. Holds (terms_of budget 0) s.engine start) }
     {
         Ok(Self {
             budget,
+            restarts: 0,
+            greatest: 0,
             engine: Engine::new(alloc)?,
         })
+    }
+
+    /// How often a solve may begin anew from now on. This is no change: a verdict stays.
+    pub fn set_restarts(&mut self, restarts: u32)
+        ensures terms { self.new.terms ≡ with_restarts restarts self.old.terms }
+        ensures engine { self.new.engine ≡ record self.old.engine { restarts = restarts } }
+        ensures holds { (s : Standing) → Holds self.old.terms self.old.engine s
+            → Holds self.new.terms self.new.engine s }
+    {
+        self.restarts = restarts;
+        self.greatest = self.greatest.max(restarts);
+        self.engine.set_restarts(restarts);
     }
 
     /// Carries a command out, and writes its reply; nothing is flushed.
@@ -53,9 +75,9 @@ impl Session {
     /// written, the command is carried out and a front of the reply is written. Where there is no memory nothing is
     /// written; a solve leaves the formula and the assumptions, and no verdict, and any other command all as it was.
     pub fn step<S: Sink>(&mut self, command: &Command, sink: &mut S) -> Result<Reply, SessionStop>
-        ensures budget { self.new.budget ≡ self.old.budget }
-        ensures steps { (s : Standing) → Holds self.old.budget self.old.engine s → StepsOf S.written S.flushed S.faults
-            S.has_room self.old.budget command.now s sink.old sink.new self.new.engine result }
+        ensures terms { self.new.terms ≡ self.old.terms }
+        ensures steps { (s : Standing) → Holds self.old.terms self.old.engine s → StepsOf S.written S.flushed S.faults
+            S.has_room self.old.terms command.now s sink.old sink.new self.new.engine result }
     {
         match command {
             Command::Scope { quant, at } => accept(self.engine.scope(*quant, *at), sink),
@@ -107,8 +129,8 @@ fn send(written: Result<(), Failed>, reply: Reply) -> Result<Reply, SessionStop>
 
 // Decides the open formula, and writes the answer.
 fn solve<S: Sink>(engine: &mut Engine, budget: u64, sink: &mut S) -> Result<Reply, SessionStop>
-    ensures { (s : Standing) → Holds budget engine.old s → StepsOf S.written S.flushed S.faults S.has_room budget
-        Command.Solve s sink.old sink.new engine.new result }
+    ensures { (terms : Terms) (s : Standing) → terms.budget ≡ budget → Holds terms engine.old s → StepsOf S.written
+        S.flushed S.faults S.has_room terms Command.Solve s sink.old sink.new engine.new result }
 {
     let reply = decide(engine, budget)?;
     send(write_answer(reply.answer(), sink), reply)
@@ -116,9 +138,10 @@ fn solve<S: Sink>(engine: &mut Engine, budget: u64, sink: &mut S) -> Result<Repl
 
 // The reply to a solve of the open formula.
 pub(crate) fn decide(engine: &mut Engine, budget: u64) -> Result<Reply, NoMemory>
-    ensures ok { (s : Standing) → Holds budget engine.old s → IfOk result (λ reply. IsDecided budget s reply engine.new) }
-    ensures err { (s : Standing) → Holds budget engine.old s → OnErr result (Holds budget engine.new
-        (left_by Command.Solve s)) }
+    ensures ok { (terms : Terms) (s : Standing) → terms.budget ≡ budget → Holds terms engine.old s
+        → IfOk result (λ reply. IsDecided terms s reply engine.new) }
+    ensures err { (terms : Terms) (s : Standing) → terms.budget ≡ budget → Holds terms engine.old s
+        → OnErr result (Holds terms engine.new (left_by Command.Solve s)) }
 {
     match engine.solve(&mut Steps::new(budget)) {
         Ok(verdict) => Ok(told(engine, verdict)),
@@ -143,7 +166,8 @@ fn told(engine: &Engine, verdict: Verdict) -> Reply
 
 // Tells the winner's value of a variable of the first scope.
 fn tell_value<S: Sink>(engine: &Engine, var: u64, sink: &mut S) -> Result<Reply, SessionStop>
-    ensures { (budget : ℕ) (s : Standing) → Holds budget engine.now s → StepsOf S.written S.flushed S.faults S.has_room budget
+    ensures { (terms : Terms) (s : Standing) → Holds terms engine.now s → StepsOf S.written S.flushed S.faults
+        S.has_room terms
         (Command.Value var) s sink.old sink.new engine.now result }
 {
     match engine.value(var) {
@@ -154,7 +178,8 @@ fn tell_value<S: Sink>(engine: &Engine, var: u64, sink: &mut S) -> Result<Reply,
 
 // Tells the assumptions that the verdict rests on.
 fn tell_relevant<S: Sink>(engine: &Engine, sink: &mut S) -> Result<Reply, SessionStop>
-    ensures { (budget : ℕ) (s : Standing) → Holds budget engine.now s → StepsOf S.written S.flushed S.faults S.has_room budget
+    ensures { (terms : Terms) (s : Standing) → Holds terms engine.now s → StepsOf S.written S.flushed S.faults
+        S.has_room terms
         Command.Relevant s sink.old sink.new engine.now result }
 {
     match engine.relevant() {
@@ -165,7 +190,8 @@ fn tell_relevant<S: Sink>(engine: &Engine, sink: &mut S) -> Result<Reply, Sessio
 
 // Tells the verdict's trace.
 pub(crate) fn tell_trace<S: Sink>(engine: &Engine, sink: &mut S) -> Result<Reply, SessionStop>
-    ensures { (budget : ℕ) (s : Standing) → Holds budget engine.now s → StepsOf S.written S.flushed S.faults S.has_room budget
+    ensures { (terms : Terms) (s : Standing) → Holds terms engine.now s → StepsOf S.written S.flushed S.faults
+        S.has_room terms
         Command.Trace s sink.old sink.new engine.now result }
 {
     match engine.trace_core() {
@@ -176,7 +202,8 @@ pub(crate) fn tell_trace<S: Sink>(engine: &Engine, sink: &mut S) -> Result<Reply
 
 // Tells the verdict's circuit.
 pub(crate) fn tell_circuit<S: Sink>(engine: &Engine, sink: &mut S) -> Result<Reply, SessionStop>
-    ensures { (budget : ℕ) (s : Standing) → Holds budget engine.now s → StepsOf S.written S.flushed S.faults S.has_room budget
+    ensures { (terms : Terms) (s : Standing) → Holds terms engine.now s → StepsOf S.written S.flushed S.faults
+        S.has_room terms
         Command.Cert s sink.old sink.new engine.now result }
 {
     match engine.certificate() {

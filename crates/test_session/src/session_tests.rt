@@ -24,18 +24,18 @@ fn files_end_as_their_texts_say(rt: HostRuntime) -> Result<(), Fail> {
     for (text, budget, ending, line) in [
         (DIFFERS, 1000, Ending::Done(10), "SAT\n"),
         // The step limit of two variables.
-        (DIFFERS, 96, Ending::Done(10), "SAT\n"),
+        (DIFFERS, 192, Ending::Done(10), "SAT\n"),
         (
             "p cnf 2 2\ne 1 0\na 2 0\n1 2 0\n-1 -2 0\n",
-            96,
+            192,
             Ending::Done(20),
             "UNSAT\n",
         ),
         ("p cnf 1 1\n0\n", 0, Ending::Done(20), "UNSAT\n"),
-        // Four units, refuted by propagation: below 4 * (4 + 3) steps.
+        // Four units, refuted by propagation: below 2 * 4 * (4 + 3) steps.
         (
             "p cnf 4 5\n1 0\n-1 2 0\n-2 3 0\n-3 4 0\n-4 0\n",
-            28,
+            56,
             Ending::Done(20),
             "UNSAT\n",
         ),
@@ -45,7 +45,15 @@ fn files_end_as_their_texts_say(rt: HostRuntime) -> Result<(), Fail> {
         let mut desk = desk_with(alloc, text)?;
         let mut sink = sink_with(alloc, 64, 3)?;
         let mut stops = Vec::new(alloc);
-        let answer = run_file(alloc, Job::Solve, budget, &mut desk, &mut sink, &mut stops);
+        let answer = run_file(
+            alloc,
+            Job::Solve,
+            budget,
+            0,
+            &mut desk,
+            &mut sink,
+            &mut stops,
+        );
         assert_eq!(rt; answer, ending, "{text:?}");
         assert_eq!(rt; sink.bytes(), line.as_bytes());
         assert_eq!(rt; sink.flushed(), line.as_bytes());
@@ -74,42 +82,42 @@ fn jobs_write_what_they_ask_for(rt: HostRuntime) -> Result<(), Fail> {
         Row {
             job: Job::Trace,
             text: FALSE,
-            budget: 96,
+            budget: 192,
             ending: Ending::Done(20),
             written: "p qrp 2 5\ne 2 0\na 1 0\n1 1 2 0 0\n2 -1 -2 0 0\n3 2 0 1 0\n4 -2 0 2 0\n5 0 3 4 0\nr UNSAT\n",
         },
         Row {
             job: Job::Cert,
             text: FALSE,
-            budget: 96,
+            budget: 192,
             ending: Ending::Done(20),
             written: "aag 1 1 0 1 0\n2\n2\ni0 2\no0 1\nc\nherbrand\n",
         },
         Row {
             job: Job::Cert,
             text: DIFFERS,
-            budget: 96,
+            budget: 192,
             ending: Ending::Done(10),
             written: "aag 1 1 0 1 0\n2\n3\ni0 1\no0 2\nc\nskolem\n",
         },
         Row {
             job: Job::Trace,
             text: "p cnf 1 1\ne 1 0\n1 0\n",
-            budget: 32,
+            budget: 64,
             ending: Ending::Done(10),
             written: "p qrp 1 2\ne 1 0\n1 1 0 0\n2 0 1 0\nr SAT\n",
         },
         Row {
             job: Job::Qdo,
             text: "p cnf 1 1\ne 1 0\n1 0\n",
-            budget: 32,
+            budget: 64,
             ending: Ending::Done(10),
             written: "s cnf 1 1 1\nV 1 0\n",
         },
         Row {
             job: Job::Qdo,
             text: "p cnf 3 2\na 1 0\ne 2 0\n1 2 0\n1 -2 0\n",
-            budget: 96,
+            budget: 192,
             ending: Ending::Done(20),
             written: "s cnf 0 3 2\nV -1 0\n",
         },
@@ -117,14 +125,14 @@ fn jobs_write_what_they_ask_for(rt: HostRuntime) -> Result<(), Fail> {
         Row {
             job: Job::Qdo,
             text: DIFFERS,
-            budget: 96,
+            budget: 192,
             ending: Ending::Done(10),
             written: "s cnf 1 2 2\n",
         },
         Row {
             job: Job::Qdo,
             text: FALSE,
-            budget: 96,
+            budget: 192,
             ending: Ending::Done(20),
             written: "s cnf 0 2 2\n",
         },
@@ -153,7 +161,9 @@ fn jobs_write_what_they_ask_for(rt: HostRuntime) -> Result<(), Fail> {
         let mut desk = desk_with(alloc, row.text)?;
         let mut sink = sink_with(alloc, 128, 5)?;
         let mut stops = Vec::new(alloc);
-        let ending = run_file(alloc, row.job, row.budget, &mut desk, &mut sink, &mut stops);
+        let ending = run_file(
+            alloc, row.job, row.budget, 0, &mut desk, &mut sink, &mut stops,
+        );
         assert_eq!(rt; ending, row.ending);
         assert_eq!(rt; sink.bytes(), row.written.as_bytes());
         assert_eq!(rt; sink.flushed(), row.written.as_bytes());
@@ -169,7 +179,15 @@ fn each_search_that_stopped_is_told(rt: HostRuntime) -> Result<(), Fail> {
     for budget in 0..2 {
         let mut desk = desk_with(alloc, DIFFERS)?;
         let mut sink = sink_with(alloc, 64, 3)?;
-        let answer = run_file(alloc, Job::Solve, budget, &mut desk, &mut sink, &mut stops);
+        let answer = run_file(
+            alloc,
+            Job::Solve,
+            budget,
+            0,
+            &mut desk,
+            &mut sink,
+            &mut stops,
+        );
         assert_eq!(rt; answer, Ending::Done(0));
         assert_eq!(rt; sink.bytes(), b"UNKNOWN\n".as_slice());
         assert!(rt; matches!(stops.last(), Some(stopped) if stopped.budget() == budget));
@@ -185,7 +203,7 @@ fn a_failing_flush_is_a_write_fault(rt: HostRuntime) -> Result<(), Fail> {
     let mut desk = desk_with(alloc, "p cnf 0 0\n")?;
     let mut sink = MemorySink::new(alloc, 64, 9, vec![in alloc; 2]?)?;
     let mut stops = Vec::new(alloc);
-    let answer = run_file(alloc, Job::Solve, 9, &mut desk, &mut sink, &mut stops);
+    let answer = run_file(alloc, Job::Solve, 9, 0, &mut desk, &mut sink, &mut stops);
     assert_eq!(rt; answer, Ending::WriteFault);
     assert_eq!(rt; sink.bytes(), b"SAT\n".as_slice());
     assert_eq!(rt; sink.flushed(), b"".as_slice());
@@ -223,7 +241,7 @@ fn scripts_are_replied_to(rt: HostRuntime) -> Result<(), Fail> {
         let mut desk = desk_with(alloc, text)?;
         let mut sink = sink_with(alloc, 64, 3)?;
         let mut stops = Vec::new(alloc);
-        let answer = run_script(alloc, 1000, &mut desk, &mut sink, &mut stops);
+        let answer = run_script(alloc, 1000, 0, &mut desk, &mut sink, &mut stops);
         assert_eq!(rt; answer, ending, "{text:?}");
         assert_eq!(rt; sink.bytes(), lines.as_bytes());
         assert!(rt; stops.is_empty());
@@ -247,6 +265,10 @@ fn commands_are_replied_to_one_by_one(rt: HostRuntime) -> Result<(), Fail> {
     // No step is due without variables.
     let solved = session.step(&Command::Solve, &mut sink);
     assert!(rt; matches!(solved, Ok(Reply::Sat)));
-    assert_eq!(rt; sink.bytes(), b"refused 40\nSAT\n".as_slice());
+    // Another number of restarts keeps the verdict.
+    session.set_restarts(2);
+    let told = session.step(&Command::Relevant, &mut sink);
+    assert!(rt; matches!(told, Ok(Reply::Written)));
+    assert_eq!(rt; sink.bytes(), b"refused 40\nSAT\nrelevant 0\n".as_slice());
     Ok(())
 }

@@ -9,19 +9,36 @@ type Want<'a> = Result<Command<'a>, &'a str>;
 const GREATEST: u64 = u64::MAX;
 
 fn solve(budget: u64, qdo: bool, name: Option<&str>) -> Want<'_> {
-    Ok(Command::Solve { budget, qdo, name })
+    Ok(Command::Solve {
+        budget,
+        restarts: 0,
+        qdo,
+        name,
+    })
 }
 
 fn trace(budget: u64, name: Option<&str>) -> Want<'_> {
-    Ok(Command::Trace { budget, name })
+    Ok(Command::Trace {
+        budget,
+        restarts: 0,
+        name,
+    })
 }
 
 fn cert(budget: u64, name: Option<&str>) -> Want<'_> {
-    Ok(Command::Cert { budget, name })
+    Ok(Command::Cert {
+        budget,
+        restarts: 0,
+        name,
+    })
 }
 
 fn script(budget: u64, name: Option<&str>) -> Want<'_> {
-    Ok(Command::Script { budget, name })
+    Ok(Command::Script {
+        budget,
+        restarts: 0,
+        name,
+    })
 }
 
 fn generated<'a>(seed: u32, vars: u32, clauses: u32) -> Want<'a> {
@@ -88,6 +105,102 @@ fn commands_with_an_input_are_read(rt: HostRuntime) -> Result<(), Fail> {
     Ok(())
 }
 
+// The same with this many restarts in the place of none.
+fn with_restarts(want: Want<'_>, restarts: u32) -> Want<'_> {
+    match want {
+        Ok(
+            Command::Solve {
+                budget,
+                qdo,
+                name,
+                ..
+            },
+        ) => Ok(Command::Solve {
+            budget,
+            restarts,
+            qdo,
+            name,
+        }),
+        Ok(Command::Trace { budget, name, .. }) => Ok(Command::Trace {
+            budget,
+            restarts,
+            name,
+        }),
+        Ok(Command::Cert { budget, name, .. }) => Ok(Command::Cert {
+            budget,
+            restarts,
+            name,
+        }),
+        Ok(Command::Script { budget, name, .. }) => Ok(Command::Script {
+            budget,
+            restarts,
+            name,
+        }),
+        other => other,
+    }
+}
+
+#[test]
+fn restarts_are_read(rt: HostRuntime) -> Result<(), Fail> {
+    for (line, restarts, want) in [
+        ("qbf solve --restarts 0", 0, solve(GREATEST, false, None)),
+        (
+            "qbf solve --restarts 1000000",
+            1_000_000,
+            solve(GREATEST, false, None),
+        ),
+        (
+            "qbf solve --restarts=2 f",
+            2,
+            solve(GREATEST, false, Some("f")),
+        ),
+        (
+            "qbf solve f --restarts 2",
+            2,
+            solve(GREATEST, false, Some("f")),
+        ),
+        (
+            "qbf solve --restarts 2 --budget 7 --qdo f",
+            2,
+            solve(7, true, Some("f")),
+        ),
+        (
+            "qbf solve --qdo --budget=7 f --restarts=2",
+            2,
+            solve(7, true, Some("f")),
+        ),
+        ("qbf trace --restarts 2", 2, trace(GREATEST, None)),
+        ("qbf cert f --restarts 2", 2, cert(GREATEST, Some("f"))),
+        (
+            "qbf script --restarts 2 --budget 7 gen",
+            2,
+            script(7, Some("gen")),
+        ),
+        ("qbf solve --restarts 1000001", 0, Err("is not in")),
+        ("qbf script --restarts=1000001 f", 0, Err("is not in")),
+        (
+            "qbf cert --restarts 1 --restarts=2",
+            0,
+            Err("multiple times"),
+        ),
+        ("qbf solve --restarts", 0, Err("a value is required")),
+        ("qbf solve --restarts 02", 0, Err("no needless zero")),
+        ("qbf trace --restarts +1", 0, Err("a number has no sign")),
+        ("qbf solve --restarts x", 0, Err("invalid value 'x'")),
+        ("qbf solve --restarts=", 0, Err("invalid value ''")),
+        (
+            "qbf gen --restarts 1 0 3 1",
+            0,
+            Err("unexpected argument '--restarts'"),
+        ),
+        ("qbf --restarts 1", 0, Err("'--restarts'")),
+    ] {
+        let wanted = with_restarts(want, restarts);
+        assert!(rt; comes_to(rt.alloc(), line, wanted)?, "{line}");
+    }
+    Ok(())
+}
+
 #[test]
 fn commands_of_numbers_are_read(rt: HostRuntime) -> Result<(), Fail> {
     let over = "is not in";
@@ -147,6 +260,7 @@ fn other_words_are_refused(rt: HostRuntime) -> Result<(), Fail> {
         ("qbf -h", "Usage: qbf <COMMAND>"),
         ("qbf help", "Usage: qbf <COMMAND>"),
         ("qbf solve --help", "--qdo "),
+        ("qbf cert --help", "--restarts <R>"),
         ("qbf trace --help", "Usage: qbf trace [OPTIONS] [NAME]"),
         ("qbf cert -h", "Usage: qbf cert [OPTIONS] [NAME]"),
         ("qbf script -h", "Usage: qbf script [OPTIONS] [NAME]"),

@@ -17,17 +17,17 @@ const FALSE: &str = "p cnf 2 2/e 2 0/a 1 0/1 2 0/-1 -2 0/";
 fn results_are_written_in_lines(rt: HostRuntime) -> Result<(), Fail> {
     let alloc = rt.alloc();
     for (budget, text, status, want) in [
-        ("32", UNIT, 10, "s cnf 1 1 1/V 1 0/"),
+        ("64", UNIT, 10, "s cnf 1 1 1/V 1 0/"),
         ("0", UNIT, 0, "s cnf -1 1 1/"),
-        ("96", DIFFERS, 10, "s cnf 1 2 2/"),
-        ("96", FALSE, 20, "s cnf 0 2 2/"),
+        ("192", DIFFERS, 10, "s cnf 1 2 2/"),
+        ("192", FALSE, 20, "s cnf 0 2 2/"),
         (
-            "96",
+            "192",
             "p cnf 4 1/a 2 3 0/2 3 0/",
             20,
             "s cnf 0 4 1/V -2 0/V -3 0/",
         ),
-        ("96", "p cnf 1 1/2 0/", 2, ""),
+        ("192", "p cnf 1 1/2 0/", 2, ""),
     ] {
         let found = carry_out(
             alloc,

@@ -1,6 +1,7 @@
 use Rattle.std.proofs.Common.{◌≡◌, List, Option, subst, sym}
 use Rattle.trail.specs.State.{Account}
 use Rattle.command.specs.Forms.{Text}
+use Rattle.session.specs.Terms.{terms_of}
 use Rattle.session.specs.Scripts.{RoomForReplies}
 use Rattle.std.specs.Prelude.{option_map}
 use Rattle.qbf_cli.specs.Asked.{input_name}
@@ -27,7 +28,8 @@ returns-clause-replied g c =
     (g.O.Sink.written c.args.out.now, g.O.Sink.written c.run_script.new.sink) in
     let told : List Account × List Account = (c.args.stops.now.items, c.run_script.new.stops.items) in
     let e = c.run_script.result in
-    subst (λ known. IsReplied c.args.budget known (left c.run_script.new.desk) output told e) same (record {
+    subst (λ known. IsReplied (terms_of c.args.budget c.args.restarts) known (left c.run_script.new.desk) output told
+    e) same (record {
       ending = c.run_script.ensures.ending;
       status = c.run_script.ensures.status;
       read = c.run_script.ensures.read;
@@ -43,7 +45,8 @@ returns-clause-room g c room =
     chosen c.choose.result content _ _ name c.if-is_err.ensures.negation c.choose.ensures.chosen
     c.input_name-input.ensures in
     c.run_script.ensures.room
-    (subst (λ known. RoomForReplies c.args.budget known (g.O.Sink.has_room c.args.out.now)) (sym same) room)
+    (subst (λ known. RoomForReplies (terms_of c.args.budget c.args.restarts) known
+    (g.O.Sink.has_room c.args.out.now)) (sym same) room)
 
 pub returns-clause-read_fault : goal.returns-clause-read_fault
 returns-clause-read_fault g c =

@@ -2,6 +2,7 @@ use Rattle.std.proofs.Common.{◌≡◌, List, Option, subst}
 use Rattle.std.specs.Prelude.{option_map}
 use Rattle.trail.specs.State.{Account}
 use Rattle.command.specs.Forms.{Text}
+use Rattle.session.specs.Terms.{terms_of}
 use Rattle.qbf_cli.specs.Asked.{input_name}
 use Rattle.qbf_cli.specs.Run.{IsSolved}
 use Rattle.qbf_cli.proofs.Choosing.{chosen}
@@ -18,7 +19,8 @@ returns-clause-solved g c =
     (g.O.Sink.written c.args.out.now, g.O.Sink.written c.run_file.new.sink) in
     let told : List Account × List Account = (c.args.stops.now.items, c.run_file.new.stops.items) in
     let e = c.run_file.result in
-    subst (λ known. IsSolved c.args.job c.args.budget known (left c.run_file.new.desk) output told e) same (record {
+    subst (λ known. IsSolved c.args.job (terms_of c.args.budget c.args.restarts) known (left c.run_file.new.desk)
+    output told e) same (record {
       ending = c.run_file.ensures.ending;
       status = c.run_file.ensures.status;
       read = c.run_file.ensures.read;

@@ -19,7 +19,7 @@ write_values-requires g c =
     subst (λ ss. 1 ≤ length ss) c.prefix.ensures.value (there c.prefix.result.now c.winner.result won)
 
 pub returns : goal.returns
-returns g c budget f s truth holds header formula verdict is =
+returns g c terms f s truth holds header formula verdict is =
     let e = c.args.engine.now in
     let won : is_of (quantifier_at c.prefix.result.now 1) c.winner.result ≡ true =
     sym c.is_won_first.ensures ∙ c.if-not-is_won_first.false in
@@ -43,7 +43,7 @@ returns g c budget f s truth holds header formula verdict is =
     ∙ ap (λ b. Some (winner_of b)) (sym same)))))
 
 pub returns-in_err-write_solution : goal.returns-in_err-write_solution
-returns-in_err-write_solution g c budget f s truth holds header formula verdict is =
+returns-in_err-write_solution g c terms f s truth holds header formula verdict is =
     writes_err g.S.Sink.written g.S.Sink.flushed g.S.Sink.faults g.S.Sink.has_room _ c.from_residual.result c.args.sink.now
     c.write_solution.new.sink _ c.from_residual.ensures.1
     (part_more g.S.Sink.written g.S.Sink.flushed g.S.Sink.faults g.S.Sink.has_room c.args.sink.now c.write_solution.new.sink

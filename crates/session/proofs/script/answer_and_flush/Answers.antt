@@ -14,10 +14,11 @@ returns-in_err-answer_commands-clause-ending g c =
     let known = g.D.Desk.left c.args.desk.now in
     let script = upcoming c.args.reader.now known in
     let of = of_text known (upcoming c.args.reader.now) c.each_script_has_one_reading.ensures.some c.requires.script in
-    let budget = c.args.session.now.budget in
+    let terms = c.args.session.now.terms in
     let p = err_from_is_err_and c.from_residual.result c.from_residual.ensures.1 in
     let replied = c.in_err-answer_commands.ensures.replied start c.requires.holds in
-    rw (p.1, p.2) (ending_is written flushed faults has_room budget known script of (Err c.in_err-answer_commands.field-0.0)
+    rw (p.1, p.2) (ending_is written flushed faults has_room terms known script of
+    (Err c.in_err-answer_commands.field-0.0)
     c.args.sink.now c.answer_commands.new.sink c.args.stops.now.items c.answer_commands.new.stops.items replied)
 
 pub returns-in_err-answer_commands-clause-err : goal.returns-in_err-answer_commands-clause-err
@@ -29,10 +30,11 @@ returns-in_err-answer_commands-clause-err g c =
     let known = g.D.Desk.left c.args.desk.now in
     let script = upcoming c.args.reader.now known in
     let of = of_text known (upcoming c.args.reader.now) c.each_script_has_one_reading.ensures.some c.requires.script in
-    let budget = c.args.session.now.budget in
+    let terms = c.args.session.now.terms in
     let p = err_from_is_err_and c.from_residual.result c.from_residual.ensures.1 in
     let replied = c.in_err-answer_commands.ensures.replied start c.requires.holds in
-    rw (p.1, p.2) (not_done written flushed faults has_room budget known script of (Err c.in_err-answer_commands.field-0.0)
+    rw (p.1, p.2) (not_done written flushed faults has_room terms known script of
+    (Err c.in_err-answer_commands.field-0.0)
     c.args.sink.now c.answer_commands.new.sink c.args.stops.now.items c.answer_commands.new.stops.items replied)
 
 pub returns-in_err-answer_commands-clause-write_fault : goal.returns-in_err-answer_commands-clause-write_fault
@@ -44,10 +46,11 @@ returns-in_err-answer_commands-clause-write_fault g c =
     let known = g.D.Desk.left c.args.desk.now in
     let script = upcoming c.args.reader.now known in
     let of = of_text known (upcoming c.args.reader.now) c.each_script_has_one_reading.ensures.some c.requires.script in
-    let budget = c.args.session.now.budget in
+    let terms = c.args.session.now.terms in
     let p = err_from_is_err_and c.from_residual.result c.from_residual.ensures.1 in
     let replied = c.in_err-answer_commands.ensures.replied start c.requires.holds in
-    rw (p.1, p.2) (counted_is written flushed faults has_room budget known script of (Err c.in_err-answer_commands.field-0.0)
+    rw (p.1, p.2) (counted_is written flushed faults has_room terms known script of
+    (Err c.in_err-answer_commands.field-0.0)
     c.args.sink.now c.answer_commands.new.sink c.args.stops.now.items c.answer_commands.new.stops.items replied)
 
 pub returns-in_err-answer_commands-clause-room : goal.returns-in_err-answer_commands-clause-room
@@ -59,10 +62,11 @@ returns-in_err-answer_commands-clause-room g c =
     let known = g.D.Desk.left c.args.desk.now in
     let script = upcoming c.args.reader.now known in
     let of = of_text known (upcoming c.args.reader.now) c.each_script_has_one_reading.ensures.some c.requires.script in
-    let budget = c.args.session.now.budget in
+    let terms = c.args.session.now.terms in
     let p = err_from_is_err_and c.from_residual.result c.from_residual.ensures.1 in
     let replied = c.in_err-answer_commands.ensures.replied start c.requires.holds in
-    rw (p.1, p.2) (room_is written flushed faults has_room budget known script of (Err c.in_err-answer_commands.field-0.0)
+    rw (p.1, p.2) (room_is written flushed faults has_room terms known script of
+    (Err c.in_err-answer_commands.field-0.0)
     c.args.sink.now c.answer_commands.new.sink c.args.stops.now.items c.answer_commands.new.stops.items replied)
 
 pub returns-in_err-answer_commands-clause-answered : goal.returns-in_err-answer_commands-clause-answered
@@ -74,10 +78,11 @@ returns-in_err-answer_commands-clause-answered g c =
     let known = g.D.Desk.left c.args.desk.now in
     let script = upcoming c.args.reader.now known in
     let of = of_text known (upcoming c.args.reader.now) c.each_script_has_one_reading.ensures.some c.requires.script in
-    let budget = c.args.session.now.budget in
+    let terms = c.args.session.now.terms in
     let p = err_from_is_err_and c.from_residual.result c.from_residual.ensures.1 in
     let replied = c.in_err-answer_commands.ensures.replied start c.requires.holds in
-    rw (p.1, p.2) (answered_is written flushed faults has_room budget known script of (Err c.in_err-answer_commands.field-0.0)
+    rw (p.1, p.2) (answered_is written flushed faults has_room terms known script of
+    (Err c.in_err-answer_commands.field-0.0)
     c.args.sink.now c.answer_commands.new.sink c.args.stops.now.items c.answer_commands.new.stops.items replied)
 
 pub returns-in_err-flush-clause-ending : goal.returns-in_err-flush-clause-ending
@@ -89,7 +94,7 @@ returns-in_err-flush-clause-ending g c =
     let known = g.D.Desk.left c.args.desk.now in
     let script = upcoming c.args.reader.now known in
     let of = of_text known (upcoming c.args.reader.now) c.each_script_has_one_reading.ensures.some c.requires.script in
-    let budget = c.args.session.now.budget in
+    let terms = c.args.session.now.terms in
     let p = err_from_is_err_and c.from_residual-in_err-flush.result c.from_residual-in_err-flush.ensures.1 in
     let replied = c.in_ok-answer_commands.ensures.replied start c.requires.holds in
     rw (p.1, p.2) (any_text known)
@@ -103,10 +108,10 @@ returns-in_err-flush-clause-write_fault g c =
     let known = g.D.Desk.left c.args.desk.now in
     let script = upcoming c.args.reader.now known in
     let of = of_text known (upcoming c.args.reader.now) c.each_script_has_one_reading.ensures.some c.requires.script in
-    let budget = c.args.session.now.budget in
+    let terms = c.args.session.now.terms in
     let p = err_from_is_err_and c.from_residual-in_err-flush.result c.from_residual-in_err-flush.ensures.1 in
     let replied = c.in_ok-answer_commands.ensures.replied start c.requires.holds in
-    fault_counted written flushed faults has_room budget known script of c.args.sink.now
+    fault_counted written flushed faults has_room terms known script of c.args.sink.now
     c.answer_commands.new.sink c.flush.new.self c.args.stops.now.items c.answer_commands.new.stops.items replied c.flush.ensures.bytes c.flush.result c.flush.ensures.cause (ap is_err c.in_err-flush.was)
     c.from_residual-in_err-flush.result (p.1 ∙ ap Err p.2)
 
@@ -119,11 +124,11 @@ returns-in_err-flush-clause-room g c =
     let known = g.D.Desk.left c.args.desk.now in
     let script = upcoming c.args.reader.now known in
     let of = of_text known (upcoming c.args.reader.now) c.each_script_has_one_reading.ensures.some c.requires.script in
-    let budget = c.args.session.now.budget in
+    let terms = c.args.session.now.terms in
     let p = err_from_is_err_and c.from_residual-in_err-flush.result c.from_residual-in_err-flush.ensures.1 in
     let replied = c.in_ok-answer_commands.ensures.replied start c.requires.holds in
     λ room is.
-    let left = room_left written flushed faults has_room budget known script of c.args.sink.now
+    let left = room_left written flushed faults has_room terms known script of c.args.sink.now
     c.answer_commands.new.sink c.flush.new.self c.args.stops.now.items c.answer_commands.new.stops.items replied c.flush.ensures.bytes room in
     let fine = (c.flush.ensures.room left.0 left.1).0 in
     absurd (let both : false ≡ true = ap is_ok (sym c.in_err-flush.was) ∙ fine in cc)
@@ -137,10 +142,10 @@ returns-in_err-flush-clause-answered g c =
     let known = g.D.Desk.left c.args.desk.now in
     let script = upcoming c.args.reader.now known in
     let of = of_text known (upcoming c.args.reader.now) c.each_script_has_one_reading.ensures.some c.requires.script in
-    let budget = c.args.session.now.budget in
+    let terms = c.args.session.now.terms in
     let p = err_from_is_err_and c.from_residual-in_err-flush.result c.from_residual-in_err-flush.ensures.1 in
     let replied = c.in_ok-answer_commands.ensures.replied start c.requires.holds in
-    rw (p.1, p.2) (fault_answered written flushed faults has_room budget known script of c.args.sink.now
+    rw (p.1, p.2) (fault_answered written flushed faults has_room terms known script of c.args.sink.now
     c.answer_commands.new.sink c.flush.new.self c.args.stops.now.items c.answer_commands.new.stops.items replied c.flush.ensures.bytes)
 
 pub returns-clause-ending : goal.returns-clause-ending
@@ -152,9 +157,9 @@ returns-clause-ending g c =
     let known = g.D.Desk.left c.args.desk.now in
     let script = upcoming c.args.reader.now known in
     let of = of_text known (upcoming c.args.reader.now) c.each_script_has_one_reading.ensures.some c.requires.script in
-    let budget = c.args.session.now.budget in
+    let terms = c.args.session.now.terms in
     let replied = c.in_ok-answer_commands.ensures.replied start c.requires.holds in
-    ending_is written flushed faults has_room budget known script of (Ok tt)
+    ending_is written flushed faults has_room terms known script of (Ok tt)
     c.args.sink.now c.answer_commands.new.sink c.args.stops.now.items c.answer_commands.new.stops.items replied
 
 pub returns-clause-write_fault : goal.returns-clause-write_fault
@@ -166,7 +171,7 @@ returns-clause-write_fault g c =
     let known = g.D.Desk.left c.args.desk.now in
     let script = upcoming c.args.reader.now known in
     let of = of_text known (upcoming c.args.reader.now) c.each_script_has_one_reading.ensures.some c.requires.script in
-    let budget = c.args.session.now.budget in
+    let terms = c.args.session.now.terms in
     let replied = c.in_ok-answer_commands.ensures.replied start c.requires.holds in
     record {
       later = let first = replied.sent.no_fault in let second = c.in_ok-flush.ensures.cause.later in omega arith;
@@ -183,9 +188,9 @@ returns-clause-answered g c =
     let known = g.D.Desk.left c.args.desk.now in
     let script = upcoming c.args.reader.now known in
     let of = of_text known (upcoming c.args.reader.now) c.each_script_has_one_reading.ensures.some c.requires.script in
-    let budget = c.args.session.now.budget in
+    let terms = c.args.session.now.terms in
     let replied = c.in_ok-answer_commands.ensures.replied start c.requires.holds in
-    flushed_answered written flushed faults has_room budget known script of c.args.sink.now
+    flushed_answered written flushed faults has_room terms known script of c.args.sink.now
     c.answer_commands.new.sink c.flush.new.self c.args.stops.now.items c.answer_commands.new.stops.items replied c.flush.ensures.bytes
 
 pub returns-clause-flushed : goal.returns-clause-flushed
@@ -197,7 +202,7 @@ returns-clause-flushed g c =
     let known = g.D.Desk.left c.args.desk.now in
     let script = upcoming c.args.reader.now known in
     let of = of_text known (upcoming c.args.reader.now) c.each_script_has_one_reading.ensures.some c.requires.script in
-    let budget = c.args.session.now.budget in
+    let terms = c.args.session.now.terms in
     let replied = c.in_ok-answer_commands.ensures.replied start c.requires.holds in
-    all_flushed written flushed faults has_room budget known script of c.args.sink.now
+    all_flushed written flushed faults has_room terms known script of c.args.sink.now
     c.answer_commands.new.sink c.flush.new.self c.args.stops.now.items c.answer_commands.new.stops.items replied c.flush.ensures.bytes c.in_ok-flush.ensures.flushed

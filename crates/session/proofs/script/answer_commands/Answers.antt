@@ -14,9 +14,9 @@ loop-command-init g c =
     let faults = g.S.Sink.faults in
     let has_room = g.S.Sink.has_room in
     record {
-      budget = refl;
+      terms = refl;
       ready = c.requires.ready;
-      under = λ s holds. begun written flushed faults has_room c.args.session.now.budget s
+      under = λ s holds. begun written flushed faults has_room c.args.session.now.terms s
           (upcoming c.args.reader.now (g.D.Desk.left c.args.desk.now)) c.args.session.now.engine c.args.sink.now
           c.args.stops.now.items holds;
       end = c.requires.end;
@@ -40,7 +40,7 @@ returns-in_err-command-clause-replied g c = λ s holds.
     let faults = g.S.Sink.faults in
     let has_room = g.S.Sink.has_room in
     let p = err_from_is_err_and c.from_residual.result c.from_residual.ensures.1 in
-    rw (p.1, p.2) (refused_at written flushed faults has_room c.args.session.now.budget s
+    rw (p.1, p.2) (refused_at written flushed faults has_room c.args.session.now.terms s
     (upcoming c.args.reader.now (g.D.Desk.left c.args.desk.now))
     (upcoming c.loop-command.reader (g.D.Desk.left c.loop-command.desk)) c.loop-command.session.engine c.args.sink.now
     c.loop-command.sink c.args.stops.now.items c.loop-command.stops.items (c.loop-command.invariant.under s holds)
@@ -70,7 +70,7 @@ returns-in_err-answer-clause-replied g c = λ s holds.
     let faults = g.S.Sink.faults in
     let has_room = g.S.Sink.has_room in
     let p = err_from_is_err_and c.from_residual-in_err-answer.result c.from_residual-in_err-answer.ensures.1 in
-    rw (p.1, p.2) (failed_at written flushed faults has_room c.args.session.now.budget s
+    rw (p.1, p.2) (failed_at written flushed faults has_room c.args.session.now.terms s
     (upcoming c.args.reader.now (g.D.Desk.left c.args.desk.now))
     (upcoming c.loop-command.reader (g.D.Desk.left c.loop-command.desk))
     (upcoming c.next_command.new.self (g.D.Desk.left c.next_command.new.desk)) c.in-Some.command
@@ -78,10 +78,10 @@ returns-in_err-answer-clause-replied g c = λ s holds.
     c.args.stops.now.items c.loop-command.stops.items c.answer.new.stops.items
     (c.loop-command.invariant.under s holds) (rw c.in-Some.is at c.in_ok-command.ensures.script)
     c.in_err-answer.field-0.0
-    (λ t held. subst (λ budget. Goes written flushed faults has_room budget c.in-Some.command t c.loop-command.sink
+    (λ t held. subst (λ terms. Goes written flushed faults has_room terms c.in-Some.command t c.loop-command.sink
     c.answer.new.sink c.answer.new.session.engine (c.loop-command.stops.items, c.answer.new.stops.items)
-    (Err c.in_err-answer.field-0.0)) c.loop-command.invariant.budget (c.in_err-answer.ensures.goes t
-    (subst (λ b. Holds b c.loop-command.session.engine t) (sym c.loop-command.invariant.budget) held))))
+    (Err c.in_err-answer.field-0.0)) c.loop-command.invariant.terms (c.in_err-answer.ensures.goes t
+    (subst (λ b. Holds b c.loop-command.session.engine t) (sym c.loop-command.invariant.terms) held))))
 
 -- src/script.rt:105:9
 pub returns-in_err-answer-clause-read_fault : goal.returns-in_err-answer-clause-read_fault
@@ -124,16 +124,16 @@ loop-command-preserved-in_ok-answer g c =
     let inv = c.loop-command.invariant in
     let next = c.in_ok-command.ensures in
     record {
-      budget = c.answer.ensures.budget ∙ inv.budget;
+      terms = c.answer.ensures.terms ∙ inv.terms;
       ready = next.failed;
-      under = λ s holds. gone_on written flushed faults has_room c.args.session.now.budget s
+      under = λ s holds. gone_on written flushed faults has_room c.args.session.now.terms s
           (upcoming c.args.reader.now (g.D.Desk.left c.args.desk.now))
           (upcoming c.loop-command.reader (g.D.Desk.left c.loop-command.desk))
           (upcoming c.next_command.new.self (g.D.Desk.left c.next_command.new.desk)) c.in-Some.command
           c.loop-command.session.engine c.answer.new.session.engine c.args.sink.now c.loop-command.sink
           c.answer.new.sink c.args.stops.now.items c.loop-command.stops.items c.answer.new.stops.items
           (inv.under s holds) (rw c.in-Some.is at next.script)
-          (rw inv.budget at c.in_ok-answer.ensures.goes);
+          (rw inv.terms at c.in_ok-answer.ensures.goes);
       end = next.end inv.end;
       telling = goes_on c.loop-command.reader.ahead c.next_command.new.self.ahead (g.D.Desk.left c.args.desk.now)
           (g.D.Desk.left c.loop-command.desk) (g.D.Desk.left c.next_command.new.desk) next.unstopped inv.telling
@@ -159,16 +159,16 @@ loop-command-preserved g c =
     let inv = c.loop-command.invariant in
     let next = c.in_ok-command.ensures in
     record {
-      budget = c.answer.ensures.budget ∙ inv.budget;
+      terms = c.answer.ensures.terms ∙ inv.terms;
       ready = next.failed;
-      under = λ s holds. gone_on written flushed faults has_room c.args.session.now.budget s
+      under = λ s holds. gone_on written flushed faults has_room c.args.session.now.terms s
           (upcoming c.args.reader.now (g.D.Desk.left c.args.desk.now))
           (upcoming c.loop-command.reader (g.D.Desk.left c.loop-command.desk))
           (upcoming c.next_command.new.self (g.D.Desk.left c.next_command.new.desk)) c.in-Some.command
           c.loop-command.session.engine c.answer.new.session.engine c.args.sink.now c.loop-command.sink
           c.answer.new.sink c.args.stops.now.items c.loop-command.stops.items c.answer.new.stops.items
           (inv.under s holds) (rw c.in-Some.is at next.script)
-          (rw inv.budget at c.in_ok-answer.ensures.goes);
+          (rw inv.terms at c.in_ok-answer.ensures.goes);
       end = next.end inv.end;
       telling = goes_on c.loop-command.reader.ahead c.next_command.new.self.ahead (g.D.Desk.left c.args.desk.now)
           (g.D.Desk.left c.loop-command.desk) (g.D.Desk.left c.next_command.new.desk) next.unstopped inv.telling
@@ -188,7 +188,7 @@ returns-clause-replied g c = λ s holds.
     let faults = g.S.Sink.faults in
     let has_room = g.S.Sink.has_room in
     let none = no_command c.in_ok-command.field-0 c.in_default.not-Some in
-    ended written flushed faults has_room c.args.session.now.budget s
+    ended written flushed faults has_room c.args.session.now.terms s
     (upcoming c.args.reader.now (g.D.Desk.left c.args.desk.now))
     (upcoming c.loop-command.reader (g.D.Desk.left c.loop-command.desk))
     (upcoming c.next_command.new.self (g.D.Desk.left c.next_command.new.desk)) c.loop-command.session.engine

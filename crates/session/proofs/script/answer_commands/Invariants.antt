@@ -8,9 +8,9 @@ use Rattle.session.proofs.script.answer_commands.Given as goal
 
 abbrev pub invariant-loop-command : goal.invariant-loop-command
 invariant-loop-command g l = record {
-  budget : l.session.budget ≡ l.fn.session.budget;
+  terms : l.session.terms ≡ l.fn.session.terms;
   ready : l.reader.failed ≡ false;
-  under : (s : Standing) → Holds l.fn.session.budget l.fn.session.engine s → IsUnderWay l.fn.session.budget s
+  under : (s : Standing) → Holds l.fn.session.terms l.fn.session.engine s → IsUnderWay l.fn.session.terms s
       (upcoming l.fn.reader (g.D.Desk.left l.fn.desk)) (upcoming l.reader (g.D.Desk.left l.desk)) l.session.engine
       (λ text. Wrote g.S.Sink.written g.S.Sink.flushed g.S.Sink.faults g.S.Sink.has_room l.fn.sink l.sink text)
       (l.fn.stops.items, l.stops.items);

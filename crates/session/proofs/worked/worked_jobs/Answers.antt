@@ -10,9 +10,10 @@ use Rattle.qrp_trace.specs.Cores.{IsNumbered, RestsOnNumber, step_numbered}
 use Rattle.aig.specs.declared.strategy.Strategy.{Strategy}
 use Rattle.calculus.specs.Verdicts.{IsProof}
 use Rattle.session.specs.Jobs.{IsJobText}
-use Rattle.session.specs.Worked.{at_nine, nothing_fits}
+use Rattle.session.specs.Worked.{at_nineteen, nothing_fits}
 use Rattle.session.specs.declared.answer.Answer.TheVariants.{Unsat}
 use Rattle.session.specs.declared.ending.Job.TheVariants.{Solve, Trace}
+use Rattle.session.specs.Terms.{terms_of}
 use Rattle.session.proofs.Working.{empty_proof}
 use Rattle.session.proofs.worked.worked_jobs.Goals as goal
 
@@ -26,14 +27,14 @@ numbered = record {
   used = λ k low high. absurd (omega (arith, low, high));
 }
 
-unsat : (text : List ℕ) → text ≡ codes "UNSAT\n" → IsJobText Solve 0 nothing_fits Unsat text
+unsat : (text : List ℕ) → text ≡ codes "UNSAT\n" → IsJobText Solve (terms_of 0 0) nothing_fits Unsat text
 unsat text is = record {
   witness = record { proof = record { row = []; reason = ByInput } ∷ []; values = [] };
   is_witness = record { proof = empty_proof; values = λ e. absurd (let f : None ≡ Some Forall = e in cc) };
   says = is;
 }
 
-trace : IsJobText Trace 0 nothing_fits Unsat (codes "p qrp 0 1\n1 0 0\nr UNSAT\n")
+trace : IsJobText Trace (terms_of 0 0) nothing_fits Unsat (codes "p qrp 0 1\n1 0 0\nr UNSAT\n")
 unfolding digits
 trace = record {
   witness = record { proof = record { row = []; reason = ByInput } ∷ []; values = [] };
@@ -113,7 +114,7 @@ returns c = record {
   told = record {
     right = record { limit = lit< tt; propagation = λ _. lit< tt };
     says = refl;
-    told = (at_nine, refl, record { budget = refl; vars = refl; few = lit< tt });
+    told = (at_nineteen, refl, record { budget = refl; vars = refl; few = lit< tt; restarts = omega arith });
   };
   untold = λ h. absurd (let f : [] ≡ h.told.0 ∷ [] = h.told.1 in cc);
   kept = (refl, refl);

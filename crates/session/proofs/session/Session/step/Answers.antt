@@ -13,7 +13,7 @@ use Rattle.session.proofs.session.Session.step.Goals as goal
 
 pub returns-in-Scope-clause-steps : goal.returns-in-Scope-clause-steps
 returns-in-Scope-clause-steps g c = rw (← c.self.view_is, c.in-Scope.is) (λ s holds.
-    accepts g.S.Sink.written g.S.Sink.flushed g.S.Sink.faults g.S.Sink.has_room c.self.inside.budget
+    accepts g.S.Sink.written g.S.Sink.flushed g.S.Sink.faults g.S.Sink.has_room _
     (command.Scope c.in-Scope.quant c.in-Scope.at) (AddScope c.in-Scope.quant c.in-Scope.at) s c.self.inside.engine c.scope.new.self holds refl
     (λ out after h. h) refl refl refl refl refl (λ f. scope_numbered f c.in-Scope.quant c.in-Scope.at) _ c.scope.result
     c.args.sink.now c.accept.new.sink c.accept.result
@@ -23,7 +23,7 @@ returns-in-Scope-clause-steps g c = rw (← c.self.view_is, c.in-Scope.is) (λ s
 
 pub returns-in-Var-clause-steps : goal.returns-in-Var-clause-steps
 returns-in-Var-clause-steps g c = rw (← c.self.view_is, c.in-Var.is) (λ s holds.
-    accepts g.S.Sink.written g.S.Sink.flushed g.S.Sink.faults g.S.Sink.has_room c.self.inside.budget
+    accepts g.S.Sink.written g.S.Sink.flushed g.S.Sink.faults g.S.Sink.has_room _
     (command.Var c.in-Var.var c.in-Var.scope) (AddVariable c.in-Var.var c.in-Var.scope) s c.self.inside.engine c.var.new.self holds refl
     (λ out after h. h) refl refl refl refl refl (λ f. variable_numbered f c.in-Var.var c.in-Var.scope) _ c.var.result
     c.args.sink.now c.accept-in-Var.new.sink c.accept-in-Var.result
@@ -33,7 +33,7 @@ returns-in-Var-clause-steps g c = rw (← c.self.view_is, c.in-Var.is) (λ s hol
 
 pub returns-in-Clause-clause-steps : goal.returns-in-Clause-clause-steps
 returns-in-Clause-clause-steps g c = rw (← c.self.view_is, c.in-Clause.is) (λ s holds.
-    accepts g.S.Sink.written g.S.Sink.flushed g.S.Sink.faults g.S.Sink.has_room c.self.inside.budget
+    accepts g.S.Sink.written g.S.Sink.flushed g.S.Sink.faults g.S.Sink.has_room _
     (command.Clause c.in-Clause.lits) (AddClause c.in-Clause.lits) s c.self.inside.engine c.clause.new.self holds refl
     (λ out after h. h) refl refl refl refl refl (λ f. two_numbered
     (not (list_all (is_known f.scopes) c.in-Clause.lits))
@@ -47,7 +47,7 @@ returns-in-Clause-clause-steps g c = rw (← c.self.view_is, c.in-Clause.is) (λ
 
 pub returns-in-Push-clause-steps : goal.returns-in-Push-clause-steps
 returns-in-Push-clause-steps g c = rw (← c.self.view_is, c.in-Push.is) (λ s holds.
-    accepts g.S.Sink.written g.S.Sink.flushed g.S.Sink.faults g.S.Sink.has_room c.self.inside.budget
+    accepts g.S.Sink.written g.S.Sink.flushed g.S.Sink.faults g.S.Sink.has_room _
     command.Push Push s c.self.inside.engine c.push.new.self holds refl
     (λ out after h. h) refl refl refl refl refl (λ f. one_numbered (depth f.frames == max_pushed) Limit refl) _ c.push.result
     c.args.sink.now c.accept-in-Push.new.sink c.accept-in-Push.result
@@ -57,7 +57,7 @@ returns-in-Push-clause-steps g c = rw (← c.self.view_is, c.in-Push.is) (λ s h
 
 pub returns-in-Pop-clause-steps : goal.returns-in-Pop-clause-steps
 returns-in-Pop-clause-steps g c = rw (← c.self.view_is, c.in-Pop.is) (λ s holds.
-    accepts g.S.Sink.written g.S.Sink.flushed g.S.Sink.faults g.S.Sink.has_room c.self.inside.budget
+    accepts g.S.Sink.written g.S.Sink.flushed g.S.Sink.faults g.S.Sink.has_room _
     command.Pop Pop s c.self.inside.engine c.pop.new.self holds refl
     (λ out after h. h) refl refl refl refl refl (λ f. one_numbered (depth f.frames == 0) NoFrame refl) _ c.pop.result
     c.args.sink.now c.accept-in-Pop.new.sink c.accept-in-Pop.result
@@ -71,7 +71,7 @@ returns-in-Assume-clause-steps g c = rw (← c.self.view_is, c.in-Assume.is) (λ
     let same = to_z-of_z {w = w64} {z = c.in-Assume.lit} fits in
     let ok = rw same at c.assume.ensures.ok in
     let refused = rw same at c.assume.ensures.refused in
-    accepts g.S.Sink.written g.S.Sink.flushed g.S.Sink.faults g.S.Sink.has_room c.self.inside.budget
+    accepts g.S.Sink.written g.S.Sink.flushed g.S.Sink.faults g.S.Sink.has_room _
     (command.Assume c.in-Assume.lit) (Assume c.in-Assume.lit) s c.self.inside.engine c.assume.new.self holds refl
     (λ out after h. h) refl refl refl refl refl (λ f. three_numbered
     (not (is_known f.scopes c.in-Assume.lit)) (not (is_outermost f.scopes c.in-Assume.lit))
@@ -83,20 +83,20 @@ returns-in-Assume-clause-steps g c = rw (← c.self.view_is, c.in-Assume.is) (λ
 
 pub returns-in-Solve-clause-steps : goal.returns-in-Solve-clause-steps
 returns-in-Solve-clause-steps g c = rw (← c.self.view_is, c.in-Solve.is) (λ s holds.
-    c.solve.ensures s holds)
+    c.solve.ensures _ s refl holds)
 
 pub returns-in-Value-clause-steps : goal.returns-in-Value-clause-steps
 returns-in-Value-clause-steps g c = rw (← c.self.view_is, c.in-Value.is) (λ s holds.
-    c.tell_value.ensures c.self.inside.budget s holds)
+    c.tell_value.ensures _ s holds)
 
 pub returns-in-Relevant-clause-steps : goal.returns-in-Relevant-clause-steps
 returns-in-Relevant-clause-steps g c = rw (← c.self.view_is, c.in-Relevant.is) (λ s holds.
-    c.tell_relevant.ensures c.self.inside.budget s holds)
+    c.tell_relevant.ensures _ s holds)
 
 pub returns-in-Trace-clause-steps : goal.returns-in-Trace-clause-steps
 returns-in-Trace-clause-steps g c = rw (← c.self.view_is, c.in-Trace.is) (λ s holds.
-    c.tell_trace.ensures c.self.inside.budget s holds)
+    c.tell_trace.ensures _ s holds)
 
 pub returns-in-Cert-clause-steps : goal.returns-in-Cert-clause-steps
 returns-in-Cert-clause-steps g c = rw (← c.self.view_is, c.in-Cert.is) (λ s holds.
-    c.tell_circuit.ensures c.self.inside.budget s holds)
+    c.tell_circuit.ensures _ s holds)
