@@ -625,7 +625,7 @@ fn propagated_literals_are_learned(rt: HostRuntime) -> Result<(), Fail> {
     run(rt.alloc(), true, &[3], &moves)
 }
 
-// A reason stays as it is until it is used, and is cleaned then.
+// A reason stays as it is until it is used, and is cleaned then: that takes a resolution, and a reduction in which 2 goes.
 #[test]
 fn reasons_are_cleaned_on_demand(rt: HostRuntime) -> Result<(), Fail> {
     let moves = [
@@ -638,8 +638,9 @@ fn reasons_are_cleaned_on_demand(rt: HostRuntime) -> Result<(), Fail> {
         Move::Marked(3, true),
         Move::Marked(1, false),
         Move::Ask(Ask::CleanReason(1), 0, Told::Spent, [0; 3], 0),
+        Move::Ask(Ask::CleanReason(1), 1, Told::Spent, [0; 3], 1),
         Move::Marked(1, false),
-        Move::Ask(Ask::CleanReason(1), 1, Told::Cleaned, [1, 0, 0], 1),
+        Move::Ask(Ask::CleanReason(1), 2, Told::Cleaned, [1, 0, 0], 2),
         Move::Marked(1, true),
         Move::Ask(Ask::CleanReason(1), 0, Told::Cleaned, [1, 0, 0], 0),
     ];
