@@ -30,8 +30,8 @@ impl Model for Game {
 }
 
 impl Game {
-    // An empty trail over the existential variables 1 and 2 and then the universal 3, and a decider with room for so many
-    // variables.
+    // An empty trail over the existential variables 1 and 2 and then the universal 3, and a decider with room for so
+    // many variables.
     fn new(alloc: Global, room: usize) -> Result<Self, Fail> {
         let mut decider = Decider::new(alloc);
         decider.reserve(room)?;

@@ -179,7 +179,8 @@ fn good_literal<S: Side>(lit: Lit) -> Lit
     if S::BAD { lit.negate() } else { lit }
 }
 
-// Whether a literal of a row may be made good for that cause: where it is propagated, a reduced step's row is unit in it.
+// Whether a literal of a row may be made good for that cause: where it is propagated, a reduced step's row is unit in
+// it.
 fn has_reason<S: Side>(
     derivation: &Derivation,
     trail: &Trail,
@@ -625,7 +626,8 @@ fn propagated_literals_are_learned(rt: HostRuntime) -> Result<(), Fail> {
     run(rt.alloc(), true, &[3], &moves)
 }
 
-// A reason stays as it is until it is used, and is cleaned then: that takes a resolution, and a reduction in which 2 goes.
+// A reason stays as it is until it is used, and is cleaned then: that takes a resolution, and a reduction in which 2
+// goes.
 #[test]
 fn reasons_are_cleaned_on_demand(rt: HostRuntime) -> Result<(), Fail> {
     let moves = [

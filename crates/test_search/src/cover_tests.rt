@@ -61,8 +61,8 @@ impl Model for Game {
 }
 
 impl Game {
-    // An empty trail over a universal variable 1, and then the existential ones 2 and 3, the last in the scope with this
-    // number.
+    // An empty trail over a universal variable 1, and then the existential ones 2 and 3, the last in the scope with
+    // this number.
     fn new(alloc: Global, scope: u64) -> Result<Self, Fail> {
         let quants = [Quant::Forall, Quant::Exists, Quant::Exists];
         Ok(Self {

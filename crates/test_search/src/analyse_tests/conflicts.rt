@@ -52,8 +52,8 @@ impl<S: Side> Board<S> {
         None
     }
 
-    // Whether a lesson is right by the plain definitions, where nothing is assumed: no literal is pivot-type; or the row
-    // is unit in the literal once the trail is cut to the level, and not once it is cut to the one below.
+    // Whether a lesson is right by the plain definitions, where nothing is assumed: no literal is pivot-type; or the
+    // row is unit in the literal once the trail is cut to the level, and not once it is cut to the one below.
     fn is_lesson(self, told: Told, id: StepId) -> Result<bool, Fail> {
         let Self {
             prefix,
