@@ -131,6 +131,7 @@ undecided f s counts now again n tied none few = record {
   cubes = λ e. absurd (some_solves counts e);
   reductions = few;
   variables = tt;
+  long = tt;
 }
 
 -- a derivation has no more reductions than ids

@@ -25,7 +25,9 @@ use Rattle.frames.specs.Commands.{AddClause, AddScope, AddVariable, Pop, Push, f
 use Rattle.qrp_trace.specs.Cores.{IsFinishAt, end_row_in, proof_at, step_under}
 use Rattle.search.specs.Changing.{AddsClause, IsRoomy, RestingGrows, StaysResting}
 use Rattle.search.specs.Finishes.{GainsNoFinish}
+use Rattle.search.specs.Counting.{size_of}
 use Rattle.search.specs.Forcing.{HasNoCubes}
+use Rattle.search.specs.Long.{long_in}
 use Rattle.search.specs.Moves.{SameSteps}
 use Rattle.search.specs.State.{HasRoom, IsResting, SearchState}
 use Rattle.search.proofs.Reducing.{steps_same}
@@ -280,6 +282,7 @@ roomier f old new v counts stays same watched is = record {
   cubes = λ none. cubes_kept old new watched same (is.cubes none);
   reductions = rw same is.reductions;
   variables = is.variables;
+  long = subst (λ (d : State). IfSome v (λ _. long_in d ≤ 513 + size_of f.scopes)) (sym same) is.long;
 }
 
 -- the variable that a refusal's absence gives
@@ -366,3 +369,9 @@ module _ (f new : OpenFormula) (lits : List ℤ) (old : SearchState) (tied : Are
       subst (λ (g : OpenFormula). AreTied g s) (sym e)
       (row_added f old s (as_row lits) tied (subst (λ (g : OpenFormula). IsResting g.scopes s) e resting)
       (subst (λ n. AddsClause n (as_row lits) (clauses_of old.derivation) (clauses_of s.derivation)) at adds))
+
+-- with fewer long learned rows
+pub fewer_long : (v : Option Held) (d e : State) (n : ℕ) → long_in e ≤ long_in d
+    → IfSome v (λ _. long_in d ≤ 513 + n) → IfSome v (λ _. long_in e ≤ 513 + n)
+fewer_long None d e n fewer few = tt
+fewer_long (Some held) d e n fewer few = omega arith

@@ -12,6 +12,7 @@ use Rattle.search.specs.declared.outcome.Outcome.{Outcome}
 use Rattle.search.specs.Counting.{size_of}
 use Rattle.search.specs.Finishes.{HasNoFinish, IsFinishId}
 use Rattle.search.specs.Forcing.{HasNoCubes}
+use Rattle.search.specs.Long.{long_in}
 use Rattle.search.specs.State.{IsResting, SearchState}
 use Rattle.search.specs.Stops.{IsOutcome}
 use Rattle.engine.specs.declared.counts.Counts.{Counts}
@@ -68,7 +69,8 @@ HasFinishesOf None d = HasNoFinish d
 HasFinishesOf (Some held) d = (id : ℕ) → IsFinishId d id → id ≡ held.verdict.end
 
 -- What holds of an engine between calls. The counts allow the live reductions and one removal more, which is for the
--- finish; and a verdict is of as many variables as were counted, or fewer.
+-- finish; a verdict is of as many variables as were counted, or fewer; and with a verdict few long learned rows are
+-- attached.
 pub record IsEngine (formula : OpenFormula) (s : SearchState) (verdict : Option Held) (counts : Counts) : Type 0 where
   pub tied : AreTied formula s
   pub held : IfSome verdict (IsHeld formula s.derivation)
@@ -76,3 +78,4 @@ pub record IsEngine (formula : OpenFormula) (s : SearchState) (verdict : Option 
   pub cubes : counts.solves ≡ 0 → HasNoCubes s
   pub reductions : reductions_in s.derivation < removal_bound counts.clauses counts.solves counts.budget counts.restarts counts.vars
   pub variables : IfSome verdict (λ _. size_of formula.scopes ≤ counts.vars)
+  pub long : IfSome verdict (λ _. long_in s.derivation ≤ 513 + size_of formula.scopes)

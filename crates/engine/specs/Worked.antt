@@ -10,13 +10,14 @@ use Rattle.derive.specs.State.{Note, State}
 use Rattle.clean.specs.Turns.{reductions_in}
 use Rattle.frames.specs.Commands.{Push}
 use Rattle.frames.specs.Fold.{state_of}
-use Rattle.frames.specs.State.{Frame, OpenFormula, popped}
+use Rattle.frames.specs.State.{Frame, OpenFormula, empty_formula, popped}
 use Rattle.frames.specs.Worked.{framed as framed_commands}
 use Rattle.qrp_trace.specs.Cores.{proof_at}
 use Rattle.qrp_trace.specs.Worked.{clause, derived, stored}
 use Rattle.search.specs.Finishes.{finishes_in}
 use Rattle.engine.specs.declared.counts.Counts.{Counts}
 use Rattle.engine.specs.declared.verdict.Verdict.{Verdict}
+use Rattle.engine.specs.Asks.{HasSoManyLong}
 use Rattle.engine.specs.Counting.{one_more, with_clause, with_solve}
 use Rattle.engine.specs.Kept.{framed, framed_as}
 use Rattle.engine.specs.State.{EngineState, changed}
@@ -79,5 +80,7 @@ pub record WorkedEngines : Type 0 where
   pub removals : removals_of finished_proof ≡ 1
   pub finishes : finishes_in (finished_with clause) ≡ 1
   pub reductions : reductions_in (finished_with clause) ≡ 0
+  -- where there are no clauses, there is a derivation without long learned rows
+  pub none_long : HasSoManyLong empty_formula 0
   -- no verdict, no proof
   pub none : (formula : OpenFormula) (verdict : Verdict) → HasProof formula verdict None → ⊥

@@ -11,9 +11,10 @@ ghost use Rattle.derive.specs.State.{IsLegalFor, has_rows, is_live, open_clauses
 ghost use Rattle.clean.specs.Turns.{reductions_in};
 ghost use Rattle.frames.specs.State.{clauses_in};
 ghost use Rattle.qrp_trace.specs.Cores.{IsNumbered, inferences_of, proof_at};
+ghost use Rattle.search.specs.Counting.{size_of};
 ghost use Rattle.search.specs.Finishes.{finishes_in};
 ghost use Rattle.aig.specs.Strategies.{IsStrategy};
-ghost use Rattle.engine.specs.Asks.{Decides, IfAnswered, IsCertificateOf, IsVerdictOf, PlaysFirst, end_row_of, first_value, first_values, removed_value, values_of, verdict_of};
+ghost use Rattle.engine.specs.Asks.{Decides, HasSoManyLong, IfAnswered, IsCertificateOf, IsVerdictOf, PlaysFirst, end_row_of, first_value, first_values, removed_value, values_of, verdict_of};
 ghost use Rattle.engine.specs.Refusals.{ask_refusal, value_refusal, winner_of, is_outermost};
 
 use crate::engine::Engine;
@@ -66,6 +67,16 @@ impl Engine {
         ensures rows { IsTrue (has_rows result.now) }
     {
         self.search.derivation()
+    }
+
+    /// How many long learned rows are attached: rows with more than three literals that are neither an input clause nor
+    /// the reduction of one. With a verdict these are at most 513, and one for each variable. This takes no memory and
+    /// constant time.
+    pub fn kept_long(&self) -> usize
+        ensures value { HasSoManyLong self.now.formula result }
+        ensures few { IfSome self.now.verdict (λ _. result ≤ 513 + size_of self.now.formula.scopes) }
+    {
+        self.search.kept_long()
     }
 
     /// The assumptions of the last verdict that matter, ascending by variable: those over variables of the last row of

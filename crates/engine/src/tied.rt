@@ -13,6 +13,7 @@ ghost use Rattle.search.specs.State.{IsResting};
 ghost use Rattle.search.specs.Counting.{size_of};
 ghost use Rattle.search.specs.Finishes.{HasNoFinish, IsFinishId};
 ghost use Rattle.search.specs.Forcing.{HasNoCubes};
+ghost use Rattle.search.specs.Long.{long_in};
 ghost use Rattle.search.specs.Stops.{IsQuickStop};
 ghost use Rattle.engine.specs.Kept.{AreTied, IsFound};
 ghost use Rattle.engine.specs.Verdicts.{IsStopFor};
@@ -55,6 +56,7 @@ pub(crate) fn decide(
         ≤ reductions_in search.old.derivation + (steps.new.spent - steps.old.spent) + 1 }
     ensures fit { reductions_in search.new.derivation < 2 ^ 64 }
     ensures few { steps.new.spent - steps.old.spent < step_limit restarts (size_of frames.now.formula.scopes) }
+    ensures long { OnOk result (long_in search.new.derivation ≤ 513 + size_of frames.now.formula.scopes) }
     ensures within { steps.new.spent ≤ steps.new.budget }
     ensures budget { steps.new.budget ≡ steps.old.budget }
     ensures rises { steps.old.spent ≤ steps.new.spent }
@@ -89,6 +91,7 @@ pub(crate) fn put_clause(
         (IsOkUnless result FrameRefusal.NoMemory) (λ e. result ≡ Err e) }
     ensures err { OnErr result (frames.new.formula ≡ frames.old.formula) }
     ensures same { OnErr result (SameSteps search.old.derivation search.new.derivation) }
+    ensures fewer { OnErr result (long_in search.new.derivation ≤ long_in search.old.derivation) }
     ensures tied { AreTied frames.new.formula search.new }
     ensures cubes { HasNoCubes search.old → HasNoCubes search.new }
     ensures reductions { reductions_in search.new.derivation ≤ reductions_in search.old.derivation + 1 }
@@ -113,6 +116,7 @@ fn put_last(search: &mut Search, frames: &Frames) -> Result<(), NoMemory>
         OnOk result (AddsClause (depth frames.now.formula.frames) row (clauses_of search.old.derivation)
         (clauses_of search.new.derivation)) }
     ensures err { OnErr result (SameSteps search.old.derivation search.new.derivation) }
+    ensures fewer { OnErr result (search.new.long ≤ search.old.long) }
     ensures resting { IsResting frames.now.formula.scopes search.new }
     ensures cubes { HasNoCubes search.old → HasNoCubes search.new }
     ensures reductions { reductions_in search.new.derivation ≤ reductions_in search.old.derivation + 1 }

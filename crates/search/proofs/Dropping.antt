@@ -1,24 +1,27 @@
 -- Searches at rest in which steps are dropped.
-use Rattle.std.proofs.Common.{◌≡◌, ℕ, ◌<◌, ◌⊎◌, Bool, true, false, not, List, filter, Option, Some, None, Contains, IsTrue, is_some, nat_eq, get_or, refl, sym, ap, subst, ◌∙◌, inl, inr, ⊎_elim}
+use Rattle.std.proofs.Common.{◌≡◌, ℕ, ◌<◌, ◌⊎◌, Bool, true, false, not, List, filter, Option, Some, None, Contains, IsTrue, is_some, nat_eq, get_or, refl, sym, ap, subst, ◌∙◌, inl, inr, ⊎_elim, arith}
 use Rattle.std.proofs.lemmas.Bool.{cases_Bool, cond-false, false≢true}
 use Rattle.calculus.proofs.Lists.{filter_at}
 use Rattle.prefix.specs.declared.quant.Quant.{Quant}
 use Rattle.prefix.specs.declared.quant.Quant.TheVariants.{Exists, Forall}
 use Rattle.prefix.specs.Scopes.{Scope}
 use Rattle.rows.specs.Arena.{StoredRow, link_at, links_of, literals_of, row_at as stored_at}
-use Rattle.calculus.specs.Derivations.{RestsOn}
-use Rattle.calculus.specs.Derivations.Why.{Given, ReducedFrom}
+use Rattle.calculus.specs.Derivations.{RestsOn, Why}
+use Rattle.calculus.specs.Derivations.Why.{Given, ReducedFrom, ResolvedFrom, FinishedFrom}
 use Rattle.derive.specs.State.{IsLegalFor, Note, OpenClause, State, arena_of, clauses_of, is_finish, is_live, is_step, may_be_antecedent, note_at, note_in, row_of, side_at, side_in, tag_at, tag_in, why_at, why_in}
 use Rattle.derive.specs.Adding.{IsReductionOf}
 use Rattle.derive.specs.Dropping.{Drops, Falls, StepTest, has_tag, unless_finish}
 use Rattle.derive.specs.Dropping.Falls.{rests, root}
 use Rattle.derive.specs.Theorems.{ClausesAreListed}
-use Rattle.watch.specs.Links.{is_at, mark_of}
-use Rattle.watch.specs.State.{Holds, WatchState}
+use Rattle.derive.specs.Sweeping.{is_input_clause}
+use Rattle.watch.specs.Links.{is_at, is_attached, mark_of}
+use Rattle.watch.specs.State.{Holds, IsUnattached, WatchState}
 use Rattle.watch.specs.Laws.{AgreeingLaws, HoldingLaws}
 use Rattle.clean.specs.Reasons.{IsReducedStep}
-use Rattle.search.specs.State.{AreAttachedIf, AreMarked, AreWatched, IsAttached, IsResting, SearchState, rows_of, watch_of}
+use Rattle.search.specs.State.{AreAttached, AreAttachedIf, AreMarked, AreWatched, IsAttached, IsIntact, IsResting, SearchState, rows_of, watch_of}
+use Rattle.search.specs.Long.{is_input, is_kept_long, long_in}
 use Rattle.search.specs.Forcing.{HasNoCubes}
+use Rattle.search.proofs.Tallying.{kept_detached, kept_same, kept_unlinked, same_count}
 use Rattle.search.proofs.Marks.{marked_as_was, not_attached, reduced_by, reduction_by, same_mark, step_live}
 
 -- with another derivation, and another list of rows to watch
@@ -31,33 +34,42 @@ same_watch s d ids Exists = refl
 same_watch s d ids Forall = refl
 
 -- the rows that are attached are as they were
+pub intact_rederived : HoldingLaws → AgreeingLaws
+    → (scopes : List Scope) (s : SearchState) (d : State) (ids : List ℕ) → IsIntact scopes s
+    → IsTrue (is_some d.rows) → IsLegalFor scopes d → AreWatched scopes (rederived s d ids)
+    → ((side : Quant) (id : ℕ) → IsAttached s side id → stored_at (arena_of d) id ≡ stored_at (rows_of s) id)
+    → ((side : Quant) (id : ℕ) → IsAttached (rederived s d ids) side id → IsAttached s side id)
+    → IsIntact scopes (rederived s d ids)
+intact_rederived holding agreeing scopes s d ids intact rows legal watched same was = record {
+  trail = intact.trail;
+  has_rows = rows;
+  legal = legal;
+  watched = watched;
+  watching = record {
+    holds =
+        λ side.
+        subst (λ (w : WatchState). Holds side scopes w (arena_of d)) (sym (same_watch s d ids side))
+        (holding.agrees side scopes (watch_of side s) (rows_of s) (arena_of d)
+        (agreeing.same_rows side (rows_of s) (arena_of d) (same side) (was side)) (intact.watching.holds side));
+    front = λ side. rw (same_watch s d ids side) (intact.watching.front side);
+    room = λ side. rw (same_watch s d ids side) (intact.watching.room side);
+  };
+  room = record { trail = intact.room.trail; signs = intact.room.signs };
+}
+
 pub resting_rederived : HoldingLaws → AgreeingLaws
     → (scopes : List Scope) (s : SearchState) (d : State) (ids : List ℕ) → IsResting scopes s
     → IsTrue (is_some d.rows) → IsLegalFor scopes d → AreWatched scopes (rederived s d ids)
     → ((side : Quant) (id : ℕ) → IsAttached s side id → stored_at (arena_of d) id ≡ stored_at (rows_of s) id)
     → ((side : Quant) (id : ℕ) → IsAttached (rederived s d ids) side id → IsAttached s side id)
-    → AreAttachedIf s.joined (rederived s d ids) → IsResting scopes (rederived s d ids)
-resting_rederived holding agreeing scopes s d ids resting rows legal watched same was attached =
-    let intact = resting.intact in
+    → AreAttachedIf s.joined (rederived s d ids) → long_in d ≡ long_in s.derivation
+    → IsResting scopes (rederived s d ids)
+resting_rederived holding agreeing scopes s d ids resting rows legal watched same was attached count =
     record {
       rest = resting.rest;
-      intact = record {
-        trail = intact.trail;
-        has_rows = rows;
-        legal = legal;
-        watched = watched;
-        watching = record {
-          holds =
-              λ side.
-              subst (λ (w : WatchState). Holds side scopes w (arena_of d)) (sym (same_watch s d ids side))
-              (holding.agrees side scopes (watch_of side s) (rows_of s) (arena_of d)
-              (agreeing.same_rows side (rows_of s) (arena_of d) (same side) (was side)) (intact.watching.holds side));
-          front = λ side. rw (same_watch s d ids side) (intact.watching.front side);
-          room = λ side. rw (same_watch s d ids side) (intact.watching.room side);
-        };
-        room = record { trail = intact.room.trail; signs = intact.room.signs };
-      };
+      intact = intact_rederived holding agreeing scopes s d ids resting.intact rows legal watched same was;
       attached = attached;
+      tallied = resting.tallied ∙ sym count;
     }
 
 module _ (scopes : List Scope) (s : SearchState) (d : State) (is_root : StepTest)
@@ -82,6 +94,17 @@ module _ (scopes : List Scope) (s : SearchState) (d : State) (is_root : StepTest
       (λ none. absurd (false≢true (sym (not_attached side (arena_of d) id none) ∙ a)))
       (mark_left id)
 
+  pub detached_left : ((id : ℕ) → IsUnattached (rows_of s) id) → (id : ℕ) → IsUnattached (arena_of d) id
+  detached_left none id = ⊎_elim (λ kept. kept.0 ∙ none id) (λ gone. gone) (mark_left id)
+
+  kept_gone : (id : ℕ) → is_attached (side_at s.derivation id) (rows_of s) id ≡ false → is_kept_long d id ≡ false
+  kept_gone id free =
+      ⊎_elim
+      (λ kept. kept_detached d id (ap (λ o. is_attached (side_in o) (arena_of d) id) (drops.others id kept.1).note
+      ∙ (same_mark (side_at s.derivation id) (rows_of s) (arena_of d) id kept.0 ∙ free)))
+      (λ none. kept_unlinked d id none)
+      (mark_left id)
+
   marks_left : AreMarked (rows_of s) → AreMarked (arena_of d)
   marks_left marked id =
       ⊎_elim (λ kept. marked_as_was (rows_of s) (arena_of d) id kept.0 (marked id)) inl (mark_left id)
@@ -94,10 +117,35 @@ module _ (scopes : List Scope) (s : SearchState) (d : State) (is_root : StepTest
   reduced_left side id live is =
       reduced_by side scopes s.derivation d id (drops.others id live).note (literals_left id live) is
 
+  -- where no attached row goes
+  module _ (stay : (side : Quant) (id : ℕ) → IsAttached s side id → IsTrue (is_live d id)) where
+    pub attached_on : (side : Quant) (id : ℕ) → IsAttached s side id → IsAttached (rederived s d s.watched) side id
+    attached_on side id a =
+        ap (λ (o : Option StoredRow). is_at (get_or (links_of o) 6 None) (mark_of side))
+        (drops.others id (stay side id a)).row ∙ a
+
+    pub attached_still : AreAttached s → AreAttached (rederived s d s.watched)
+    attached_still h id at = let a = h id at in (a.0, attached_on a.0 id a.1)
+
+    -- nor an input clause that a reduction rests on
+    pub tally_left : ((id a : ℕ) → IsAttached s (side_at s.derivation id) id → why_at s.derivation id ≡ ReducedFrom a
+        → is_input (note_at d a) ≡ is_input (note_at s.derivation a)) → long_in d ≡ long_in s.derivation
+    tally_left inputs =
+        same_count s.derivation d (let e = drops.exactly.same_next in omega arith)
+        (λ id.
+        ⊎_elim
+        (λ attached.
+        let same = drops.others id (stay (side_at s.derivation id) id attached) in
+        kept_same s.derivation d id same.note (ap literals_of same.row)
+        (λ a why. inputs id a attached why)
+        (ap (λ (o : Option StoredRow). get_or (links_of o) 6 None) same.row))
+        (λ free. kept_gone id free ∙ sym (kept_detached s.derivation id free))
+        (cases_Bool (is_attached (side_at s.derivation id) (rows_of s) id)))
+
   -- the reductions of the clauses that are left
   module _ (clauses : (c : OpenClause) → Contains (clauses_of d) c
       → Contains (clauses_of s.derivation) c ×
-      ((id : ℕ) → IsReductionOf scopes s.derivation c id → IsTrue (is_live d id))) where
+      ((id : ℕ) → Contains s.watched id → IsReductionOf scopes s.derivation c id → IsTrue (is_live d id))) where
     pub watched_left : AreWatched scopes s → AreWatched scopes (rederived s d s.watched)
     watched_left h = record {
       marked = marks_left h.marked;
@@ -112,7 +160,7 @@ module _ (scopes : List Scope) (s : SearchState) (d : State) (is_root : StepTest
           λ c at.
           let was = clauses c at in
           let r = h.clauses c was.0 in
-          let live = was.1 r.0 r.2 in (
+          let live = was.1 r.0 r.1 r.2 in (
             r.0,
             r.1,
             reduction_by scopes s.derivation d c r.0 (drops.others r.0 live).note
@@ -123,23 +171,20 @@ module _ (scopes : List Scope) (s : SearchState) (d : State) (is_root : StepTest
     -- where no attached row goes
     module _ (holding : HoldingLaws) (agreeing : AgreeingLaws) (resting : IsResting scopes s)
         (legal : IsLegalFor scopes d) (stay : (side : Quant) (id : ℕ) → IsAttached s side id → IsTrue (is_live d id))
-      where
-        attached_left : (b : Bool) → AreAttachedIf b s → AreAttachedIf b (rederived s d s.watched)
-        attached_left true h = λ id at.
-            let a = h id at in (
-              a.0,
-              ap (λ (o : Option StoredRow). is_at (get_or (links_of o) 6 None) (mark_of a.0))
-                  (drops.others id (stay a.0 id a.1)).row ∙ a.1,
-            )
-        attached_left false h = λ id. ⊎_elim (λ kept. kept.0 ∙ h id) (λ none. none) (mark_left id)
+        (inputs : (id a : ℕ) → IsAttached s (side_at s.derivation id) id → why_at s.derivation id ≡ ReducedFrom a
+        → is_input (note_at d a) ≡ is_input (note_at s.derivation a)) where
+      attached_left : (b : Bool) → AreAttachedIf b s → AreAttachedIf b (rederived s d s.watched)
+      attached_left true h = attached_still stay h
+      attached_left false h = detached_left h
 
-        pub resting_left : IsResting scopes (rederived s d s.watched)
-        resting_left =
-            resting_rederived holding agreeing scopes s d s.watched resting drops.has_rows legal
-            (watched_left resting.intact.watched)
-            (λ side id a. (drops.others id (stay side id a)).row)
-            (λ side id a. (attached_was side id a).0)
-            (attached_left s.joined resting.attached)
+      pub resting_left : IsResting scopes (rederived s d s.watched)
+      resting_left =
+          resting_rederived holding agreeing scopes s d s.watched resting drops.has_rows legal
+          (watched_left resting.intact.watched)
+          (λ side id a. (drops.others id (stay side id a)).row)
+          (λ side id a. (attached_was side id a).0)
+          (attached_left s.joined resting.attached)
+          (tally_left stay inputs)
 
   pub no_cubes_left : HasNoCubes s → HasNoCubes (rederived s d s.watched)
   no_cubes_left none id at live = ap side_in (drops.others id live).note ∙ none id at (stays_live id live)
@@ -200,3 +245,15 @@ unfinished (Some note) h =
 pub step_unfinished : (old d : State) → ((id : ℕ) → note_at d id ≡ unless_finish (note_at old id)) → (id : ℕ)
     → IsTrue (is_step old id) → IsTrue (is_live d id)
 step_unfinished old d exactly id step = ap is_some (exactly id) ∙ unfinished (note_at old id) step
+
+unfinished_note : (side : Quant) (why : Why) (tag : ℕ)
+    → is_input (unless_finish (Some (record { side = side; why = why; tag = tag }))) ≡ is_input_clause side why
+unfinished_note side Given tag = refl
+unfinished_note side (ReducedFrom a) tag = refl
+unfinished_note side (ResolvedFrom a b x) tag = refl
+unfinished_note Exists (FinishedFrom a) tag = refl
+unfinished_note Forall (FinishedFrom a) tag = refl
+
+pub input_unfinished : (o : Option Note) → is_input (unless_finish o) ≡ is_input o
+input_unfinished None = refl
+input_unfinished (Some note) = unfinished_note note.side note.why note.tag

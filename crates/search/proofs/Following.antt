@@ -1,5 +1,5 @@
 -- Parts of a turn that follow each other.
-use Rattle.std.proofs.Common.{◌≡◌, ◌⊎◌, ⊎_elim, ℕ, ◌+◌, ◌*◌, ◌^◌, ◌<◌, ◌≤◌, List, map, Contains, refl, sym, ap, subst, ◌∙◌, arith}
+use Rattle.std.proofs.Common.{◌≡◌, ◌⊎◌, ⊎_elim, ℕ, ◌+◌, ◌^◌, ◌<◌, ◌≤◌, List, map, Contains, refl, sym, ap, subst, ◌∙◌, arith}
 use Rattle.prefix.specs.declared.quant.Quant.{Quant}
 use Rattle.prefix.specs.Literal.{Literal}
 use Rattle.prefix.specs.Scopes.{Scope}
@@ -13,6 +13,7 @@ use Rattle.analyse.specs.Lessons.{EndsOn}
 use Rattle.decide.specs.Decision.{IsDecision}
 use Rattle.search.specs.State.{IsPaused, IsSearching, SearchState}
 use Rattle.search.specs.Counting.{IsCounted, lesson_cost, size_of}
+use Rattle.search.specs.Forgetting.{Forgets}
 use Rattle.search.specs.Moves.{Advances, Analyses, BeginsAnew, Covers, Ends, Halts, IsMatrix, Proceeds, SameSteps, Undoes, WasDue}
 use Rattle.search.specs.Moves.IsDue.{decision, unit}
 use Rattle.search.specs.Stops.{WasSpentWhenDue}
@@ -368,3 +369,30 @@ pub ends_within : {E : Type 0} (r : Result (Option EndRow) E) (P Q : EndRow → 
 ends_within (Ok None) P Q f h = h
 ends_within (Ok (Some e)) P Q f h = f e h
 ends_within (Err e) P Q f h = h
+
+-- long rows may be forgotten once more was assigned
+pub advances_forgot : (scopes : List Scope) (slack : ℕ) (s between new : SearchState) (before now : Counter)
+    → Advances scopes slack s between before now → Forgets scopes between new → Advances scopes slack s new before now
+advances_forgot scopes slack s between new before now h forgets = record {
+  searching = forgets.searching;
+  clauses = forgets.clauses ∙ h.clauses;
+  assumed = λ assumptions a. subst (λ (t : TrailState). AreTheAssumptions t.placed assumptions) (sym forgets.trail)
+      (h.assumed assumptions a);
+  allowed = ap (λ (t : TrailState). t.allowed) forgets.trail ∙ h.allowed;
+  budget = h.budget;
+  rises = h.rises;
+  counted = λ start is. let r = h.counted start is in rw forgets.trail r;
+}
+
+-- or the search stops there
+pub halts_advanced : (scopes : List Scope) (slack : ℕ) (s between new : SearchState) (before now : Counter)
+    → Advances scopes slack s between before now → new ≡ between → Halts scopes slack s new before now
+halts_advanced scopes slack s between new before now h same =
+    subst (λ (t : SearchState). Halts scopes slack s t before now) (sym same) (record {
+      paused = h.searching.paused;
+      clauses = h.clauses;
+      budget = h.budget;
+      rises = h.rises;
+      bounded = λ start is. bounded_now (size_of scopes) 0 start between.trail between.trail now (omega arith) refl
+          (h.counted start is).0;
+    })

@@ -22,6 +22,8 @@ use Rattle.clean.specs.Reasons.{IsReducedStep}
 use Rattle.clean.proofs.Keeping.{step_row}
 use Rattle.search.specs.State.{AreAttachedIf, AreWatched, IsAttached, IsResting, SearchState, rows_of, watch_of}
 use Rattle.search.specs.Changing.{RestingGrows}
+use Rattle.search.proofs.Tallying.{tally_none}
+use Rattle.search.proofs.Turning.{tally_moved}
 use Rattle.search.proofs.Marks.{not_attached}
 
 -- at first
@@ -42,6 +44,7 @@ pub record IsNew (s : SearchState) : Type 0 where
   pub watches : (side : Quant) → watch_of side s ≡ new_watch
   pub watched : s.watched ≡ []
   pub joined : s.joined ≡ false
+  pub long : s.long ≡ 0
 
 module _ (laws : HoldingLaws) (s : SearchState) (new : IsNew s) where
   none_attached : (side : Quant) (id : ℕ) → IsAttached s side id → ⊥
@@ -94,6 +97,7 @@ module _ (laws : HoldingLaws) (s : SearchState) (new : IsNew s) where
       room = record { trail = λ x at. absurd (contains_nil x at); signs = λ x at. absurd (contains_nil x at) };
     };
     attached = subst (λ b. AreAttachedIf b s) (sym new.joined) (λ id. no_links s.derivation new.derivation id);
+    tallied = new.long ∙ sym (tally_none s.derivation (no_links s.derivation new.derivation));
   }
 
 -- with more room
@@ -142,6 +146,7 @@ pub record Widens (old new : SearchState) : Type 0 where
   pub derivation : new.derivation ≡ old.derivation
   pub watched : new.watched ≡ old.watched
   pub joined : new.joined ≡ old.joined
+  pub long : new.long ≡ old.long
   pub trail : WidensTrail old.trail new.trail
   pub signs : length old.signs ≤ length new.signs
   pub watches : (side : Quant)
@@ -158,6 +163,7 @@ module _ (s : SearchState) (t : TrailState) (clauses cubes : WatchState) (signs 
     derivation = refl;
     watched = refl;
     joined = refl;
+    long = refl;
     trail = trail;
     signs = more;
     watches = λ side. elim side as (λ p. WidensWatch p (rows_of s) (watch_of p s)
@@ -214,6 +220,7 @@ module _ (scopes : List Scope) (old new : SearchState) (widens : Widens old new)
       };
     };
     attached = subst (λ b. AreAttachedIf b new) (sym widens.joined) (attached_wide old.joined resting.attached);
+    tallied = tally_moved old new widens.derivation widens.long resting.tallied;
   }
 
 -- under a larger prefix
@@ -273,4 +280,5 @@ module _ (extends_all : PrefixesMayGrow) (listed : ClausesAreListed) (stay : Red
           room = room;
         };
         attached = resting.attached;
+        tallied = resting.tallied;
       }

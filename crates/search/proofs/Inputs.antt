@@ -23,6 +23,7 @@ use Rattle.search.specs.Moves.{SameSteps}
 use Rattle.search.specs.State.{AreAttachedIf, AreDetached, AreWatched, IsAttached, IsResting, SearchState, rows_of}
 use Rattle.search.proofs.Dropping.{rederived, resting_rederived}
 use Rattle.search.proofs.Listing.{resting_detached}
+use Rattle.search.proofs.Tallying.{tally_none}
 use Rattle.search.proofs.Marks.{live_same, not_attached, note_same, reduced_by, reduction_by, step_live}
 
 -- a clause came in
@@ -168,6 +169,7 @@ module _ (laws : GrowthLaws) (scopes : List Scope) (s : SearchState) (new : Stat
         (λ side id a. absurd (was_none side id a))
         (λ side id a. absurd (is_none side id a))
         (subst (λ b. AreAttachedIf b (rederived s new ids)) (sym joined) gone)
+        (tally_none new gone ∙ sym (tally_none s.derivation none))
 
     pub no_cubes_input : HasNoCubes s → HasNoCubes (rederived s new ids)
     no_cubes_input none id at live =

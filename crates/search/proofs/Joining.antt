@@ -103,6 +103,7 @@ module _ (laws : HoldingLaws) (pivot : Quant) (scopes : List Scope) (old new : S
       joined = same.joined;
       here = (pivot, here);
       stays = joined_stays;
+      others = attaches.same_attached;
     }
 
   module _ (id : ℕ) (unmarks : Unmarks pivot (rows_of old) (rows_of new) id)
@@ -145,4 +146,5 @@ module _ (laws : HoldingLaws) (pivot : Quant) (scopes : List Scope) (old new : S
       joined = same.joined;
       gone = parted_gone;
       stays = parted_stays;
+      others = unmarks.others;
     }

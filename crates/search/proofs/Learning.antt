@@ -23,12 +23,13 @@ use Rattle.clean.specs.Marks.{CleansReasons, KeepsReasons, MarksMore, StopsClean
 use Rattle.clean.specs.Reasons.{IsReducedStep}
 use Rattle.clean.proofs.Circling.{same_placed}
 use Rattle.clean.proofs.Keeping.{reasons_stay, reduced_stays, step_lives}
-use Rattle.search.specs.State.{AreAttached, AreAttachedIf, AreMarked, AreWatched, IsIntact, IsResting, IsSearching, SearchState, rows_of, watch_of}
+use Rattle.search.specs.State.{AreAttached, AreAttachedIf, AreMarked, AreWatched, IsIntact, IsResting, IsSearching, IsTallied, SearchState, rows_of, watch_of}
 use Rattle.analyse.specs.Lessons.{NeedsResolution}
 use Rattle.search.specs.Counting.{size_of}
 use Rattle.search.specs.Moves.{Analyses, Halts, KeepsAssumptions, WasDue}
 use Rattle.search.specs.Moves.IsDue.{bad}
 use Rattle.search.proofs.Counting.{bounded_more, counted_owed}
+use Rattle.search.proofs.Tallying.{tally_gained}
 use Rattle.search.proofs.Turning.{same_watch}
 
 -- some steps came in: what is attached stays so, and no other row is
@@ -145,15 +146,22 @@ module _ (scopes : List Scope) (s new : SearchState) (gains : GainsSteps s.deriv
         room = record { trail = rw room intact.room.trail; signs = rw signs intact.room.signs };
       }
 
+tallied_gained : (scopes : List Scope) (s new : SearchState) → GainsSteps s.derivation new.derivation
+    → IsIntact scopes s → new.long ≡ s.long → IsTallied s → IsTallied new
+tallied_gained scopes s new gains intact long tallied =
+    long ∙ (tallied ∙ sym (tally_gained scopes s.derivation new.derivation gains intact.legal intact.watched.sides))
+
 pub searching_gained : (scopes : List Scope) (s new : SearchState) → HoldingLaws → AgreeingLaws → IsSearching scopes s
     → GainsSteps s.derivation new.derivation → IsLegalFor scopes new.derivation → new.watched ≡ s.watched
-    → new.clauses ≡ s.clauses → new.cubes ≡ s.cubes → new.signs ≡ s.signs → new.trail ≡ s.trail → IsSearching scopes new
-searching_gained scopes s new holding agreeing searching gains legal watched clauses cubes signs trail = record {
+    → new.clauses ≡ s.clauses → new.cubes ≡ s.cubes → new.signs ≡ s.signs → new.trail ≡ s.trail → new.long ≡ s.long
+    → IsSearching scopes new
+searching_gained scopes s new holding agreeing searching gains legal watched clauses cubes signs trail long = record {
   paused = record {
     intact = intact_gained scopes s new gains watched holding agreeing searching.paused.intact legal clauses cubes
         signs (ap (λ (t : TrailState). t.room) trail) (rw trail searching.paused.intact.trail)
         (ap (λ (t : TrailState). literals_on t.placed) trail);
     attached = attached_gained scopes s new gains watched searching.paused.intact.watched searching.paused.attached;
+    tallied = tallied_gained scopes s new gains searching.paused.intact long searching.paused.tallied;
   };
   reasons = λ side. rw trail (reasons_stay side scopes s.derivation new.derivation s.trail gains.grows
       (searching.reasons side));
@@ -169,14 +177,15 @@ attached_if_gained scopes s new false gains watched is detached =
 pub resting_gained : (scopes : List Scope) (s new : SearchState) → HoldingLaws → AgreeingLaws → IsResting scopes s
     → GainsSteps s.derivation new.derivation → IsLegalFor scopes new.derivation → new.watched ≡ s.watched
     → new.clauses ≡ s.clauses → new.cubes ≡ s.cubes → new.signs ≡ s.signs → new.trail ≡ s.trail
-    → new.joined ≡ s.joined → IsResting scopes new
-resting_gained scopes s new holding agreeing resting gains legal watched clauses cubes signs trail joined = record {
+    → new.joined ≡ s.joined → new.long ≡ s.long → IsResting scopes new
+resting_gained scopes s new holding agreeing resting gains legal watched clauses cubes signs trail joined long = record {
   rest = rw trail resting.rest;
   intact = intact_gained scopes s new gains watched holding agreeing resting.intact legal clauses cubes signs
       (ap (λ (t : TrailState). t.room) trail) (rw trail resting.intact.trail)
       (ap (λ (t : TrailState). literals_on t.placed) trail);
   attached = subst (λ b. AreAttachedIf b new) (sym joined)
       (attached_if_gained scopes s new s.joined gains watched resting.intact.watched resting.attached);
+  tallied = tallied_gained scopes s new gains resting.intact long resting.tallied;
 }
 
 -- reasons that are made clean keep assumptions and levels
@@ -231,14 +240,15 @@ level_marked a b m marks = sym (level_kinds 0 b.placed) ∙ (ap last_level marks
 pub searching_analysed : (scopes : List Scope) (s new : SearchState) (made : ℕ) → HoldingLaws → AgreeingLaws
     → IsSearching scopes s → GainsSteps s.derivation new.derivation → IsLegalFor scopes new.derivation
     → new.watched ≡ s.watched → new.clauses ≡ s.clauses → new.cubes ≡ s.cubes → new.signs ≡ s.signs
-    → IsTrailFor scopes new.trail → MarksMore s.trail new.trail made
+    → new.long ≡ s.long → IsTrailFor scopes new.trail → MarksMore s.trail new.trail made
     → KeepsReasons scopes s.derivation new.derivation s.trail new.trail → IsSearching scopes new
-searching_analysed scopes s new made holding agreeing searching gains legal watched clauses cubes signs trail marks
-    reasons = record {
+searching_analysed scopes s new made holding agreeing searching gains legal watched clauses cubes signs long trail
+    marks reasons = record {
       paused = record {
         intact = intact_gained scopes s new gains watched holding agreeing searching.paused.intact legal clauses cubes
             signs marks.room trail (same_placed s.trail new.trail made marks);
         attached = attached_gained scopes s new gains watched searching.paused.intact.watched searching.paused.attached;
+        tallied = tallied_gained scopes s new gains searching.paused.intact long searching.paused.tallied;
       };
       reasons = λ side. reasons side (searching.reasons side);
     }

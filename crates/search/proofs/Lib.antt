@@ -1,3 +1,4 @@
+pub mod Clearing
 pub mod Counting
 pub mod Covering
 pub mod Dropping
@@ -15,7 +16,11 @@ pub mod Marks
 pub mod Reducing
 pub mod Rows
 pub mod Starting
+pub mod Tallying
+pub mod Thinning
+pub mod Told
 pub mod Turning
 pub mod Undoing
 pub mod Working
+pub mod WorkingForgetting
 pub mod WorkingStops

@@ -11,9 +11,10 @@ use Rattle.derive.specs.State.{is_live, side_at}
 use Rattle.derive.proofs.Additions.{live_below}
 use Rattle.watch.specs.State.{Holds, WatchState}
 use Rattle.clean.specs.Reasons.{IsReducedStep}
-use Rattle.search.specs.State.{AreAttached, AreAttachedIf, AreDetached, AreWatched, IsAtRest, IsAttached, IsIntact, IsPaused, IsResting, IsSearching, SearchState, rows_of, watch_of}
+use Rattle.search.specs.State.{AreAttached, AreAttachedIf, AreDetached, AreWatched, IsAtRest, IsAttached, IsIntact, IsPaused, IsResting, IsSearching, IsTallied, SearchState, rows_of, watch_of, with_long}
 use Rattle.search.specs.Moves.{SameSteps}
 use Rattle.search.specs.Watching.{Joins, Keeps, Parts}
+use Rattle.search.proofs.Tallying.{intact_counted, tally_none}
 use Rattle.search.proofs.Marks.{live_same, reasons_same, step_live, steps_then}
 
 -- with another list of rows to watch, and another flag
@@ -89,8 +90,8 @@ module _ (scopes : List Scope) (s : SearchState) (ids : List ℕ) (id : ℕ) (mo
       })
 
   pub keeps_more : (new : SearchState) → IsSearching scopes s → Joins scopes (record s { watched = ids }) new id
-      → Keeps scopes s new
-  keeps_more new searching joins = record {
+      → IsTallied new → Keeps scopes s new
+  keeps_more new searching joins tallied = record {
     searching = record {
       paused = record {
         intact = joins.intact;
@@ -100,6 +101,7 @@ module _ (scopes : List Scope) (s : SearchState) (ids : List ℕ) (id : ℕ) (mo
             (λ was. let a = searching.paused.attached i was in (a.0, joins.stays a.0 i a.1))
             (λ e. subst (λ j. (side : Quant) × IsAttached new side j) e joins.here)
             (was_or_is i (subst (λ ws. Contains ws i) joins.watched at));
+        tallied = tallied;
       };
       reasons = λ side. rw joins.trail (reasons_same s.derivation new.derivation joins.steps side scopes s.trail
           (searching.reasons side));
@@ -175,6 +177,7 @@ module _ (scopes : List Scope) (start s new : SearchState) (over : GoesOver scop
 -- so many rows to watch are attached
 pub record HasJoined (scopes : List Scope) (start s : SearchState) (k : ℕ) : Type 0 where
   pub over : GoesOver scopes start s
+  pub tallied : IsTallied s
   pub attached : (j : ℕ) → j < k → (side : Quant) × IsAttached s side (get_or s.watched j 0)
 
 -- so many are attached to no watch
@@ -188,15 +191,16 @@ below_next P k below here j h =
     ⊎_elim (λ (less : j < k). below j less) (λ (least : k ≤ j). let e : k ≡ j = omega arith in subst P e here)
     (cases_lt j k)
 
-pub joined_none : (scopes : List Scope) (s : SearchState) → IsIntact scopes s
+pub joined_none : (scopes : List Scope) (s : SearchState) → IsIntact scopes s → IsTallied s
     → ((id : ℕ) → Contains s.watched id → IsTrue (is_live s.derivation id)) → HasJoined scopes s s 0
-joined_none scopes s intact live =
-    record { over = over_none scopes s intact live; attached = λ j h. absurd (omega arith) }
+joined_none scopes s intact tallied live =
+    record { over = over_none scopes s intact live; tallied = tallied; attached = λ j h. absurd (omega arith) }
 
 pub joined_more : (scopes : List Scope) (start s new : SearchState) (k : ℕ) → HasJoined scopes start s k
-    → Joins scopes s new (get_or s.watched k 0) → HasJoined scopes start new (k + 1)
-joined_more scopes start s new k has joins = record {
+    → Joins scopes s new (get_or s.watched k 0) → IsTallied new → HasJoined scopes start new (k + 1)
+joined_more scopes start s new k has joins tallied = record {
   over = over_joins scopes start s new has.over (get_or s.watched k 0) joins;
+  tallied = tallied;
   attached =
       subst (λ ids. (j : ℕ) → j < k + 1 → (side : Quant) × IsAttached new side (get_or ids j 0)) (sym joins.watched)
       (below_next (λ j. (side : Quant) × IsAttached new side (get_or s.watched j 0)) k
@@ -224,6 +228,7 @@ joined_all scopes start s joined k has past = record {
   intact = intact_flagged scopes s joined has.over.intact;
   attached = each_by_place s.watched (λ id. (side : Quant) × IsAttached s side id)
       (λ j h. has.attached j (let e = ap length has.over.watched in omega arith));
+  tallied = has.tallied;
 }
 
 -- or none
@@ -250,9 +255,10 @@ pub resting_detached : (scopes : List Scope) (s : SearchState) → IsResting sco
 resting_detached scopes s resting joined = subst (λ b. AreAttachedIf b s) joined resting.attached
 
 pub parted_rest : (scopes : List Scope) (start s : SearchState) (k : ℕ) → IsAtRest start.trail
-    → HasParted scopes start s k → length start.watched ≤ k → IsResting scopes (record s { joined = false })
+    → HasParted scopes start s k → length start.watched ≤ k → IsResting scopes (record s { joined = false; long = 0 })
 parted_rest scopes start s k rest has past = record {
   rest = subst IsAtRest (sym has.over.trail) rest;
-  intact = intact_flagged scopes s false has.over.intact;
+  intact = intact_flagged scopes (with_long s 0) false (intact_counted scopes s 0 has.over.intact);
   attached = parted_all scopes start s k has past;
+  tallied = sym (tally_none s.derivation (parted_all scopes start s k has past));
 }

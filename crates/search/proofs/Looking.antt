@@ -16,6 +16,7 @@ use Rattle.watch.specs.Events.{AreQuiet}
 use Rattle.clean.specs.Reasons.{HaveReasons}
 use Rattle.search.specs.State.{IsIntact, IsSearching, SearchState, rows_of, watch_of}
 use Rattle.search.specs.Watching.{KeepsMarks, Looks, Touches}
+use Rattle.search.proofs.Tallying.{tally_marks}
 use Rattle.search.proofs.Marks.{intact_stays, marked_as_was, reasons_same, same_mark}
 
 -- a list is a front of itself
@@ -30,6 +31,7 @@ pub record LooksAt (pivot : Quant) (scopes : List Scope) (old new : SearchState)
   pub trail : new.trail ≡ old.trail
   pub signs : new.signs ≡ old.signs
   pub watched : new.watched ≡ old.watched
+  pub long : new.long ≡ old.long
   pub others : (other : Quant) → pivot ≢ other → watch_of other new ≡ watch_of other old
   pub touches : Touches pivot old.derivation new.derivation
   pub holds : Holds pivot scopes (watch_of pivot new) (rows_of new)
@@ -71,6 +73,8 @@ module _ (laws : HoldingLaws) (pivot : Quant) (scopes : List Scope) (old new : S
             λ id i.
             let a = searching.paused.attached id (subst (λ ids. Contains ids id) looks.watched i) in
             (a.0, same_attached a.0 id ∙ a.1);
+        tallied = looks.long ∙ (searching.paused.tallied
+            ∙ sym (tally_marks old.derivation new.derivation looks.touches.steps looks.marks));
       };
       reasons = λ side. subst (HaveReasons side scopes new.derivation) (sym looks.trail)
           (reasons_same old.derivation new.derivation looks.touches.steps side scopes old.trail
@@ -79,6 +83,7 @@ module _ (laws : HoldingLaws) (pivot : Quant) (scopes : List Scope) (old new : S
     steps = looks.touches.steps;
     trail = looks.trail;
     marks = looks.marks;
+    long = looks.long;
   }
 
 -- a watch that was quiet is so after a look at another one

@@ -75,3 +75,11 @@ module _ (scopes : List Scope) (s new : SearchState) (laws : LookingLaws) (chang
     reasons =
         λ side. assumed_reasons side scopes new.derivation new.trail lits is;
   }
+
+-- a search with an empty trail
+pub searching_empty : (scopes : List Scope) (s : SearchState) → IsPaused scopes s → s.trail.placed ≡ []
+    → IsSearching scopes s
+searching_empty scopes s paused empty = record {
+  paused = paused;
+  reasons = λ side. assumed_reasons side scopes s.derivation s.trail [] empty;
+}

@@ -20,8 +20,9 @@ use Rattle.watch.specs.Laws.{LookingLaws}
 use Rattle.clean.specs.Laws.{HasReason}
 use Rattle.clean.specs.Reasons.{HaveReasons, IsReducedStep}
 use Rattle.clean.proofs.Reasoning.{assigned_have}
-use Rattle.search.specs.State.{AreWatched, IsIntact, IsPaused, IsSearching, SearchState, rows_of, watch_of}
+use Rattle.search.specs.State.{AreWatched, IsIntact, IsPaused, IsSearching, IsTallied, SearchState, rows_of, watch_of}
 use Rattle.search.specs.Counting.{size_of}
+use Rattle.search.specs.Long.{long_in}
 use Rattle.search.specs.Moves.{Advances}
 use Rattle.search.proofs.Counting.{counted_push}
 
@@ -43,6 +44,11 @@ same_watched scopes s new derivation watched h = record {
   clauses = rw (derivation, watched) h.clauses;
 }
 
+-- the same derivation and count
+pub tally_moved : (s new : SearchState) → new.derivation ≡ s.derivation → new.long ≡ s.long → IsTallied s
+    → IsTallied new
+tally_moved s new derivation long tallied = long ∙ (tallied ∙ ap long_in (sym derivation))
+
 -- only the trail changes
 pub record TrailChanges (s new : SearchState) : Type 0 where
   pub derivation : new.derivation ≡ s.derivation
@@ -50,6 +56,7 @@ pub record TrailChanges (s new : SearchState) : Type 0 where
   pub cubes : new.cubes ≡ s.cubes
   pub signs : new.signs ≡ s.signs
   pub watched : new.watched ≡ s.watched
+  pub long : new.long ≡ s.long
   pub room : new.trail.room ≡ s.trail.room
 
 pub changes_of : (v s : SearchState) (t : TrailState) → v ≡ s → t.room ≡ v.trail.room
@@ -60,6 +67,7 @@ changes_of v s t e room = record {
   cubes = ap (λ (x : SearchState). x.cubes) e;
   signs = ap (λ (x : SearchState). x.signs) e;
   watched = ap (λ (x : SearchState). x.watched) e;
+  long = ap (λ (x : SearchState). x.long) e;
   room = room ∙ ap (λ (x : SearchState). x.trail.room) e;
 }
 
@@ -90,6 +98,7 @@ module _ (scopes : List Scope) (s new : SearchState) (changes : TrailChanges s n
         intact = intact_trail paused.intact trail front;
         attached =
             rw (changes.derivation, changes.watched) paused.attached;
+        tallied = tally_moved s new changes.derivation changes.long paused.tallied;
       }
 
 -- the literal that a unit row makes good

@@ -9,7 +9,7 @@ use Rattle.calculus.specs.Search.{AreTheAssumptions, Trail, cut_trail, last_leve
 use Rattle.calculus.proofs.Assuming.{cut}
 use Rattle.calculus.proofs.Cutting.{cut_shorter}
 use Rattle.trail.specs.State.{TrailState, IsTrailFor, allowed_anew, begun_anew, counted, restarted, undone_to, with_front}
-use Rattle.trail.specs.declared.allowed.Allowed.TheVariants.{Anything, NoDecision, Nothing}
+use Rattle.trail.specs.declared.allowed.Allowed.TheVariants.{NoDecision, Nothing}
 use Rattle.trail.proofs.Cutting.{undone_high}
 use Rattle.decide.specs.Memory.{Memory, saved, with_phase}
 use Rattle.derive.specs.State.{State, arena_of}
@@ -21,7 +21,7 @@ use Rattle.search.specs.State.{AreAttachedIf, IsAtRest, IsIntact, IsPaused, IsRe
 use Rattle.search.specs.Counting.{size_of}
 use Rattle.search.specs.Moves.{BeginsAnew, Undoes}
 use Rattle.search.proofs.Counting.{counted_back}
-use Rattle.search.proofs.Turning.{same_watched}
+use Rattle.search.proofs.Turning.{same_watched, tally_moved}
 
 -- as many signs as before
 pub saved_length : (literals : List Literal) (memory : Memory) → length (saved literals memory) ≡ length memory
@@ -35,6 +35,7 @@ pub record CutChanges (s new : SearchState) (keep : ℕ) : Type 0 where
   pub clauses : new.clauses ≡ watch_undone keep s.clauses
   pub cubes : new.cubes ≡ watch_undone keep s.cubes
   pub signs : length new.signs ≡ length s.signs
+  pub long : new.long ≡ s.long
   pub room : new.trail.room ≡ s.trail.room
 
 pub cut_changes : (v s : SearchState) (t : TrailState) (keep : ℕ) (clauses cubes : WatchState) (signs : Memory)
@@ -47,6 +48,7 @@ cut_changes v s t keep clauses cubes signs e room one two three joined = record 
   clauses = one ∙ ap (λ (x : SearchState). watch_undone keep x.clauses) e;
   cubes = two ∙ ap (λ (x : SearchState). watch_undone keep x.cubes) e;
   signs = three ∙ ap (λ (x : SearchState). length x.signs) e;
+  long = ap (λ (x : SearchState). x.long) e;
   room = room ∙ ap (λ (x : SearchState). x.trail.room) e;
 }
 
@@ -85,6 +87,7 @@ module _ (scopes : List Scope) (s new : SearchState) (keep : ℕ) (laws : Holdin
         intact = intact_cut paused.intact trail front;
         attached =
             rw (changes.derivation, changes.watched) paused.attached;
+        tallied = tally_moved s new changes.derivation changes.long paused.tallied;
       }
 
 -- to a level below that of the trail
@@ -185,4 +188,5 @@ rests scopes s new holding looking paused joined changes rest =
           (λ side. rw rest.empty (looking.cleared (watch_of side s)));
       attached = subst (λ b. AreAttachedIf b new) (sym joined)
           (rw (changes.derivation, changes.watched) paused.attached);
+      tallied = tally_moved s new changes.derivation changes.long paused.tallied;
     }

@@ -1,5 +1,5 @@
 -- The worked values.
-use Rattle.std.proofs.Common.{◌≡◌, ◌<◌, ◌≤◌, ◌+◌, List, ℕ, zero, suc, Bool, true, false, [], ◌∷◌, ◌++◌, replicate, Contains, Some, None, refl, sym, subst, inl, inr, ⊎_elim, arith, ap, ◌∙◌}
+use Rattle.std.proofs.Common.{◌≡◌, ◌<◌, ◌≤◌, List, ℕ, zero, suc, Bool, true, false, [], ◌∷◌, ◌++◌, replicate, Contains, Some, None, refl, sym, subst, inl, inr, ⊎_elim, arith, ap, ◌∙◌}
 use Rattle.std.specs.Prelude.{IsTrue, is_some, if◌then◌else◌, ◌==◌}
 use Rattle.std.proofs.lemmas.Bool.{true≢false, false≢true}
 use Rattle.prefix.specs.declared.quant.Quant.{Quant}

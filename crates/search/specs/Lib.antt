@@ -2,8 +2,11 @@ pub mod Changing
 pub mod Counting
 pub mod Finishes
 pub mod Forcing
+pub mod Forgetting
+pub mod Long
 pub mod Moves
 pub mod State
 pub mod Stops
 pub mod Watching
 pub mod Worked
+pub mod WorkedForgetting

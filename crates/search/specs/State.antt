@@ -13,9 +13,11 @@ use Rattle.derive.specs.Adding.{IsReductionOf}
 use Rattle.watch.specs.Links.{is_attached}
 use Rattle.watch.specs.State.{Holds, IsFront, IsUnattached, WatchState, looked}
 use Rattle.clean.specs.Reasons.{HaveReasons, IsReducedStep}
+use Rattle.search.specs.Long.{long_in}
 
 -- a derivation and a trail; the watches of clauses and of cubes; the signs that variables had last; the ids of the
--- rows to watch, which may be of steps that were dropped; and whether these are attached to the watches
+-- rows to watch, which may be of steps that were dropped; whether these are attached to the watches; and how many of
+-- them are long learned rows that are attached
 pub record SearchState : Type 0 where
   pub derivation : State
   pub trail : TrailState
@@ -24,6 +26,7 @@ pub record SearchState : Type 0 where
   pub signs : Memory
   pub watched : List ℕ
   pub joined : Bool
+  pub long : ℕ
 
 -- the watch of a side
 abbrev pub watch_of : Quant → SearchState → WatchState
@@ -88,10 +91,19 @@ abbrev pub AreAttachedIf : Bool → SearchState → Type 0
 AreAttachedIf true s = AreAttached s
 AreAttachedIf false s = AreDetached s
 
+-- with another count
+abbrev pub with_long : SearchState → ℕ → SearchState
+with_long s n = record s { long = n }
+
+-- long learned rows that are attached are counted
+abbrev pub IsTallied : SearchState → Type 0
+IsTallied s = s.long ≡ long_in s.derivation
+
 -- what holds at every moment of a search, also where it stops
 pub record IsPaused (scopes : List Scope) (s : SearchState) : Type 0 where
   pub intact : IsIntact scopes s
   pub attached : AreAttached s
+  pub tallied : IsTallied s
 
 -- and while it goes on: each propagated literal has a reason of its side, which was unit before its place
 pub record IsSearching (scopes : List Scope) (s : SearchState) : Type 0 where
@@ -111,3 +123,4 @@ pub record IsResting (scopes : List Scope) (s : SearchState) : Type 0 where
   pub rest : IsAtRest s.trail
   pub intact : IsIntact scopes s
   pub attached : AreAttachedIf s.joined s
+  pub tallied : IsTallied s

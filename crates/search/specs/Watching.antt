@@ -29,10 +29,15 @@ pub record Touches (pivot : Quant) (old new : State) : Type 0 where
   pub legal : (scopes : List Scope) → IsLegalFor scopes old → IsLegalFor scopes new
   pub agrees : AgreesElsewhere pivot (arena_of old) (arena_of new)
 
--- a row isn't attached to the watch any more, and each one is attached as it was or to none
+-- the other rows are attached as they were
+abbrev pub KeepsOtherMarks : Arena → Arena → ℕ → Type 0
+KeepsOtherMarks old new id = (i : ℕ) → i ≢ id → link_at new i 6 ≡ link_at old i 6
+
+-- a row isn't attached to the watch any more, and each other one is attached as it was
 pub record Unmarks (pivot : Quant) (old new : Arena) (id : ℕ) : Type 0 where
   pub gone : IsFalse (is_attached pivot new id)
   pub marks : (i : ℕ) → (link_at new i 6 ≡ link_at old i 6) ⊎ (link_at new i 6 ≡ None)
+  pub others : KeepsOtherMarks old new id
 
 -- a row is attached, and what was attached is so still; nothing else changes
 pub record Joins (scopes : List Scope) (old new : SearchState) (id : ℕ) : Type 0 where
@@ -44,6 +49,7 @@ pub record Joins (scopes : List Scope) (old new : SearchState) (id : ℕ) : Type
   pub joined : new.joined ≡ old.joined
   pub here : (side : Quant) × IsAttached new side id
   pub stays : (side : Quant) (i : ℕ) → IsAttached old side i → IsAttached new side i
+  pub others : KeepsOtherMarks (rows_of old) (rows_of new) id
 
 -- a row isn't attached any more, and what isn't stays so; nothing else changes
 pub record Parts (scopes : List Scope) (old new : SearchState) (id : ℕ) : Type 0 where
@@ -55,6 +61,7 @@ pub record Parts (scopes : List Scope) (old new : SearchState) (id : ℕ) : Type
   pub joined : new.joined ≡ old.joined
   pub gone : (side : Quant) → IsAttached new side id → ⊥
   pub stays : (side : Quant) (i : ℕ) → IsAttached new side i → IsAttached old side i
+  pub others : KeepsOtherMarks (rows_of old) (rows_of new) id
 
 -- a row may be attached; the search is else as it was
 pub record Keeps (scopes : List Scope) (old new : SearchState) : Type 0 where
@@ -68,3 +75,4 @@ pub record Looks (scopes : List Scope) (old new : SearchState) : Type 0 where
   pub steps : SameSteps old.derivation new.derivation
   pub trail : new.trail ≡ old.trail
   pub marks : KeepsMarks (rows_of old) (rows_of new)
+  pub long : new.long ≡ old.long

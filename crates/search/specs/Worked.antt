@@ -74,6 +74,7 @@ search_over pivot links placed = record {
   signs = [];
   watched = 0 ∷ [];
   joined = true;
+  long = 0;
 }
 
 -- 1 and 2 are bad, for which 3 is unit

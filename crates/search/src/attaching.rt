@@ -1,13 +1,15 @@
 //! Rows that are attached to the watches, and detached.
-ghost use Rattle.std.specs.Prelude.{◌≡◌, ◌<◌, ℕ, IsTrue, Contains, length, slice_index, true, false, filter};
-ghost use Rattle.derive.specs.State.{has_rows, is_live, side_at};
+ghost use Rattle.std.specs.Prelude.{◌≡◌, ◌<◌, ℕ, IsTrue, Contains, length, slice_index, true, false, filter, ◌+◌, ◌-◌, ◌≤◌, if◌then◌else◌};
+ghost use Rattle.derive.specs.State.{has_rows, is_live, next_id, side_at};
 ghost use Rattle.watch.specs.Links.{is_attached};
 ghost use Rattle.clean.specs.Reasons.{IsReducedStep};
-ghost use Rattle.search.specs.State.{IsIntact, IsPaused, IsResting, IsSearching, rows_of};
+ghost use Rattle.search.specs.State.{IsIntact, IsPaused, IsResting, IsSearching, IsTallied, rows_of, with_long};
+ghost use Rattle.search.specs.Long.{is_long};
 ghost use Rattle.search.specs.Moves.{SameSteps};
 ghost use Rattle.search.specs.Forcing.{HasNoCubes, NoCubeAttached};
 ghost use Rattle.search.specs.Watching.{Joins, Keeps, Parts};
 
+use crate::forgetting::is_long;
 use crate::search::Search;
 use crate::watching::{attach_to, detach_from, has_row};
 use derive::{Derivation, StepId};
@@ -21,7 +23,8 @@ impl Search {
         requires intact { IsIntact prefix.now self.old }
         requires live { IsTrue (is_live self.old.derivation id) }
         requires listed { Contains self.old.watched id }
-        ensures { Joins prefix.now self.old self.new id }
+        ensures joins { Joins prefix.now self.old self.new id }
+        ensures long { self.new.long ≡ self.old.long }
     {
         holding_laws();
         match self.derivation.side(id) {
@@ -46,12 +49,69 @@ impl Search {
     fn detach(&mut self, prefix: &Prefix, id: StepId)
         requires intact { IsIntact prefix.now self.old }
         requires live { IsTrue (is_live self.old.derivation id) }
-        ensures { Parts prefix.now self.old self.new id }
+        ensures parts { Parts prefix.now self.old self.new id }
+        ensures long { self.new.long ≡ self.old.long }
     {
         holding_laws();
         match self.derivation.side(id) {
             Quant::Exists => detach_from(&mut self.clauses, &mut self.derivation, id),
             Quant::Forall => detach_from(&mut self.cubes, &mut self.derivation, id),
+        }
+    }
+
+    // Attaches a row to watch, unless it is attached, and counts it where it is a long learned one.
+    fn join(&mut self, prefix: &Prefix, id: StepId)
+        requires intact { IsIntact prefix.now self.old }
+        requires tallied { IsTallied self.old }
+        requires live { IsTrue (is_live self.old.derivation id) }
+        requires listed { Contains self.old.watched id }
+        ensures joins { Joins prefix.now self.old self.new id }
+        ensures tallied { IsTallied self.new }
+    {
+        if self.has(id) {
+            return;
+        }
+        self.attach(prefix, id);
+        self.count(id);
+    }
+
+    // Counts a row that was attached, where it is a long learned one.
+    fn count(&mut self, id: StepId)
+        requires live { IsTrue (is_live self.old.derivation id) }
+        requires rows { IsTrue (has_rows self.old.derivation) }
+        requires fits { IsTrue (is_long self.old.derivation id) → self.old.long < next_id self.old.derivation }
+        ensures { self.new ≡ with_long self.old (self.old.long + (if is_long self.old.derivation id then 1 else 0)) }
+    {
+        // Ids are fewer than 2 ^ 64.
+        let _next = self.derivation.next_id();
+        if is_long(&self.derivation, id) {
+            self.long += 1;
+        }
+    }
+
+    // Detaches a row to watch, if it is attached, and counts it no more.
+    pub(crate) fn part(&mut self, prefix: &Prefix, id: StepId)
+        requires intact { IsIntact prefix.now self.old }
+        requires tallied { IsTallied self.old }
+        requires live { IsTrue (is_live self.old.derivation id) }
+        ensures parts { Parts prefix.now self.old self.new id }
+        ensures tallied { IsTallied self.new }
+        ensures fewer { self.new.long ≤ self.old.long }
+    {
+        if self.has(id) {
+            self.detach(prefix, id);
+            self.discount(id);
+        }
+    }
+
+    // Counts a row that was detached no more, where it is a long learned one.
+    fn discount(&mut self, id: StepId)
+        requires live { IsTrue (is_live self.old.derivation id) }
+        requires rows { IsTrue (has_rows self.old.derivation) }
+        ensures { self.new ≡ with_long self.old (self.old.long - (if is_long self.old.derivation id then 1 else 0)) }
+    {
+        if is_long(&self.derivation, id) {
+            self.long = self.long.saturating_sub(1);
         }
     }
 
@@ -71,7 +131,8 @@ impl Search {
 
     // The same where none is attached.
     fn join_all(&mut self, prefix: &Prefix)
-        requires { IsIntact prefix.now self.old }
+        requires intact { IsIntact prefix.now self.old }
+        requires tallied { IsTallied self.old }
         ensures paused { IsPaused prefix.now self.new }
         ensures trail { self.new.trail ≡ self.old.trail }
         ensures steps { SameSteps self.old.derivation self.new.derivation }
@@ -79,19 +140,21 @@ impl Search {
     {
         forget_dropped(&mut self.watched, &self.derivation);
         for k in 0..self.watched.len() {
-            self.attach_at(prefix, k);
+            self.join_at(prefix, k);
         }
     }
 
     // Attaches the row to watch with this place on the list.
-    fn attach_at(&mut self, prefix: &Prefix, k: usize)
+    fn join_at(&mut self, prefix: &Prefix, k: usize)
         requires intact { IsIntact prefix.now self.old }
+        requires tallied { IsTallied self.old }
         requires within { k < length self.old.watched }
         requires live { IsTrue (is_live self.old.derivation (slice_index self.old.watched k)) }
-        ensures { Joins prefix.now self.old self.new (slice_index self.old.watched k) }
+        ensures joins { Joins prefix.now self.old self.new (slice_index self.old.watched k) }
+        ensures tallied { IsTallied self.new }
     {
         let id = self.watched[k];
-        self.attach(prefix, id);
+        self.join(prefix, id);
     }
 
     // Detaches every row. Where none is attached, this takes constant time.
@@ -102,6 +165,7 @@ impl Search {
         ensures trail { self.new.trail ≡ self.old.trail }
         ensures watched { self.new.watched ≡ self.old.watched }
         ensures joined { self.new.joined ≡ false }
+        ensures fewer { self.new.long ≤ self.old.long }
     {
         if self.joined {
             self.part_all(prefix);
@@ -117,11 +181,13 @@ impl Search {
         ensures trail { self.new.trail ≡ self.old.trail }
         ensures watched { self.new.watched ≡ self.old.watched }
         ensures joined { self.new.joined ≡ false }
+        ensures fewer { self.new.long ≤ self.old.long }
     {
         for k in 0..self.watched.len() {
             self.detach_at(prefix, k);
         }
         self.joined = false;
+        self.long = 0;
     }
 
     // Detaches the row to watch with this place on the list.
@@ -145,12 +211,12 @@ impl Search {
             return Ok(());
         }
         self.watched.push(row)?;
-        self.attach(prefix, row);
+        self.join(prefix, row);
         Ok(())
     }
 
     // Whether a live row is attached to the watch of its side.
-    fn has(&mut self, row: StepId) -> bool
+    pub(crate) fn has(&mut self, row: StepId) -> bool
         requires live { IsTrue (is_live self.old.derivation row) }
         requires rows { IsTrue (has_rows self.old.derivation) }
         ensures same { self.new ≡ self.old }

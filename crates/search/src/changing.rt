@@ -55,6 +55,7 @@ impl Search {
         ensures ok { OnOk result (AddsClause frame lits.now (clauses_of self.old.derivation)
             (clauses_of self.new.derivation)) }
         ensures err { OnErr result (SameSteps self.old.derivation self.new.derivation) }
+        ensures fewer { OnErr result (self.new.long ≤ self.old.long) }
         ensures resting { IsResting prefix.now self.new }
         ensures cubes { HasNoCubes self.old → HasNoCubes self.new }
         ensures finishes { GainsNoFinish self.old.derivation self.new.derivation }
@@ -72,6 +73,7 @@ impl Search {
         ensures ok { OnOk result (AddsClause frame lits.now (clauses_of self.old.derivation)
             (clauses_of self.new.derivation)) }
         ensures err { OnErr result (SameSteps self.old.derivation self.new.derivation) }
+        ensures fewer { OnErr result (self.new.long ≤ self.old.long) }
         ensures resting { IsResting prefix.now self.new }
         ensures cubes { HasNoCubes self.old → HasNoCubes self.new }
         ensures finishes { GainsNoFinish self.old.derivation self.new.derivation }
@@ -112,6 +114,7 @@ impl Search {
             SameStep self.old.derivation self.new.derivation id }
         ensures finishes { HasNoFinish self.new.derivation }
         ensures reductions { reductions_in self.new.derivation ≡ reductions_in self.old.derivation }
+        ensures long { self.new.long ≡ self.old.long }
         ensures resting { IsResting prefix.now self.new }
         ensures clauses { clauses_of self.new.derivation ≡ clauses_of self.old.derivation }
         ensures cubes { HasNoCubes self.old → HasNoCubes self.new }

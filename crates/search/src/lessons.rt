@@ -15,6 +15,7 @@ ghost use Rattle.clean.specs.Reasons.{HaveReasons, IsReducedStep};
 ghost use Rattle.clean.specs.Marks.{CleansReasons, KeepsReasons, StopsCleaning, marks_left};
 ghost use Rattle.clean.specs.Turns.{reductions_in};
 ghost use Rattle.analyse.specs.Lessons.{IsLesson, NeedsResolution};
+ghost use Rattle.search.specs.Forgetting.{HasFewLong};
 ghost use Rattle.search.specs.State.{IsSearching};
 ghost use Rattle.search.specs.Counting.{ReducesFew, lesson_cost, size_of};
 ghost use Rattle.search.specs.Moves.{Advances, Analyses, BeginsAnew, Ends, Halts, Pushes, Undoes, WasDue};
@@ -51,6 +52,7 @@ impl Search {
         ensures due { result ≡ Err spent → WasDue prefix.now self.old self.new }
         ensures reductions { ReducesFew self.old.derivation self.new.derivation steps.old steps.new }
         ensures restarts { self.old.trail.restarts ≤ restarts → self.new.trail.restarts ≤ restarts }
+        ensures long { HasFewLong prefix.now self.old → OnOk result (HasFewLong prefix.now self.new) }
         ensures ends { last_level self.old.trail.placed ≡ 0 → result ≢ Ok None }
         ensures few { last_level self.old.trail.placed ≡ 0 → result ≡ Err spent → left steps.old
             < 2 * (marks_left self.old.trail * length self.old.trail.placed + 2 * length self.old.trail.placed) }
@@ -59,9 +61,9 @@ impl Search {
             Lesson::End { row } => Ok(Some(EndRow { side, row })),
             Lesson::Learn { row, lit, level } => {
                 if self.is_restart_due(restarts) {
-                    self.begin_anew(prefix, row)?;
+                    self.start_over(prefix, row)?;
                 } else {
-                    self.backjump(prefix, side, row, lit, level, steps)?;
+                    self.go_back(prefix, side, row, lit, level, steps)?;
                 }
                 Ok(None)
             }
@@ -80,6 +82,25 @@ impl Search {
         }
         self.lessons_left = LESSONS;
         self.trail.restarts() < u64::from(restarts)
+    }
+
+    // Begins anew with a learned row, and forgets long ones where there are many.
+    fn start_over(&mut self, prefix: &Prefix, row: StepId) -> Result<(), NoMemory>
+        requires searching { IsSearching prefix.now self.old }
+        requires row { IsReducedStep (side_at self.old.derivation row) prefix.now self.old.derivation row }
+        requires below { 0 < last_level self.old.trail.placed }
+        requires small { self.old.trail.restarts + 1 < 2 ^ 64 }
+        ensures ok { OnOk result ((steps : Counter) →
+            Advances prefix.now (lesson_cost (size_of prefix.now)) self.old self.new steps steps) }
+        ensures err { OnErr result ((steps : Counter) →
+            Halts prefix.now (lesson_cost (size_of prefix.now)) self.old self.new steps steps) }
+        ensures reductions { reductions_in self.new.derivation ≤ reductions_in self.old.derivation }
+        ensures restarts { self.new.trail.restarts ≡ self.old.trail.restarts + 1 }
+        ensures long { OnOk result (HasFewLong prefix.now self.new) }
+    {
+        self.begin_anew(prefix, row)?;
+        self.forget(prefix)?;
+        Ok(())
     }
 
     // Undoes to level 0, from where the search begins anew, and keeps a learned row.
@@ -130,6 +151,7 @@ impl Search {
         requires bad { IsBadRow side prefix.now (value_on self.old.trail.placed) (row_of self.old.derivation row) }
         ensures ok { OnOk result (Analyses prefix.now self.old self.new steps.old steps.new) }
         ensures restarts { self.new.trail.restarts ≡ self.old.trail.restarts }
+        ensures long { self.new.long ≡ self.old.long }
         ensures lesson { IfOk result (λ lesson.
             IsLesson side prefix.now self.new.trail.placed self.new.derivation lesson) }
         ensures err { OnErr result (Halts prefix.now 1 self.old self.new steps.old steps.new) }
@@ -156,6 +178,34 @@ impl Search {
         // The counter is within its budget.
         let _budget = steps.budget();
         lesson
+    }
+
+    // Goes back with a learned row, and forgets long ones where there are many.
+    fn go_back(
+        &mut self,
+        prefix: &Prefix,
+        side: Quant,
+        row: StepId,
+        lit: Lit,
+        level: usize,
+        steps: &mut Steps,
+    ) -> Result<(), Stop>
+        requires searching { IsSearching prefix.now self.old }
+        requires row { IsReducedStep side prefix.now self.old.derivation row }
+        requires unit { MakesUnitAt side prefix.now self.old.trail.placed (row_of self.old.derivation row) lit level }
+        ensures ok { OnOk result (Advances prefix.now (lesson_cost (size_of prefix.now)) self.old self.new
+            steps.old steps.new) }
+        ensures err { OnErr result (Halts prefix.now (lesson_cost (size_of prefix.now)) self.old self.new
+            steps.old steps.new) }
+        ensures spent { result ≡ Err spent → steps.new.spent ≡ steps.new.budget }
+        ensures due { result ≡ Err spent → WasDue prefix.now self.old self.new }
+        ensures reductions { reductions_in self.new.derivation ≤ reductions_in self.old.derivation }
+        ensures restarts { self.new.trail.restarts ≡ self.old.trail.restarts }
+        ensures long { OnOk result (HasFewLong prefix.now self.new) }
+    {
+        self.backjump(prefix, side, row, lit, level, steps)?;
+        self.forget(prefix)?;
+        Ok(())
     }
 
     // Undoes to the level of a learned row, keeps the row, and assigns the literal in which it is unit then.
@@ -218,6 +268,7 @@ impl Search {
         requires allowed { self.old.trail.allowed ≢ Nothing }
         ensures ok { OnOk result (Advances prefix.now 0 self.old self.new steps.old steps.new) }
         ensures restarts { self.new.trail.restarts ≡ self.old.trail.restarts }
+        ensures long { self.new.long ≡ self.old.long }
         ensures pushes { OnOk result (Pushes self.old self.new (good_literal side lit) (propagated row)
             steps.old steps.new) }
         ensures same { OnErr result (self.new ≡ self.old) }
@@ -244,6 +295,7 @@ impl Search {
         requires allowed { self.old.trail.allowed ≡ Anything }
         ensures ok { OnOk result (Advances prefix.now 0 self.old self.new steps.old steps.new) }
         ensures restarts { self.new.trail.restarts ≡ self.old.trail.restarts }
+        ensures long { self.new.long ≡ self.old.long }
         ensures derivation { self.new.derivation ≡ self.old.derivation }
         ensures same { OnErr result (self.new ≡ self.old) }
         ensures uncounted { OnErr result (steps.new ≡ steps.old) }

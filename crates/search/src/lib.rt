@@ -3,6 +3,7 @@
 
 mod attaching;
 mod changing;
+mod forgetting;
 mod lessons;
 mod outcome;
 mod search;
@@ -14,4 +15,4 @@ mod worked;
 pub use changing::resting_grows;
 pub use outcome::{Outcome, SolveStop};
 pub use search::Search;
-pub use worked::{worked_counts, worked_finds, worked_finishes, worked_stops};
+pub use worked::{worked_counts, worked_finds, worked_finishes, worked_forgetting, worked_stops};

@@ -17,7 +17,7 @@ use watch::{Watch, holding_laws};
 pub(crate) const LESSONS: u8 = 64;
 
 /// A search with what it learned so far. Contracts see it as the derivation, the trail, both watches, the signs that
-/// variables had last, the ids of the rows to watch, and whether these are attached.
+/// variables had last, the ids of the rows to watch, whether these are attached, and how many long learned rows are.
 ///
 /// Between its public calls it is at rest: nothing is assigned, and each live step is legal for the prefix that the
 /// calls are given, which may grow between them.
@@ -32,6 +32,10 @@ pub struct Search {
     pub(crate) watched: Vec<StepId>,
     // Whether the rows to watch are attached; else none is.
     pub(crate) joined: bool,
+    // How many long learned rows are attached.
+    pub(crate) long: usize,
+    // How many ids are given before steps that are forgotten are dropped again; contracts don't see it.
+    pub(crate) sweep_at: usize,
     // How many lessons come before the next restart is due; contracts don't see it.
     pub(crate) lessons_left: u8,
 }
@@ -49,6 +53,7 @@ impl Model for Search {
       signs = s.decider;
       watched = s.watched.items;
       joined = s.joined;
+      long = s.long;
     } };
 }
 
@@ -70,6 +75,8 @@ impl Search {
             decider: Decider::new(alloc),
             watched: Vec::new(alloc),
             joined: false,
+            long: 0,
+            sweep_at: 0,
             lessons_left: LESSONS,
         }
     }

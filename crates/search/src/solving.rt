@@ -17,6 +17,8 @@ ghost use Rattle.search.specs.State.{IsAtRest, IsPaused, IsResting, IsSearching}
 ghost use Rattle.search.specs.Counting.{IsBounded, IsCounted, ReducesFew, size_of};
 ghost use Rattle.search.specs.Finishes.{HasNoFinish, IsFinishId};
 ghost use Rattle.search.specs.Forcing.{HasNoCubes, IsForced, NoCubeAttached};
+ghost use Rattle.search.specs.Forgetting.{HasFewLong};
+ghost use Rattle.search.specs.Long.{long_in};
 ghost use Rattle.search.specs.Moves.{IsMatrix};
 ghost use Rattle.search.specs.Stops.{IsOutcome, IsQuickStop, IsStop, WasSpentWhenDue};
 
@@ -39,6 +41,10 @@ impl Search {
     ///
     /// For each step that it takes at most one reduction comes in; and it takes fewer steps than suffice for the
     /// variables.
+    ///
+    /// Where more than 512 long learned rows are no reasons, which it looks for at its start and after each lesson, the
+    /// oldest are forgotten until 256 are left, with the steps that nothing kept rests on. With an outcome at most
+    /// 513 of them and one for each variable are kept.
     ///
     /// Spent comes only where a step is due and the budget is spent, which with as many steps left as suffice for the
     /// variables is never so. After it and after want of memory the search is at rest, with the same open clauses.
@@ -65,10 +71,11 @@ impl Search {
         ensures reductions { reductions_in self.new.derivation
             ≤ reductions_in self.old.derivation + (steps.new.spent - steps.old.spent) }
         ensures few { steps.new.spent - steps.old.spent < step_limit restarts (size_of prefix.now) }
+        ensures long { OnOk result (long_in self.new.derivation ≤ 513 + size_of prefix.now) }
         ensures budget { steps.new.budget ≡ steps.old.budget }
         ensures rises { steps.old.spent ≤ steps.new.spent }
     {
-        self.attach_all(prefix);
+        self.start(prefix)?;
         match self.run(prefix, matrix, assumptions, restarts, steps) {
             Ok(end) => self.conclude(prefix, matrix, end, assumptions),
             Err(Stop::Spent) => Err(SolveStop::Spent(self.stop(prefix, steps))),
@@ -78,6 +85,40 @@ impl Search {
                 Err(SolveStop::NoMemory)
             }
         }
+    }
+
+    // Attaches what is watched, and forgets long learned rows where there are many.
+    fn start(&mut self, prefix: &Prefix) -> Result<(), NoMemory>
+        requires { IsResting prefix.now self.old }
+        ensures paused { OnOk result (IsPaused prefix.now self.new) }
+        ensures long { OnOk result (HasFewLong prefix.now self.new) }
+        ensures trail { OnOk result (self.new.trail ≡ self.old.trail) }
+        ensures clauses { clauses_of self.new.derivation ≡ clauses_of self.old.derivation }
+        ensures cubes { OnOk result (HasNoCubes self.old → NoCubeAttached self.new) }
+        ensures reductions { reductions_in self.new.derivation ≤ reductions_in self.old.derivation }
+        ensures resting { OnErr result (IsResting prefix.now self.new) }
+        ensures unfinished { OnErr result (HasNoFinish self.new.derivation) }
+    {
+        self.attach_all(prefix);
+        match self.forget(prefix) {
+            Ok(()) => Ok(()),
+            Err(stop) => {
+                self.give_up(prefix);
+                Err(stop)
+            }
+        }
+    }
+
+    // Ends before a search: the finish of the last outcome goes.
+    fn give_up(&mut self, prefix: &Prefix)
+        requires paused { IsPaused prefix.now self.old }
+        ensures resting { IsResting prefix.now self.new }
+        ensures clauses { clauses_of self.new.derivation ≡ clauses_of self.old.derivation }
+        ensures unfinished { HasNoFinish self.new.derivation }
+        ensures reductions { reductions_in self.new.derivation ≡ reductions_in self.old.derivation }
+    {
+        self.settle(prefix);
+        self.drop_finish(prefix);
     }
 
     // Searches from an empty trail, to an end row.
@@ -90,6 +131,7 @@ impl Search {
         steps: &mut Steps,
     ) -> Result<EndRow, Stop>
         requires paused { IsPaused prefix.now self.old }
+        requires long { HasFewLong prefix.now self.old }
         requires rest { IsAtRest self.old.trail }
         requires matrix { IsMatrix self.old.derivation matrix.now }
         requires outer { AreOuter prefix.now assumptions.now }
@@ -100,6 +142,7 @@ impl Search {
         ensures end { IfOk result (λ e. IsEndRow e.side prefix.now assumptions.now (row_of self.new.derivation e.row)) }
         ensures bounded { IsBounded (size_of prefix.now) steps.old.spent self.new.trail steps.new }
         ensures restarts { self.new.trail.restarts ≤ restarts }
+        ensures long { OnOk result (HasFewLong prefix.now self.new) }
         ensures due { result ≡ Err spent → WasSpentWhenDue prefix.now self.old.derivation assumptions.now steps.old
             self.new.trail.assigned }
         ensures spent { result ≡ Err spent → steps.new.spent ≡ steps.new.budget }
@@ -135,6 +178,7 @@ impl Search {
         ensures paused { IsPaused prefix.now self.new }
         ensures derivation { self.new.derivation ≡ self.old.derivation }
         ensures restarts { self.new.trail.restarts ≡ self.old.trail.restarts }
+        ensures long { self.new.long ≡ self.old.long }
         ensures forced { NoCubeAttached self.old →
             OnOk result (IsForced prefix.now steps.old.spent self.new steps.new) }
         ensures bounded { OnErr result (IsBounded (size_of prefix.now) steps.old.spent self.new.trail steps.new) }
@@ -169,6 +213,7 @@ impl Search {
         ensures resting { IsResting prefix.now self.new }
         ensures clauses { clauses_of self.new.derivation ≡ clauses_of self.old.derivation }
         ensures reductions { reductions_in self.new.derivation ≡ reductions_in self.old.derivation }
+        ensures long { self.new.long ≡ self.old.long }
         ensures finishes { IfOk result (λ o. (id : ℕ) → IsFinishId self.new.derivation id → id ≡ o.end) }
         ensures unfinished { OnErr result (HasNoFinish self.new.derivation) }
     {
@@ -201,6 +246,7 @@ impl Search {
         ensures resting { IsResting prefix.now self.new }
         ensures clauses { clauses_of self.new.derivation ≡ clauses_of self.old.derivation }
         ensures reductions { reductions_in self.new.derivation ≡ reductions_in self.old.derivation }
+        ensures long { self.new.long ≡ self.old.long }
         ensures finishes { IfOk result (λ end. (id : ℕ) → IsFinishId self.new.derivation id → id ≡ end) }
         ensures unfinished { OnErr result (HasNoFinish self.new.derivation) }
     {
@@ -220,6 +266,7 @@ impl Search {
         requires paused { IsPaused prefix.now self.old }
         ensures resting { IsResting prefix.now self.new }
         ensures derivation { self.new.derivation ≡ self.old.derivation }
+        ensures long { self.new.long ≡ self.old.long }
     {
         holding_laws();
         looking_laws();

@@ -13,6 +13,7 @@ ghost use Rattle.watch.specs.Events.{AreQuiet, IsEvent};
 ghost use Rattle.clean.specs.Reasons.{IsReducedStep};
 ghost use Rattle.search.specs.State.{IsSearching, rows_of};
 ghost use Rattle.search.specs.Counting.{ReducesFew, size_of};
+ghost use Rattle.search.specs.Forgetting.{HasFewLong};
 ghost use Rattle.search.specs.Forcing.{IsRefuting};
 ghost use Rattle.search.specs.Moves.{Advances, Covers, Ends, Halts, IsFound, IsMatrix, SameSteps, WasDue};
 ghost use Rattle.search.specs.Watching.{Looks};
@@ -46,6 +47,7 @@ impl Search {
         ensures spent { result ≡ Err spent → steps.new.spent ≡ steps.new.budget }
         ensures due { result ≡ Err spent → WasDue prefix.now self.old self.new }
         ensures restarts { self.old.trail.restarts ≤ restarts → self.new.trail.restarts ≤ restarts }
+        ensures long { HasFewLong prefix.now self.old → OnOk result (HasFewLong prefix.now self.new) }
         ensures reductions { ReducesFew self.old.derivation self.new.derivation steps.old steps.new }
         ensures forced { (start : ℕ) → IsRefuting prefix.now matrix.now start self.old steps.old → result ≡ Ok None →
             IsRefuting prefix.now matrix.now start self.new steps.new }
@@ -118,6 +120,7 @@ impl Search {
         ensures spent { result ≡ Err spent → steps.new.spent ≡ steps.new.budget }
         ensures due { result ≡ Err spent → WasDue prefix.now self.old self.new }
         ensures restarts { self.old.trail.restarts ≤ restarts → self.new.trail.restarts ≤ restarts }
+        ensures long { HasFewLong prefix.now self.old → OnOk result (HasFewLong prefix.now self.new) }
         ensures reductions { ReducesFew self.old.derivation self.new.derivation steps.old steps.new }
     {
         let Some(lit) = self.decider.next_decision(&self.trail, prefix) else {
@@ -145,6 +148,7 @@ impl Search {
         ensures due { result ≡ Err spent → WasDue prefix.now self.old self.new }
         ensures reductions { ReducesFew self.old.derivation self.new.derivation steps.old steps.new }
         ensures trail { self.new.trail ≡ self.old.trail }
+        ensures long { self.new.long ≡ self.old.long }
         ensures row { IfOk result (λ id. IsReducedStep forall prefix.now self.new.derivation id) }
         ensures bad { IfOk result (λ id. IsBadRow forall prefix.now (value_on self.new.trail.placed)
             (row_of self.new.derivation id)) }

@@ -1,5 +1,6 @@
 //! Worked values of the definitions, each proved.
 ghost use Rattle.prefix.specs.declared.quant.Quant.{Quant};
+ghost use Rattle.search.specs.WorkedForgetting.{WorkedForgetting};
 ghost use Rattle.search.specs.Worked.{WorkedCounts, WorkedFinds, WorkedFinishes, WorkedStops};
 
 /// What is found and due, for rows of either side.
@@ -20,4 +21,9 @@ pub fn worked_finishes()
 /// When a solve may stop.
 pub fn worked_stops()
     ensures { WorkedStops }
+{}
+
+/// Which rows are long learned ones, how many are attached, and which may be forgotten, for rows of either side.
+pub fn worked_forgetting()
+    ensures { (side : Quant) → WorkedForgetting side }
 {}

@@ -2,11 +2,12 @@ use Rattle.std.proofs.Common.{◌∙◌, ap, ap₂, sym, Option}
 use Rattle.std.proofs.lemmas.Result.{err_from_is_err_and}
 use Rattle.clean.specs.Turns.{reductions_in}
 use Rattle.frames.specs.State.{OpenFormula}
+use Rattle.search.specs.Counting.{size_of}
 use Rattle.search.proofs.Reducing.{reductions_same}
 use Rattle.engine.specs.declared.counts.Counts.{Counts}
 use Rattle.engine.specs.State.{VerdictState}
 use Rattle.engine.proofs.Bounding.{clause_counted}
-use Rattle.engine.proofs.Changing.{finishes_kept, held_kept, verdict_kept}
+use Rattle.engine.proofs.Changing.{fewer_long, finishes_kept, held_kept, verdict_kept}
 use Rattle.engine.proofs.engine.Engine.clause.Goals as goal
 
 pub invariant_of-self : goal.invariant_of-self
@@ -22,6 +23,9 @@ invariant_of-self c =
       reductions = rw (reductions_same c.self.inside.search.derivation c.put_clause.new.search.derivation e.same)
           c.self.invariant.reductions;
       variables = rw e.err c.self.invariant.variables;
+      long = rw e.err (fewer_long c.self.inside.verdict c.self.inside.search.derivation
+          c.put_clause.new.search.derivation (size_of c.self.inside.frames.formula.scopes) e.fewer
+          c.self.invariant.long);
     }
 
 pub returns-in_err-put_clause-clause-err : goal.returns-in_err-put_clause-clause-err
@@ -47,4 +51,5 @@ invariant_of-self-2 c = record {
       (rw c.forget_outcome.ensures.reductions c.put_clause.ensures.reductions) c.forget_outcome.ensures.fit
       c.self.invariant.reductions);
   variables = tt;
+  long = tt;
 }

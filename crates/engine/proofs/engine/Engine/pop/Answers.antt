@@ -28,4 +28,5 @@ invariant_of-self-2 c = record {
   reductions = let most = c.self.invariant.reductions in let less = c.drop_top.ensures.reductions in
       let same = c.forget_outcome.ensures.reductions in omega (arith, most, less, same);
   variables = tt;
+  long = tt;
 }

@@ -15,4 +15,5 @@ invariant_of-self-2 c = record {
   cubes = λ none. c.forget_outcome.ensures.cubes (c.self.invariant.cubes none);
   reductions = rw c.forget_outcome.ensures.reductions c.self.invariant.reductions;
   variables = tt;
+  long = tt;
 }

@@ -92,6 +92,7 @@ invariant_of-self-2 c =
           (reductions_in d) c.forget_outcome.ensures.reductions e.reductions e.fit e.few e.within e.budget
           c.self.invariant.reductions;
       variables = omega arith;
+      long = e.long;
     })
 
 -- solves without a verdict

@@ -2,7 +2,7 @@ use Rattle.std.proofs.Common.{ℕ, sym, subst}
 use Rattle.frames.specs.State.{FramesState}
 use Rattle.search.specs.Changing.{IsRoomy}
 use Rattle.engine.specs.Kept.{IsEngine}
-use Rattle.engine.proofs.Changing.{accepted, cubes_kept, on_ok_at, reserved, roomier, variable_added, variable_is}
+use Rattle.engine.proofs.Changing.{accepted, cubes_kept, reserved, roomier, variable_added, variable_is}
 use Rattle.engine.proofs.engine.Engine.var.Goals as goal
 
 pub forget_outcome-requires : goal.forget_outcome-requires
@@ -26,6 +26,7 @@ invariant_of-self-2 c = record {
       (c.self.invariant.cubes none));
   reductions = rw (c.forget_outcome.ensures.reductions, c.reserve.ensures.derivation) c.self.invariant.reductions;
   variables = tt;
+  long = tt;
 }
 
 pub invariant_of-self : goal.invariant_of-self

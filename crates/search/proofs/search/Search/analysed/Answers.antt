@@ -25,6 +25,7 @@ old c = record {
   watched =
       c.self.inside.watched.items;
   joined = c.self.inside.joined;
+  long = c.self.inside.long;
 }
 
 abbrev new : (c : goal.After-budget-budget) → SearchState
@@ -38,6 +39,7 @@ new c = record {
   watched =
       c.self.inside.watched.items;
   joined = c.self.inside.joined;
+  long = c.self.inside.long;
 }
 
 searching_old : (c : goal.After-budget-budget) → IsSearching c.args.prefix.now (old c)
@@ -48,7 +50,7 @@ searching_new : (c : goal.After-budget-budget) (made : ℕ) → MarksMore (old c
 searching_new c made marks =
     let e = c.lesson_of-lesson.ensures in
     searching_analysed c.args.prefix.now (old c) (new c) made c.holding_laws.ensures c.agreeing_laws.ensures
-    (searching_old c) e.gains e.legal refl refl refl (c.bump_resolved.ensures ∙ (c.decay.ensures ∙ c.bump.ensures)) e.trail marks e.reasons
+    (searching_old c) e.gains e.legal refl refl refl (c.bump_resolved.ensures ∙ (c.decay.ensures ∙ c.bump.ensures)) refl e.trail marks e.reasons
 
 pub returns-clause-ok : goal.returns-clause-ok
 returns-clause-ok c =

@@ -17,8 +17,8 @@ attach_to-requires-clause-known c =
     (intact.watched.steps c.args.id (rw (ap (λ (s : SearchState). s.watched) c.self.view_is) c.requires.listed)
     (rw (ap (λ (s : SearchState). s.derivation) c.self.view_is) c.requires.live)).step Exists
 
-pub returns-in-Exists : goal.returns-in-Exists
-returns-in-Exists c =
+pub returns-in-Exists-clause-joins : goal.returns-in-Exists-clause-joins
+returns-in-Exists-clause-joins c =
     let old = the_view c.self.inside in
     let new : SearchState =
     record {
@@ -31,6 +31,7 @@ returns-in-Exists c =
       watched =
           c.self.inside.watched.items;
       joined = c.self.inside.joined;
+      long = c.self.inside.long;
     } in
     subst (λ (s : SearchState). Joins c.args.prefix.now s new c.args.id) c.self.view_is (
     joins c.holding_laws.ensures Exists c.args.prefix.now old new (record {
@@ -65,8 +66,8 @@ attach_to-requires-in-Forall-clause-known c =
     (intact.watched.steps c.args.id (rw (ap (λ (s : SearchState). s.watched) c.self.view_is) c.requires.listed)
     (rw (ap (λ (s : SearchState). s.derivation) c.self.view_is) c.requires.live)).step Forall
 
-pub returns-in-Forall : goal.returns-in-Forall
-returns-in-Forall c =
+pub returns-in-Forall-clause-joins : goal.returns-in-Forall-clause-joins
+returns-in-Forall-clause-joins c =
     let old = the_view c.self.inside in
     let new : SearchState =
     record {
@@ -79,6 +80,7 @@ returns-in-Forall c =
       watched =
           c.self.inside.watched.items;
       joined = c.self.inside.joined;
+      long = c.self.inside.long;
     } in
     subst (λ (s : SearchState). Joins c.args.prefix.now s new c.args.id) c.self.view_is (
     joins c.holding_laws.ensures Forall c.args.prefix.now old new (record {

@@ -16,6 +16,7 @@ returns-in_err-propagate-clause-due c = λ is.
       signs = signs;
       watched = c.self.inside.watched.items;
       joined = c.self.inside.joined;
+      long = c.self.inside.long;
     })
     c.bump.ensures ∙ c.self.view_is in
     let undoes = subst (λ (s : SearchState). Undoes c.args.prefix.now c.args.level s c.undo.new.self) same

@@ -16,6 +16,7 @@ began c =
       signs = signs;
       watched = c.self.inside.watched.items;
       joined = c.self.inside.joined;
+      long = c.self.inside.long;
     })
     c.bump.ensures ∙ c.self.view_is in
     subst (λ (s : SearchState). BeginsAnew c.args.prefix.now s c.restart.new.self) same c.restart.ensures
@@ -30,6 +31,7 @@ began_err c =
       signs = signs;
       watched = c.self.inside.watched.items;
       joined = c.self.inside.joined;
+      long = c.self.inside.long;
     })
     c.bump.ensures ∙ c.self.view_is in
     subst (λ (s : SearchState). BeginsAnew c.args.prefix.now s c.restart.new.self) same c.restart.ensures

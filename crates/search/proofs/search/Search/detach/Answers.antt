@@ -10,8 +10,8 @@ pub detach_from-requires-clause-threaded : goal.detach_from-requires-clause-thre
 detach_from-requires-clause-threaded c =
     ((subst (IsIntact c.args.prefix.now) (sym c.self.view_is) c.requires.intact).watching.holds Exists).board
 
-pub returns-in-Exists : goal.returns-in-Exists
-returns-in-Exists c =
+pub returns-in-Exists-clause-parts : goal.returns-in-Exists-clause-parts
+returns-in-Exists-clause-parts c =
     let old = the_view c.self.inside in
     let new : SearchState =
     record {
@@ -24,6 +24,7 @@ returns-in-Exists c =
       watched =
           c.self.inside.watched.items;
       joined = c.self.inside.joined;
+      long = c.self.inside.long;
     } in
     subst (λ (s : SearchState). Parts c.args.prefix.now s new c.args.id) c.self.view_is (
     parts c.holding_laws.ensures Exists c.args.prefix.now old new (record {
@@ -47,8 +48,8 @@ pub detach_from-requires-in-Forall-clause-threaded : goal.detach_from-requires-i
 detach_from-requires-in-Forall-clause-threaded c =
     ((subst (IsIntact c.args.prefix.now) (sym c.self.view_is) c.requires.intact).watching.holds Forall).board
 
-pub returns-in-Forall : goal.returns-in-Forall
-returns-in-Forall c =
+pub returns-in-Forall-clause-parts : goal.returns-in-Forall-clause-parts
+returns-in-Forall-clause-parts c =
     let old = the_view c.self.inside in
     let new : SearchState =
     record {
@@ -61,6 +62,7 @@ returns-in-Forall c =
       watched =
           c.self.inside.watched.items;
       joined = c.self.inside.joined;
+      long = c.self.inside.long;
     } in
     subst (λ (s : SearchState). Parts c.args.prefix.now s new c.args.id) c.self.view_is (
     parts c.holding_laws.ensures Forall c.args.prefix.now old new (record {

@@ -1,11 +1,12 @@
 use Rattle.std.proofs.Common.{List, Contains, ap, sym, subst, ◌∙◌}
 use Rattle.derive.specs.Dropping.{finishes}
-use Rattle.derive.specs.State.{OpenClause}
+use Rattle.derive.specs.State.{OpenClause, note_at}
+use Rattle.search.specs.Long.{is_input}
 use Rattle.search.specs.Forcing.{HasNoCubes}
 use Rattle.clean.specs.Turns.{reductions_in}
 use Rattle.search.specs.State.{IsResting, SearchState}
 use Rattle.search.specs.contracts.search.Search.{the_view}
-use Rattle.search.proofs.Dropping.{no_cubes_left, resting_left, step_unfinished}
+use Rattle.search.proofs.Dropping.{no_cubes_left, resting_left, step_unfinished, input_unfinished}
 use Rattle.search.proofs.Reducing.{reductions_alike}
 use Rattle.search.proofs.search.Search.drop_finish.Goals as goal
 
@@ -18,13 +19,14 @@ returns-clause-resting c =
     resting_left scopes s d finishes c.drop_finish.ensures.drops
     (λ k at. (
       subst (λ (cs : List OpenClause). Contains cs k) c.drop_finish.ensures.clauses at,
-      λ id r.
+      λ id i r.
           step_unfinished s.derivation d c.drop_finish.ensures.exactly id r.step,
     ))
     c.holding_laws.ensures c.agreeing_laws.ensures resting
     (c.drop_finish.ensures.legal scopes resting.intact.legal)
     (λ side id a. step_unfinished s.derivation d c.drop_finish.ensures.exactly id
     (resting.intact.watched.sides side id a).step)
+    (λ id a attached why. ap is_input (c.drop_finish.ensures.exactly a) ∙ input_unfinished (note_at s.derivation a))
 
 pub returns-clause-cubes : goal.returns-clause-cubes
 returns-clause-cubes c = λ none.

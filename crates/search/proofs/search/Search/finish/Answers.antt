@@ -36,7 +36,7 @@ returns-clause-resting c =
     (on_ok_with c.finish.result
     (λ gains legal. resting_gained c.args.prefix.now s
     (record s { derivation = c.finish.new.self }) c.holding_laws.ensures c.agreeing_laws.ensures resting gains
-    (legal c.args.prefix.now resting.intact.legal) refl refl refl refl refl refl)
+    (legal c.args.prefix.now resting.intact.legal) refl refl refl refl refl refl refl)
     c.finish.ensures.gains c.finish.ensures.legal)
     c.finish.ensures.err
     (λ now. now)

@@ -45,6 +45,7 @@ returns-clause-resting c =
       signs = signs;
       watched = c.push.new.self.items;
       joined = s.joined;
+      long = s.long;
     })) (sym c.count.ensures)
     (resting_input c.growth_laws.ensures scopes s c.input_clause.new.self c.in_ok-id.field-0-0 c.in_ok-id.id
     c.args.frame c.args.lits.now (inputs c) c.push.new.self.items (more c) resting.intact.watched

@@ -1,5 +1,5 @@
 use Rattle.std.proofs.Common.{◌≤◌, ℕ, List, length, arith, sym, subst, Contains}
-use Rattle.search.specs.State.{IsIntact, SearchState}
+use Rattle.search.specs.State.{IsIntact, IsTallied, SearchState}
 use Rattle.search.specs.contracts.search.Search.{the_view}
 use Rattle.search.proofs.Listing.{intact_left, joined_all, joined_more, joined_none, was_before}
 use Rattle.search.proofs.search.Search.join_all.Goals as goal
@@ -9,12 +9,13 @@ loop-k-init c =
     let s = the_view c.self.inside in
     let ids = c.forget_dropped.new.watched.items in
     joined_none c.args.prefix.now _ (intact_left c.args.prefix.now s ids c.forget_dropped.ensures
-    (subst (IsIntact c.args.prefix.now) (sym c.self.view_is) c.requires))
+    (subst (IsIntact c.args.prefix.now) (sym c.self.view_is) c.requires.intact))
+    (subst IsTallied (sym c.self.view_is) c.requires.tallied)
     (λ id at. (was_before c.args.prefix.now s ids c.forget_dropped.ensures id at).1)
 
 pub loop-k-preserved : goal.loop-k-preserved
-loop-k-preserved c = joined_more c.args.prefix.now _ c.loop-k.self c.attach_at.new.self c.loop-k.k c.loop-k.invariant
-    c.attach_at.ensures
+loop-k-preserved c = joined_more c.args.prefix.now _ c.loop-k.self c.join_at.new.self c.loop-k.k c.loop-k.invariant
+    c.join_at.ensures.joins c.join_at.ensures.tallied
 
 pub returns-clause-paused : goal.returns-clause-paused
 returns-clause-paused c =

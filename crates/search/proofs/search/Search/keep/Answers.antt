@@ -7,8 +7,8 @@ use Rattle.search.specs.contracts.search.Search.{the_view}
 use Rattle.search.proofs.Listing.{intact_more, keeps_more}
 use Rattle.search.proofs.search.Search.keep.Goals as goal
 
-pub attach-requires-clause-intact : goal.attach-requires-clause-intact
-attach-requires-clause-intact c =
+pub join-requires-clause-intact : goal.join-requires-clause-intact
+join-requires-clause-intact c =
     let s = the_view c.self.inside in
     let is : s ≡ c.args.self.now = c.self.view_is ∙ c.has.ensures.same in
     intact_more c.args.prefix.now s c.push.new.self.items c.args.row c.in_ok-push.ensures.items
@@ -20,6 +20,6 @@ pub returns : goal.returns
 returns c =
     let s = the_view c.self.inside in
     let is : s ≡ c.args.self.now = c.self.view_is ∙ c.has.ensures.same in
-    subst (λ (t : SearchState). Keeps c.args.prefix.now t c.attach.new.self) is
-    (keeps_more c.args.prefix.now s c.push.new.self.items c.args.row c.in_ok-push.ensures.items c.attach.new.self
-    (subst (IsSearching c.args.prefix.now) (sym is) c.requires.searching) c.attach.ensures)
+    subst (λ (t : SearchState). Keeps c.args.prefix.now t c.join.new.self) is
+    (keeps_more c.args.prefix.now s c.push.new.self.items c.args.row c.in_ok-push.ensures.items c.join.new.self
+    (subst (IsSearching c.args.prefix.now) (sym is) c.requires.searching) c.join.ensures.joins c.join.ensures.tallied)

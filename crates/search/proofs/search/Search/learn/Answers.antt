@@ -1,4 +1,4 @@
-use Rattle.std.proofs.Common.{◌≡◌, Err, sym, ap, subst, ◌∙◌, arith}
+use Rattle.std.proofs.Common.{◌≡◌, Err, sym, ap, subst, ◌∙◌}
 use Rattle.std.proofs.lemmas.Result.{err_from_is_err_and}
 use Rattle.steps.specs.declared.stop.Stop.TheVariants.{Spent as spent}
 use Rattle.analyse.specs.declared.lesson.Lesson.{Lesson}
@@ -9,25 +9,25 @@ use Rattle.search.specs.State.{SearchState}
 use Rattle.search.proofs.Following.{advances_later, due_later, ends_analysed, halts_later}
 use Rattle.search.proofs.search.Search.learn.Goals as goal
 
-pub returns-in_err-backjump-in-Learn-clause-due : goal.returns-in_err-backjump-in-Learn-clause-due
-returns-in_err-backjump-in-Learn-clause-due c = λ is.
-    let p = err_from_is_err_and c.from_residual-in_err-backjump-in-Learn.result
-    c.from_residual-in_err-backjump-in-Learn.ensures.1 in
-    let same : c.in_err-backjump-in-Learn.field-0.0 ≡ spent = (let g = sym p.1 ∙ is in cc) in
-    due_later c.args.prefix.now c.args.self.now c.is_restart_due.new.self c.backjump.new.self c.args.steps.now
-    c.analysed.new.steps c.backjump.new.steps
+pub returns-in_err-go_back-in-Learn-clause-due : goal.returns-in_err-go_back-in-Learn-clause-due
+returns-in_err-go_back-in-Learn-clause-due c = λ is.
+    let p = err_from_is_err_and c.from_residual-in_err-go_back-in-Learn.result
+    c.from_residual-in_err-go_back-in-Learn.ensures.1 in
+    let same : c.in_err-go_back-in-Learn.field-0.0 ≡ spent = (let g = sym p.1 ∙ is in cc) in
+    due_later c.args.prefix.now c.args.self.now c.is_restart_due.new.self c.go_back.new.self c.args.steps.now
+    c.analysed.new.steps c.go_back.new.steps
     (subst (λ (s : SearchState). Analyses c.args.prefix.now c.args.self.now s c.args.steps.now c.analysed.new.steps)
     (sym c.is_restart_due.ensures.same) c.in_ok-row.ensures.ok)
-    (c.in_err-backjump-in-Learn.ensures.due (ap Err same))
+    (c.in_err-go_back-in-Learn.ensures.due (ap Err same))
 
-pub returns-in_err-begin_anew-in-Learn-clause-err : goal.returns-in_err-begin_anew-in-Learn-clause-err
-returns-in_err-begin_anew-in-Learn-clause-err c =
-    on_err c.from_residual-in_err-begin_anew-in-Learn.result
-    (halts_later c.args.prefix.now c.args.self.now c.is_restart_due.new.self c.begin_anew.new.self c.args.steps.now
+pub returns-in_err-start_over-in-Learn-clause-err : goal.returns-in_err-start_over-in-Learn-clause-err
+returns-in_err-start_over-in-Learn-clause-err c =
+    on_err c.from_residual-in_err-start_over-in-Learn.result
+    (halts_later c.args.prefix.now c.args.self.now c.is_restart_due.new.self c.start_over.new.self c.args.steps.now
     c.analysed.new.steps c.analysed.new.steps
     (subst (λ (s : SearchState). Analyses c.args.prefix.now c.args.self.now s c.args.steps.now c.analysed.new.steps)
     (sym c.is_restart_due.ensures.same) c.in_ok-row.ensures.ok)
-    (c.in_err-begin_anew-in-Learn.ensures.err c.analysed.new.steps))
+    (c.in_err-start_over-in-Learn.ensures.err c.analysed.new.steps))
 
 pub returns-in-End-clause-end : goal.returns-in-End-clause-end
 returns-in-End-clause-end c =
@@ -36,18 +36,18 @@ returns-in-End-clause-end c =
     ends_analysed c.args.prefix.now c.args.self.now c.analysed.new.self c.args.steps.now c.analysed.new.steps
     c.args.side c.in-End.row c.in_ok-row.ensures.ok lesson.0 lesson.1
 
-pub returns-in_ok-backjump-in-Learn-clause-go : goal.returns-in_ok-backjump-in-Learn-clause-go
-returns-in_ok-backjump-in-Learn-clause-go c = λ is.
-    advances_later c.args.prefix.now c.args.self.now c.is_restart_due.new.self c.backjump.new.self c.args.steps.now
-    c.analysed.new.steps c.backjump.new.steps
+pub returns-in_ok-go_back-in-Learn-clause-go : goal.returns-in_ok-go_back-in-Learn-clause-go
+returns-in_ok-go_back-in-Learn-clause-go c = λ is.
+    advances_later c.args.prefix.now c.args.self.now c.is_restart_due.new.self c.go_back.new.self c.args.steps.now
+    c.analysed.new.steps c.go_back.new.steps
     (subst (λ (s : SearchState). Analyses c.args.prefix.now c.args.self.now s c.args.steps.now c.analysed.new.steps)
     (sym c.is_restart_due.ensures.same) c.in_ok-row.ensures.ok)
-    c.in_ok-backjump-in-Learn.ensures.ok
+    c.in_ok-go_back-in-Learn.ensures.ok
 
-pub returns-in_ok-begin_anew-in-Learn-clause-go : goal.returns-in_ok-begin_anew-in-Learn-clause-go
-returns-in_ok-begin_anew-in-Learn-clause-go c = λ is.
-    advances_later c.args.prefix.now c.args.self.now c.is_restart_due.new.self c.begin_anew.new.self c.args.steps.now
+pub returns-in_ok-start_over-in-Learn-clause-go : goal.returns-in_ok-start_over-in-Learn-clause-go
+returns-in_ok-start_over-in-Learn-clause-go c = λ is.
+    advances_later c.args.prefix.now c.args.self.now c.is_restart_due.new.self c.start_over.new.self c.args.steps.now
     c.analysed.new.steps c.analysed.new.steps
     (subst (λ (s : SearchState). Analyses c.args.prefix.now c.args.self.now s c.args.steps.now c.analysed.new.steps)
     (sym c.is_restart_due.ensures.same) c.in_ok-row.ensures.ok)
-    (c.in_ok-begin_anew-in-Learn.ensures.ok c.analysed.new.steps)
+    (c.in_ok-start_over-in-Learn.ensures.ok c.analysed.new.steps)

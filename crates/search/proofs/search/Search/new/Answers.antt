@@ -15,4 +15,5 @@ returns-clause-resting c = resting_new c.holding_laws.ensures _ (record {
       [ Exists ↦ c.new-3.ensures | Forall ↦ c.new-4.ensures ];
   watched = c.new-6.ensures.items;
   joined = refl;
+  long = refl;
 })

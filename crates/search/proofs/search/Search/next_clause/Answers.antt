@@ -38,12 +38,14 @@ returns-clause-looks c =
       watched =
           c.self.inside.watched.items;
       joined = c.self.inside.joined;
+      long = c.self.inside.long;
     } in
     subst (λ (s : SearchState). Looks c.args.prefix.now s new) c.self.view_is (
     looks_on c.holding_laws.ensures Exists c.args.prefix.now old new (record {
       trail = refl;
       signs = refl;
       watched = refl;
+      long = refl;
       others = λ other apart. elim other as (λ o. (Exists ≡ o → ⊥) → watch_of o new ≡ watch_of o old)
           [ Exists ↦ λ e. absurd (e refl) | Forall ↦ λ e. refl ] apart;
       touches = c.next_of.ensures.touches;

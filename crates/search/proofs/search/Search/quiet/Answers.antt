@@ -1,8 +1,6 @@
 use Rattle.std.proofs.Common.{ap, subst, ◌∙◌}
 use Rattle.decide.specs.Decision.{IsDecision}
 use Rattle.derive.specs.State.{clauses_of}
-use Rattle.std.specs.Prelude.{IfOk, IfSome, OnErr}
-use Rattle.search.specs.Moves.{Advances, Ends, Halts}
 use Rattle.search.specs.State.{SearchState}
 use Rattle.search.proofs.Learning.{on_err}
 use Rattle.search.proofs.Following.{advances_covered, covers_moved, due_between, due_decision, ends_covered, ends_within, halts_covered}

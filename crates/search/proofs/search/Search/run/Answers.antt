@@ -47,6 +47,7 @@ turns-preserved c =
       forced = λ none refuted. c.in_ok-end.ensures.forced c.args.steps.now.spent (i.forced none refuted)
           (ap Ok c.in_default.is);
       restarts = c.turn.ensures.restarts i.restarts;
+      long = c.in_ok-end.ensures.long i.long;
       reductions = let more = i.reductions in let paid = c.turn.ensures.reductions in
           omega arith;
       matrix = matrix_moves c.turns.self.derivation c.turn.new.self.derivation c.args.matrix.now adv.clauses i.matrix;

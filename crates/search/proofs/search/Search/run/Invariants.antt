@@ -5,6 +5,7 @@ use Rattle.trail.specs.declared.allowed.Allowed.TheVariants.{Anything}
 use Rattle.derive.specs.State.{clauses_of}
 use Rattle.search.specs.Counting.{IsCounted, ReducesFew, size_of}
 use Rattle.search.specs.Forcing.{IsRefuting, NoCubeAttached}
+use Rattle.search.specs.Forgetting.{HasFewLong}
 use Rattle.search.specs.Moves.{IsMatrix}
 use Rattle.search.specs.State.{IsSearching}
 use Rattle.search.proofs.search.Search.run.Given as goal
@@ -22,6 +23,7 @@ invariant-turns l = record {
   reductions : ReducesFew l.fn.self.derivation l.self.derivation l.fn.steps l.steps;
   forced : NoCubeAttached l.fn.self → IsRefuted l.prefix l.matrix l.assumptions
       → IsRefuting l.prefix l.matrix l.fn.steps.spent l.self l.steps;
+  long : HasFewLong l.prefix l.self;
   matrix : IsMatrix l.self.derivation l.matrix;
 }
 

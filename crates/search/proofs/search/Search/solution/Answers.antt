@@ -1,4 +1,4 @@
-use Rattle.std.proofs.Common.{◌≡◌, ◌≤◌, ◌+◌, arith, IsTrue, List, map, Contains, OnErr, OnOk, refl, sym, ap, subst, ◌∙◌}
+use Rattle.std.proofs.Common.{◌≡◌, arith, IsTrue, List, map, Contains, OnErr, OnOk, refl, sym, ap, subst, ◌∙◌}
 use Rattle.prefix.specs.declared.quant.Quant.TheVariants.{Forall}
 use Rattle.prefix.specs.declared.quant.Quant.{Quant}
 use Rattle.calculus.specs.Rows.{Row, reduce}
@@ -33,8 +33,8 @@ with_derivation c d =
           c.self.inside.cubes;
       signs = c.self.inside.decider;
       watched = c.self.inside.watched.items;
-      joined =
-          c.self.inside.joined;
+      joined = c.self.inside.joined;
+      long = c.self.inside.long;
     }
 
 covered : (c : goal.After-budget-budget) → IsSearching c.args.prefix.now (with_derivation c c.cover.new.derivation)
@@ -42,7 +42,7 @@ covered c =
     let searching = subst (IsSearching c.args.prefix.now) (sym c.self.view_is) c.requires.searching in
     searching_gained c.args.prefix.now (with_derivation c c.self.inside.derivation)
     (with_derivation c c.cover.new.derivation) c.holding_laws.ensures c.agreeing_laws.ensures searching
-    c.in_ok-cube.ensures.gains (c.cover.ensures.legal searching.paused.intact.legal) refl refl refl refl refl
+    c.in_ok-cube.ensures.gains (c.cover.ensures.legal searching.paused.intact.legal) refl refl refl refl refl refl
 
 after_it : (c : goal.After-budget-budget)
     → IsSearching c.args.prefix.now (with_derivation c c.reduce_counted-reduced.new.self)
@@ -52,7 +52,7 @@ after_it c =
     (on_ok_with c.reduce_counted-reduced.result
     (λ gains legal. searching_gained c.args.prefix.now (with_derivation c c.cover.new.derivation)
     (with_derivation c c.reduce_counted-reduced.new.self) c.holding_laws.ensures c.agreeing_laws.ensures searching gains
-    (legal searching.paused.intact.legal) refl refl refl refl refl)
+    (legal searching.paused.intact.legal) refl refl refl refl refl refl)
     c.reduce_counted-reduced.ensures.gains c.reduce_counted-reduced.ensures.legal)
     c.reduce_counted-reduced.ensures.err
     (λ now. now)

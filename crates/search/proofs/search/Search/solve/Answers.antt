@@ -1,18 +1,17 @@
 use Rattle.std.proofs.Common.{Err, ap, arith, ◌∙◌}
 use Rattle.search.proofs.Ending.{due_first, is_spent, steps_few}
-use Rattle.search.proofs.Reducing.{reductions_same}
 use Rattle.search.proofs.Following.{matrix_moves}
 use Rattle.search.proofs.search.Search.solve.Goals as goal
 
 pub run-requires-clause-matrix : goal.run-requires-clause-matrix
 run-requires-clause-matrix c =
-    matrix_moves c.args.self.now.derivation c.attach_all.new.self.derivation c.args.matrix.now
-    c.attach_all.ensures.steps.clauses c.requires.matrix
+    matrix_moves c.args.self.now.derivation c.start.new.self.derivation c.args.matrix.now
+    c.start.ensures.clauses c.requires.matrix
 
 pub conclude-requires-clause-matrix : goal.conclude-requires-clause-matrix
 conclude-requires-clause-matrix c =
     matrix_moves c.args.self.now.derivation c.run.new.self.derivation c.args.matrix.now
-    (c.run.ensures.clauses ∙ c.attach_all.ensures.steps.clauses) c.requires.matrix
+    (c.run.ensures.clauses ∙ c.start.ensures.clauses) c.requires.matrix
 
 pub returns-in-Err-Spent-clause-stop : goal.returns-in-Err-Spent-clause-stop
 returns-in-Err-Spent-clause-stop c =
@@ -20,21 +19,21 @@ returns-in-Err-Spent-clause-stop c =
     let e = c.run.ensures in
     is_spent c.args.restarts c.args.prefix.now c.args.self.now.derivation c.args.assumptions.now c.args.steps.now c.run.new.steps
     c.run.new.self.trail c.stop.result e.restarts e.paused.intact.trail (e.spent is) e.budget
-    (due_first c.args.prefix.now c.args.self.now.derivation c.attach_all.new.self.derivation c.args.assumptions.now
-    c.args.steps.now c.run.new.self.trail.assigned c.attach_all.ensures.steps.clauses (e.due is))
+    (due_first c.args.prefix.now c.args.self.now.derivation c.start.new.self.derivation c.args.assumptions.now
+    c.args.steps.now c.run.new.self.trail.assigned c.start.ensures.clauses (e.due is))
     e.bounded
     c.stop.ensures.stopped
 
 pub returns-in-Ok-clause-reductions : goal.returns-in-Ok-clause-reductions
 returns-in-Ok-clause-reductions c =
-    let first = reductions_same c.args.self.now.derivation c.attach_all.new.self.derivation c.attach_all.ensures.steps in
+    let first = c.start.ensures.reductions in
     let more = c.run.ensures.reductions in
     let last = c.conclude.ensures.reductions in
     omega (arith, first, more, last)
 
 pub returns-in-Err-Spent-clause-reductions : goal.returns-in-Err-Spent-clause-reductions
 returns-in-Err-Spent-clause-reductions c =
-    let first = reductions_same c.args.self.now.derivation c.attach_all.new.self.derivation c.attach_all.ensures.steps in
+    let first = c.start.ensures.reductions in
     let more = c.run.ensures.reductions in
     let last = c.stop.ensures.reductions in
     omega (arith, first, more, last)

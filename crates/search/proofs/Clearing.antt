@@ -1,0 +1,161 @@
+-- Steps that nothing kept rests on are dropped while a search goes on.
+use Rattle.std.proofs.Common.{◌≡◌, ◌≤◌, ◌+◌, ◌⊎◌, Bool, cond, length, ℕ, ◌++◌, true, List, Option, Some, None, Contains, IsTrue, is_some, refl, sym, ap, subst, ◌∙◌, ⊎_elim, arith}
+use Rattle.std.proofs.lemmas.Bool.{cond-true, false≢true}
+use Rattle.std.proofs.lemmas.List.Elements.{Contains-append_left, Contains-append_right}
+use Rattle.prefix.specs.declared.quant.Quant.{Quant}
+use Rattle.prefix.specs.Literal.{negation}
+use Rattle.prefix.specs.Scopes.{Scope}
+use Rattle.rows.specs.Arena.{literals_of}
+use Rattle.calculus.proofs.Sizes.{trail_length}
+use Rattle.calculus.specs.Rows.{Row}
+use Rattle.calculus.specs.Search.{IsCleanBut, IsUnitIn, before_on, cause_on, value_on}
+use Rattle.calculus.specs.Search.Cause.{Propagated}
+use Rattle.calculus.specs.Derivations.{RestsOn}
+use Rattle.calculus.specs.Derivations.Why.{ReducedFrom}
+use Rattle.derive.specs.State.{IsLegalFor, Note, State, SameStep, clauses_of, is_live, note_at, row_of, side_at, why_at, why_in}
+use Rattle.derive.specs.Dropping.{Drops, StepTest}
+use Rattle.derive.specs.Sweeping.{Stays, Sweeps}
+use Rattle.derive.specs.Sweeping.Stays.{under}
+use Rattle.trail.specs.State.{TrailState}
+use Rattle.watch.specs.Laws.{AgreeingLaws, HoldingLaws}
+use Rattle.clean.specs.Reasons.{HaveReasons, IsReason}
+use Rattle.search.specs.Forgetting.{Clears, Forgets, HaveAllReasons, Thins, without_detached}
+use Rattle.search.specs.Counting.{size_of}
+use Rattle.search.specs.Long.{is_input}
+use Rattle.search.specs.State.{IsAttached, IsSearching, SearchState}
+use Rattle.search.proofs.Dropping.{attached_on, attached_still, attached_was, intact_rederived, rederived, tally_left, watched_left}
+use Rattle.search.proofs.Listing.{attached_live}
+use Rattle.search.proofs.Marks.{reduced_by, step_live}
+use Rattle.search.proofs.Reducing.{reductions_left, reductions_same}
+
+-- the input clauses that reductions rest on stay
+note_of : (o : Option Note) → is_some o ≡ true → (note : Note) × (o ≡ Some note)
+note_of None h = absurd (false≢true h)
+note_of (Some note) h = (note, refl)
+
+module _ (keep : List ℕ) (old new : State) (sweeps : Sweeps keep old new) where
+  stays_live : (id : ℕ) → is_live new id ≡ true → Stays keep old.notes id × (note_at new id ≡ note_at old id)
+  stays_live id live =
+      ⊎_elim (λ stays. stays) (λ gone. absurd (false≢true (sym (ap is_some gone.1) ∙ live))) (sweeps.exactly id)
+
+  pub inputs_swept : (id a : ℕ) → is_live new id ≡ true → why_at old id ≡ ReducedFrom a
+      → is_input (note_at new a) ≡ is_input (note_at old a)
+  inputs_swept id a live why =
+      let stays = stays_live id live in
+      let n = note_of (note_at old id) (sym (ap is_some stays.1) ∙ live) in
+      let is : n.0.why ≡ ReducedFrom a = sym (ap why_in n.1) ∙ why in
+      let rests : Stays keep old.notes a =
+      under id a n.0 n.1 (subst (λ w. RestsOn w a) (sym is) refl) stays.0 in
+      ⊎_elim (λ stay. ap is_input stay.1) (λ gone. absurd (gone.0 rests)) (sweeps.exactly a)
+
+-- reasons stay
+reasons_kept : (side : Quant) (scopes : List Scope) (old new : State) (t : TrailState)
+    → ((x id : ℕ) → cause_on t.placed x ≡ Some (Propagated id) → IsTrue (is_live old id) → SameStep old new id)
+    → HaveReasons side scopes old t → HaveReasons side scopes new t
+reasons_kept side scopes old new t kept have l id pivot is_bad cause =
+    let r : IsReason side scopes old t (negation l) id = have l id pivot is_bad cause in
+    let same = kept l.variable id cause (step_live _ r.step.step) in
+    let row : row_of new id ≡ row_of old id = ap literals_of same.row in
+    record {
+      step = reduced_by side scopes old new id same.note row r.step;
+      unit = subst (λ (w : Row). IsUnitIn side scopes (value_on (before_on t.placed (negation l).variable)) w
+          (negation l)) (sym row) r.unit;
+      clean = λ marked. subst (λ (w : Row). IsCleanBut side t.placed (negation l) w) (sym row) (r.clean marked);
+    }
+
+module _ (holding : HoldingLaws) (agreeing : AgreeingLaws) (scopes : List Scope) (s : SearchState) (d : State)
+    (ids keep : List ℕ) (searching : IsSearching scopes s) (all : keep ≡ ids ++ s.watched)
+    (reasons : HaveAllReasons s.derivation s.trail.placed ids) (sweeps : Sweeps keep s.derivation d)
+    (is_root : StepTest) (drops : Drops is_root s.derivation d)
+    (kept : (id : ℕ) → Contains keep id → SameStep s.derivation d id)
+    (clauses : clauses_of d ≡ clauses_of s.derivation) (legal : IsLegalFor scopes d) where
+  abbrev new : SearchState
+  new = rederived s d s.watched
+
+  watched_same : (id : ℕ) → Contains s.watched id → SameStep s.derivation d id
+  watched_same id at = kept id (subst (λ ws. Contains ws id) (sym all) (Contains-append_right ids s.watched id at))
+
+  watched_live : (id : ℕ) → Contains s.watched id → IsTrue (is_live d id)
+  watched_live id at =
+      ap is_some (watched_same id at).note
+      ∙ attached_live scopes s searching.paused.intact searching.paused.attached id at
+
+  attached_same : (side : Quant) (id : ℕ) → IsAttached s side id → IsTrue (is_live d id)
+  attached_same side id a = watched_live id (searching.paused.intact.watched.listed side id a)
+
+  pub cleared : Clears scopes s new
+  cleared = record {
+    searching = record {
+      paused = record {
+        intact = intact_rederived holding agreeing scopes s d s.watched searching.paused.intact drops.has_rows legal
+            (watched_left scopes s d is_root drops
+            (λ c at. (subst (λ cs. Contains cs c) clauses at, λ id i r. watched_live id i))
+            searching.paused.intact.watched)
+            (λ side id a. (drops.others id (attached_same side id a)).row)
+            (λ side id a. (attached_was scopes s d is_root drops side id a).0);
+        attached = attached_still scopes s d is_root drops attached_same searching.paused.attached;
+        tallied = searching.paused.tallied ∙ sym (tally_left scopes s d is_root drops attached_same
+            (λ id a at. inputs_swept keep s.derivation d sweeps id a (attached_same (side_at s.derivation id) id at)));
+      };
+      reasons = λ side. reasons_kept side scopes s.derivation d s.trail
+          (λ x id cause live. kept id (subst (λ ws. Contains ws id) (sym all)
+          (Contains-append_left ids s.watched id (reasons x id cause live)))) (searching.reasons side);
+    };
+    clauses = clauses;
+    trail = refl;
+    long = refl;
+    attached = attached_on scopes s d is_root drops attached_same;
+    was = λ side id a. (attached_was scopes s d is_root drops side id a).0;
+    reductions = reductions_left is_root s.derivation d drops;
+  }
+
+-- where nothing is dropped
+pub clears_none : (scopes : List Scope) (s : SearchState) → IsSearching scopes s → Clears scopes s s
+clears_none scopes s searching = record {
+  searching = searching;
+  clauses = refl;
+  trail = refl;
+  long = refl;
+  attached = λ side id a. a;
+  was = λ side id a. a;
+  reductions = omega arith;
+}
+
+-- a list with another one behind it
+pub extended : (old now other watched : List ℕ) (ok : Bool) → now ≡ cond ok (old ++ other) old → ok ≡ true
+    → other ≡ watched → now ≡ old ++ watched
+extended old now other watched ok is done same =
+    is ∙ (cond-true ok (old ++ other) old done ∙ ap (λ (ids : List ℕ). old ++ ids) same)
+
+-- some rows were detached and left out, and steps dropped
+pub forgets : (scopes : List Scope) (old mid new : SearchState) (most : ℕ) → IsSearching scopes old
+    → Thins scopes old mid → (mid.long ≤ most) ⊎ (mid.long ≤ length old.trail.placed)
+    → most ≤ 512 + length old.trail.placed → Clears scopes (without_detached mid) new → Forgets scopes old new
+forgets scopes old mid new most searching thins few least clears =
+    let short = trail_length scopes old.trail.placed searching.paused.intact.trail.ordered in
+    let long : mid.long ≤ 512 + size_of scopes = ⊎_elim (λ a. omega arith) (λ b. omega arith) few in
+    let same = clears.long in
+    let reduced = reductions_same old.derivation mid.derivation thins.steps in
+    let fewer = clears.reductions in
+    record {
+      searching = clears.searching;
+      clauses = clears.clauses ∙ thins.steps.clauses;
+      trail = clears.trail ∙ thins.trail;
+      few = omega (arith, long, same);
+      lets = record {
+        was = λ side id a. thins.lets.was side id (clears.was side id a);
+        stays = λ side id a may. clears.attached side id (thins.lets.stays side id a may);
+      };
+      reductions = omega (arith, reduced, fewer);
+    }
+
+pub forgets_none : (scopes : List Scope) (s : SearchState) → IsSearching scopes s → s.long ≤ 512 + size_of scopes
+    → Forgets scopes s s
+forgets_none scopes s searching few = record {
+  searching = searching;
+  clauses = refl;
+  trail = refl;
+  few = few;
+  lets = record { was = λ side id a. a; stays = λ side id a may. a };
+  reductions = omega arith;
+}

@@ -1,0 +1,5 @@
+use Rattle.std.proofs.Common.{◌≡◌, ◌≤◌}
+use Rattle.search.proofs.search.Search.long_reasons.Given as goal
+
+abbrev pub invariant-loop-place : goal.invariant-loop-place
+invariant-loop-place l = record { same : l.self ≡ l.fn.self; few : l.count ≤ l.place }

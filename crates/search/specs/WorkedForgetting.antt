@@ -1,0 +1,105 @@
+-- Worked values: which rows are long learned ones, how many of them are attached, which are reasons, and which may be
+-- forgotten, with rows of both sides.
+use Rattle.std.specs.Prelude.{◌≡◌, ℕ, true, false, List, [], ◌∷◌, Option, Some}
+use Rattle.prefix.specs.declared.quant.Quant.{Quant}
+use Rattle.prefix.specs.declared.quant.Quant.TheVariants.{Exists, Forall}
+use Rattle.prefix.specs.Sides.{opposite}
+use Rattle.calculus.specs.Derivations.{Why}
+use Rattle.calculus.specs.Derivations.Why.{Given, ReducedFrom, ResolvedFrom, FinishedFrom}
+use Rattle.calculus.specs.Rows.{Row}
+use Rattle.calculus.specs.Search.{Trail}
+use Rattle.calculus.specs.Search.Cause.{Decided, Propagated}
+use Rattle.calculus.specs.Worked.{plus}
+use Rattle.calculus.specs.WorkedSearch.{alternating, bad, three}
+use Rattle.derive.specs.State.{State, with_step}
+use Rattle.watch.specs.State.{new_watch}
+use Rattle.search.specs.Forgetting.{AreLive, HasFewLong, HaveAllReasons, Lets, is_held, is_reason, may_go, without_detached}
+use Rattle.search.specs.Long.{is_kept_long, is_long, long_in}
+use Rattle.search.specs.State.{IsTallied, SearchState, rows_of, with_long}
+use Rattle.search.specs.Worked.{attached_to, detached, trail_of}
+
+abbrev pub four : Row
+four = plus 1 ∷ plus 2 ∷ plus 3 ∷ plus 4 ∷ []
+
+-- a row of a side, as the step 0, which stands so, with these links
+abbrev pub one_row : Quant → Why → Row → List (Option ℕ) → State
+one_row side why row links = record {
+  notes = Some (record { side = side; why = why; tag = 0 }) ∷ [];
+  rows = Some (Some (record { literals = row; links = links }) ∷ []);
+}
+
+-- with the row 1 2 3 4 as its reduction, the step 1
+abbrev pub with_reduction : Quant → Why → State
+with_reduction side why =
+    with_step (one_row side why (plus 9 ∷ []) detached) (record { side = side; why = ReducedFrom 0; tag = 0 }) four
+
+-- a resolvent
+abbrev pub resolvent : Why
+resolvent = ResolvedFrom 7 8 6
+
+-- a search over a row, with this trail
+abbrev pub search_with : Quant → Row → List (Option ℕ) → Trail → SearchState
+search_with side row links placed = record {
+  derivation = one_row side resolvent row links;
+  trail = trail_of placed;
+  clauses = new_watch;
+  cubes = new_watch;
+  signs = [];
+  watched = 0 ∷ [];
+  joined = true;
+  long = 0;
+}
+
+-- 2 was propagated from a row
+abbrev pub propagated_by : Quant → ℕ → Trail
+propagated_by side id = record { literal = bad side 2; cause = Propagated id } ∷ []
+
+-- a long learned row that is attached, with this trail
+abbrev pub long_row : Quant → Trail → SearchState
+long_row side placed = search_with side four (attached_to side) placed
+
+pub record WorkedForgetting (side : Quant) : Type 0 where
+  -- a resolvent of four literals is long, one of three isn't
+  pub learned : is_long (one_row side resolvent four detached) 0 ≡ true
+  pub short : is_long (one_row side resolvent three detached) 0 ≡ false
+  -- nor is an input clause; an initial cube is
+  pub clause : is_long (one_row Exists Given four detached) 0 ≡ false
+  pub cube : is_long (one_row Forall Given four detached) 0 ≡ true
+  -- the reduction of a clause isn't; that of a cube or of a resolvent is, and so is a finish
+  pub reduced_clause : is_long (with_reduction Exists Given) 1 ≡ false
+  pub reduced_cube : is_long (with_reduction Forall Given) 1 ≡ true
+  pub reduced : is_long (with_reduction side resolvent) 1 ≡ true
+  pub finish : is_long (one_row side (FinishedFrom 7) four detached) 0 ≡ true
+  -- no step is none
+  pub no_step : is_long (one_row side resolvent four detached) 1 ≡ false
+  -- it counts where it is attached to the watch of its side
+  pub counts : is_kept_long (one_row side resolvent four (attached_to side)) 0 ≡ true
+  pub one : long_in (one_row side resolvent four (attached_to side)) ≡ 1
+  pub none_attached : long_in (one_row side resolvent four detached) ≡ 0
+  pub elsewhere : long_in (one_row side resolvent four (attached_to (opposite side))) ≡ 0
+  pub none_long : long_in (one_row side resolvent three (attached_to side)) ≡ 0
+  pub tallied : IsTallied (with_long (long_row side []) 1)
+  pub one_off : IsTallied (long_row side []) → ⊥
+  -- it is a reason where one of its variables was propagated from it
+  pub reason : is_reason (long_row side (propagated_by side 0)) 0 ≡ true
+  pub other_row : is_reason (long_row side (propagated_by side 7)) 0 ≡ false
+  pub decided : is_reason (long_row side (record { literal = bad side 2; cause = Decided } ∷ [])) 0 ≡ false
+  pub other_variable : is_reason (search_with side (plus 1 ∷ plus 3 ∷ []) detached (propagated_by side 0)) 0 ≡ false
+  -- a long row may go, but not a reason, nor a short row
+  pub may : may_go (long_row side []) 0 ≡ true
+  pub may_not : may_go (long_row side (propagated_by side 0)) 0 ≡ false
+  pub short_stays : may_go (search_with side three detached []) 0 ≡ false
+  pub goes : Lets (long_row side []) (search_with side four detached [])
+  pub stays : Lets (long_row side (propagated_by side 0)) (search_with side four detached (propagated_by side 0)) → ⊥
+  -- what isn't attached is left out
+  pub held : is_held (rows_of (long_row side [])) 0 ≡ true
+  pub left : (without_detached (long_row side [])).watched ≡ 0 ∷ []
+  pub left_out : (without_detached (search_with side four detached [])).watched ≡ []
+  -- all reasons, and not all; a live step, and none
+  pub all : HaveAllReasons (one_row side resolvent four detached) (propagated_by side 0) (0 ∷ [])
+  pub not_all : HaveAllReasons (one_row side resolvent four detached) (propagated_by side 0) [] → ⊥
+  pub live : AreLive (one_row side resolvent four detached) (0 ∷ [])
+  pub not_live : AreLive (one_row side resolvent four detached) (1 ∷ []) → ⊥
+  -- 512 and one for each of three variables are few
+  pub few : HasFewLong (alternating side) (with_long (long_row side []) 515)
+  pub many : HasFewLong (alternating side) (with_long (long_row side []) 516) → ⊥
