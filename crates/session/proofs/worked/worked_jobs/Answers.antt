@@ -1,4 +1,4 @@
-use Rattle.std.proofs.Common.{◌≡◌, ℕ, List, [], ◌∷◌, codes, Some, None, refl, ap, subst, arith, lit<}
+use Rattle.std.proofs.Common.{◌≡◌, ◌<◌, ℕ, List, [], ◌∷◌, codes, Some, None, refl, ap, subst, arith, lit<}
 use Rattle.std.specs.Prelude.{slice_index_or}
 use Rattle.std.specs.Fmt.{digits}
 use Rattle.prefix.specs.declared.quant.Quant.TheVariants.{Exists, Forall}
@@ -7,6 +7,7 @@ use Rattle.calculus.proofs.Lists.{contains_nil}
 use Rattle.qrp_trace.specs.declared.listing.Line.{Line}
 use Rattle.qrp_trace.specs.declared.listing.CoreStep.TheVariants.{Input}
 use Rattle.qrp_trace.specs.Cores.{IsNumbered, RestsOnNumber, step_numbered}
+use Rattle.aig.specs.Circuits.{AreDistinct}
 use Rattle.aig.specs.declared.strategy.Strategy.{Strategy}
 use Rattle.calculus.specs.Verdicts.{IsProof}
 use Rattle.session.specs.Jobs.{IsJobText}
@@ -64,6 +65,10 @@ empty_cube = record {
 no_gates : Strategy
 no_gates = record { aig = record { inputs = 0; gates = [] }; winner = Exists; inputs = []; outputs = [] }
 
+-- no gate stands twice among none
+none : AreDistinct []
+none i j d before within e = absurd (let no : ⊥ = omega arith in no)
+
 first_byte : List ℕ → ℕ
 first_byte text = slice_index_or text 0 0
 
@@ -92,6 +97,7 @@ returns c = record {
         gates = tt;
         input_names = tt;
         output_names = tt;
+        distinct = none;
       };
       winner = refl;
       inputs = refl;
