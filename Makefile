@@ -1,7 +1,13 @@
-# `make` proves and builds the program and leaves it as bin/qbf; `make test` runs every check.
+# `make` proves and builds the program and leaves it as bin/qbf; `make test` runs every check; `make install` puts the
+# program, its page of the manual and its completion in bash below PREFIX, and `make uninstall` takes them away.
 SOURCES := crates.txt $(shell find crates -name out -prune -o -type f -print)
 
-.PHONY: all test clean
+PREFIX ?= /usr/local
+INSTALLED := $(DESTDIR)$(PREFIX)
+PAGE := $(INSTALLED)/share/man/man1/qbf.1
+COMPLETION := $(INSTALLED)/share/bash-completion/completions/qbf
+
+.PHONY: all test install uninstall clean
 
 all: bin/qbf
 
@@ -14,5 +20,13 @@ bin/qbf: $(SOURCES)
 test:
 	.ci/run
 
+install: bin/qbf
+	install -D -m 755 bin/qbf $(INSTALLED)/bin/qbf
+	install -D -m 644 man/qbf.1 $(PAGE)
+	install -D -m 644 completion/qbf.bash $(COMPLETION)
+
+uninstall:
+	rm -f $(INSTALLED)/bin/qbf $(PAGE) $(COMPLETION)
+
 clean:
-	rm -rf bin crates/*/out
+	rm -rf bin out crates/*/out
