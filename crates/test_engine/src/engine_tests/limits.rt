@@ -1,4 +1,5 @@
 //! Formulas of one to four variables with a scope each, of all quantifiers, and budgets at their limits.
+ghost use Rattle.std.specs.Prelude.{◌<◌};
 
 use super::play::{plain_truth, push_clauses, put};
 use engine::{Engine, SolveStop};
@@ -42,12 +43,12 @@ struct Shape {
 }
 
 // Puts a clause, with a 0 behind it, at the end of a list: each variable with a sign that is drawn, or left out.
-fn draw_clause(draws: &mut Draws, clauses: &mut Vec<i32>, vars: i32) -> Result<(), Fail> {
+fn draw_clause(draws: &mut Draws, clauses: &mut Vec<i32>, vars: u16) -> Result<(), Fail> {
     for var in 1..=vars {
         match draws.draw(3) {
             0 => continue,
-            1 => clauses.push(var)?,
-            _ => clauses.push(-var)?,
+            1 => clauses.push(i32::from(var))?,
+            _ => clauses.push(-i32::from(var))?,
         }
     }
     Ok(clauses.push(0)?)
@@ -64,7 +65,7 @@ impl Shape {
         }
         let mut clauses = Vec::new(alloc);
         for _ in 0..2 * vars {
-            draw_clause(&mut draws, &mut clauses, vars as i32)?;
+            draw_clause(&mut draws, &mut clauses, vars as u16)?;
         }
         Ok(Self {
             alloc,

@@ -55,11 +55,11 @@ pub(crate) fn assume(engine: &mut Engine, lits: &[i32]) -> Result<(), Fail> {
 }
 
 // Puts a row over the first variables at the end of a list, each of them with either sign or left out.
-fn draw_row(random: &mut Random, row: &mut Vec<i32>, vars: i32) -> Result<(), Fail> {
+fn draw_row(random: &mut Random, row: &mut Vec<i32>, vars: u16) -> Result<(), Fail> {
     for var in 1..=vars {
         match random.below(5) {
-            0 => row.push(var)?,
-            1 => row.push(-var)?,
+            0 => row.push(i32::from(var))?,
+            1 => row.push(-i32::from(var))?,
             _ => continue,
         }
     }

@@ -1,5 +1,6 @@
 //! What the search saves, in steps: no clause says that lessons, the order of rows that wait, priorities, first signs or
 //! restarts help. Each number lies between the steps that a solve takes and those that it takes without one of these.
+ghost use Rattle.std.specs.Prelude.{◌<◌};
 
 use super::play::{put, put_scope};
 use engine::{Engine, SolveStop};
@@ -25,24 +26,22 @@ fn solve(engine: &mut Engine, budget: u64) -> Result<Ended, Fail> {
     }
 }
 
-// The variable that says that a pigeon sits in a hole, of so many holes.
-fn sits(holes: i32, pigeon: i32, hole: i32) -> i32
-    requires holes { (0 ≤ holes) × (holes < 8) }
-    requires pigeon { (0 ≤ pigeon) × (pigeon < 8) }
-    requires hole { (0 ≤ hole) × (hole < 8) }
-    ensures { (0 < result) × (result < 100) }
+// The variable that says that a pigeon sits in a hole.
+fn sits(pigeon: u16, hole: u16) -> u16
+    requires pigeon { pigeon < 8 }
+    requires hole { hole < 8 }
 {
-    holes * pigeon + hole + 1
+    8 * pigeon + hole + 1
 }
 
 // A pigeon sits in a hole.
-fn put_home(engine: &mut Engine, alloc: Global, holes: i32, pigeon: i32) -> Result<(), Fail>
-    requires holes { (0 ≤ holes) × (holes < 8) }
-    requires pigeon { (0 ≤ pigeon) × (pigeon < 8) }
+fn put_home(engine: &mut Engine, alloc: Global, holes: u16, pigeon: u16) -> Result<(), Fail>
+    requires holes { holes < 8 }
+    requires pigeon { pigeon < 8 }
 {
     let mut clause = Vec::new(alloc);
     for hole in 0..holes {
-        clause.push(sits(holes, pigeon, hole))?;
+        clause.push(i32::from(sits(pigeon, hole)))?;
     }
     clause.push(0)?;
     put(alloc, engine, &clause)
@@ -52,25 +51,29 @@ fn put_home(engine: &mut Engine, alloc: Global, holes: i32, pigeon: i32) -> Resu
 fn put_apart(
     engine: &mut Engine,
     alloc: Global,
-    holes: i32,
-    one: i32,
-    other: i32,
+    holes: u16,
+    one: u16,
+    other: u16,
 ) -> Result<(), Fail>
-    requires holes { (0 ≤ holes) × (holes < 8) }
-    requires one { (0 ≤ one) × (one < 8) }
-    requires other { (0 ≤ other) × (other < 8) }
+    requires holes { holes < 8 }
+    requires one { one < 8 }
+    requires other { other < 8 }
 {
     for hole in 0..holes {
-        let clause = [-sits(holes, one, hole), -sits(holes, other, hole), 0];
+        let clause = [
+            -i32::from(sits(one, hole)),
+            -i32::from(sits(other, hole)),
+            0,
+        ];
         put(alloc, engine, &clause)?;
     }
     Ok(())
 }
 
 // A pigeon sits in a hole, and in none with an earlier one.
-fn put_pigeon(engine: &mut Engine, alloc: Global, holes: i32, pigeon: i32) -> Result<(), Fail>
-    requires holes { (0 ≤ holes) × (holes < 8) }
-    requires pigeon { (0 ≤ pigeon) × (pigeon < 8) }
+fn put_pigeon(engine: &mut Engine, alloc: Global, holes: u16, pigeon: u16) -> Result<(), Fail>
+    requires holes { holes < 8 }
+    requires pigeon { pigeon < 8 }
 {
     put_home(engine, alloc, holes, pigeon)?;
     for earlier in 0..pigeon {
@@ -80,11 +83,11 @@ fn put_pigeon(engine: &mut Engine, alloc: Global, holes: i32, pigeon: i32) -> Re
 }
 
 // An engine with one pigeon more than there are holes.
-fn pigeons(alloc: Global, holes: i32) -> Result<Engine, Fail>
-    requires { (0 ≤ holes) × (holes < 7) }
+fn pigeons(alloc: Global, holes: u16) -> Result<Engine, Fail>
+    requires { holes < 8 }
 {
     let mut engine = Engine::new(alloc)?;
-    put_scope(&mut engine, Quant::Exists, 1, 56)?;
+    put_scope(&mut engine, Quant::Exists, 1, 64)?;
     for pigeon in 0..=holes {
         put_pigeon(&mut engine, alloc, holes, pigeon)?;
     }
@@ -93,7 +96,8 @@ fn pigeons(alloc: Global, holes: i32) -> Result<Engine, Fail>
 
 // A literal of one of so many variables, with either sign.
 fn draw_literal(random: &mut Random, vars: u32) -> i32
-    requires { (0 < vars) × (vars < 1000) }
+    requires some { 0 < vars }
+    requires most { vars < 1000 }
 {
     let var = random.below(vars) as i32 + 1;
     if random.below(2) == 0 { var } else { -var }
@@ -101,7 +105,8 @@ fn draw_literal(random: &mut Random, vars: u32) -> i32
 
 // An engine with so many clauses of three literals each, which are drawn.
 fn drawn(alloc: Global, seed: u32, vars: u32, clauses: u32) -> Result<Engine, Fail>
-    requires { (0 < vars) × (vars < 1000) }
+    requires some { 0 < vars }
+    requires most { vars < 1000 }
 {
     let mut random = Random::new(seed);
     let mut engine = Engine::new(alloc)?;
@@ -158,7 +163,7 @@ fn a_search_begins_anew_no_more_often_than_it_may(rt: HostRuntime) -> Result<(),
         (6, 1, 9_000, 1),
         (6, 2, 9_000, 2),
     ] {
-        let mut engine = pigeons(rt.alloc(), holes)?;
+        let mut engine = pigeons(rt.alloc(), holes.min(7))?;
         engine.set_restarts(restarts);
         let ended = solve(&mut engine, budget)?;
         assert_eq!(rt;
