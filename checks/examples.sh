@@ -149,7 +149,8 @@ got=$("$program" cert "$examples/arbiter.qdimacs")
 report arbiter_text $? 10 "$got" "$(cat "$examples/arbiter.aag")" \
     "$got" "$(first_column docs/CIRCUITS.md 'The text')"
 report arbiter_module "$(cat "$examples/arbiter.v")" "$(block docs/CIRCUITS.md 'The text' 1)" \
-    "$(python3 "$examples/verilog.py" "$examples/arbiter.aag" "$examples/arbiter.qdimacs")" "$(cat "$examples/arbiter.v")"
+    "$(python3 "$examples/verilog.py" "$examples/arbiter.aag" "$examples/arbiter.qdimacs")" \
+    "$(cat "$examples/arbiter.v")"
 report wrong_module "$(cat "$examples/wrong.v")" "$(block docs/CIRCUITS.md 'The check' 1)"
 got=$("$program" cert "$examples/arbiter_in_turn.qdimacs")
 report arbiter_in_turn $? 10 "$(echo "$got" | sed -n 5p)" 2
