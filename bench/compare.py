@@ -1,11 +1,16 @@
 #!/usr/bin/env python3
-"""Runs qbf, and DepQBF where it is installed, on a folder of formulas, and prints solved formulas and total time a family.
+"""Runs qbf, and DepQBF where it is installed, on a folder of formulas, and prints solved formulas and total time a
+family.
 
 Ends with status 1 where two verdicts differ.
 
-usage: compare.py FOLDER [SECONDS]        QBF=COMMAND in the environment: another command than bin/qbf solve
+usage: compare.py [--csv FILE] FOLDER [SECONDS]     QBF=COMMAND in the environment: another command than bin/qbf solve
+
+With --csv the file gets a line for each run: the formula, the solver, true, false or nothing, and the seconds.
+`bench/plot.py` draws it.
 """
 
+import csv
 import os
 import shutil
 import subprocess
@@ -28,9 +33,23 @@ def run(command, path, limit):
     return {10: True, 20: False}.get(done.returncode), spent
 
 
+def open_csv(words):
+    """Takes `--csv FILE` out of the words, and answers a writer of such a file; of none where it wasn't there."""
+    if "--csv" not in words:
+        return csv.writer(open(os.devnull, "w"))
+    place = words.index("--csv")
+    file = open(words[place + 1], "w", newline="", buffering=1)
+    del words[place : place + 2]
+    writer = csv.writer(file, lineterminator="\n")
+    writer.writerow(["formula", "solver", "verdict", "seconds"])
+    return writer
+
+
 def main():
-    folder = Path(sys.argv[1])
-    limit = float(sys.argv[2]) if len(sys.argv) > 2 else 20.0
+    words = sys.argv[1:]
+    times = open_csv(words)
+    folder = Path(words[0])
+    limit = float(words[1]) if len(words) > 1 else 20.0
     root = Path(__file__).resolve().parent.parent
     solvers = {"qbf": os.environ.get("QBF", f"{root}/bin/qbf solve").split()}
     if shutil.which("depqbf"):
@@ -46,6 +65,7 @@ def main():
         for name, command in solvers.items():
             verdict, spent = run(command, path, limit)
             seconds[family, name] += spent
+            times.writerow([path.stem, name, {True: "true", False: "false"}.get(verdict, ""), f"{spent:.3f}"])
             if verdict is not None:
                 solved[family, name] += 1
                 verdicts[name] = verdict
