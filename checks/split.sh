@@ -48,15 +48,16 @@ join() {
 python3 -B "$checks/split_formulas.py" write "$folder" || exit 2
 for words in "$folder"/drawn_*.words; do
     formula=${words%.words}
-    # shellcheck disable=SC2046 # The words are to be several.
+    # shellcheck disable=SC2046 # The words are to be several, or none.
     "$tools/split" $(cat "$words") "$formula.qdimacs" "$formula" && run "$formula"
-    whole=$("$program" solve "$formula.qdimacs"; echo $?)
-    echo "$whole" > "$formula.whole"
-    "$tools/join" --cert "$formula" > "$formula.cert" 2> "$folder/err"
-    report "$(basename "$formula")" "$(join "$formula")" "$whole"
+    "$program" solve "$formula.qdimacs" > "$formula.whole"
+    whole=$?
+    "$tools/join" $(grep -o -e --cert "$words") "$formula" > "$formula.joined" 2> "$folder/err"
+    report "drawn_${formula##*_}" $? $whole
 done
 
-# Their circuits win the whole formulas, by the rules of checks/rules.py; and formulas of each kind were drawn.
+# What was joined is the whole's verdict, or a circuit that wins the whole by the rules of checks/rules.py. Formulas of
+# each kind were drawn.
 python3 -B "$checks/split_formulas.py" check "$folder" || failures=1
 
 # Formulas by hand: existential, true with 1 false alone; existential, false in all parts; universal, true in all.
@@ -111,14 +112,16 @@ report one_part "$(join "$folder/empty")" "$(printf 'UNSAT\n20')"
 report circuit_of_one_part "$(join --cert "$folder/empty")" "$(printf 'aag 0 0 0 0 0\nc\nherbrand\n20')"
 
 # What is refused: malformed formulas as by the program, another scope's variable, too many, a folder in use.
+number=0
 for text in '' 'p cnf 1' 'p cnf 1\n1\n1 0\n' 'p cnf cnf 1\n' 'p cnf 1 1\n2 0\n' 'p cnf 1 1\n1 e\n' 'p cnf 1 2\n1 0\n' \
     'p cnf 2 1\ne 1 0\na 1 0\n1 0\n' 'p cnf 1 0\n1 0\n' 'p cnf 1 1\n-0\n' 'p cnf 1 1\n1 0\ne 1 0\n' \
     'p cnf 1048577 0\n\n' 'p cnf 9223372036854775808 0\n'; do
+    number=$((number + 1))
     # shellcheck disable=SC2059 # The text has line ends to be printed as such.
     printf "$text" > "$folder/text"
     wanted=$("$program" solve "$folder/text" 2>&1; echo $?)
     found=$("$tools/split" --most 0 "$folder/text" "$folder/refused" 2>&1; echo $?)
-    report "refuses '$text'" "$found" "$(echo "$wanted" | sed 's/^qbf:/split:/')"
+    report "refused_text_$number" "$found" "$(echo "$wanted" | sed 's/^qbf:/split:/')"
 done
 "$tools/split" --over 1 "$folder/missing" "$folder/refused" 2> "$folder/err"
 report missing_formula $? 3

@@ -1,8 +1,8 @@
 #!/usr/bin/env python3
-"""Draws the formulas of checks/split.sh, and checks the circuits that their parts gave.
+"""Draws the formulas of checks/split.sh, and checks what was joined.
 
 usage: split_formulas.py write FOLDER    writes FOLDER/drawn_0.qdimacs and so on, each with words for tools/split
-       split_formulas.py check FOLDER    checks FOLDER/drawn_0.cert and so on: what tools/join --cert wrote
+       split_formulas.py check FOLDER    checks FOLDER/drawn_0.joined and so on, which tools/join wrote
 """
 
 import sys
@@ -46,7 +46,7 @@ def check_one(folder, name):
     verdict = (folder / f"{name}.whole").read_text().split()[0]
     quantifier = formula.scopes[0][0]
     alone = verdict == ("SAT" if quantifier == "e" else "UNSAT")
-    text = (folder / f"{name}.cert").read_text()
+    text = (folder / f"{name}.joined").read_text()
     if alone and "--cert" in (folder / f"{name}.words").read_text():
         circuit = whole(Circuit, text)
         require(circuit.kind == ("skolem" if verdict == "SAT" else "herbrand"), f"{circuit.kind} with {verdict}")
@@ -62,10 +62,10 @@ def check(folder):
         try:
             kinds[check_one(folder, f"drawn_{seed}")] += 1
         except (Fault, OSError, UnicodeDecodeError) as why:
-            print(f"FAILED circuit_{seed}: {why}")
+            print(f"FAILED joined_{seed}: {why}")
             failed = True
     if not failed:
-        print("ok circuits")
+        print("ok joined")
     if len(kinds) == 4 and min(kinds.values()) >= 5:
         print("ok kinds")
     else:
