@@ -101,8 +101,8 @@ class Chart:
         lines = "\n".join("".join(steps[i : i + 8]) for i in range(0, len(steps), 8))
         self.path(f"M{self.LEFT} {self.BOTTOM}\n{lines}\nH{self.RIGHT}", colour, 2)
         y = self.BOTTOM - 14 - 18 * place
-        self.path(f"M460 {y - 4}H485", colour, 2)
-        self.text(492, y, f"{solver}: {len(found)}", "start")
+        self.path(f"M400 {y - 4}H425", colour, 2)
+        self.text(432, y, f"{solver}: {len(found)}", "start")
 
 
 def by_hand(times, count, out):
