@@ -1,7 +1,7 @@
 -- Worked values: small circuits whose values are known.
 use Rattle.std.specs.Prelude.{◌≡◌, ℕ, ◌==◌, true, false, not, [], ◌∷◌}
 use Rattle.prefix.specs.declared.quant.Quant.TheVariants.{Exists}
-use Rattle.aig.specs.Circuits.{Circuit, zero, one, opposite, value_of, edge_number, gate_of, AreGates, IsGate, Makes}
+use Rattle.aig.specs.Circuits.{Circuit, zero, one, opposite, value_of, edge_number, gate_of, AreDistinct, AreGates, IsGate, Makes}
 use Rattle.aig.specs.Strategies.{IsStrategy, values_of}
 use Rattle.aig.specs.declared.edge.And.{And}
 use Rattle.aig.specs.declared.edge.Edge.{Edge}
@@ -81,7 +81,8 @@ pub record WorkedGates : Type 0 where
 pub record WorkedSharing : Type 0 where
   pub different : AreGates 2 (both_gate ∷ none_gate ∷ [])
   pub gate_twice : AreGates 2 (both_gate ∷ both_gate ∷ []) → ⊥
-  pub gate_in_other_order : AreGates 2 (both_gate ∷ exchanged both_gate ∷ []) → ⊥
+  pub gate_again_later : AreGates 2 (both_gate ∷ none_gate ∷ both_gate ∷ []) → ⊥
+  pub gate_in_other_order : AreDistinct (both_gate ∷ exchanged both_gate ∷ []) → ⊥
   pub lesser_left : AreGates 2 (exchanged both_gate ∷ []) → ⊥
   pub greater_given_last : gate_of 2 (input 0) (input 1) ≡ both_gate
   pub greater_given_first : gate_of 2 (input 1) (input 0) ≡ both_gate

@@ -12,7 +12,7 @@ pub record WeightLaws : Type 0 where
       → trail_weight n (front ++ true ∷ back) < trail_weight n (front ++ false ∷ [])
   pub bounded : (n : ℕ) (trail : List Bool) → length trail ≤ n → trail_weight n trail + 2 ≤ 2 ^ suc n
 
--- A search over n variables makes fewer assignments than the assignment limit of as often as it began anew.
+-- A search over n variables makes fewer assignments than the assignment limit for the times that it began anew.
 abbrev pub SearchesEnd : Type 0
 SearchesEnd = (n restarts : ℕ) (trail : List Bool) (assigned : ℕ) → Search n restarts trail assigned
     → assigned + 1 < assignment_limit restarts n

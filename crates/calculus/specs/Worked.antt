@@ -10,7 +10,7 @@ use Rattle.calculus.specs.Derivations.Reason.{Input, One, Two}
 use Rattle.calculus.specs.Verdicts.{IsProof, relevant_of, finish_steps}
 use Rattle.calculus.specs.Plays.{played, first_forced, total}
 use Rattle.steps.specs.Counter.{step_limit}
-use Rattle.calculus.specs.Limits.{assignment_limit, gate_weight, propagation_limit, removal_bound, weight_bound}
+use Rattle.calculus.specs.Limits.{assignment_limit, gate_weight, propagation_limit, removal_bound, steps_for, weight_bound}
 use Rattle.calculus.specs.Weights.{trail_weight}
 use Rattle.truth.specs.Matrix.{matrix_true}
 
@@ -183,6 +183,8 @@ pub record WorkedLimits : Type 0 where
   pub three : step_limit 0 3 ≡ 512
   pub four : step_limit 0 4 ≡ 1280
   pub twice_anew : step_limit 2 4 ≡ 3840
+  pub steps_at_first : steps_for 3 0 ≡ 32
+  pub steps_after_fifteen : steps_for 3 15 ≡ 512
   pub propagation : propagation_limit 3 ≡ 36
   pub assigned : assignment_limit 0 3 ≡ 16
   pub assigned_twice_anew : assignment_limit 2 3 ≡ 48

@@ -7,7 +7,7 @@ pub fn weight_laws()
     ensures { WeightLaws }
 {}
 
-/// A search over n variables makes fewer assignments than the assignment limit of as often as it began anew.
+/// A search over n variables makes fewer assignments than the assignment limit for the times that it began anew.
 pub fn searches_end()
     ensures { SearchesEnd }
 {}

@@ -53,8 +53,9 @@ impl Decider {
         }
     }
 
-    /// Makes room for the variables of numbers up to `vars` at least. It only grows: the signs stay, and what is new
-    /// has none. With no memory the decider stays as it was.
+    /// Makes room for the variables of numbers up to `vars` at least. It only grows: the signs and the priorities stay,
+    /// and what is new has no sign. Where it grows no variable waits any more, so that the next decision looks at those
+    /// of its scope. With no memory the signs stay as they were.
     pub fn reserve(&mut self, vars: usize) -> Result<(), NoMemory>
         ensures ok { OnOk result (vars ≤ length self.new) }
         ensures grown { (more : ℕ) × (self.new ≡ self.old ++ replicate more None) }
@@ -71,7 +72,8 @@ impl Decider {
         Ok(())
     }
 
-    /// Counts the literals of a clause, for the signs that variables have at first. This takes no memory.
+    /// Counts the literals of a clause, for the signs that variables have at first; one of a variable without room
+    /// isn't counted. This takes no memory.
     pub fn count(&mut self, lits: &[Lit])
         ensures { self.new ≡ self.old }
     {
@@ -80,7 +82,8 @@ impl Decider {
         }
     }
 
-    /// Raises the priority of a variable, by more the more often `decay` was called. This takes no memory.
+    /// Raises the priority of a variable that there is room for, by more the more often `decay` was called. This takes
+    /// no memory.
     pub fn bump(&mut self, v: Var)
         ensures { self.new ≡ self.old }
     {

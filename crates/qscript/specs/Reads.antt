@@ -95,7 +95,8 @@ pub record StopsAt (headed : Bool) (all : List Item) (ending : Ending) : Type 0 
 -- Behind the header: the lines of these commands in order, and then what ends the script.
 abbrev pub ReadsCommands : List Item → List Command → Ending → Type 0
 ReadsCommands all [] ending = StopsAt true all ending
-ReadsCommands all (c ∷ cs) ending = (rest : List Item) × BeginsWith true all (Orders c) rest × ReadsCommands rest cs ending
+ReadsCommands all (c ∷ cs) ending = (rest : List Item) × BeginsWith true all (Orders c) rest
+    × ReadsCommands rest cs ending
 
 -- The whole script: a header that ends it, or the header's line and what stands behind it.
 abbrev pub ReadsItems : List Item → List Command → Ending → Type 0

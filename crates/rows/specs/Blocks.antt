@@ -36,4 +36,5 @@ pub record LosesBlock (old : List (Option (Option ℕ))) (old_blocks : List Bloc
   pub blocks : AreBlocks new new_blocks
   pub gone : block_in new id ≡ None
   pub live : (i : ℕ) → i ≢ id → is_some (block_in new i) ≡ is_some (block_in old i)
-  pub links : (i : ℕ) (b c : Option ℕ) → i ≢ id → block_in old i ≡ Some b → block_in new i ≡ Some c → links_in new_blocks c ≡ links_in old_blocks b
+  pub links : (i : ℕ) (b c : Option ℕ) → i ≢ id → block_in old i ≡ Some b → block_in new i ≡ Some c
+      → links_in new_blocks c ≡ links_in old_blocks b

@@ -12,7 +12,8 @@ most_blocks = 4294967294
 abbrev pub block_numbered : ℕ → Option ℕ
 block_numbered number = if number == most_blocks then None else Some number
 
--- the place that three numbers stand for, if they stand for one: the greatest number of a block stands for none
+-- the place that three numbers stand for, if they stand for one: 4294967295 in place of a block says that no row is
+-- live
 abbrev pub slot_of : ℕ → ℕ → ℕ → Option Place
 slot_of start len number =
     if number == 4294967295 then None else Some (record { start = start; len = len; block = block_numbered number })
@@ -64,5 +65,6 @@ pub record KeepsParts (old : List Literal) (old_places : List (Option Place)) (n
 -- rows stand where they stood, and may have other blocks
 pub record Reblocks (old new : List (Option Place)) : Type 0 where
   pub count : length new ≡ length old
-  pub same : (i : ℕ) (p q : Place) → place_at old i ≡ Some p → place_at new i ≡ Some q → (q.start ≡ p.start) × (q.len ≡ p.len)
+  pub same : (i : ℕ) (p q : Place) → place_at old i ≡ Some p → place_at new i ≡ Some q
+      → (q.start ≡ p.start) × (q.len ≡ p.len)
   pub live : (i : ℕ) → is_some (place_at new i) ≡ is_some (place_at old i)

@@ -16,7 +16,8 @@ stored literals blocks place = record { literals = part literals place; links = 
 abbrev pub arena_of : List Literal → List Block → List (Option Place) → Arena
 arena_of literals blocks places = map (option_map (stored literals blocks)) places
 
--- how rows are kept: one behind the other, each with a block of its own or none, with room and a number for a block of each
+-- how rows are kept: one behind the other, each with a block of its own or none, with room and a number for a block
+-- of each
 pub record AreStored (size : ℕ) (places : List (Option Place)) (blocks : List Block) (live capacity : ℕ) : Type 0 where
   pub spread : AreSpread size places
   pub blocked : AreBlocks (blocks_of places) blocks

@@ -17,10 +17,12 @@ pub type RowId = usize;
 /// row that is live under it.
 ///
 /// Each row has its literals, which never change, and eight link fields, numbered from 0, for lists that are threaded
-/// through the rows. Every call takes constant time, but `add`, which copies the literals, and `compact`.
+/// through the rows. Every call takes constant time, but `add` and `add_pair`, which copy the literals, and `compact`,
+/// which goes over all ids.
 ///
 /// The literals of all rows stand in one list. A row that goes leaves a hole there, until `compact` moves the others
-/// together. Link fields take memory only for rows that have had a link.
+/// together. Room for the link fields of all live rows is taken as rows come in, and written only for rows that have
+/// had a link.
 #[derive(Debug, Drop)]
 pub struct Rows {
     // The literals of the rows, in the order of their ids.
@@ -136,7 +138,7 @@ impl Rows {
     }
 
     /// Puts in a row with a copy of these literals and no links, under the id that comes next. With no memory the
-    /// arena stays as it was.
+    /// arena stays as it was; there is none for a row of 2^32 literals or more, nor for more than 2^32 - 2 live rows.
     pub fn add(&mut self, lits: &[Lit]) -> Result<RowId, NoMemory>
         ensures arena { IfOk result (λ id. (id ≡ next_id self.old) × (self.new ≡ with_row self.old lits.now)) }
         ensures rest { IfOk result (λ id. ChangesAt self.old self.new id (Some (new_row lits.now))) }

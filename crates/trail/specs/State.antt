@@ -39,7 +39,7 @@ new_trail = record {
   allowed = Anything;
 }
 
--- a count of assignments after some more; at 2 ^ 64 - 1 it stays
+-- a count after some more; at 2 ^ 64 - 1 it stays
 abbrev pub counted : ℕ → ℕ → ℕ
 counted assigned zero = assigned
 counted assigned (suc more) = min (assigned + suc more) (2 ^ 64 - 1)

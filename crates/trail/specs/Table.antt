@@ -31,7 +31,8 @@ spot_on trail x = option_map (λ b. record { value = b; place = place_on trail x
 -- the table is that of the trail, on which no variable stands twice, and has room for one more
 pub record IsTable (entries : List Entry) (spots : List (Option Spot)) (capacity : ℕ) : Type 0 where
   pub found : (x : ℕ) → spot_at spots x ≡ spot_on (trail_of entries) x
-  pub once : (i : ℕ) (p : Placed) → slice_get (trail_of entries) i ≡ Some p → place_on (trail_of entries) p.literal.variable ≡ i
+  pub once : (i : ℕ) (p : Placed) → slice_get (trail_of entries) i ≡ Some p
+      → place_on (trail_of entries) p.literal.variable ≡ i
   pub leveled : AreLeveled 0 entries
   pub filled : length entries ≡ count_by is_some spots
   pub room : length spots ≤ capacity

@@ -6,7 +6,8 @@ use Rattle.prefix.specs.declared.quant.Quant.TheVariants.{Exists, Forall}
 use Rattle.calculus.specs.Search.{cause_on, decision_level_on, decisions_on, place_on, value_on}
 use Rattle.calculus.specs.Search.Cause.{Decided, Propagated}
 use Rattle.calculus.specs.Weights.{trail_weight}
-use Rattle.trail.specs.State.{TrailState, cleared, is_marked, new_trail, undone_to, with_assumed, with_clean, with_literal, with_room}
+use Rattle.trail.specs.declared.allowed.Allowed.TheVariants.{Anything, NoDecision, Nothing}
+use Rattle.trail.specs.State.{TrailState, cleared, given_up, is_marked, new_trail, restarted, undone_to, with_assumed, with_clean, with_literal, with_room}
 
 -- a variable as a literal
 abbrev pub plus : ℕ → Literal
@@ -22,7 +23,8 @@ three_variables = record { quantifier = Exists; variables = 1 ∷ 2 ∷ 3 ∷ []
 
 -- 1 is decided, and -2 propagated from step 7
 abbrev pub decided_first : TrailState
-decided_first = with_literal three_variables (with_literal three_variables new_trail (plus 1) Decided) (minus 2) (Propagated 7)
+decided_first =
+    with_literal three_variables (with_literal three_variables new_trail (plus 1) Decided) (minus 2) (Propagated 7)
 
 -- both are undone, and -1 is propagated from step 8
 abbrev pub turned : TrailState
@@ -90,3 +92,12 @@ pub record WorkedTrails : Type 0 where
   pub assumed_scope : (with_assumed with_empty_scope (with_room new_trail 1) (minus 1 ∷ [])).finished ≡ true ∷ []
   pub emptied : (cleared all_filled).finished ≡ false ∷ false ∷ false ∷ []
   pub mark_is_forgotten : is_marked cleaned_before 2 ≡ false
+  pub restart_counts : (restarted decided_first).restarts ≡ 1
+  pub restarts_add_up : (restarted (restarted decided_first)).restarts ≡ 2
+  pub restart_undoes : (restarted decided_first).placed ≡ []
+  pub restart_keeps_level_0 : (restarted propagated).placed ≡ propagated.placed
+  pub restart_counts_no_assignment : (restarted turned).assigned ≡ 3
+  pub no_decision_after_a_cut : (undone_to 0 decided_first).allowed ≡ NoDecision
+  pub decision_after_a_restart : (restarted decided_first).allowed ≡ Anything
+  pub nothing_after_giving_up : (restarted (given_up new_trail 1)).allowed ≡ Nothing
+  pub cleared_begins_anew : (cleared (restarted decided_first)).restarts ≡ 0

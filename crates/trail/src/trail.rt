@@ -88,8 +88,8 @@ impl Trail {
         }
     }
 
-    /// Makes room for the variables of numbers up to `vars`, and counts the scopes of numbers up to that. Where the room
-    /// grows this looks at each literal of the trail once. With no memory the trail stays as it was.
+    /// Makes room for the variables of numbers up to `vars`, and counts the scopes of numbers up to that. Where the
+    /// room grows this looks at each literal of the trail once. With no memory the trail stays as it was.
     pub fn reserve(&mut self, vars: usize) -> Result<(), NoMemory>
         ensures ok { OnOk result (self.new ≡ with_room self.old vars) }
         ensures err { OnErr result (self.new ≡ self.old) }
@@ -320,8 +320,8 @@ impl Trail {
         }
     }
 
-    /// Cuts the trail to level 0, and lets the search begin anew from there: a decision may come next, and the weight
-    /// rises from that of what is left. This takes no memory.
+    /// Cuts the trail to level 0, counts this, and lets the search begin anew from there: a decision may come next,
+    /// unless assumptions were given up, and the weight rises from that of what is left. This takes no memory.
     pub fn restart(&mut self)
         ensures value { self.new ≡ restarted self.old }
         ensures kept { (scopes : List Scope) → IsTrailFor scopes self.old → IsTrailFor scopes self.new }
@@ -456,7 +456,8 @@ impl Trail {
     // The number of a scope before which every variable is assigned: that of the last decision, or the first.
     fn floor(&self) -> usize
         ensures positive { 1 ≤ result }
-        ensures earlier { (scopes : List Scope) → IsTrailFor scopes self.now → AreAssignedBefore scopes self.now.placed result }
+        ensures earlier { (scopes : List Scope) → IsTrailFor scopes self.now →
+            AreAssignedBefore scopes self.now.placed result }
     {
         last_floor(&self.entries)
     }
@@ -503,7 +504,8 @@ impl Trail {
         requires first { 1 ≤ scope }
         requires last { scope ≤ length prefix.now }
         requires small { scope < 2 ^ 32 }
-        ensures { self.new ≡ with_finished self.old (is_finished prefix.now self.old.placed scope) (is_decision (cause_of why)) scope }
+        ensures { self.new ≡
+            with_finished self.old (is_finished prefix.now self.old.placed scope) (is_decision (cause_of why)) scope }
     {
         let is_full = self.is_full(prefix, scope);
         self.finished.note(is_full, why.is_decision(), scope);

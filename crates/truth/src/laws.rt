@@ -6,7 +6,8 @@ ghost use Rattle.truth.specs.Truth.{truth, truth_under, plain_steps};
 
 /// A law: the truth under no assumptions is the truth.
 pub fn no_assumptions()
-    ensures { (scopes : List Scope) (clauses : List (List Literal)) → truth_under [] scopes clauses ≡ truth scopes clauses }
+    ensures { (scopes : List Scope) (clauses : List (List Literal)) →
+        truth_under [] scopes clauses ≡ truth scopes clauses }
 {}
 
 /// A law: over n variables the plain recursion tries at most 2^(n + 1) - 2 values.

@@ -72,8 +72,9 @@ pub returns : goal.returns
 returns c = record {
   different = record { proper = are_gates; ordered = are_ordered; distinct = are_distinct };
   gate_twice = λ h. h.distinct 0 1 both_gate (omega arith) (let z : 1 < 2 = omega arith in z) (inl (refl, refl));
-  gate_in_other_order = λ h.
-      h.distinct 0 1 both_gate (omega arith) (let z : 1 < 2 = omega arith in z) (inr (refl, refl));
+  gate_again_later = λ h.
+      h.distinct 0 2 both_gate (omega arith) (let z : 2 < 3 = omega arith in z) (inl (refl, refl));
+  gate_in_other_order = λ h. h 0 1 both_gate (omega arith) (let z : 1 < 2 = omega arith in z) (inr (refl, refl));
   lesser_left = λ h. let bad : 4 < 2 = h.ordered 0 both_gate (let z : 0 < 1 = omega arith in z) in
       absurd (let no : ⊥ = omega arith in no);
   greater_given_last = refl;

@@ -31,4 +31,13 @@ returns c =
       assumed_scope = refl;
       emptied = refl;
       mark_is_forgotten = refl;
+      restart_counts = refl;
+      restarts_add_up = refl;
+      restart_undoes = refl;
+      restart_keeps_level_0 = refl;
+      restart_counts_no_assignment = refl;
+      no_decision_after_a_cut = refl;
+      decision_after_a_restart = refl;
+      nothing_after_giving_up = refl;
+      cleared_begins_anew = refl;
     }
