@@ -1,5 +1,5 @@
 -- One more step.
-use Rattle.std.proofs.Common.{◌≡◌, ◌≢◌, ℕ, zero, suc, ◌+◌, ◌<◌, ◌≤◌, ◌⊎◌, true, List, [], ◌∷◌, ◌++◌, length, get_or, Option, Some, None, is_some, IsTrue, sym, refl, ap, ap₂, subst, ◌∙◌, inl, inr, ⊎_elim, arith}
+use Rattle.std.proofs.Common.{◌≡◌, ◌≢◌, ℕ, zero, suc, ◌+◌, ◌<◌, ◌≤◌, ◌⊎◌, true, List, [], ◌∷◌, ◌++◌, length, get_or, Contains, Option, Some, None, is_some, IsTrue, sym, refl, ap, ap₂, subst, ◌∙◌, inl, inr, ⊎_elim, arith}
 use Rattle.std.specs.List.{filter_map, range_with_len, cons_option}
 use Rattle.std.specs.Prelude.{max}
 use Rattle.std.specs.Option.{option_and_then}
@@ -14,7 +14,8 @@ use Rattle.calculus.specs.Derivations.Why.{Given, ReducedFrom, ResolvedFrom, Fin
 use Rattle.derive.specs.State.{Note, Notes, State, SameStep, note_in, note_at, is_live, is_step, is_finish, may_be_antecedent, next_id, has_rows, row_of, side_at, side_in, tag_at, why_in, tag_in, step_from, clause_from, with_step}
 use Rattle.derive.specs.Antecedents.{AreSupported, IsAntecedentIn, IsSupportedAt, HasTag, Fits}
 use Rattle.derive.specs.Kept.{AreFrom, BelongTogether}
-use Rattle.derive.specs.Dropping.{StepTest, has_tag}
+use Rattle.derive.specs.Dropping.{StepTest, has_tag, is_cube}
+use Rattle.derive.specs.Cubes.{AreListed, is_cube_in}
 use Rattle.derive.specs.Adding.{Adds, AddsBoth, IsOver, Removes, clause_note, note_over}
 use Rattle.derive.proofs.Ids.{listed_push}
 use Rattle.derive.proofs.Falling.{none_some}
@@ -174,24 +175,35 @@ module _ (notes : Notes) (arena : Arena) (note : Note) (row : Row) (fits : Fits 
             ]
           ]
 
-  pub kept_more : (frames : List ℕ) (cubes finishes : ℕ) → note.tag < length frames → BelongTogether notes (Some arena) frames cubes finishes → BelongTogether (notes ++ Some note ∷ []) (Some (with_row arena row)) frames cubes finishes
-  kept_more frames cubes finishes within kept =
+  -- an initial cube is listed before it comes in
+  cubes_more : (cubes : List ℕ) → AreListed notes cubes → (is_cube note.side note.why ≡ true → Contains cubes (length notes)) → AreListed (notes ++ Some note ∷ []) cubes
+  cubes_more cubes are new id is =
+      elim (ends id (length notes)) [
+        | inl h ↦ are id (ap is_cube_in (sym (pushed_old notes (Some note) None id h)) ∙ is)
+        | inr e ↦ elim e [
+          | inl s ↦ rw s (new (ap is_cube_in (sym (pushed_new notes (Some note) None id s)) ∙ is))
+          | inr h ↦ absurd (false≢true (ap is_cube_in (sym (pushed_past notes (Some note) None id h)) ∙ is))
+        ]
+      ]
+
+  pub kept_more : (frames cubes : List ℕ) (finishes : ℕ) → note.tag < length frames → (is_cube note.side note.why ≡ true → Contains cubes (length notes)) → BelongTogether notes (Some arena) frames cubes finishes → BelongTogether (notes ++ Some note ∷ []) (Some (with_row arena row)) frames cubes finishes
+  kept_more frames cubes finishes within new kept =
       record {
         supported = all_supported kept.supported;
         fits = λ a e. let f : Some (with_row arena row) ≡ Some a = e in let is : with_row arena row ≡ a = cc in rw (← is) fits_more;
         frames = frames_more frames within kept.frames;
-        cubes = from_more _ cubes kept.cubes;
+        listed = cubes_more cubes kept.listed new;
         finishing = from_more _ finishes kept.finishing;
       }
 
 -- the same with other places for frames that tell the same
-pub kept_widened : (notes : Notes) (rows : Option Arena) (frames wider : List ℕ) (cubes finishes : ℕ) → ((frame : ℕ) → get_or wider frame (length notes) ≡ get_or frames frame (length notes)) → BelongTogether notes rows frames cubes finishes → BelongTogether notes rows wider cubes finishes
-kept_widened notes rows frames wider cubes finishes same kept =
+pub kept_widened : (notes : Notes) (rows : Option Arena) (frames wider cubes more : List ℕ) (finishes : ℕ) → ((frame : ℕ) → get_or wider frame (length notes) ≡ get_or frames frame (length notes)) → ((id : ℕ) → Contains cubes id → Contains more id) → BelongTogether notes rows frames cubes finishes → BelongTogether notes rows wider more finishes
+kept_widened notes rows frames wider cubes more finishes same still kept =
     record {
       supported = kept.supported;
       fits = kept.fits;
       frames = λ frame. rw (same frame) (kept.frames frame);
-      cubes = kept.cubes;
+      listed = λ id is. still id (kept.listed id is);
       finishing = kept.finishing;
     }
 
@@ -200,11 +212,11 @@ kept_widened notes rows frames wider cubes finishes same kept =
 some_same : (a b : Arena) → ◌≡◌ {A = Option Arena} (Some a) (Some b) → a ≡ b
 some_same a b e = cc
 
-pub kept_add : (notes after : Notes) (rows : Option Arena) (arena new_arena : Arena) (note : Note) (row : Row) (frames : List ℕ) (cubes finishes : ℕ) → note.tag < length frames → rows ≡ Some arena → after ≡ notes ++ Some note ∷ [] → new_arena ≡ with_row arena row → IsSupportedAt notes (length notes) note → BelongTogether notes rows frames cubes finishes → BelongTogether after (Some new_arena) frames cubes finishes
-kept_add notes after rows arena new_arena note row frames cubes finishes within has is_after is_arena support kept =
-    rw (is_after, is_arena) (kept_more notes arena note row (kept.fits arena has) support frames cubes finishes within (rw has at kept))
+pub kept_add : (notes after : Notes) (rows : Option Arena) (arena new_arena : Arena) (note : Note) (row : Row) (frames cubes : List ℕ) (finishes : ℕ) → note.tag < length frames → (is_cube note.side note.why ≡ true → Contains cubes (length notes)) → rows ≡ Some arena → after ≡ notes ++ Some note ∷ [] → new_arena ≡ with_row arena row → IsSupportedAt notes (length notes) note → BelongTogether notes rows frames cubes finishes → BelongTogether after (Some new_arena) frames cubes finishes
+kept_add notes after rows arena new_arena note row frames cubes finishes within new has is_after is_arena support kept =
+    rw (is_after, is_arena) (kept_more notes arena note row (kept.fits arena has) support frames cubes finishes within new (rw has at kept))
 
-pub adds_of : (d : State) (notes after : Notes) (rows : Option Arena) (arena new_arena : Arena) (note : Note) (row : Row) (id : ℕ) (frames : List ℕ) (cubes finishes : ℕ) → record { notes = notes; rows = rows } ≡ d → rows ≡ Some arena → after ≡ notes ++ Some note ∷ [] → new_arena ≡ with_row arena row → id ≡ next_row arena → BelongTogether notes rows frames cubes finishes → Adds d (record { notes = after; rows = Some new_arena }) id note row
+pub adds_of : (d : State) (notes after : Notes) (rows : Option Arena) (arena new_arena : Arena) (note : Note) (row : Row) (id : ℕ) (frames cubes : List ℕ) (finishes : ℕ) → record { notes = notes; rows = rows } ≡ d → rows ≡ Some arena → after ≡ notes ++ Some note ∷ [] → new_arena ≡ with_row arena row → id ≡ next_row arena → BelongTogether notes rows frames cubes finishes → Adds d (record { notes = after; rows = Some new_arena }) id note row
 adds_of d notes after rows arena new_arena note row id frames cubes finishes view has is_after is_arena is_id kept =
     let same = (kept.fits arena has).same_next in
     rw (← view, has, is_after, is_arena, is_id ∙ same) (adds notes arena same note row)
@@ -223,18 +235,18 @@ over_clause notes frame =
       tag = sym (ap tag_in there);
     }
 
-pub kept_both : (notes after : Notes) (rows : Option Arena) (arena new_arena : Arena) (frame : ℕ) (row reduced : Row) (frames : List ℕ) (cubes finishes : ℕ) → frame < length frames → rows ≡ Some arena → after ≡ (notes ++ Some (clause_note frame) ∷ []) ++ Some (record { side = Exists; why = ReducedFrom (length notes); tag = frame }) ∷ [] → new_arena ≡ with_row (with_row arena row) reduced → BelongTogether notes rows frames cubes finishes → BelongTogether after (Some new_arena) frames cubes finishes
+pub kept_both : (notes after : Notes) (rows : Option Arena) (arena new_arena : Arena) (frame : ℕ) (row reduced : Row) (frames cubes : List ℕ) (finishes : ℕ) → frame < length frames → rows ≡ Some arena → after ≡ (notes ++ Some (clause_note frame) ∷ []) ++ Some (record { side = Exists; why = ReducedFrom (length notes); tag = frame }) ∷ [] → new_arena ≡ with_row (with_row arena row) reduced → BelongTogether notes rows frames cubes finishes → BelongTogether after (Some new_arena) frames cubes finishes
 kept_both notes after rows arena new_arena frame row reduced frames cubes finishes within has is_after is_arena kept =
-    kept_add (notes ++ Some (clause_note frame) ∷ []) after (Some (with_row arena row)) (with_row arena row) new_arena (record { side = Exists; why = ReducedFrom (length notes); tag = frame }) reduced frames cubes finishes within refl is_after is_arena (over_clause notes frame)
-    (kept_add notes (notes ++ Some (clause_note frame) ∷ []) rows arena (with_row arena row) (clause_note frame) row frames cubes finishes within has refl refl (clause_supported notes frame) kept)
+    kept_add (notes ++ Some (clause_note frame) ∷ []) after (Some (with_row arena row)) (with_row arena row) new_arena (record { side = Exists; why = ReducedFrom (length notes); tag = frame }) reduced frames cubes finishes within (λ e. absurd (false≢true e)) refl is_after is_arena (over_clause notes frame)
+    (kept_add notes (notes ++ Some (clause_note frame) ∷ []) rows arena (with_row arena row) (clause_note frame) row frames cubes finishes within (λ e. absurd (false≢true e)) has refl refl (clause_supported notes frame) kept)
 
-pub adds_both : (d : State) (notes after : Notes) (rows : Option Arena) (arena new_arena : Arena) (frame : ℕ) (row reduced : Row) (first second : ℕ) (frames : List ℕ) (cubes finishes : ℕ) → frame < length frames → record { notes = notes; rows = rows } ≡ d → rows ≡ Some arena → after ≡ (notes ++ Some (clause_note frame) ∷ []) ++ Some (record { side = Exists; why = ReducedFrom (length notes); tag = frame }) ∷ [] → new_arena ≡ with_row (with_row arena row) reduced → first ≡ next_row arena → second ≡ next_row arena + 1 → BelongTogether notes rows frames cubes finishes → AddsBoth d (record { notes = after; rows = Some new_arena }) first second frame row reduced
+pub adds_both : (d : State) (notes after : Notes) (rows : Option Arena) (arena new_arena : Arena) (frame : ℕ) (row reduced : Row) (first second : ℕ) (frames cubes : List ℕ) (finishes : ℕ) → frame < length frames → record { notes = notes; rows = rows } ≡ d → rows ≡ Some arena → after ≡ (notes ++ Some (clause_note frame) ∷ []) ++ Some (record { side = Exists; why = ReducedFrom (length notes); tag = frame }) ∷ [] → new_arena ≡ with_row (with_row arena row) reduced → first ≡ next_row arena → second ≡ next_row arena + 1 → BelongTogether notes rows frames cubes finishes → AddsBoth d (record { notes = after; rows = Some new_arena }) first second frame row reduced
 adds_both d notes after rows arena new_arena frame row reduced first second frames cubes finishes within view has is_after is_arena is_first is_second kept =
     let same = (kept.fits arena has).same_next in
     let middle : State = record { notes = notes ++ Some (clause_note frame) ∷ []; rows = Some (with_row arena row) } in
     let there : note_at middle (length notes) ≡ Some (clause_note frame) = pushed_new notes (Some (clause_note frame)) None (length notes) refl in
     let first_is : first ≡ length notes = is_first ∙ same in
-    let kept_first = kept_add notes (notes ++ Some (clause_note frame) ∷ []) rows arena (with_row arena row) (clause_note frame) row frames cubes finishes within has refl refl (clause_supported notes frame) kept in
+    let kept_first = kept_add notes (notes ++ Some (clause_note frame) ∷ []) rows arena (with_row arena row) (clause_note frame) row frames cubes finishes within (λ e. absurd (false≢true e)) has refl refl (clause_supported notes frame) kept in
     let note_is : record { side = Exists; why = ReducedFrom (length notes); tag = frame } ≡ note_over middle first (ReducedFrom first) = rw (first_is, there) refl in
     record {
       with_input = middle;

@@ -1,15 +1,16 @@
 -- What stays where steps are dropped.
-use Rattle.std.proofs.Common.{◌≡◌, ◌≢◌, ℕ, zero, suc, ◌+◌, ◌-◌, ◌<◌, ◌≤◌, Bool, true, false, not, cond, nat_le, nat_lt, List, [], ◌∷◌, length, map, filter, Contains, Option, Some, None, is_some, IsTrue, get_or, set, sym, refl, ap, ap₂, subst, ◌∙◌, inl, inr, ⊎_elim, arith}
+use Rattle.std.proofs.Common.{◌≡◌, ◌≢◌, ℕ, zero, suc, ◌+◌, ◌-◌, ◌<◌, ◌≤◌, Bool, true, false, not, cond, nat_le, nat_lt, List, [], ◌∷◌, length, map, filter, Contains, Option, Some, None, is_some, unwrap_or, IsTrue, get_or, set, sym, refl, ap, ap₂, subst, ◌∙◌, inl, inr, ⊎_elim, arith}
 use Rattle.std.specs.List.{filter_map, range_with_len}
 use Rattle.std.specs.Option.{option_and_then}
 use Rattle.std.proofs.lemmas.Bool.{true≢false, false≢true, cond-true, cond-false, cases_Bool, cases_eq, cases_lt, leb-true, le-leb, lt-ltb, le-ltb, lt-leb}
 use Rattle.std.proofs.lemmas.List.{append-nil, get_or-set_same, get_or-set_other, set_past}
 use Rattle.prefix.specs.declared.quant.Quant.{Quant}
 use Rattle.prefix.specs.declared.quant.Quant.TheVariants.{Exists, Forall}
+use Rattle.prefix.specs.Literal.{Literal}
 use Rattle.prefix.specs.Scopes.{Scope}
 use Rattle.rows.specs.Arena.{Arena, literals_at, literals_of, row_at as stored_at}
 use Rattle.calculus.specs.Rows.{Row}
-use Rattle.calculus.specs.Derivations.{Step, Why, IsInput, IsClosed}
+use Rattle.calculus.specs.Derivations.{Hits, Step, Why, IsInput, IsClosed}
 use Rattle.calculus.specs.Derivations.Why.{Given, ReducedFrom, ResolvedFrom, FinishedFrom}
 use Rattle.calculus.proofs.Lists.{contains_cons, contains_nil, contains_head, contains_tail, filter_at, filter_same, filter_all}
 use Rattle.calculus.proofs.StepLemmas.{kept_derivation}
@@ -18,10 +19,12 @@ use Rattle.calculus.proofs.Changes.{changed_derivation, extends_itself}
 use Rattle.derive.specs.State.{Note, Notes, State, SameStep, OpenClause, note_in, note_at, next_id, row_of, is_finish, is_live, step_from, steps_of, clause_at, clause_from, clause_with, clauses_of, open_clauses, arena_of, has_rows, IsLegalFor}
 use Rattle.derive.specs.Antecedents.{AreSupported, Fits}
 use Rattle.derive.specs.Kept.{AreFrom, BelongTogether}
-use Rattle.derive.specs.Dropping.{StepTest, has_tag, Falls, DropsFrom, Drops, mentions, names, is_cube, is_initial_cube, finishes, is_from, unless_finish}
+use Rattle.derive.specs.Dropping.{StepTest, has_tag, Falls, DropsFrom, Drops, mentions, names, is_cube, finishes, is_from, unless_finish}
 use Rattle.derive.specs.Dropping.Falls.{root, rests}
+use Rattle.derive.specs.Cubes.{AreListed, is_cube_in, misses}
 use Rattle.derive.proofs.Ids.{listed_at, listed_from, listed_filter, listed_same, listed_push, kept_if}
 use Rattle.derive.proofs.Falling.{none_some, some_is}
+use Rattle.derive.proofs.Missed.{cube_given, cube_missing, hit_no_miss, hits_one, hits_unless}
 use Rattle.derive.proofs.Additions.{supported_same}
 use Rattle.derive.proofs.Legality.{stands_at, step_with_is, given_input}
 
@@ -62,13 +65,21 @@ module _ (is_root : StepTest) (old new : Notes) (old_rows new_rows : Arena) (dro
   frames_left : (frames : List ℕ) → ((frame : ℕ) → AreFrom (has_tag frame) old (get_or frames frame (length old))) → (frame : ℕ) → AreFrom (has_tag frame) new (get_or frames frame (length new))
   frames_left frames are frame = rw drops.same_next (from_left (has_tag frame) (get_or frames frame (length old)) (are frame))
 
-  pub kept_left : (frames : List ℕ) (cubes finishing : ℕ) → BelongTogether old (Some old_rows) frames cubes finishing → BelongTogether new (Some new_rows) frames cubes finishing
+  -- what is an initial cube was one
+  pub cubes_left : (cubes : List ℕ) → AreListed old cubes → AreListed new cubes
+  cubes_left cubes are id is =
+      ⊎_elim
+      (λ f. absurd (false≢true (ap is_cube_in (sym f.1) ∙ is)))
+      (λ k. are id (ap is_cube_in (sym k.1) ∙ is))
+      (drops.steps id)
+
+  pub kept_left : (frames cubes : List ℕ) (finishing : ℕ) → BelongTogether old (Some old_rows) frames cubes finishing → BelongTogether new (Some new_rows) frames cubes finishing
   kept_left frames cubes finishing kept =
       record {
         supported = supported_left kept.supported;
         fits = λ a e. let f : Some new_rows ≡ Some a = e in let is : new_rows ≡ a = cc in rw (← is) (fits_left (kept.fits old_rows refl));
         frames = frames_left frames kept.frames;
-        cubes = from_left _ cubes kept.cubes;
+        listed = cubes_left cubes kept.listed;
         finishing = from_left _ finishing kept.finishing;
       }
 
@@ -236,11 +247,14 @@ module _ (is_root : StepTest) (old new : State) (has : has_rows new ≡ true) (d
 
 -- the same where the parts are told by equations
 
-pub kept_drop : (is_root : StepTest) (old new : Notes) (rows : Option Arena) (old_rows new_rows : Arena) (frames : List ℕ) (cubes finishing : ℕ) → rows ≡ Some old_rows → DropsFrom is_root old new old_rows new_rows → BelongTogether old rows frames cubes finishing → BelongTogether new (Some new_rows) frames cubes finishing
+pub kept_drop : (is_root : StepTest) (old new : Notes) (rows : Option Arena) (old_rows new_rows : Arena) (frames cubes : List ℕ) (finishing : ℕ) → rows ≡ Some old_rows → DropsFrom is_root old new old_rows new_rows → BelongTogether old rows frames cubes finishing → BelongTogether new (Some new_rows) frames cubes finishing
 kept_drop is_root old new rows old_rows new_rows frames cubes finishing has drops kept = kept_left is_root old new old_rows new_rows drops frames cubes finishing (rw has at kept)
 
 pub drops_of : (is_root : StepTest) (d : State) (old new : Notes) (rows : Option Arena) (old_rows new_rows : Arena) → record { notes = old; rows = rows } ≡ d → rows ≡ Some old_rows → DropsFrom is_root old new old_rows new_rows → Drops is_root d (record { notes = new; rows = Some new_rows })
 drops_of is_root d old new rows old_rows new_rows view has drops = rw (← view, has) (dropped is_root (record { notes = old; rows = Some old_rows }) (record { notes = new; rows = Some new_rows }) refl drops)
+
+pub rows_here : (d : State) (notes : Notes) (rows : Option Arena) (arena : Arena) → record { notes = notes; rows = rows } ≡ d → rows ≡ Some arena → arena_of d ≡ arena
+rows_here d notes rows arena view has = ap (λ (s : State). arena_of s) (sym view) ∙ ap (λ (o : Option Arena). unwrap_or o []) has
 
 pub legal_drops : (is_root : StepTest) (old new : State) → Drops is_root old new → (scopes : List Scope) → IsLegalFor scopes old → IsLegalFor scopes new
 legal_drops is_root old new drops scopes legal = legal_left is_root old new drops.has_rows drops.exactly scopes legal
@@ -258,13 +272,13 @@ left_none is_root old new drops notes rows len view is =
     let same : notes ≡ new.notes = ap (λ (d : State). d.notes) view in
     rw (is, same) (from_none is_root old.notes new.notes (arena_of old) (arena_of new) drops.exactly is_root (λ id note r. r))
 
-pub kept_cubes : (old new : State) (notes : Notes) (rows : Option Arena) (frames : List ℕ) (cubes finishing len : ℕ) → Drops is_initial_cube old new → record { notes = notes; rows = rows } ≡ new → len ≡ length notes → BelongTogether notes rows frames cubes finishing → BelongTogether notes rows frames len finishing
-kept_cubes old new notes rows frames cubes finishing len drops view is kept = record { supported = kept.supported; fits = kept.fits; frames = kept.frames; cubes = left_none is_initial_cube old new drops notes rows len view is; finishing = kept.finishing }
+pub kept_listed : (notes : Notes) (rows : Option Arena) (frames cubes left : List ℕ) (finishing : ℕ) → AreListed notes left → BelongTogether notes rows frames cubes finishing → BelongTogether notes rows frames left finishing
+kept_listed notes rows frames cubes left finishing listed kept = record { supported = kept.supported; fits = kept.fits; frames = kept.frames; listed = listed; finishing = kept.finishing }
 
-pub kept_finishes : (old new : State) (notes : Notes) (rows : Option Arena) (frames : List ℕ) (cubes finishing len : ℕ) → Drops finishes old new → record { notes = notes; rows = rows } ≡ new → len ≡ length notes → BelongTogether notes rows frames cubes finishing → BelongTogether notes rows frames cubes len
-kept_finishes old new notes rows frames cubes finishing len drops view is kept = record { supported = kept.supported; fits = kept.fits; frames = kept.frames; cubes = kept.cubes; finishing = left_none finishes old new drops notes rows len view is }
+pub kept_finishes : (old new : State) (notes : Notes) (rows : Option Arena) (frames cubes : List ℕ) (finishing len : ℕ) → Drops finishes old new → record { notes = notes; rows = rows } ≡ new → len ≡ length notes → BelongTogether notes rows frames cubes finishing → BelongTogether notes rows frames cubes len
+kept_finishes old new notes rows frames cubes finishing len drops view is kept = record { supported = kept.supported; fits = kept.fits; frames = kept.frames; listed = kept.listed; finishing = left_none finishes old new drops notes rows len view is }
 
-pub kept_frame : (old new : State) (notes : Notes) (rows : Option Arena) (frames : List ℕ) (frame cubes finishing len : ℕ) → Drops (has_tag frame) old new → record { notes = notes; rows = rows } ≡ new → len ≡ length notes → BelongTogether notes rows frames cubes finishing → BelongTogether notes rows (set frames frame len) cubes finishing
+pub kept_frame : (old new : State) (notes : Notes) (rows : Option Arena) (frames : List ℕ) (frame : ℕ) (cubes : List ℕ) (finishing len : ℕ) → Drops (has_tag frame) old new → record { notes = notes; rows = rows } ≡ new → len ≡ length notes → BelongTogether notes rows frames cubes finishing → BelongTogether notes rows (set frames frame len) cubes finishing
 kept_frame old new notes rows frames frame cubes finishing len drops view is kept =
     record {
       supported = kept.supported;
@@ -278,7 +292,7 @@ kept_frame old new notes rows frames frame cubes finishing len drops view is kep
           (cases_lt frame (length frames))))
           (λ (apart : other ≢ frame). rw (get_or-set_other frames frame other len (length notes) apart) (kept.frames other))
           (cases_eq other frame);
-      cubes = kept.cubes;
+      listed = kept.listed;
       finishing = kept.finishing;
     }
 
@@ -344,20 +358,53 @@ finishes_go old new supported drops id = go (note_at old id) refl
 no_clause_cube : (side : Quant) (why : Why) → side ≡ Exists → is_cube side why ≡ false
 no_clause_cube side why e = rw e refl
 
-cube_falls : (notes : Notes) → AreSupported notes → (id : ℕ) → Falls is_initial_cube notes id → (note : Note) → note_in notes id ≡ Some note → note.side ≡ Exists → ⊥
-cube_falls notes supported id (root j n at r) note there side =
+cube_falls : (clause : Row) (rows : Arena) (notes : Notes) → AreSupported notes → (id : ℕ) → Falls (misses clause rows) notes id → (note : Note) → note_in notes id ≡ Some note → note.side ≡ Exists → ⊥
+cube_falls clause rows notes supported id (root j n at r) note there side =
     let e : Some n ≡ Some note = sym at ∙ there in
     let is : n ≡ note = cc in
-    false≢true (sym (no_clause_cube n.side n.why (ap (λ (m : Note). m.side) is ∙ side)) ∙ r)
-cube_falls notes supported id (rests j on n at r falls) note there side =
+    false≢true (sym (no_clause_cube n.side n.why (ap (λ (m : Note). m.side) is ∙ side)) ∙ cube_missing clause rows id n r)
+cube_falls clause rows notes supported id (rests j on n at r falls) note there side =
     let e : Some n ≡ Some note = sym at ∙ there in
     let is : n ≡ note = cc in
     let g = (supported id n at).antecedents on r in
-    cube_falls notes supported on falls g.under g.there (g.one_side ∙ ap (λ (m : Note). m.side) is ∙ side)
+    cube_falls clause rows notes supported on falls g.under g.there (g.one_side ∙ ap (λ (m : Note). m.side) is ∙ side)
 
-pub clause_side_stays : (old new : State) → AreSupported old.notes → Drops is_initial_cube old new → (id : ℕ) (note : Note) → note_at old id ≡ Some note → note.side ≡ Exists → note_at new id ≡ Some note
-clause_side_stays old new supported drops id note there side =
-    ⊎_elim (λ p. absurd (cube_falls old.notes supported id p.0 note there side)) (λ p. p.1 ∙ there) (drops.exactly.steps id)
+pub clause_side_stays : (clause : Row) (rows : Arena) (old new : State) → AreSupported old.notes → Drops (misses clause rows) old new → (id : ℕ) (note : Note) → note_at old id ≡ Some note → note.side ≡ Exists → note_at new id ≡ Some note
+clause_side_stays clause rows old new supported drops id note there side =
+    ⊎_elim (λ p. absurd (cube_falls clause rows old.notes supported id p.0 note there side)) (λ p. p.1 ∙ there) (drops.exactly.steps id)
+
+-- a cube that is left holds a literal of the clause
+pub left_hits : (clause : Row) (rows : Arena) (old new : State) → Drops (misses clause rows) old new → (id : ℕ) (note : Note) → note_at old id ≡ Some note → is_cube note.side note.why ≡ true → is_live new id ≡ true → (l : Literal) × Contains clause l × Contains (literals_at rows id) l
+left_hits clause rows old new drops id note there cube live =
+    ⊎_elim
+    (λ f. absurd (false≢true (sym (ap is_some f.1) ∙ live)))
+    (λ k. hits_unless clause rows id note cube (λ m. k.0 (root id note there m)))
+    (drops.exactly.steps id)
+
+pub left_hit : (clause : Row) (old new : State) → Drops (misses clause (arena_of old)) old new → (id : ℕ) → is_cube_in (note_at new id) ≡ true → Hits (row_of new id) (clause ∷ [])
+left_hit clause old new drops id cube = by (note_at new id) refl cube
+  where
+    by : (o : Option Note) → note_at new id ≡ o → is_cube_in o ≡ true → Hits (row_of new id) (clause ∷ [])
+    by None there is = absurd (false≢true is)
+    by (Some note) there is =
+        let live : is_live new id ≡ true = ap is_some there in
+        let same = drops.others id live in
+        let hit = left_hits clause (arena_of old) old new drops id note (sym same.note ∙ there) is live in
+        let row : row_of new id ≡ row_of old id = ap literals_of same.row in
+        rw row (hits_one (row_of old id) clause hit)
+
+-- a cube that holds one stays
+pub hit_stays : (clause : Row) (old new : State) → Drops (misses clause (arena_of old)) old new → (id : ℕ) → is_cube_in (note_at old id) ≡ true → Hits (row_of old id) (clause ∷ []) → SameStep old new id
+hit_stays clause old new drops id cube hits = by (note_at old id) refl cube
+  where
+    by : (o : Option Note) → note_at old id ≡ o → is_cube_in o ≡ true → SameStep old new id
+    by None there is = absurd (false≢true is)
+    by (Some note) there is =
+        let h = hits clause (contains_head clause []) in
+        ⊎_elim
+        (λ f. absurd (hit_no_miss clause (arena_of old) id note h (given_root (misses clause (arena_of old)) old.notes id note there (cube_given note.side note.why is) f.0)))
+        (λ k. drops.others id (ap is_some (k.1 ∙ there)))
+        (drops.exactly.steps id)
 
 none_from_live : {A : Type 0} (o : Option A) → is_some o ≡ false → o ≡ None
 none_from_live None e = refl

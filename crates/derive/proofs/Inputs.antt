@@ -1,27 +1,30 @@
 -- A clause with its reduction comes in.
-use Rattle.std.proofs.Common.{◌≡◌, ◌≢◌, ℕ, ◌<◌, Bool, true, false, List, [], ◌∷◌, ◌++◌, map, filter, Contains, Some, None, is_some, sym, refl, ap, ap₂, ◌∙◌, ⊎_elim}
+use Rattle.std.proofs.Common.{◌≡◌, ◌≢◌, ℕ, ◌<◌, Bool, true, false, List, [], ◌∷◌, ◌++◌, map, filter, Contains, Some, None, is_some, sym, refl, ap, ap₂, subst, ◌∙◌, ⊎_elim}
 use Rattle.std.specs.List.{cons_option}
 use Rattle.std.proofs.lemmas.Bool.{false≢true, cond-true}
 use Rattle.std.proofs.lemmas.List.{map_push, append-nil}
-use Rattle.std.proofs.lemmas.List.Elements.{Contains-append_left, filter-append}
+use Rattle.std.proofs.lemmas.List.Elements.{Contains-append_cases, Contains-append_left, filter-append}
 use Rattle.prefix.specs.declared.quant.Quant.{Quant}
 use Rattle.prefix.specs.declared.quant.Quant.TheVariants.{Exists, Forall}
 use Rattle.prefix.specs.Scopes.{Scope}
-use Rattle.rows.specs.Arena.{literals_of}
+use Rattle.prefix.specs.Literal.{Literal}
+use Rattle.rows.specs.Arena.{Arena, literals_of}
 use Rattle.calculus.specs.Rows.{Row, IsRow, reduce}
 use Rattle.calculus.specs.Derivations.{Step, IsDerivation, IsInput, IsClosed}
 use Rattle.calculus.specs.Derivations.Why.{Given, ReducedFrom}
-use Rattle.calculus.proofs.Lists.{filter_at}
+use Rattle.calculus.proofs.Lists.{contains_cons, contains_nil, filter_at}
 use Rattle.calculus.proofs.StepLemmas.{kept_derivation, one_more_step}
 use Rattle.calculus.proofs.Changes.{changed_derivation, extends_itself}
 use Rattle.calculus.proofs.RowLaws.{reduce_row}
-use Rattle.derive.specs.State.{Note, Notes, State, SameStep, IsStepOf, OpenClause, note_in, note_at, next_id, row_of, side_in, tag_in, side_at, is_live, may_be_antecedent, is_step, steps_of, clause_with, clauses_of, open_clauses, IsLegalFor}
+use Rattle.derive.specs.State.{Note, Notes, State, SameStep, arena_of, IsStepOf, OpenClause, note_in, note_at, next_id, row_of, side_in, tag_in, side_at, is_live, may_be_antecedent, is_step, steps_of, clause_with, clauses_of, open_clauses, IsLegalFor}
 use Rattle.derive.specs.Adding.{Adds, AddsClause, InputsClause, note_over, clause_note}
-use Rattle.derive.specs.Dropping.{Falls, Drops, is_cube, is_initial_cube}
+use Rattle.derive.specs.Dropping.{Falls, Drops, is_cube}
+use Rattle.derive.specs.Cubes.{misses}
 use Rattle.derive.specs.Dropping.Falls.{root, rests}
 use Rattle.derive.proofs.Legality.{stands_at, contains_last, given_input}
 use Rattle.derive.proofs.Additions.{pushed_old}
-use Rattle.derive.proofs.Drops.{clauses_same, given_root, closed_left}
+use Rattle.derive.proofs.Drops.{clauses_same, given_root, closed_left, left_hits}
+use Rattle.derive.proofs.Missed.{cube_missing}
 
 -- the clauses that are open then
 no_clause_over : (id : ℕ) (row : Row) (tag : ℕ) (side : Quant) (a : ℕ) → clause_with id row tag side (ReducedFrom a) ≡ None
@@ -43,19 +46,22 @@ no_cube_over : (side : Quant) (a : ℕ) → is_cube side (ReducedFrom a) ≡ fal
 no_cube_over Exists a = refl
 no_cube_over Forall a = refl
 
+contains_one : (row clause : Row) → Contains (row ∷ []) clause → clause ≡ row
+contains_one row clause c = ⊎_elim (λ e. sym e) (λ none. absurd (contains_nil clause none)) (contains_cons row [] clause c)
+
 -- what rests on a step that stays is no cube, and stays
-over_stays : (notes : Notes) (id : ℕ) (note : Note) (a : ℕ) → note_in notes id ≡ Some note → note.why ≡ ReducedFrom a → (Falls is_initial_cube notes a → ⊥) → Falls is_initial_cube notes id → ⊥
-over_stays notes id note a there why stays (root j n at r) =
+pub over_stays : (clause : Row) (rows : Arena) (notes : Notes) (id : ℕ) (note : Note) (a : ℕ) → note_in notes id ≡ Some note → note.why ≡ ReducedFrom a → (Falls (misses clause rows) notes a → ⊥) → Falls (misses clause rows) notes id → ⊥
+over_stays clause rows notes id note a there why stays (root j n at r) =
     let e : Some note ≡ Some n = sym there ∙ at in
     let is : note ≡ n = cc in
-    false≢true (sym (no_cube_over n.side a) ∙ ap (is_cube n.side) (sym (ap (λ (m : Note). m.why) (sym is) ∙ why)) ∙ r)
-over_stays notes id note a there why stays (rests j on n at r falls) =
+    false≢true (sym (no_cube_over n.side a) ∙ ap (is_cube n.side) (sym (ap (λ (m : Note). m.why) (sym is) ∙ why)) ∙ cube_missing clause rows id n r)
+over_stays clause rows notes id note a there why stays (rests j on n at r falls) =
     let e : Some note ≡ Some n = sym there ∙ at in
     let is : note ≡ n = cc in
     let same : a ≡ on = rw (ap (λ (m : Note). m.why) (sym is) ∙ why) at r in
     stays (rw same falls)
 
-module _ (scopes : List Scope) (old new : State) (first second frame : ℕ) (row : Row) (added : State) (adds : AddsClause scopes old added first second frame row) (cubes : Drops is_initial_cube added new) where
+module _ (scopes : List Scope) (old new : State) (first second frame : ℕ) (row : Row) (added : State) (adds : AddsClause scopes old added first second frame row) (cubes : Drops (misses row (arena_of added)) added new) where
   abbrev with_input : State
   with_input = adds.with_input
 
@@ -67,7 +73,7 @@ module _ (scopes : List Scope) (old new : State) (first second frame : ℕ) (row
 
   open_new : open_clauses new ≡ open_clauses old ++ row ∷ []
   open_new =
-      ap (map (λ (c : OpenClause). c.row)) (clauses_same is_initial_cube added new cubes (λ c. refl) ∙ clauses_more scopes old added first second frame row adds)
+      ap (map (λ (c : OpenClause). c.row)) (clauses_same (misses row (arena_of added)) added new cubes (λ c. refl) ∙ clauses_more scopes old added first second frame row adds)
       ∙ map_push (λ (c : OpenClause). c.row) (clauses_of old) (record { id = first; frame = frame; row = row })
 
   steps_input : steps_of with_input ≡ steps_of old ++ input ∷ []
@@ -86,9 +92,9 @@ module _ (scopes : List Scope) (old new : State) (first second frame : ℕ) (row
       (λ more. ap (λ (d : State). note_at d first) more.1.state ∙ pushed_old with_input.notes _ None first first_given ∙ input_there)
       adds.reduction.cases
 
-  first_stays : (Falls is_initial_cube added.notes first → ⊥) × (note_at new first ≡ Some (clause_note frame))
+  first_stays : (Falls (misses row (arena_of added)) added.notes first → ⊥) × (note_at new first ≡ Some (clause_note frame))
   first_stays =
-      ⊎_elim (λ f. absurd (false≢true (given_root is_initial_cube added.notes first (clause_note frame) note_first refl f.0)))
+      ⊎_elim (λ f. absurd (false≢true (given_root (misses row (arena_of added)) added.notes first (clause_note frame) note_first refl f.0)))
       (λ k. (k.0, k.1 ∙ note_first))
       (cubes.exactly.steps first)
 
@@ -100,17 +106,20 @@ module _ (scopes : List Scope) (old new : State) (first second frame : ℕ) (row
       adds.reduction.cases
 
   closed_old : IsClosed keep (steps_of old)
-  closed_old s t i j = closed_left is_initial_cube added new cubes.has_rows cubes.exactly s t (old_in_added s i) (old_in_added t j)
+  closed_old s t i j = closed_left (misses row (arena_of added)) added new cubes.has_rows cubes.exactly s t (old_in_added s i) (old_in_added t j)
 
-  -- the old inputs fit the new clauses, since no cube is left
+  -- the old inputs fit the new clauses, since the cubes that are left hit the new one
   input_kept : (s : Step) → Contains (steps_of old) s → keep s ≡ true → s.why ≡ Given → (side : Quant) → s.side ≡ side → IsInput side (open_clauses old) s.row → IsInput side (open_clauses new) s.row
   input_kept s i live why Exists side is = rw open_new (Contains-append_left (open_clauses old) (row ∷ []) s.row is)
   input_kept s i live why Forall side is =
       let st = stands_at added s (old_in_added s i) in
       let cube : is_cube st.note.side st.note.why ≡ true = ap₂ is_cube (sym st.side ∙ side) (sym st.why ∙ why) in
-      ⊎_elim (λ f. absurd (false≢true (sym (ap is_some f.1) ∙ live)))
-      (λ k. absurd (k.0 (root s.id st.note st.there cube)))
-      (cubes.exactly.steps s.id)
+      let hit = left_hits row (arena_of added) added new cubes s.id st.note st.there cube live in
+      rw open_new (λ clause j.
+      ⊎_elim
+      (λ before. is clause before)
+      (λ last. subst (λ c. (l : Literal) × Contains c l × Contains s.row l) (sym (contains_one row clause last)) (rw st.row hit))
+      (Contains-append_cases (open_clauses old) (row ∷ []) clause j))
 
   filter_input : filter keep (steps_of with_input) ≡ filter keep (steps_of old) ++ input ∷ []
   filter_input = ap (filter keep) steps_input ∙ filter_push keep (steps_of old) input (ap is_some first_stays.1)
@@ -131,7 +140,7 @@ module _ (scopes : List Scope) (old new : State) (first second frame : ℕ) (row
       ⊎_elim
       (λ same. ap (is_live new) same.1 ∙ ap is_some first_stays.1)
       (λ more.
-      ⊎_elim (λ f. absurd (over_stays added.notes second (note_over with_input first (ReducedFrom first)) first more.1.there refl first_stays.0 f.0))
+      ⊎_elim (λ f. absurd (over_stays row (arena_of added) added.notes second (note_over with_input first (ReducedFrom first)) first more.1.there refl first_stays.0 f.0))
       (λ k. ap is_some (k.1 ∙ more.1.there))
       (cubes.exactly.steps second))
       adds.reduction.cases in
@@ -191,7 +200,7 @@ module _ (scopes : List Scope) (old new : State) (first second frame : ℕ) (row
       reduction_stays : keep reduction ≡ true
       reduction_stays =
           let there = second_adds.there in
-          ⊎_elim (λ f. absurd (over_stays added.notes second (note_over with_input first (ReducedFrom first)) first there refl first_stays.0 f.0))
+          ⊎_elim (λ f. absurd (over_stays row (arena_of added) added.notes second (note_over with_input first (ReducedFrom first)) first there refl first_stays.0 f.0))
           (λ k. ap is_some (k.1 ∙ there))
           (cubes.exactly.steps second)
 

@@ -7,6 +7,8 @@ pub mod Ids
 pub mod Inputs
 pub mod Legality
 pub mod Listing
+pub mod Missed
 pub mod Removals
 pub mod Sweeps
 pub mod Tags
+pub mod Working

@@ -5,7 +5,7 @@ use Rattle.prefix.specs.declared.quant.Quant.TheVariants.{Exists, Forall}
 use Rattle.calculus.specs.Rows.{Row}
 use Rattle.calculus.specs.Derivations.{Why}
 use Rattle.calculus.specs.Derivations.Why.{Given, ReducedFrom, ResolvedFrom, FinishedFrom}
-use Rattle.derive.specs.State.{Note, OpenClause, State, clause_at, clause_from, clause_with, clauses_of, next_id, note_at, row_of}
+use Rattle.derive.specs.State.{Note, OpenClause, State, clause_at, clause_with, clauses_of, next_id, note_at, row_of}
 use Rattle.derive.proofs.Ids.{listed_at}
 
 -- the note and the row of an open clause

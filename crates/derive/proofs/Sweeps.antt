@@ -1,5 +1,5 @@
 -- What a sweep leaves.
-use Rattle.std.proofs.Common.{◌≡◌, ◌≢◌, ℕ, zero, suc, ◌+◌, ◌<◌, ◌≤◌, ◌⊎◌, Bool, true, false, not, cond, List, [], ◌∷◌, length, replicate, take, set, get_or, filter, Contains, Option, Some, None, is_some, IsTrue, nat_eq, sym, refl, ap, subst, ◌∙◌, inl, inr, ⊎_elim, arith}
+use Rattle.std.proofs.Common.{◌≡◌, ◌≢◌, ℕ, zero, suc, ◌+◌, ◌<◌, ◌≤◌, ◌⊎◌, Bool, true, false, not, List, [], ◌∷◌, length, replicate, take, set, get_or, Contains, Option, Some, None, is_some, IsTrue, nat_eq, sym, refl, ap, subst, ◌∙◌, inl, inr, ⊎_elim, arith}
 use Rattle.std.specs.Prelude.{◌&&◌, ◌||◌}
 use Rattle.std.proofs.lemmas.Bool.{cases_Bool, cases_eq, cases_lt, true≢false, false≢true, or_left, or_right, or_cases, eqb-true, eq-eqb}
 use Rattle.std.proofs.lemmas.List.{get_or-set_same, get_or-set_other, get_or_past, take_more, take_all}
@@ -8,21 +8,21 @@ use Rattle.calculus.proofs.Lists.{contains_nil}
 use Rattle.prefix.specs.declared.quant.Quant.{Quant}
 use Rattle.prefix.specs.declared.quant.Quant.TheVariants.{Exists, Forall}
 use Rattle.prefix.specs.Scopes.{Scope}
-use Rattle.rows.specs.Arena.{Arena, row_at as stored_at}
-use Rattle.calculus.specs.Derivations.{Step as Listed, Why, RestsOn, rests_on}
+use Rattle.rows.specs.Arena.{Arena}
+use Rattle.calculus.specs.Derivations.{Why, RestsOn, rests_on}
 use Rattle.derive.specs.declared.step.Step.{Step}
 use Rattle.derive.specs.declared.step.Step.TheVariants.{Reduced, Finished, Resolved}
 use Rattle.derive.specs.Told.{why_of}
 use Rattle.calculus.specs.Derivations.Why.{Given, ReducedFrom, ResolvedFrom, FinishedFrom}
-use Rattle.derive.specs.State.{Note, Notes, State, SameStep, OpenClause, note_in, note_at, is_live, arena_of, has_rows, steps_of, clauses_of, IsLegalFor}
-use Rattle.derive.specs.Antecedents.{AreSupported, Fits}
-use Rattle.derive.specs.Dropping.{StepTest, Falls, DropsFrom, Drops}
+use Rattle.derive.specs.State.{Note, Notes, State, SameStep, note_in, note_at, is_live, clauses_of, IsLegalFor}
+use Rattle.derive.specs.Antecedents.{AreSupported}
+use Rattle.derive.specs.Dropping.{Falls, Drops}
 use Rattle.derive.specs.Dropping.Falls.{root, rests}
 use Rattle.derive.specs.Missing.{misses_antecedent, falls_now, falls_with}
 use Rattle.derive.specs.Sweeping.{AreClosed, AreMarked, MarksNamed, MarksUnder, Stays, Sweeps, goes, is_input_clause, is_marked, is_unmarked, rests_in}
 use Rattle.derive.specs.Sweeping.Stays.{clause, named, under}
 use Rattle.derive.proofs.Falling.{Passed, misses_at, none_some, some_is}
-use Rattle.derive.proofs.Drops.{drops_of, legal_drops, clauses_same}
+use Rattle.derive.proofs.Drops.{legal_drops, clauses_same}
 
 and_true : (a b : Bool) → a && b ≡ true → (a ≡ true) × (b ≡ true)
 and_true true b e = (refl, e)

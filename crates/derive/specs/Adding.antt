@@ -11,7 +11,8 @@ use Rattle.calculus.specs.Derivations.Why.{Given, ReducedFrom, ResolvedFrom, Fin
 use Rattle.calculus.specs.Verdicts.{finished}
 use Rattle.steps.specs.Counter.{Counter, after}
 use Rattle.derive.specs.State.{Note, State, SameStep, IsStepOf, OpenClause, arena_of, next_id, note_at, is_live, is_step, has_rows, row_of, side_at, why_at, tag_at, with_step, steps_of, clauses_of, step_from, clause_from}
-use Rattle.derive.specs.Dropping.{Drops, is_initial_cube}
+use Rattle.derive.specs.Dropping.{Drops}
+use Rattle.derive.specs.Cubes.{misses}
 
 -- one step comes in, under the id that comes next, with a row that has no links; the others stay, with their rows and
 -- the links of these
@@ -91,11 +92,11 @@ pub record AddsClause (scopes : List Scope) (old new : State) (first second fram
   pub input : Adds old with_input first (clause_note frame) row
   pub reduction : Removes with_input new second first (ReducedFrom first) (reduce Exists scopes row)
 
--- and every initial cube goes, with all that rests on it
+-- and the initial cubes that miss it go, with all that rests on them
 pub record InputsClause (scopes : List Scope) (old new : State) (first second frame : ℕ) (row : Row) : Type 0 where
   pub added : State
   pub adds : AddsClause scopes old added first second frame row
-  pub cubes : Drops is_initial_cube added new
+  pub cubes : Drops (misses row (arena_of added)) added new
   pub input : IsStepOf new first Exists row frame
   pub reduction : IsStepOf new second Exists (reduce Exists scopes row) frame
 

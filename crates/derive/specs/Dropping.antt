@@ -10,7 +10,7 @@ use Rattle.calculus.specs.Derivations.{Step, Why, RestsOn}
 use Rattle.calculus.specs.Derivations.Why.{Given, ReducedFrom, ResolvedFrom, FinishedFrom}
 use Rattle.derive.specs.State.{Note, Notes, State, SameStep, note_in, is_finish, is_live, steps_of, arena_of, has_rows}
 use Rattle.derive.specs.declared.dropping.Roots.{Roots}
-use Rattle.derive.specs.declared.dropping.Roots.TheVariants.{Frame, InitialCubes, Finishes, From, Naming}
+use Rattle.derive.specs.declared.dropping.Roots.TheVariants.{Frame, Finishes, From, Naming}
 
 -- a test of steps, by id and note
 abbrev pub StepTest : Type 0
@@ -27,10 +27,6 @@ is_cube Forall Given = true
 is_cube Forall (ReducedFrom a) = false
 is_cube Forall (ResolvedFrom a b x) = false
 is_cube Forall (FinishedFrom a) = false
-
--- the same by the note
-abbrev pub is_initial_cube : StepTest
-is_initial_cube id note = is_cube note.side note.why
 
 -- whether a step is a finish
 abbrev pub finishes : StepTest
@@ -82,7 +78,6 @@ is_that v x = x == v
 -- the steps that a sort of roots names, with these rows
 abbrev pub is_root : Roots → Arena → StepTest
 is_root (Frame frame) rows = has_tag frame
-is_root InitialCubes rows = is_initial_cube
 is_root Finishes rows = finishes
 is_root (From first) rows = is_from first
 is_root (Naming index) rows = names (is_that (index + 1)) rows

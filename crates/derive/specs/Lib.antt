@@ -1,4 +1,5 @@
 pub mod Adding
+pub mod Cubes
 pub mod Dropping
 pub mod Antecedents
 pub mod Growing
@@ -8,3 +9,4 @@ pub mod State
 pub mod Sweeping
 pub mod Theorems
 pub mod Told
+pub mod Worked

@@ -56,8 +56,8 @@ goes marks id (Some note) = is_unmarked marks id note
 
 -- what a marked step with this id or a later one rests on is marked
 abbrev pub AreClosed : Notes → List Bool → ℕ → Type 0
-AreClosed notes marks from = (i on : ℕ) (note : Note) → from ≤ i → is_marked marks i ≡ true → note_in notes i ≡ Some note
-    → RestsOn note.why on → is_marked marks on ≡ true
+AreClosed notes marks from = (i on : ℕ) (note : Note) → from ≤ i → is_marked marks i ≡ true
+    → note_in notes i ≡ Some note → RestsOn note.why on → is_marked marks on ≡ true
 
 -- named steps are marked, with what those rest on that have this id or a later one, and none that doesn't stay
 pub record AreMarked (keep : List ℕ) (notes : Notes) (marks : List Bool) (from : ℕ) : Type 0 where

@@ -13,10 +13,12 @@ ghost use Rattle.derive.specs.State.{State, arena_of, IsStepOf, SameStep, OpenCl
 ghost use Rattle.derive.specs.Antecedents.{Fits, IsAntecedentIn, AreSupported, IsSupportedAt, IsGreatestFrame};
 ghost use Rattle.derive.specs.Adding.{Adds, AddsBoth, AddsClause, AreResolvable, CountsRemoval, InputsClause, IsOver, IsReductionOf, Removes, cube_note, finish_at, reduction_at, resolvent_at, resolvent_note};
 ghost use Rattle.derive.specs.Growing.{AreUnlinked, GainsSteps};
-ghost use Rattle.derive.specs.Dropping.{Drops, StepTest, is_that, mentions, names, has_tag, is_initial_cube, finishes, is_from, is_root, unless_finish};
+ghost use Rattle.derive.specs.Dropping.{Drops, StepTest, is_that, mentions, names, has_tag, finishes, is_from, is_root, unless_finish};
+ghost use Rattle.derive.specs.Cubes.{is_cube_in, misses};
 ghost use Rattle.derive.specs.Sweeping.{Sweeps};
 ghost use Rattle.derive.specs.Told.{told, why_of};
 
+use super::cubes::{drop_missing, list_cube, retain_cubes};
 use super::dropping::{Roots, drop_roots};
 use super::note::Note;
 use super::removal::{push_assumed, reduce_of};
@@ -43,8 +45,8 @@ pub struct Derivation {
     rows: Option<Rows>,
     // No step with a tag is live under an id before that of its frame here, nor with a tag that has no place here.
     frames_from: Vec<StepId>,
-    // No initial cube is live under an id before this one.
-    cubes_from: StepId,
+    // The ids of the live initial cubes, and maybe some of steps that aren't live any more.
+    cubes: Vec<StepId>,
     // No finish is live under an id before this one.
     finishes_from: StepId,
     // Places for a mark of each id.
@@ -61,7 +63,7 @@ impl Model for Derivation {
 
     ghost view = { λ d. record { notes = d.notes.items; rows = d.rows } };
 
-    ghost invariant = { λ d. BelongTogether d.notes.items d.rows d.frames_from.items d.cubes_from d.finishes_from
+    ghost invariant = { λ d. BelongTogether d.notes.items d.rows d.frames_from.items d.cubes.items d.finishes_from
         × (length d.notes.items ≤ length d.marks.items) };
 }
 
@@ -75,7 +77,7 @@ impl Derivation {
             notes: Vec::new(alloc),
             rows: Some(Rows::new(alloc)),
             frames_from: Vec::new(alloc),
-            cubes_from: 0,
+            cubes: Vec::new(alloc),
             finishes_from: 0,
             marks: Vec::new(alloc),
         }
@@ -135,8 +137,8 @@ impl Derivation {
     }
 
     /// Puts in a clause of the formula, of a frame, with its reduction. The answer has the id of the input step and
-    /// that of the reduction, which are equal where nothing goes. Every initial cube goes, with all that rests on it,
-    /// since it may miss the clause. With no memory the derivation stays as it was.
+    /// that of the reduction, which are equal where nothing goes. The initial cubes that hold no literal of the clause
+    /// go, with all that rests on them. With no memory the derivation stays as it was.
     pub fn input_clause(
         &mut self,
         prefix: &Prefix,
@@ -228,8 +230,9 @@ impl Derivation {
         self.add_removal(a, Step::Reduced(a), row.as_slice())
     }
 
-    /// Puts in the reduction of a step as `reduce` does, and counts a step where something goes, before it comes in. Spent
-    /// comes only there, where no step is left, and changes nothing. With no memory the derivation stays as it was.
+    /// Puts in the reduction of a step as `reduce` does, and counts a step where something goes, before it comes in.
+    /// Spent comes only there, where no step is left, and changes nothing. With no memory the derivation stays as it
+    /// was; the step may have been counted.
     pub fn reduce_counted(
         &mut self,
         prefix: &Prefix,
@@ -301,18 +304,27 @@ impl Derivation {
         put_from(&mut self.frames_from, frame, self.notes.len());
     }
 
-    /// Drops the initial cubes that may miss a clause, which here is every one, with all that rests on them. This
-    /// takes no memory.
+    /// Drops the initial cubes that hold no literal of a clause, with all that rests on them; the others stay. This
+    /// compares the literals of each initial cube with the clause's; only where one of them is dropped are other steps
+    /// looked at, those after it. It takes no memory.
     pub fn drop_cubes_missing(&mut self, clause: &[Lit])
         requires { IsTrue (has_rows self.old) }
-        ensures drops { Drops is_initial_cube self.old self.new }
+        ensures drops { Drops (misses clause.now (arena_of self.old)) self.old self.new }
+        ensures left { (id : ℕ) → IsTrue (is_cube_in (note_at self.new id)) →
+            Hits (row_of self.new id) (clause.now ∷ []) }
+        ensures stays { (id : ℕ) → IsTrue (is_cube_in (note_at self.old id)) →
+            Hits (row_of self.old id) (clause.now ∷ []) → SameStep self.old self.new id }
         ensures kept { (id : ℕ) (note : Kept) → note_at self.old id ≡ Some note → note.side ≡ exists →
             note_at self.new id ≡ Some note }
         ensures clauses { clauses_of self.new ≡ clauses_of self.old }
         ensures legal { (scopes : List Scope) → IsLegalFor scopes self.old → IsLegalFor scopes self.new }
     {
-        self.drop_all(self.cubes_from, Roots::InitialCubes);
-        self.cubes_from = self.notes.len();
+        drop_missing(
+            &mut self.notes,
+            self.rows.as_mut().unwrap(),
+            &mut self.cubes,
+            clause,
+        );
     }
 
     /// Drops the finishes. This takes no memory.
@@ -340,7 +352,8 @@ impl Derivation {
     }
 
     /// Keeps the input clauses, the steps with these ids, and all that these rest on, and drops every other step. Then
-    /// the rows are moved together. This looks at each id given so far twice, and takes no memory.
+    /// the rows are moved together. This goes over all ids given so far four times, and over all literals, and takes no
+    /// memory.
     pub fn sweep(&mut self, keep: &[StepId])
         requires rows { IsTrue (has_rows self.old) }
         requires live { (id : ℕ) → Contains keep.now id → IsTrue (is_live self.old id) }
@@ -356,10 +369,11 @@ impl Derivation {
             &mut self.marks,
             keep,
         );
+        retain_cubes(&mut self.cubes, &self.notes);
     }
 
-    /// Drops the steps that name a variable, with all that rests on them. This takes no memory, and the time of going over
-    /// all literals.
+    /// Drops the steps that name a variable, with all that rests on them. This takes no memory, and the time of going
+    /// over all literals.
     pub fn drop_var(&mut self, v: Var)
         requires { IsTrue (has_rows self.old) }
         ensures drops { Drops (names (is_that v) (arena_of self.old)) self.old self.new }
@@ -427,6 +441,7 @@ impl Derivation {
         self.notes.reserve(1)?;
         widen_marks(&mut self.marks, self.notes.len() + 1)?;
         widen(&mut self.frames_from, note.tag(), self.notes.len())?;
+        list_cube(&mut self.cubes, &note, self.notes.len())?;
         let id = self.rows.as_mut().unwrap().add(lits)?;
         let _ = self.notes.push(Some(note));
         Ok(id)

@@ -16,8 +16,6 @@ use rows::Rows;
 pub(crate) enum Roots {
     // Those with this tag.
     Frame(usize),
-    // The initial cubes.
-    InitialCubes,
     // The finishes.
     Finishes,
     // Those with this id or a later one.
@@ -33,7 +31,6 @@ impl Roots {
     {
         match self {
             Self::Frame(frame) => note.tag() == *frame,
-            Self::InitialCubes => note.is_initial_cube(),
             Self::Finishes => note.is_finish(),
             Self::From(first) => *first <= id,
             Self::Naming(index) => is_named(rows.lits(id), *index),

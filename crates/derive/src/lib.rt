@@ -2,6 +2,7 @@
 //! frames.
 #![tactic(auto)]
 
+mod cubes;
 mod derivation;
 mod dropping;
 mod laws;
@@ -9,6 +10,7 @@ mod note;
 mod removal;
 mod step;
 mod sweeping;
+mod worked;
 
 pub use derivation::Derivation;
 pub use laws::{
@@ -16,3 +18,4 @@ pub use laws::{
     steps_are_listed,
 };
 pub use step::{Step, StepId};
+pub use worked::worked_cubes;

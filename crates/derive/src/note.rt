@@ -109,7 +109,8 @@ impl Note {
 // Marks an id.
 fn set_mark(marks: &mut Vec<bool>, id: StepId)
     requires { id < length marks.old.items }
-    ensures value { (x : ℕ) → slice_index_or marks.new.items x false ≡ (slice_index_or marks.old.items x false || id == x) }
+    ensures value { (x : ℕ) →
+        slice_index_or marks.new.items x false ≡ (slice_index_or marks.old.items x false || id == x) }
     ensures count { length marks.new.items ≡ length marks.old.items }
 {
     marks[id] = true;

@@ -1,4 +1,4 @@
-use Rattle.std.proofs.Common.{◌<◌, length, arith}
+use Rattle.std.proofs.Common.{length, arith}
 use Rattle.derive.proofs.Sweeps.{live_given, marked_named}
 use Rattle.derive.proofs.sweeping.mark.Goals as goal
 

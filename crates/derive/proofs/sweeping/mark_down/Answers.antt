@@ -1,4 +1,4 @@
-use Rattle.std.proofs.Common.{◌≡◌, ◌+◌, ◌-◌, ◌<◌, ◌≤◌, ℕ, List, Bool, length, refl, sym, subst, ◌∙◌, arith}
+use Rattle.std.proofs.Common.{◌≡◌, ◌+◌, ◌-◌, ℕ, length, refl, sym, subst, ◌∙◌, arith}
 use Rattle.derive.specs.Sweeping.{AreMarked}
 use Rattle.derive.proofs.Sweeps.{marked_more, under_from}
 use Rattle.derive.proofs.sweeping.mark_down.Goals as goal

@@ -1,4 +1,4 @@
-use Rattle.std.proofs.Common.{◌≡◌, ◌<◌, length, get_or, refl, ◌∙◌, arith}
+use Rattle.std.proofs.Common.{◌<◌, length, get_or, refl, ◌∙◌, arith}
 use Rattle.std.proofs.lemmas.List.{length-set}
 use Rattle.derive.proofs.Sweeps.{named_all, named_more, named_none, named_within}
 use Rattle.derive.proofs.sweeping.mark_named.Goals as goal

@@ -1,9 +1,10 @@
-use Rattle.std.proofs.Common.{◌≡◌, ◌<◌, ◌≤◌, ◌++◌, ◌∷◌, [], ◌∙◌, ap, sym, subst, Some, length, get_or, arith}
+use Rattle.std.proofs.Common.{◌≡◌, ◌<◌, ◌≤◌, ◌++◌, ◌∷◌, [], ◌∙◌, ap, sym, subst, Some, length, get_or, Contains, true, arith}
 use Rattle.std.specs.Option.{option_copied_mut}
 use Rattle.std.specs.Prelude.{vec_len, vec_capacity}
 use Rattle.std.proofs.lemmas.Bool.{cond-true}
 use Rattle.std.proofs.lemmas.List.{length_push}
 use Rattle.derive.specs.State.{Notes}
+use Rattle.derive.specs.Dropping.{is_cube}
 use Rattle.derive.specs.Kept.{BelongTogether}
 use Rattle.derive.proofs.Additions.{kept_add, kept_widened, adds_of}
 use Rattle.derive.proofs.Growth.{adds_unlinked}
@@ -19,10 +20,16 @@ here : (c : goal.After-push) → c.self.inside.rows ≡ Some c.unwrap.result.now
 here c = sym c.as_mut.ensures.value ∙ ap option_copied_mut c.unwrap.ensures
 
 -- a frame without a place has one now
-wide : (c : goal.After-push) → BelongTogether c.self.inside.notes.items c.self.inside.rows c.widen.new.frames_from.items c.self.inside.cubes_from c.self.inside.finishes_from
+wide : (c : goal.After-push) → BelongTogether c.self.inside.notes.items c.self.inside.rows c.widen.new.frames_from.items c.list_cube.new.cubes.items c.self.inside.finishes_from
 wide c =
     let len : c.len-2.result ≡ length c.self.inside.notes.items = c.len-2.ensures ∙ c.reserve.new.self.ok.0 ∙ ap (λ (ns : Notes). length ns) c.reserve.ensures.items in
-    kept_widened _ _ _ _ _ _ (λ f. subst (λ n. get_or c.widen.new.frames_from.items f n ≡ get_or c.self.inside.frames_from.items f n) len (c.widen.ensures.same f)) c.self.invariant.0
+    kept_widened _ _ _ _ _ _ _ (λ f. subst (λ n. get_or c.widen.new.frames_from.items f n ≡ get_or c.self.inside.frames_from.items f n) len (c.widen.ensures.same f)) c.list_cube.ensures.kept c.self.invariant.0
+
+-- an initial cube is listed under its id
+listed : (c : goal.After-push) → is_cube c.args.note.side c.args.note.why ≡ true → Contains c.list_cube.new.cubes.items (length c.self.inside.notes.items)
+listed c is =
+    let len : c.len-3.result ≡ length c.self.inside.notes.items = c.len-3.ensures ∙ c.reserve.new.self.ok.0 ∙ ap (λ (ns : Notes). length ns) c.reserve.ensures.items in
+    subst (λ n. Contains c.list_cube.new.cubes.items n) len (c.in_ok-list_cube.ensures.listed is)
 
 marked : (c : goal.After-push) → length c.push.new.self.items ≤ length c.widen_marks.new.marks.items
 marked c =
@@ -35,7 +42,7 @@ marked c =
     omega arith
 
 pub invariant_of-self-2 : goal.invariant_of-self-2
-invariant_of-self-2 c = (kept_add c.self.inside.notes.items _ _ _ _ c.args.note c.args.lits.now _ _ _ (rw c.tag.ensures at c.in_ok-widen.ensures.ok) (here c) (pushed c) c.in_ok-id.ensures.arena.1 (rw (← c.self.view_is) at c.requires.support) (wide c), marked c)
+invariant_of-self-2 c = (kept_add c.self.inside.notes.items _ _ _ _ c.args.note c.args.lits.now _ _ _ (rw c.tag.ensures at c.in_ok-widen.ensures.ok) (listed c) (here c) (pushed c) c.in_ok-id.ensures.arena.1 (rw (← c.self.view_is) at c.requires.support) (wide c), marked c)
 
 pub returns-clause-ok : goal.returns-clause-ok
 returns-clause-ok c = adds_of _ _ _ _ _ _ c.args.note c.args.lits.now _ _ _ _ c.self.view_is (here c) (pushed c) c.in_ok-id.ensures.arena.1 c.in_ok-id.ensures.arena.0 c.self.invariant.0

@@ -30,10 +30,10 @@ here : (c : goal.After-push-2) → c.self.inside.rows ≡ Some c.unwrap.result.n
 here c = sym c.as_mut.ensures.value ∙ ap option_copied_mut c.unwrap.ensures
 
 -- a frame without a place has one now
-wide : (c : goal.After-push-2) → BelongTogether c.self.inside.notes.items c.self.inside.rows c.widen.new.frames_from.items c.self.inside.cubes_from c.self.inside.finishes_from
+wide : (c : goal.After-push-2) → BelongTogether c.self.inside.notes.items c.self.inside.rows c.widen.new.frames_from.items c.self.inside.cubes.items c.self.inside.finishes_from
 wide c =
     let len : c.len-2.result ≡ length c.self.inside.notes.items = c.len-2.ensures ∙ c.reserve.new.self.ok.0 ∙ ap (λ (ns : Notes). length ns) c.reserve.ensures.items in
-    kept_widened _ _ _ _ _ _ (λ f. subst (λ n. get_or c.widen.new.frames_from.items f n ≡ get_or c.self.inside.frames_from.items f n) len (c.widen.ensures.same f)) c.self.invariant.0
+    kept_widened _ _ _ _ _ _ _ (λ f. subst (λ n. get_or c.widen.new.frames_from.items f n ≡ get_or c.self.inside.frames_from.items f n) len (c.widen.ensures.same f)) (λ id at. at) c.self.invariant.0
 
 first_is : (c : goal.After-push-2) → c.in_ok-first.first ≡ length c.self.inside.notes.items
 first_is c = c.in_ok-first.ensures.ids.0 ∙ (c.self.invariant.0.fits c.unwrap.result.now (here c)).same_next

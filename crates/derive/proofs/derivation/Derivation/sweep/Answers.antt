@@ -1,9 +1,10 @@
-use Rattle.std.proofs.Common.{◌≡◌, ◌∙◌, ℕ, ap, sym, subst, Some, Contains, IsTrue, arith}
+use Rattle.std.proofs.Common.{◌≡◌, ◌∙◌, ap, sym, subst, Some, arith}
 use Rattle.std.specs.Option.{option_copied_mut}
 use Rattle.derive.specs.State.{Notes, State, is_live}
 use Rattle.derive.specs.Antecedents.{AreSupported}
 use Rattle.derive.specs.Sweeping.{AreMarked, is_unmarked}
-use Rattle.derive.proofs.Drops.{kept_drop, drops_of}
+use Rattle.derive.proofs.Drops.{kept_drop, kept_listed, drops_of}
+use Rattle.derive.proofs.Missed.{listed_left}
 use Rattle.derive.proofs.Sweeps.{swept, swept_clauses, swept_kept, swept_legal}
 use Rattle.derive.proofs.derivation.Derivation.sweep.Goals as goal
 
@@ -13,8 +14,9 @@ sweep_all-requires-clause-live c id at = ap (λ (d : State). is_live d id) c.sel
 pub invariant_of-self : goal.invariant_of-self
 invariant_of-self c =
     let here : c.self.inside.rows ≡ Some c.unwrap.result.now = sym c.as_mut.ensures.value ∙ ap option_copied_mut c.unwrap.ensures in
-    let p = c.sweep_all.ensures.drops in (
-      kept_drop (is_unmarked p.0) _ _ _ _ _ _ _ _ here p.2 c.self.invariant.0,
+    let p = c.sweep_all.ensures.drops in
+    let kept = kept_drop (is_unmarked p.0) c.self.inside.notes.items c.sweep_all.new.notes.items c.self.inside.rows c.unwrap.result.now c.sweep_all.new.rows c.self.inside.frames_from.items c.self.inside.cubes.items c.self.inside.finishes_from here p.2 c.self.invariant.0 in (
+      kept_listed _ _ _ _ _ _ (listed_left _ c.self.inside.cubes.items _ c.retain_cubes.ensures kept.listed) kept,
       (let same = p.2.same_next in let count = c.sweep_all.ensures.count in let room = c.self.invariant.1 in omega arith),
     )
 

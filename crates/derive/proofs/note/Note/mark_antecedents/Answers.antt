@@ -1,4 +1,4 @@
-use Rattle.std.proofs.Common.{◌≡◌, ◌<◌, length, ap, arith}
+use Rattle.std.proofs.Common.{◌≡◌, ap, arith}
 use Rattle.derive.specs.State.{Note}
 use Rattle.derive.specs.declared.step.Step.TheVariants.{Reduced, Finished, Resolved}
 use Rattle.derive.proofs.Sweeps.{finished_rests, reduced_rests, resolved_rests}

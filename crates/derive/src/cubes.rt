@@ -1,0 +1,147 @@
+//! Initial cubes, and which of them miss a clause.
+ghost use Rattle.std.specs.Prelude.{◌≡◌, ◌<◌, ℕ, List, Some, true, false, IsTrue, OnOk, Contains, filter, length};
+ghost use Rattle.calculus.specs.Rows.{same_literal};
+ghost use Rattle.rows.specs.Arena.{is_live as is_stored};
+ghost use Rattle.derive.specs.State.{Note as Kept, note_in};
+ghost use Rattle.derive.specs.Antecedents.{AreSupported, Fits};
+ghost use Rattle.derive.specs.Dropping.{DropsFrom, is_cube};
+ghost use Rattle.derive.specs.Cubes.{AreListed, hits_clause, is_cube_in, misses, misses_in, stands_in};
+ghost use Rattle.derive.specs.Missing.{falls_now};
+
+use super::StepId;
+use super::note::Note;
+use prefix::Lit;
+use rows::Rows;
+use steps::NoMemory;
+
+// Lists the id that comes next, where its step is to be an initial cube.
+pub(crate) fn list_cube(cubes: &mut Vec<StepId>, note: &Note, next: StepId) -> Result<(), NoMemory>
+    ensures kept { (id : ℕ) → Contains cubes.old.items id → Contains cubes.new.items id }
+    ensures listed { OnOk result (is_cube note.now.side note.now.why ≡ true → Contains cubes.new.items next) }
+{
+    if note.is_initial_cube() {
+        cubes.push(next)?;
+    }
+    Ok(())
+}
+
+// Drops the initial cubes that miss a clause, with all that rests on them, and frees their rows. Each initial cube is
+// listed; those that are left are listed then. Only where one of them misses the clause are other steps looked at, and
+// these from the first such cube on.
+pub(crate) fn drop_missing(
+    notes: &mut Vec<Option<Note>>,
+    rows: &mut Rows,
+    cubes: &mut Vec<StepId>,
+    clause: &[Lit],
+)
+    requires supported { AreSupported notes.old.items }
+    requires fits { Fits notes.old.items rows.old }
+    requires listed { AreListed notes.old.items cubes.old.items }
+    ensures drops { DropsFrom (misses clause.now rows.old) notes.old.items notes.new.items rows.old rows.new }
+    ensures listed { AreListed notes.new.items cubes.new.items }
+{
+    let from = first_missing(cubes.as_slice(), notes, rows, clause);
+    drop_missing_from(notes, rows, from, clause);
+    retain_cubes(cubes, notes);
+}
+
+// The least id of an initial cube that misses a clause, and else the id that comes next.
+fn first_missing(cubes: &[StepId], notes: &Vec<Option<Note>>, rows: &Rows, clause: &[Lit]) -> StepId
+    requires fits { Fits notes.now.items rows.now }
+    requires listed { AreListed notes.now.items cubes.now }
+    ensures { (id : ℕ) (note : Kept) → note_in notes.now.items id ≡ Some note → id < result →
+        misses clause.now rows.now id note ≡ false }
+{
+    let mut first = notes.len();
+    for id in cubes {
+        if *id < first && is_missing(notes, rows, *id, clause) {
+            first = *id;
+        }
+    }
+    first
+}
+
+// The same with all that rests on them, where none of them has an id below `from`.
+fn drop_missing_from(notes: &mut Vec<Option<Note>>, rows: &mut Rows, from: StepId, clause: &[Lit])
+    requires supported { AreSupported notes.old.items }
+    requires fits { Fits notes.old.items rows.old }
+    requires below { (id : ℕ) (note : Kept) → note_in notes.old.items id ≡ Some note → id < from →
+        misses clause.now rows.old id note ≡ false }
+    ensures { DropsFrom (misses clause.now rows.old) notes.old.items notes.new.items rows.old rows.new }
+{
+    for id in from..notes.len() {
+        if falls(notes, rows, id, clause) {
+            notes[id] = None;
+            rows.free(id);
+        }
+    }
+}
+
+// Whether a live step is an initial cube that misses a clause, or rests on a step that is gone.
+fn falls(notes: &Vec<Option<Note>>, rows: &Rows, id: StepId, clause: &[Lit]) -> bool
+    requires within { id < length notes.now.items }
+    requires stored { (note : Kept) → note_in notes.now.items id ≡ Some note → IsTrue (is_stored rows.now id) }
+    ensures { result ≡ falls_now (misses clause.now rows.now) notes.now.items id }
+{
+    match &notes[id] {
+        Some(note) => misses(note, rows, id, clause) || note.misses_antecedent(notes),
+        None => false,
+    }
+}
+
+// Whether there is an initial cube under an id, and it misses a clause.
+fn is_missing(notes: &Vec<Option<Note>>, rows: &Rows, id: StepId, clause: &[Lit]) -> bool
+    requires { (note : Kept) → note_in notes.now.items id ≡ Some note → IsTrue (is_stored rows.now id) }
+    ensures { result ≡ misses_in clause.now rows.now id (note_in notes.now.items id) }
+{
+    match notes.get(id) {
+        Some(Some(note)) => misses(note, rows, id, clause),
+        _ => false,
+    }
+}
+
+// Whether a live step is an initial cube that misses a clause.
+fn misses(note: &Note, rows: &Rows, id: StepId, clause: &[Lit]) -> bool
+    requires { IsTrue (is_stored rows.now id) }
+    ensures { result ≡ misses clause.now rows.now id note.now }
+{
+    note.is_initial_cube() && !hits_clause(rows.lits(id), clause)
+}
+
+// Whether a row holds a literal of a clause.
+fn hits_clause(row: &[Lit], clause: &[Lit]) -> bool
+    ensures { result ≡ hits_clause row.now clause.now }
+{
+    clause.iter().any(|lit| stands_in(row, *lit))
+}
+
+// Whether a literal stands in a row.
+fn stands_in(row: &[Lit], lit: Lit) -> bool
+    ensures { result ≡ stands_in row.now lit }
+{
+    row.iter().any(|other| is_same(lit, *other))
+}
+
+// Whether two literals are the same.
+fn is_same(a: Lit, b: Lit) -> bool
+    ensures { result ≡ same_literal a b }
+{
+    a.var().number() == b.var().number() && a.is_positive() == b.is_positive()
+}
+
+// Takes the ids out of a list under which no initial cube is live any more.
+pub(crate) fn retain_cubes(cubes: &mut Vec<StepId>, notes: &Vec<Option<Note>>)
+    ensures { cubes.new.items ≡ filter (λ id. is_cube_in (note_in notes.now.items id)) cubes.old.items }
+{
+    cubes.retain(|id| is_cube(notes, *id));
+}
+
+// Whether there is an initial cube under an id.
+fn is_cube(notes: &Vec<Option<Note>>, id: StepId) -> bool
+    ensures { result ≡ is_cube_in (note_in notes.now.items id) }
+{
+    match notes.get(id) {
+        Some(Some(note)) => note.is_initial_cube(),
+        _ => false,
+    }
+}
