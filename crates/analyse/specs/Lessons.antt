@@ -52,7 +52,7 @@ IsNext pivot scopes trail row (resolves_on literal reason) =
     × (cause_on trail literal.variable ≡ Some (Propagated reason))
     × ((b : ℕ) → MakesUnitAt pivot scopes trail row literal b → ⊥)
 
--- a lesson came in, on the trail as it is then, after at most that many steps beside those of reasons made clean
+-- a lesson came in, on the trail as it is then, after at most that many resolutions beside those of reasons made clean
 pub record Learns (pivot : Quant) (scopes : List Scope) (trail now : TrailState) (most : ℕ) (old new : State)
     (before later : Counter) (lesson : Lesson) : Type 0 where
   pub cleans : CleansReasons scopes old new trail now before later most

@@ -15,6 +15,7 @@ use Rattle.derive.specs.Growing.{AreUnlinked}
 use Rattle.derive.specs.Theorems.{Grows}
 use Rattle.derive.proofs.Legality.{listed_told}
 use Rattle.clean.specs.Reasons.{HaveReasons, IsReason, IsReducedStep}
+use Rattle.clean.proofs.Inferring.{inferred_none, inferred_twice}
 use Rattle.clean.proofs.Links.{unlinked_twice}
 use Rattle.clean.specs.Turns.{Resolves}
 
@@ -92,6 +93,7 @@ resolves_more scopes a b c m n r s first second =
       clauses = second.clauses ∙ first.clauses;
       resolvents = omega arith;
       reductions = omega arith;
+      inferred = inferred_twice a b c first.inferred second.grows.others second.inferred;
       fewer = omega arith;
       legal = λ l. second.legal (first.legal l);
     }
@@ -105,6 +107,7 @@ resolves_none scopes d rows = record {
   clauses = refl;
   resolvents = omega arith;
   reductions = omega arith;
+  inferred = inferred_none d;
   fewer = omega arith;
   legal = λ l. l;
 }

@@ -1,5 +1,5 @@
 -- The worked values, for either side.
-use Rattle.std.proofs.Common.{◌≡◌, ◌<◌, Bool, true, false, not, [], ◌∷◌, Contains, Option, Some, None, refl, sym, inl, ⊎_elim, arith, ap, ◌∙◌, is_none}
+use Rattle.std.proofs.Common.{◌≡◌, zero, suc, ◌<◌, Bool, true, false, not, [], ◌∷◌, Contains, Option, Some, None, refl, sym, inl, ⊎_elim, arith, ap, ◌∙◌, is_none}
 use Rattle.std.specs.List.{list_any}
 use Rattle.std.proofs.lemmas.Bool.{true≢false, false≢true}
 use Rattle.prefix.specs.declared.quant.Quant.{Quant}
@@ -11,7 +11,9 @@ use Rattle.calculus.specs.Search.{is_bad_if}
 use Rattle.calculus.specs.Worked.{plus}
 use Rattle.calculus.specs.WorkedSearch.{alternating, three}
 use Rattle.calculus.proofs.WorkingSearch.{clean_rows, units}
-use Rattle.clean.specs.Worked.{WorkedCleaning, WorkedReasons}
+use Rattle.calculus.specs.Derivations.Why.{ReducedFrom}
+use Rattle.clean.specs.Turns.{AreInferred}
+use Rattle.clean.specs.Worked.{WorkedCleaning, WorkedReasons, WorkedSteps, stored, with_two}
 
 second : Contains three (plus 2)
 second = (1, omega arith, refl)
@@ -67,6 +69,23 @@ reasons pivot = record {
   };
   not_clean = λ reason. ⊎_elim (λ e. let same : 2 ≡ 1 = ap (λ (l : Literal). l.variable) e in omega arith)
       (λ r. false≢true r.0) (reason.clean refl (plus 2) second);
+}
+
+both_came : (q : Quant) → AreInferred (stored q) (with_two q (ReducedFrom 3))
+both_came q zero dead live = absurd (true≢false dead)
+both_came q (suc zero) dead live = absurd (true≢false dead)
+both_came q (suc (suc zero)) dead live = absurd (false≢true live)
+both_came q (suc (suc (suc zero))) dead live = refl
+both_came q (suc (suc (suc (suc zero)))) dead live = refl
+both_came q (suc (suc (suc (suc (suc id))))) dead live = absurd (false≢true live)
+
+pub steps : (pivot : Quant) → WorkedSteps pivot
+steps pivot = record {
+  inferred = both_came pivot;
+  one_resolvent = refl;
+  one_reduction = refl;
+  finish = λ resolves. false≢true (resolves.inferred 4 refl refl);
+  input = λ resolves. false≢true (resolves.inferred 4 refl refl);
 }
 
 pub cleaning : (pivot : Quant) → WorkedCleaning pivot

@@ -46,8 +46,8 @@ pub record MarksMore (old new : TrailState) (made : ℕ) : Type 0 where
   pub others : (x : ℕ) → IsFalse (is_marked new x) → cause_on new.placed x ≡ cause_on old.placed x
   pub marked : marks_in new.marks ≡ marks_in old.marks + made
 
--- reasons were made clean, each with at most as many resolvents as the trail has literals; beside them at most that many
--- came in; and a step was counted for each of them, and for each reduction that came in with them
+-- reasons were made clean, each with at most as many resolvents as the trail has literals; beside them at most that
+-- many came in; and a step was counted for each of them, and for each reduction that came in with them
 pub record CleansReasons (scopes : List Scope) (old new : State) (trail now : TrailState) (before later : Counter)
     (most : ℕ) : Type 0 where
   pub made : ℕ

@@ -1,5 +1,5 @@
 -- Resolutions with reasons, and what they count.
-use Rattle.std.specs.Prelude.{◌≡◌, ℕ, ◌+◌, ◌*◌, ◌≤◌, Bool, true, false, IsTrue, IsFalse, Contains, List, count_by}
+use Rattle.std.specs.Prelude.{◌≡◌, ℕ, ◌+◌, ◌*◌, ◌≤◌, Bool, true, false, ◌||◌, IsTrue, IsFalse, Contains, List, count_by}
 use Rattle.prefix.specs.declared.quant.Quant.{Quant}
 use Rattle.prefix.specs.Literal.{Literal, negation}
 use Rattle.prefix.specs.Scopes.{Scope}
@@ -8,7 +8,7 @@ use Rattle.calculus.specs.Rows.{is_pivot, reduce}
 use Rattle.calculus.specs.Derivations.{Step, Why}
 use Rattle.calculus.specs.Derivations.Why.{Given, ReducedFrom, ResolvedFrom, FinishedFrom}
 use Rattle.calculus.specs.Search.{clashes_with, resolved_with}
-use Rattle.derive.specs.State.{State, IsLegalFor, is_step, has_rows, side_at, row_of, steps_of, clauses_of}
+use Rattle.derive.specs.State.{State, IsLegalFor, is_live, is_step, has_rows, side_at, why_at, row_of, steps_of, clauses_of}
 use Rattle.derive.specs.Growing.{AreUnlinked}
 use Rattle.derive.specs.Theorems.{Grows}
 
@@ -34,6 +34,11 @@ reductions_in d = count_by (λ (s : Step). is_reduction s.why) (steps_of d)
 abbrev pub resolvents_in : State → ℕ
 resolvents_in d = count_by (λ (s : Step). is_resolvent s.why) (steps_of d)
 
+-- each step that came in is a resolvent or a reduction
+abbrev pub AreInferred : State → State → Type 0
+AreInferred old new = (id : ℕ) → IsFalse (is_live old id) → IsTrue (is_live new id)
+    → IsTrue (is_resolvent (why_at new id) || is_reduction (why_at new id))
+
 -- that many resolvents came in and that many reductions, no more of these, and nothing else: what was live stays as it
 -- was, the open clauses are the same, a row that came in has no links, and what was legal is
 pub record Resolves (scopes : List Scope) (old new : State) (count reduced : ℕ) : Type 0 where
@@ -43,6 +48,7 @@ pub record Resolves (scopes : List Scope) (old new : State) (count reduced : ℕ
   pub clauses : clauses_of new ≡ clauses_of old
   pub resolvents : resolvents_in new ≡ resolvents_in old + count
   pub reductions : reductions_in new ≡ reductions_in old + reduced
+  pub inferred : AreInferred old new
   pub fewer : reduced ≤ count
   pub legal : IsLegalFor scopes old → IsLegalFor scopes new
 

@@ -1,19 +1,21 @@
 -- Worked values: the row 1 2 3 of either side, as a reason and as a row to be cleaned.
-use Rattle.std.specs.Prelude.{[], ◌∷◌, Some, None}
+use Rattle.std.specs.Prelude.{◌≡◌, [], ◌∷◌, Some, None}
 use Rattle.prefix.specs.declared.quant.Quant.{Quant}
 use Rattle.prefix.specs.Sides.{opposite}
-use Rattle.calculus.specs.Derivations.Why.{Given}
+use Rattle.calculus.specs.Derivations.{Why}
+use Rattle.calculus.specs.Derivations.Why.{Given, ReducedFrom, ResolvedFrom, FinishedFrom}
 use Rattle.calculus.specs.Rows.{Row}
 use Rattle.calculus.specs.Search.{Trail}
 use Rattle.calculus.specs.Search.Cause.{Propagated}
 use Rattle.calculus.specs.Worked.{plus}
 use Rattle.calculus.specs.WorkedSearch.{alternating, bad, good, three, with_last}
 use Rattle.rows.specs.Arena.{new_row}
-use Rattle.derive.specs.State.{State}
+use Rattle.derive.specs.State.{State, with_step}
 use Rattle.trail.specs.State.{TrailState, new_trail, with_clean, with_literal}
 use Rattle.clean.specs.Blockers.{IsBlocked}
 use Rattle.clean.specs.Cleaning.{IsCleaned, MayBeCleaned}
 use Rattle.clean.specs.Reasons.{IsReason, IsReducedStep}
+use Rattle.clean.specs.Turns.{AreInferred, Resolves, reductions_in, resolvents_in}
 
 -- rows of a side, the step 0 and the step 1; the step 2 was dropped
 abbrev pub two_steps : Quant → Row → Row → State
@@ -28,6 +30,14 @@ two_steps pivot first second = record {
 -- the rows 1 2 3 and 1 2, of which the second is not reduced
 abbrev pub stored : Quant → State
 stored pivot = two_steps pivot three (plus 1 ∷ plus 2 ∷ [])
+
+-- the row 1 2 came in as a resolvent, the step 3, and then the row 1 for that reason, the step 4
+abbrev pub with_two : Quant → Why → State
+with_two pivot why =
+    with_step
+    (with_step (stored pivot) (record { side = pivot; why = ResolvedFrom 0 1 3; tag = 0 }) (plus 1 ∷ plus 2 ∷ []))
+    (record { side = pivot; why = why; tag = 0 })
+    (plus 1 ∷ [])
 
 -- 3 is bad, and then 1 was propagated good from the step 0, in which 2 is open
 abbrev pub propagated : Quant → TrailState
@@ -50,6 +60,15 @@ pub record WorkedReasons (pivot : Quant) : Type 0 where
   -- it is a reason of 1 with 2 open; not once it is marked
   pub reason : IsReason pivot (alternating pivot) (stored pivot) (propagated pivot) (plus 1) 0
   pub not_clean : IsReason pivot (alternating pivot) (stored pivot) (with_clean (propagated pivot) 1 0) (plus 1) 0 → ⊥
+
+pub record WorkedSteps (pivot : Quant) : Type 0 where
+  -- a resolvent came in, and its reduction: one of each
+  pub inferred : AreInferred (stored pivot) (with_two pivot (ReducedFrom 3))
+  pub one_resolvent : resolvents_in (with_two pivot (ReducedFrom 3)) ≡ 1
+  pub one_reduction : reductions_in (with_two pivot (ReducedFrom 3)) ≡ 1
+  -- neither a finish nor an input may come in after it, which no count tells
+  pub finish : Resolves (alternating pivot) (stored pivot) (with_two pivot (FinishedFrom 3)) 1 0 → ⊥
+  pub input : Resolves (alternating pivot) (stored pivot) (with_two pivot Given) 1 0 → ⊥
 
 pub record WorkedCleaning (pivot : Quant) : Type 0 where
   -- 3 keeps 2 from reduction where 2 is open; nothing does where all are bad

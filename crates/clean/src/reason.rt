@@ -1,5 +1,5 @@
 //! Cleaning of reasons.
-ghost use Rattle.std.specs.Prelude.{◌≡◌, ◌<◌, ◌≤◌, ◌+◌, ◌*◌, IsTrue, IsFalse, IfOk, OnErr, OnOk, Err, Some, [], List, take, length};
+ghost use Rattle.std.specs.Prelude.{◌≡◌, ◌<◌, ◌≤◌, ◌+◌, ◌*◌, IsTrue, IsFalse, IsOk, IfOk, OnErr, OnOk, Err, Some, [], List, take, length};
 ghost use Rattle.prefix.specs.Scopes.{quantifier_of};
 ghost use Rattle.steps.specs.Counter.{left};
 ghost use Rattle.steps.specs.declared.stop.Stop.TheVariants.{Spent as spent};
@@ -28,10 +28,10 @@ use trail::Trail;
 /// marked as clean. The answer is the id of the reason, which is then marked. This keeps a list of the reasons on the
 /// way, and calls itself nowhere.
 ///
-/// Each resolution counts a step, and so does each reduction in which something goes; a resolution costs the lengths of
-/// its two rows. There are at most as many resolutions as the reasons made clean times the literals of the trail, and no
-/// more reductions. No resolvent clashes, as they are legal. Spent comes only where a resolution is due for a reason that
-/// isn't clean. What a stop leaves is as for `clean`.
+/// Each resolution counts a step, and so does each reduction in which something goes; a resolution costs the lengths
+/// of its two rows. There are at most as many resolutions as the reasons made clean times the literals of the trail,
+/// and no more reductions. No resolvent clashes, as they are legal, and nothing else comes in. Spent comes only where
+/// the budget is spent and a resolution is due for a reason that isn't clean. What a stop leaves is as for `clean`.
 pub fn clean_reason<S: Side>(
     derivation: &mut Derivation,
     trail: &mut Trail,
@@ -47,6 +47,8 @@ pub fn clean_reason<S: Side>(
     requires pivot { quantifier_of prefix.now v ≡ Some S.PIVOT }
     ensures ok { IfOk result (λ id. IsTrue (is_marked trail.new v)
         × (cause_on trail.new.placed v ≡ Some (propagated id))) }
+    ensures done { IsTrue (is_marked trail.old v) → IsOk result × (derivation.new ≡ derivation.old)
+        × (trail.new ≡ trail.old) × (steps.new ≡ steps.old) }
     ensures cleans { OnOk result (CleansReasons prefix.now derivation.old derivation.new trail.old trail.new
         steps.old steps.new 0) }
     ensures err { OnErr result (StopsCleaning prefix.now derivation.old derivation.new trail.old trail.new
@@ -54,7 +56,8 @@ pub fn clean_reason<S: Side>(
     ensures due { result ≡ Err spent → IsReasonBlocked S.PIVOT prefix.now derivation.old trail.old v }
     ensures spent { result ≡ Err spent → steps.new.spent ≡ steps.new.budget }
     ensures few { result ≡ Err spent → left steps.old < 2 * (marks_left trail.old * length trail.old.placed) }
-    ensures limit { result ≡ Err spent → left steps.old < 2 * ((length trail.old.placed + 2) * length trail.old.placed) }
+    ensures limit { result ≡ Err spent →
+        left steps.old < 2 * ((length trail.old.placed + 2) * length trail.old.placed) }
     ensures rises { steps.old.spent ≤ steps.new.spent }
     ensures reasons { KeepsReasons prefix.now derivation.old derivation.new trail.old trail.new }
     ensures trail { IsTrailFor prefix.now trail.new }
@@ -82,6 +85,8 @@ fn clean_marked<S: Side>(
     requires pivot { quantifier_of prefix.now v ≡ Some S.PIVOT }
     ensures ok { IfOk result (λ id. IsTrue (is_marked trail.new v)
         × (cause_on trail.new.placed v ≡ Some (propagated id))) }
+    ensures done { IsTrue (is_marked trail.old v) → IsOk result × (derivation.new ≡ derivation.old)
+        × (trail.new ≡ trail.old) × (steps.new ≡ steps.old) }
     ensures cleans { OnOk result (CleansReasons prefix.now derivation.old derivation.new trail.old trail.new
         steps.old steps.new 0) }
     ensures err { OnErr result (StopsCleaning prefix.now derivation.old derivation.new trail.old trail.new
@@ -116,6 +121,8 @@ fn make_clean<S: Side>(
     requires propagated { IsPropagated trail.old.placed v }
     requires pivot { quantifier_of prefix.now v ≡ Some S.PIVOT }
     ensures marked { OnOk result (IsTrue (is_marked trail.new v)) }
+    ensures done { IsTrue (is_marked trail.old v) → IsOk result × (derivation.new ≡ derivation.old)
+        × (trail.new ≡ trail.old) × (steps.new ≡ steps.old) }
     ensures due { result ≡ Err spent → IsReasonBlocked S.PIVOT prefix.now derivation.old trail.old v }
     ensures cleans { OnOk result (CleansReasons prefix.now derivation.old derivation.new trail.old trail.new
         steps.old steps.new 0) }

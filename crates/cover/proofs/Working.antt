@@ -42,7 +42,9 @@ abbrev NoLater : Literal → Type 0
 NoLater l = IsTrue (is_true_one Exists three_scopes values l) → depth_of three_scopes l.variable ≤ 3
 
 no_later : (l : Literal) → Contains mixed l → NoLater l
-no_later = each NoLater (λ t. absurd (false≢true t)) (λ t. (let h : 2 ≤ 3 = omega arith in h)) (λ t. (let h : 3 ≤ 3 = omega arith in h))
+no_later =
+    each NoLater (λ t. absurd (false≢true t)) (λ t. (let h : 2 ≤ 3 = omega arith in h))
+    (λ t. (let h : 3 ≤ 3 = omega arith in h))
 
 pub choices : WorkedChoices
 choices = record {
@@ -52,7 +54,12 @@ choices = record {
   not_chosen = refl;
   innermost = (third, refl, no_later);
   outer = λ taken. let h : 3 ≤ 2 = taken.2 (plus 3) third refl in omega arith;
-  universal_one = (first, refl, each (λ l. IsTrue (is_true_one Forall three_scopes values l) → depth_of three_scopes l.variable ≤ 1) (λ t. (let h : 1 ≤ 1 = omega arith in h)) (λ t. absurd (false≢true t)) (λ t. absurd (false≢true t)));
+  universal_one = (
+    first,
+    refl,
+    each (λ l. IsTrue (is_true_one Forall three_scopes values l) → depth_of three_scopes l.variable ≤ 1)
+        (λ t. (let h : 1 ≤ 1 = omega arith in h)) (λ t. absurd (false≢true t)) (λ t. absurd (false≢true t)),
+  );
   no_other = both (λ l. is_true_one Exists three_scopes values l ≡ false) refl refl;
 }
 
@@ -66,8 +73,12 @@ covers = record {
     latest = λ p. no_later;
     alone = λ p. absurd (false≢true p);
   };
-  not_latest = λ may. let h : 3 ≤ 2 = may.latest refl (plus 3) (subst (λ (c : Row). Contains c (plus 3)) (alone may.clause may.stands) third) refl in omega arith;
-  needless = λ may. true≢false (may.alone refl (plus 2) (subst (λ (c : Row). Contains c (plus 2)) (alone may.clause may.stands) second));
+  not_latest = λ may. let h : 3 ≤ 2 =
+      may.latest refl (plus 3) (subst (λ (c : Row). Contains c (plus 3)) (alone may.clause may.stands) third) refl in
+      omega arith;
+  needless =
+      λ may. true≢false
+      (may.alone refl (plus 2) (subst (λ (c : Row). Contains c (plus 2)) (alone may.clause may.stands) second));
   needed = record {
     is_true = refl;
     clause = lone;

@@ -1,4 +1,5 @@
 use Rattle.std.proofs.Common.{◌∙◌, sym}
+use Rattle.std.proofs.lemmas.Bool.{false≢true}
 use Rattle.steps.specs.declared.stop.Stop.TheVariants.{Spent as spent}
 use Rattle.clean.proofs.Circling.{cleans_none}
 use Rattle.clean.proofs.Rounds.{at_err, first_blocked, first_frames}
@@ -7,6 +8,9 @@ use Rattle.clean.proofs.reason.make_clean.Goals as goal
 pub returns-then-is_clean-clause-cleans : goal.returns-then-is_clean-clause-cleans
 returns-then-is_clean-clause-cleans g c =
     cleans_none c.args.prefix.now c.args.derivation.now c.args.trail.now c.args.steps.now c.requires.rows
+
+pub returns-clause-done : goal.returns-clause-done
+returns-clause-done g c = λ marked. absurd (false≢true (sym c.if-is_clean.false ∙ (c.is_clean.ensures ∙ marked)))
 
 pub clean_all-requires-clause-frames : goal.clean_all-requires-clause-frames
 clean_all-requires-clause-frames g c =
