@@ -1,5 +1,5 @@
 -- Steps that nothing kept rests on are dropped while a search goes on.
-use Rattle.std.proofs.Common.{◌≡◌, ◌≤◌, ◌+◌, ◌⊎◌, Bool, cond, length, ℕ, ◌++◌, true, List, Option, Some, None, Contains, IsTrue, is_some, refl, sym, ap, subst, ◌∙◌, ⊎_elim, arith}
+use Rattle.std.proofs.Common.{◌≡◌, ◌≤◌, ◌+◌, ◌⊎◌, Bool, cond, length, ℕ, ◌++◌, true, List, Option, Some, None, Contains, IsTrue, is_some, refl, sym, ap, subst, ◌∙◌, inl, inr, ⊎_elim, arith}
 use Rattle.std.proofs.lemmas.Bool.{cond-true, false≢true}
 use Rattle.std.proofs.lemmas.List.Elements.{Contains-append_left, Contains-append_right}
 use Rattle.prefix.specs.declared.quant.Quant.{Quant}
@@ -19,7 +19,7 @@ use Rattle.derive.specs.Sweeping.Stays.{under}
 use Rattle.trail.specs.State.{TrailState}
 use Rattle.watch.specs.Laws.{AgreeingLaws, HoldingLaws}
 use Rattle.clean.specs.Reasons.{HaveReasons, IsReason}
-use Rattle.search.specs.Forgetting.{Clears, Forgets, HaveAllReasons, Thins, without_detached}
+use Rattle.search.specs.Forgetting.{Clears, Forgets, HasFewLong, HaveAllReasons, Thins, left_long, many_long, without_detached}
 use Rattle.search.specs.Counting.{size_of}
 use Rattle.search.specs.Long.{is_input}
 use Rattle.search.specs.State.{IsAttached, IsSearching, SearchState}
@@ -130,8 +130,9 @@ extended old now other watched ok is done same =
 -- some rows were detached and left out, and steps dropped
 pub forgets : (scopes : List Scope) (old mid new : SearchState) (most : ℕ) → IsSearching scopes old
     → Thins scopes old mid → (mid.long ≤ most) ⊎ (mid.long ≤ length old.trail.placed)
-    → most ≤ 512 + length old.trail.placed → Clears scopes (without_detached mid) new → Forgets scopes old new
-forgets scopes old mid new most searching thins few least clears =
+    → most ≤ many_long + length old.trail.placed → left_long ≤ mid.long → Clears scopes (without_detached mid) new
+    → Forgets scopes old new
+forgets scopes old mid new most searching thins few least enough clears =
     let short = trail_length scopes old.trail.placed searching.paused.intact.trail.ordered in
     let long : mid.long ≤ 512 + size_of scopes = ⊎_elim (λ a. omega arith) (λ b. omega arith) few in
     let same = clears.long in
@@ -142,6 +143,7 @@ forgets scopes old mid new most searching thins few least clears =
       clauses = clears.clauses ∙ thins.steps.clauses;
       trail = clears.trail ∙ thins.trail;
       few = omega (arith, long, same);
+      enough = inr (omega (arith, enough, same));
       lets = record {
         was = λ side id a. thins.lets.was side id (clears.was side id a);
         stays = λ side id a may. clears.attached side id (thins.lets.stays side id a may);
@@ -149,13 +151,14 @@ forgets scopes old mid new most searching thins few least clears =
       reductions = omega (arith, reduced, fewer);
     }
 
-pub forgets_none : (scopes : List Scope) (s : SearchState) → IsSearching scopes s → s.long ≤ 512 + size_of scopes
+pub forgets_none : (scopes : List Scope) (s : SearchState) → IsSearching scopes s → HasFewLong scopes s
     → Forgets scopes s s
 forgets_none scopes s searching few = record {
   searching = searching;
   clauses = refl;
   trail = refl;
   few = few;
+  enough = inl refl;
   lets = record { was = λ side id a. a; stays = λ side id a may. a };
   reductions = omega arith;
 }

@@ -7,10 +7,12 @@ use Rattle.steps.specs.Counter.{Counter, after}
 use Rattle.calculus.specs.Rows.{Row}
 use Rattle.calculus.specs.Search.{AreTheAssumptions, IsUnitIn, Trail, cut_trail, value_on}
 use Rattle.trail.specs.State.{TrailState, counted}
+use Rattle.trail.specs.declared.allowed.Allowed.TheVariants.{Anything}
 use Rattle.derive.specs.State.{State, Notes, OpenClause, clauses_of, may_be_antecedent, note_in, row_of, side_in}
 use Rattle.clean.specs.Reasons.{IsReducedStep}
 use Rattle.analyse.specs.Lessons.{EndsOn}
 use Rattle.decide.specs.Decision.{IsDecision}
+use Rattle.decide.specs.Memory.{Memory}
 use Rattle.search.specs.State.{IsPaused, IsSearching, SearchState}
 use Rattle.search.specs.Counting.{IsCounted, lesson_cost, size_of}
 use Rattle.search.specs.Forgetting.{Forgets}
@@ -284,14 +286,15 @@ due_between scopes s between new clauses trail h = record {
 
 -- a decision was due
 pub due_decision : (scopes : List Scope) (s new : SearchState) (x : ℕ) → IsSearching scopes s
-    → IsDecision scopes s.trail.placed x → new.trail.assigned ≡ s.trail.assigned → WasDue scopes s new
-due_decision scopes s new x searching is same = record {
+    → s.trail.allowed ≡ Anything → IsDecision scopes s.trail.placed x → new.trail.assigned ≡ s.trail.assigned
+    → WasDue scopes s new
+due_decision scopes s new x searching may is same = record {
   at = s;
   searching = searching;
   clauses = refl;
   assumed = λ assumptions a. a;
   assigned = same;
-  due = decision x is;
+  due = decision x may is;
 }
 
 -- a literal was due
@@ -369,6 +372,18 @@ pub ends_within : {E : Type 0} (r : Result (Option EndRow) E) (P Q : EndRow → 
 ends_within (Ok None) P Q f h = h
 ends_within (Ok (Some e)) P Q f h = f e h
 ends_within (Err e) P Q f h = h
+
+-- the priorities of variables were raised, which no contract sees
+pub bumped_same : (s old : SearchState) (signs : Memory) → signs ≡ s.signs → s ≡ old
+    → record s { signs = signs } ≡ old
+bumped_same s old signs same view = ap (λ (m : Memory). record s { signs = m }) same ∙ view
+
+-- with other names of what it came to
+pub advances_at : (scopes : List Scope) (slack : ℕ) (s between new : SearchState) (before now end : Counter)
+    → new ≡ between → end ≡ now → Advances scopes slack s between before now → Advances scopes slack s new before end
+advances_at scopes slack s between new before now end same counted h =
+    subst (λ (t : SearchState). Advances scopes slack s t before end) (sym same)
+    (subst (λ (c : Counter). Advances scopes slack s between before c) (sym counted) h)
 
 -- long rows may be forgotten once more was assigned
 pub advances_forgot : (scopes : List Scope) (slack : ℕ) (s between new : SearchState) (before now : Counter)

@@ -148,3 +148,9 @@ module _ (laws : HoldingLaws) (pivot : Quant) (scopes : List Scope) (old new : S
       stays = parted_stays;
       others = unmarks.others;
     }
+
+-- a row that is attached is so to the watch of its side
+pub attached_own : (scopes : List Scope) (s : SearchState) (id : ℕ) → IsIntact scopes s
+    → (side : Quant) × IsAttached s side id → IsAttached s (side_at s.derivation id) id
+attached_own scopes s id intact a =
+    subst (λ p. IsAttached s p id) (sym (intact.watched.sides a.0 id a.1).of_side) a.1

@@ -24,7 +24,7 @@ use Rattle.search.specs.Long.{comes_in, is_input, is_kept_long, is_learned, is_l
 use Rattle.search.specs.Moves.{SameSteps}
 use Rattle.search.specs.State.{IsIntact, IsTallied, SearchState, rows_of, watch_of, with_long}
 use Rattle.search.specs.Watching.{Joins, KeepsMarks, KeepsOtherMarks, Parts}
-use Rattle.search.proofs.Joining.{same_or_not}
+use Rattle.search.proofs.Joining.{attached_own, same_or_not}
 use Rattle.search.proofs.Marks.{not_attached, note_same, same_mark, step_live}
 
 -- one for a test that is passed
@@ -230,7 +230,8 @@ module _ (old new : State) (id : ℕ) (same : SameSteps old new)
       → long_in new ≡ long_in old + 1
   one_more live absent there =
       count_point (is_kept_long old) (is_kept_long new) id (next_id new)
-      (let low : id < next_id old = live_below old.notes id live in let e = next_same in omega arith) others_kept absent there
+      (let low : id < next_id old = live_below old.notes id live in let e = next_same in omega arith)
+      others_kept absent there
       ∙ ap (λ n. count_to (is_kept_long old) n + 1) next_same
 
   pub one_less : IsTrue (is_live old id) → is_kept_long old id ≡ true → is_kept_long new id ≡ false
@@ -319,8 +320,7 @@ module _ (scopes : List Scope) (old mid : SearchState) (id : ℕ) (joins : Joins
     (live : IsTrue (is_live old.derivation id))
     (free : is_attached (side_at old.derivation id) (rows_of old) id ≡ false) where
   here_now : is_attached (side_at mid.derivation id) (rows_of mid) id ≡ true
-  here_now = let a = joins.here in
-      subst (λ p. IsTrue (is_attached p (rows_of mid) id)) (sym (joins.intact.watched.sides a.0 id a.1).of_side) a.1
+  here_now = attached_own scopes mid id joins.intact joins.here
 
   pub tally_joined : long_in mid.derivation ≡ long_in old.derivation + one_if (is_long mid.derivation id)
   tally_joined =

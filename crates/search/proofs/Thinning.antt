@@ -47,7 +47,8 @@ and_true false b h = absurd (false≢true h)
 reason_same : (old new : SearchState) (id : ℕ) → new.trail ≡ old.trail
     → row_of new.derivation id ≡ row_of old.derivation id → is_reason new id ≡ is_reason old id
 reason_same old new id trail row =
-    ap₂ (λ (t : TrailState) (r : Row). list_any (λ (l : Literal). is_from id (cause_on t.placed l.variable)) r) trail row
+    ap₂ (λ (t : TrailState) (r : Row). list_any (λ (l : Literal). is_from id (cause_on t.placed l.variable)) r)
+    trail row
 
 pub thins_none : (scopes : List Scope) (s : SearchState) → IsIntact scopes s → IsTallied s → Thins scopes s s
 thins_none scopes s intact tallied = record {
@@ -88,7 +89,8 @@ thins_then scopes a b c one two = record {
   watched = two.watched ∙ one.watched;
   lets = record {
     was = λ side id at. one.lets.was side id (two.lets.was side id at);
-    stays = λ side id at may. two.lets.stays side id (one.lets.stays side id at may) (may_thinned scopes a b one id ∙ may);
+    stays = λ side id at may.
+        two.lets.stays side id (one.lets.stays side id at may) (may_thinned scopes a b one id ∙ may);
   };
 }
 
@@ -128,13 +130,16 @@ stays_reason s id may kept =
 -- so many rows to watch were seen
 pub record HasThinned (scopes : List Scope) (start s : SearchState) (k most : ℕ) : Type 0 where
   pub thins : Thins scopes start s
+  pub enough : most ≤ start.long → most ≤ s.long
   pub live : (id : ℕ) → Contains s.watched id → IsTrue (is_live s.derivation id)
   pub seen : (s.long ≤ most) ⊎ ((j : ℕ) → j < k → is_kept_long s.derivation (get_or s.watched j 0) ≡ true
       → is_reason s (get_or s.watched j 0) ≡ true)
 
-pub thinned_none : (scopes : List Scope) (s : SearchState) (most : ℕ) → IsSearching scopes s → HasThinned scopes s s 0 most
+pub thinned_none : (scopes : List Scope) (s : SearchState) (most : ℕ) → IsSearching scopes s
+    → HasThinned scopes s s 0 most
 thinned_none scopes s most searching = record {
   thins = thins_none scopes s searching.paused.intact searching.paused.tallied;
+  enough = λ most. most;
   live = attached_live scopes s searching.paused.intact searching.paused.attached;
   seen = inr (λ j low kept. absurd (omega arith));
 }
@@ -165,10 +170,12 @@ module _ (scopes : List Scope) (start s new : SearchState) (k most : ℕ) (has :
       → is_reason new (get_or s.watched i 0) ≡ true) e here)
       (cases_lt j k))
 
-  pub thinned_more : ((new.long ≤ most) ⊎ (is_kept_long new.derivation (get_or s.watched k 0) ≡ true
+  pub thinned_more : (most ≤ s.long → most ≤ new.long)
+      → ((new.long ≤ most) ⊎ (is_kept_long new.derivation (get_or s.watched k 0) ≡ true
       → is_reason new (get_or s.watched k 0) ≡ true)) → HasThinned scopes start new (k + 1) most
-  thinned_more seen = record {
+  thinned_more enough seen = record {
     thins = thins_then scopes start s new has.thins thins;
+    enough = λ most. enough (has.enough most);
     live = λ id at. live_same s.derivation new.derivation thins.steps id
         ∙ has.live id (subst (λ ids. Contains ids id) thins.watched at);
     seen = ⊎_elim
@@ -288,8 +295,8 @@ at_some : (o : Option ℕ) (n : ℕ) → is_at o n ≡ true → is_some o ≡ tr
 at_some None n h = absurd (false≢true h)
 at_some (Some m) n h = refl
 
-module _ (scopes : List Scope) (start s : SearchState) (listed : ClausesAreListed) (searching : IsSearching scopes start)
-    (thins : Thins scopes start s) where
+module _ (scopes : List Scope) (start s : SearchState) (listed : ClausesAreListed)
+    (searching : IsSearching scopes start) (thins : Thins scopes start s) where
   reduction_short : (c : OpenClause) → Contains (clauses_of start.derivation) c → (id : ℕ)
       → IsReductionOf scopes start.derivation c id → may_go start id ≡ false
   reduction_short c at id r =

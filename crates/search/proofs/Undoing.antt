@@ -164,6 +164,7 @@ anew scopes keep s new holding looking searching below changes is trail keeps =
             (cut_have side scopes s.derivation s.trail 0 (searching.reasons side))));
       };
       derivation = changes.derivation;
+      placed = placed;
       assigned = assigned;
       restarts = ap (λ (t : TrailState). t.restarts) is ∙ ap (λ (t : TrailState). counted t.restarts 1) high;
       allowed = ap (λ (t : TrailState). t.allowed) is ∙ ap (λ (t : TrailState). allowed_anew t.allowed) high;

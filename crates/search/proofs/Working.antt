@@ -1,25 +1,35 @@
 -- The worked values.
-use Rattle.std.proofs.Common.{◌≡◌, ◌<◌, ◌≤◌, List, ℕ, zero, suc, Bool, true, false, [], ◌∷◌, ◌++◌, replicate, Contains, Some, None, refl, sym, subst, inl, inr, ⊎_elim, arith, ap, ◌∙◌}
+use Rattle.std.proofs.Common.{◌≡◌, ◌<◌, ◌≤◌, List, ℕ, zero, suc, Bool, true, false, [], ◌∷◌, ◌++◌, length, replicate, Contains, Some, None, refl, sym, subst, inl, inr, ⊎_elim, arith, ap, ◌∙◌}
 use Rattle.std.specs.Prelude.{IsTrue, is_some, if◌then◌else◌, ◌==◌}
 use Rattle.std.proofs.lemmas.Bool.{true≢false, false≢true}
 use Rattle.prefix.specs.declared.quant.Quant.{Quant}
 use Rattle.prefix.specs.declared.quant.Quant.TheVariants.{Exists, Forall}
 use Rattle.calculus.proofs.WorkingSearch.{units}
 use Rattle.clean.proofs.Working.{blocked_stays}
-use Rattle.search.specs.Moves.IsDue.{unit as unit_is_due, decision as decision_is_due}
+use Rattle.search.specs.Moves.{IsDue, IsInitialCube}
+use Rattle.search.specs.Moves.IsDue.{unit as unit_is_due, bad as bad_is_due, decision as decision_is_due, cube as cube_is_due}
+use Rattle.prefix.specs.Literal.{Literal}
+use Rattle.prefix.specs.Scopes.{all_variables}
 use Rattle.prefix.specs.Sides.{bad_of, opposite}
+use Rattle.trail.specs.Open.{is_assigned}
+use Rattle.trail.specs.State.{TrailState}
+use Rattle.trail.specs.declared.allowed.Allowed.TheVariants.{Anything, NoDecision}
 use Rattle.derive.specs.State.{OpenClause, side_at}
 use Rattle.calculus.proofs.Lists.{contains_cons, contains_nil}
-use Rattle.calculus.specs.Rows.{depth_of}
-use Rattle.calculus.specs.Search.{Trail, is_decision}
+use Rattle.calculus.specs.Rows.{Row, depth_of}
+use Rattle.calculus.specs.Search.{Trail, is_decision, value_on}
 use Rattle.calculus.specs.Search.Cause.{Assumed, Decided}
+use Rattle.calculus.specs.Worked.{minus, plus}
 use Rattle.calculus.specs.WorkedSearch.{alternating, bad, three}
+use Rattle.cover.proofs.Working.{covers}
+use Rattle.cover.specs.Choices.{MayCover}
+use Rattle.cover.specs.Worked.{lone, mixed, three_scopes}
 use Rattle.decide.specs.Decision.{IsDecision}
 use Rattle.rows.specs.Arena.{link_at}
 use Rattle.watch.specs.Links.{is_attached}
 use Rattle.search.specs.Finishes.{IsFinishId}
 use Rattle.search.specs.State.{AreMarked, rows_of}
-use Rattle.search.specs.Worked.{WorkedCounts, WorkedFinds, WorkedFinishes, all_bad, attached_to, detached, once, search_over, three_of, two_bad}
+use Rattle.search.specs.Worked.{WorkedCounts, WorkedDue, WorkedFinds, WorkedFinishes, all_bad, all_true, attached_to, covered, detached, no_steps, once, search_of, search_over, three_of, trail_of, two_bad}
 
 -- the row has no mark of the other side
 not_theirs : (q : Quant) → is_attached q (rows_of (search_over q (attached_to (opposite q)) (all_bad q))) 0 ≡ false
@@ -90,12 +100,78 @@ finds pivot = record {
   not_quiet = λ quiet. (quiet pivot).none_unit 0 _ (ours pivot) (units pivot).unit;
   unit_due = unit_is_due pivot 0 _ (record { step = refl; of_side = refl; reduced = blocked_stays pivot })
       (units pivot).unit;
-  decision_due = decision_is_due 1 (first pivot);
+  decision_due = decision_is_due 1 refl (first pivot);
   attached = marked pivot;
   not_attached = λ id. inl (no_link pivot [] id);
   elsewhere = λ m. ⊎_elim (some_none 2) (λ p. false≢true (sym (no_mark pivot p.0) ∙ p.1)) (m 0);
   detached_rows = no_link pivot [];
   attached_row = λ d. some_none _ (d 0);
+}
+
+-- with no steps only a decision may be due
+module _ (t : TrailState) where
+  only_decision : IsDue three_scopes (search_of no_steps t)
+      → (x : ℕ) × (t.allowed ≡ Anything) × IsDecision three_scopes t.placed x
+  only_decision (unit_is_due side id l step is) = absurd (false≢true step.step)
+  only_decision (bad_is_due side id step is needs) = absurd (false≢true step.step)
+  only_decision (decision_is_due x may is) = (x, may, is)
+  only_decision (cube_is_due id is goes) = absurd (false≢true is.step)
+
+not_anything : NoDecision ≡ Anything → ⊥
+not_anything e = cc
+
+some_not_none : (b : Bool) → Some b ≡ None → ⊥
+some_not_none b e = cc
+
+each_of : (P : ℕ → Type 0) → P 1 → P 2 → P 3 → P 4 → (x : ℕ) → Contains (all_variables three_scopes) x → P x
+each_of P a b c d x i = ⊎_elim (λ e. subst P e a)
+    (λ j. ⊎_elim (λ e. subst P e b)
+    (λ k. ⊎_elim (λ e. subst P e c) (only P 4 d x) (contains_cons 3 (4 ∷ []) x k))
+    (contains_cons 2 (3 ∷ 4 ∷ []) x j))
+    (contains_cons 1 (2 ∷ 3 ∷ 4 ∷ []) x i)
+
+one_not_two : ◌≡◌ {A = ℕ} 1 2 → ⊥
+one_not_two e = absurd (omega arith)
+
+side_apart : Exists ≡ Forall → ⊥
+side_apart e = cc
+
+-- what may stand in a cover of two clauses
+abbrev MayStand : Literal → Type 0
+MayStand l = MayCover three_scopes (value_on all_true) (mixed ∷ lone ∷ []) l
+
+may_stand : MayStand (plus 3)
+may_stand =
+    let m = covers.latest in
+    record {
+      is_true = m.is_true;
+      clause = m.clause;
+      stands = only (Contains (mixed ∷ lone ∷ [])) mixed (0, omega arith, refl) m.clause m.stands;
+      holds = m.holds;
+      latest = m.latest;
+      alone = m.alone;
+    }
+
+initial_cube : IsInitialCube three_scopes (search_of covered (trail_of all_true)) 2
+initial_cube = record {
+  assigned = each_of (λ x. IsTrue (is_assigned all_true x)) refl refl refl refl;
+  step = refl;
+  of_side = refl;
+  why = refl;
+  literals = λ l i. ⊎_elim (λ e. subst MayStand e covers.needed) (only MayStand (plus 3) may_stand l)
+      (contains_cons (minus 1) (plus 3 ∷ []) l i);
+}
+
+pub dues : WorkedDue
+dues = record {
+  not_allowed = λ due. not_anything (only_decision (record (trail_of []) { allowed = NoDecision }) due).1;
+  none_open = λ due. let d = only_decision (trail_of all_true) due in
+      each_of (λ x. value_on all_true x ≡ None → ⊥) (some_not_none _) (some_not_none _) (some_not_none _)
+      (some_not_none _) d.0 d.2.known d.2.unassigned;
+  initial = initial_cube;
+  cube_due = cube_is_due 2 initial_cube (λ e. one_not_two (ap (λ (r : Row). length r) e));
+  unassigned = λ c. false≢true (c.assigned 4 (3, omega arith, refl));
+  a_clause = λ c. side_apart c.of_side;
 }
 
 too_many : 21 ≤ 20 → ⊥

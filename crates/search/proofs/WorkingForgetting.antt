@@ -1,5 +1,5 @@
 -- The worked values of what is forgotten.
-use Rattle.std.proofs.Common.{◌≡◌, ℕ, zero, suc, ◌≤◌, true, false, cond, nat_eq, [], ◌∷◌, Contains, Some, None, IsTrue, refl, sym, ap, subst, ◌∙◌, ⊎_elim, arith}
+use Rattle.std.proofs.Common.{◌≡◌, ℕ, zero, suc, ◌≤◌, true, false, cond, nat_eq, length, [], ◌∷◌, Contains, Some, None, IsTrue, refl, sym, ap, subst, ◌∙◌, inl, inr, ⊎_elim, arith}
 use Rattle.std.proofs.lemmas.Bool.{cases_Bool, false≢true}
 use Rattle.prefix.specs.declared.quant.Quant.{Quant}
 use Rattle.prefix.specs.declared.quant.Quant.TheVariants.{Exists, Forall}
@@ -8,12 +8,15 @@ use Rattle.calculus.proofs.Lists.{contains_cons, contains_head, contains_nil}
 use Rattle.calculus.specs.Search.{Trail, cause_on}
 use Rattle.calculus.specs.Search.Cause.{Propagated}
 use Rattle.calculus.specs.WorkedSearch.{three}
+use Rattle.trail.specs.State.{TrailState}
 use Rattle.derive.specs.State.{is_live}
 use Rattle.watch.specs.Links.{is_attached}
-use Rattle.search.specs.Forgetting.{may_go}
+use Rattle.search.specs.Forgetting.{LeavesEnough, Lets, may_go}
 use Rattle.search.specs.Long.{is_kept_long, is_long, long_in}
-use Rattle.search.specs.State.{rows_of}
-use Rattle.search.specs.Worked.{attached_to, detached}
+use Rattle.search.specs.State.{rows_of, with_long}
+use Rattle.search.specs.Worked.{attached_to, detached, trail_of}
+use Rattle.search.proofs.Clearing.{clears_none, forgets_none}
+use Rattle.search.proofs.Thinning.{thins_none}
 use Rattle.search.specs.WorkedForgetting.{WorkedForgetting, four, long_row, one_row, propagated_by, resolvent, search_with, with_reduction}
 
 counted : (side : Quant) → is_kept_long (one_row side resolvent four (attached_to side)) 0 ≡ true
@@ -60,7 +63,8 @@ zero_one e = absurd (omega arith)
 too_many : 516 ≤ 515 → ⊥
 too_many l = absurd (omega arith)
 
-only_reason : (side : Quant) (x id : ℕ) → cause_on (propagated_by side 0) x ≡ Some (Propagated id) → Contains (0 ∷ []) id
+only_reason : (side : Quant) (x id : ℕ) → cause_on (propagated_by side 0) x ≡ Some (Propagated id)
+    → Contains (0 ∷ []) id
 only_reason side x id e =
     ⊎_elim
     (λ t. let g : Some (Propagated 0) ≡ Some (Propagated id) =
@@ -75,6 +79,24 @@ only_live : (side : Quant) (id : ℕ) → Contains (0 ∷ []) id
 only_live side id at =
     ⊎_elim (λ e. subst (λ i. IsTrue (is_live (one_row side resolvent four detached) i)) e refl)
     (λ none. absurd (contains_nil id none)) (contains_cons 0 [] id at)
+
+one_zero : ◌≡◌ {A = ℕ} 1 0 → ⊥
+one_zero e = absurd (omega arith)
+
+-- another trail is another one
+other_trail : (side : Quant) → trail_of (propagated_by side 7) ≡ trail_of [] → ⊥
+other_trail side e = one_zero (ap (λ (t : TrailState). length t.placed) e)
+
+too_few : LeavesEnough (with_long (long_row Exists []) 516) (with_long (long_row Exists []) 255) → ⊥
+too_few enough = ⊎_elim (λ e. let same : 255 ≡ 516 = e in absurd (omega arith))
+    (λ l. let low : 256 ≤ 255 = l in absurd (omega arith)) enough
+
+-- a reason was attached, and isn't then
+reason_gone : (side : Quant) → Lets (long_row side (propagated_by side 0))
+    (search_with side four detached (propagated_by side 0)) → ⊥
+reason_gone side lets =
+    false≢true (sym (none_attached side side (propagated_by side 0) 0)
+    ∙ lets.stays side 0 (ours side (propagated_by side 0)) refl)
 
 pub forgetting : (side : Quant) → WorkedForgetting side
 forgetting side = record {
@@ -105,8 +127,7 @@ forgetting side = record {
     was = λ p id a. absurd (false≢true (sym (none_attached side p [] id) ∙ a));
     stays = stays_not side;
   };
-  stays = λ lets. false≢true (sym (none_attached side side (propagated_by side 0) 0)
-      ∙ lets.stays side 0 (ours side (propagated_by side 0)) refl);
+  stays = reason_gone side;
   held = refl;
   left = refl;
   left_out = refl;
@@ -116,4 +137,22 @@ forgetting side = record {
   not_live = λ live. false≢true (live 1 (contains_head 1 []));
   few = omega arith;
   many = too_many;
+  enough = inr (omega arith);
+  no_more = inl refl;
+  not_enough = too_few;
+  thins_none = λ scopes s h. thins_none scopes s h.paused.intact h.paused.tallied;
+  clears_none = clears_none;
+  forgets_none = forgets_none;
+  thins_trail = λ h. other_trail side h.trail;
+  thins_reason = λ h. reason_gone side h.lets;
+  thins_list = λ h. contains_nil 0 (subst (λ ids. Contains ids 0) (sym h.watched) (contains_head 0 []));
+  thins_count = λ h. zero_one (h.tallied ∙ one_counted side);
+  clears_trail = λ h. other_trail side h.trail;
+  clears_count = λ h. one_zero h.long;
+  clears_row = λ h. false≢true (sym (none_attached side side [] 0) ∙ h.attached side 0 (ours side []));
+  clears_more = λ h. false≢true (sym (none_attached side side [] 0) ∙ h.was side 0 (ours side []));
+  forgets_trail = λ h. other_trail side h.trail;
+  forgets_reason = λ h. reason_gone side h.lets;
+  forgets_too_few = λ h. too_many h.few;
+  forgets_too_many = λ h. too_few h.enough;
 }

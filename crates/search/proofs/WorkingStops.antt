@@ -79,7 +79,8 @@ no_literals : (d : State) (row : Row) → clauses_of d ≡ [] → ((l : Literal)
 no_literals d [] none from = refl
 no_literals d (l ∷ row) none from =
     let r = from l (contains_head l row) in
-    absurd (contains_nil r.0 (subst (λ (cs : List OpenClause). Contains (map (λ (c : OpenClause). c.row) cs) r.0) none r.1))
+    absurd (contains_nil r.0 (subst (λ (cs : List OpenClause). Contains (map (λ (c : OpenClause). c.row) cs) r.0)
+    none r.1))
 
 nothing_due : (at : SearchState) → clauses_of at.derivation ≡ []
     → AreTheAssumptions at.trail.placed (plus 1 ∷ []) → IsDue alone at → ⊥
@@ -87,7 +88,7 @@ nothing_due at clauses assumed (unit side id l step is) =
     not_open at.trail.placed assumed l.variable (only_one side l is.pivot_type) is.open_yet
 nothing_due at clauses assumed (bad side id step is needs) =
     ⊎_elim (not_blocked at.trail.placed assumed side _) (not_unlearned at.trail.placed assumed side _) needs
-nothing_due at clauses assumed (decision x is) =
+nothing_due at clauses assumed (decision x may is) =
     ⊎_elim
     (λ one. not_open at.trail.placed assumed x (sym one) (ap is_none is.unassigned))
     (λ none. contains_nil x none)

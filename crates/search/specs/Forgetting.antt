@@ -1,5 +1,5 @@
 -- What forgetting long learned rows leaves.
-use Rattle.std.specs.Prelude.{◌≡◌, ◌+◌, ◌≤◌, ◌==◌, ℕ, Bool, false, not, ◌&&◌, List, Option, None, Some, is_some, Contains, IsTrue, filter}
+use Rattle.std.specs.Prelude.{◌≡◌, ◌+◌, ◌≤◌, ◌⊎◌, ◌==◌, ℕ, Bool, false, not, ◌&&◌, List, Option, None, Some, is_some, Contains, IsTrue, filter}
 use Rattle.std.specs.List.{list_any}
 use Rattle.prefix.specs.declared.quant.Quant.{Quant}
 use Rattle.prefix.specs.Literal.{Literal}
@@ -67,7 +67,7 @@ HaveAllReasons d placed ids = (x id : ℕ) → cause_on placed x ≡ Some (Propa
 abbrev pub AreLive : State → List ℕ → Type 0
 AreLive d ids = (id : ℕ) → Contains ids id → IsTrue (is_live d id)
 
--- steps that no kept one rests on are dropped; what is attached stays so
+-- steps may be dropped, but no open clause; what is attached stays so, with the same trail, and no other row is
 pub record Clears (scopes : List Scope) (old new : SearchState) : Type 0 where
   pub searching : IsSearching scopes new
   pub clauses : clauses_of new.derivation ≡ clauses_of old.derivation
@@ -77,15 +77,29 @@ pub record Clears (scopes : List Scope) (old new : SearchState) : Type 0 where
   pub was : (side : Quant) (id : ℕ) → IsAttached new side id → IsAttached old side id
   pub reductions : reductions_in new.derivation ≤ reductions_in old.derivation
 
+-- where more long learned rows than these are no reasons, some are forgotten
+abbrev pub many_long : ℕ
+many_long = 512
+
+-- so many of them are left then
+abbrev pub left_long : ℕ
+left_long = 256
+
 -- the long learned rows that are attached are few
 abbrev pub HasFewLong : List Scope → SearchState → Type 0
-HasFewLong scopes s = s.long ≤ 512 + size_of scopes
+HasFewLong scopes s = s.long ≤ many_long + size_of scopes
 
--- the long learned rows are few, with the same clauses and the same trail; only rows that might be forgotten are gone
+-- as many long learned rows are attached as before, or at least as many as are to be left
+abbrev pub LeavesEnough : SearchState → SearchState → Type 0
+LeavesEnough old new = (new.long ≡ old.long) ⊎ (left_long ≤ new.long)
+
+-- the long learned rows are few, but not fewer than are to be left, with the same clauses and the same trail; only rows
+-- that might be forgotten are gone
 pub record Forgets (scopes : List Scope) (old new : SearchState) : Type 0 where
   pub searching : IsSearching scopes new
   pub clauses : clauses_of new.derivation ≡ clauses_of old.derivation
   pub trail : new.trail ≡ old.trail
   pub few : HasFewLong scopes new
+  pub enough : LeavesEnough old new
   pub lets : Lets old new
   pub reductions : reductions_in new.derivation ≤ reductions_in old.derivation

@@ -9,7 +9,7 @@ use Rattle.calculus.specs.Derivations.Why.{Given}
 use Rattle.calculus.specs.Rows.{Row, reduce}
 use Rattle.calculus.specs.Search.{AreTheAssumptions, Cause, IsBadRow, IsUnitIn, cut_trail, last_level, value_on}
 use Rattle.calculus.specs.Verdicts.{IsEndRow}
-use Rattle.trail.specs.Open.{placed_with}
+use Rattle.trail.specs.Open.{AreAssigned, placed_with}
 use Rattle.trail.specs.State.{TrailState, counted}
 use Rattle.trail.specs.declared.allowed.Allowed.TheVariants.{Anything, Nothing}
 use Rattle.decide.specs.Decision.{IsDecision}
@@ -123,6 +123,7 @@ pub record Undoes (scopes : List Scope) (level : ℕ) (old new : SearchState) : 
 pub record BeginsAnew (scopes : List Scope) (old new : SearchState) : Type 0 where
   pub searching : IsSearching scopes new
   pub derivation : new.derivation ≡ old.derivation
+  pub placed : new.trail.placed ≡ cut_trail 0 old.trail.placed
   pub assigned : new.trail.assigned ≡ old.trail.assigned
   pub restarts : new.trail.restarts ≡ counted old.trail.restarts 1
   pub allowed : new.trail.allowed ≡ Anything
@@ -139,8 +140,10 @@ IsFound scopes s (Bad side id) = IsAttached s side id
     × IsBadRow side scopes (value_on s.trail.placed) (row_of s.derivation id)
 IsFound scopes s Quiet = (side : Quant) → AreQuiet side scopes (value_on s.trail.placed) (rows_of s)
 
--- the live step under an id is an initial cube, of literals that may cover the open clauses
+-- each variable is assigned, and the live step under an id is an initial cube, of literals that may cover the open
+-- clauses
 pub record IsInitialCube (scopes : List Scope) (s : SearchState) (id : ℕ) : Type 0 where
+  pub assigned : AreAssigned scopes s.trail.placed
   pub step : IsTrue (is_step s.derivation id)
   pub of_side : side_at s.derivation id ≡ Forall
   pub why : why_at s.derivation id ≡ Given
@@ -148,14 +151,14 @@ pub record IsInitialCube (scopes : List Scope) (s : SearchState) (id : ℕ) : Ty
       → MayCover scopes (value_on s.trail.placed) (open_clauses s.derivation) l
 
 -- A step is due: a row of a side is unit in a literal, which is to be assigned; a bad one is to be resolved; a variable
--- is to be decided; or an initial cube is to be reduced.
+-- is to be decided, which is allowed; or an initial cube is to be reduced.
 pub data IsDue (scopes : List Scope) (s : SearchState) : Type 0 where
   unit : (side : Quant) (id : ℕ) (literal : Literal) → IsReducedStep side scopes s.derivation id
       → IsUnitIn side scopes (value_on s.trail.placed) (row_of s.derivation id) literal → IsDue scopes s
   bad : (side : Quant) (id : ℕ) → IsReducedStep side scopes s.derivation id
       → IsBadRow side scopes (value_on s.trail.placed) (row_of s.derivation id)
       → NeedsResolution side scopes s.trail.placed (row_of s.derivation id) → IsDue scopes s
-  decision : (x : ℕ) → IsDecision scopes s.trail.placed x → IsDue scopes s
+  decision : (x : ℕ) → s.trail.allowed ≡ Anything → IsDecision scopes s.trail.placed x → IsDue scopes s
   cube : (id : ℕ) → IsInitialCube scopes s id → reduce Forall scopes (row_of s.derivation id) ≢ row_of s.derivation id
       → IsDue scopes s
 

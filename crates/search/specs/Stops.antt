@@ -43,7 +43,8 @@ pub record IsSpent (most : ℕ) (scopes : List Scope) (d : State) (assumptions :
 
 -- a stop comes for want of memory at any time, else only where the budget is spent
 abbrev pub IsStop : ℕ → List Scope → State → List Literal → Counter → Counter → SolveStop → Type 0
-IsStop restarts scopes d assumptions before now (Spent stopped) = IsSpent restarts scopes d assumptions before now stopped
+IsStop restarts scopes d assumptions before now (Spent stopped) =
+    IsSpent restarts scopes d assumptions before now stopped
 IsStop restarts scopes d assumptions before now NoMemory = ⊤
 
 -- where propagation refutes the clauses, and there is no cube, it comes only with fewer steps left than these

@@ -9,11 +9,12 @@ use Rattle.steps.specs.Counter.{Counter}
 use Rattle.calculus.specs.Derivations.Why.{FinishedFrom, Given, ReducedFrom}
 use Rattle.calculus.specs.Search.{Trail}
 use Rattle.calculus.specs.Search.Cause.{Assumed, Decided, Propagated}
-use Rattle.calculus.specs.Worked.{existential, plus}
+use Rattle.calculus.specs.Worked.{existential, minus, plus}
 use Rattle.calculus.specs.WorkedSearch.{alternating, bad, three}
 use Rattle.trail.specs.State.{Account, TrailState}
-use Rattle.trail.specs.declared.allowed.Allowed.TheVariants.{Anything}
-use Rattle.derive.specs.State.{State, with_step}
+use Rattle.trail.specs.declared.allowed.Allowed.TheVariants.{Anything, NoDecision}
+use Rattle.cover.specs.Worked.{lone, mixed, three_scopes}
+use Rattle.derive.specs.State.{Note, State, with_step}
 use Rattle.clean.specs.Turns.{reductions_in}
 use Rattle.watch.specs.Links.{mark_of}
 use Rattle.watch.specs.State.{new_watch}
@@ -23,7 +24,7 @@ use Rattle.search.specs.Changing.{AddsClause, IsRoomy}
 use Rattle.search.specs.Counting.{IsBounded, IsCounted, ReducesFew, size_of}
 use Rattle.search.specs.Finishes.{GainsNoFinish, HasNoFinish, IsFinishId, finishes_in}
 use Rattle.search.specs.Forcing.{HasNoCubes, IsForced}
-use Rattle.search.specs.Moves.{IsDue, IsFound, IsMatrix}
+use Rattle.search.specs.Moves.{IsDue, IsFound, IsInitialCube, IsMatrix}
 use Rattle.search.specs.State.{AreMarked, AreDetached, IsAtRest, SearchState, rows_of}
 use Rattle.search.specs.Stops.{IsQuickStop, IsSpent}
 
@@ -64,11 +65,11 @@ trail_of placed = record {
   allowed = Anything;
 }
 
--- a search over the row 1 2 3, with this trail
-abbrev pub search_over : Quant → List (Option ℕ) → Trail → SearchState
-search_over pivot links placed = record {
-  derivation = three_of pivot links;
-  trail = trail_of placed;
+-- a search with this derivation and this trail
+abbrev pub search_of : State → TrailState → SearchState
+search_of d trail = record {
+  derivation = d;
+  trail = trail;
   clauses = new_watch;
   cubes = new_watch;
   signs = [];
@@ -76,6 +77,10 @@ search_over pivot links placed = record {
   joined = true;
   long = 0;
 }
+
+-- a search over the row 1 2 3, with this trail
+abbrev pub search_over : Quant → List (Option ℕ) → Trail → SearchState
+search_over pivot links placed = search_of (three_of pivot links) (trail_of placed)
 
 -- 1 and 2 are bad, for which 3 is unit
 abbrev pub two_bad : Quant → Trail
@@ -109,6 +114,42 @@ pub record WorkedFinds (pivot : Quant) : Type 0 where
   pub detached_rows : AreDetached (search_over pivot detached [])
   pub attached_row : AreDetached (search_over pivot (attached_to pivot) []) → ⊥
 
+-- a derivation of no steps
+abbrev pub no_steps : State
+no_steps = record { notes = []; rows = Some [] }
+
+-- an input of a side
+abbrev pub given : Quant → Note
+given side = record { side = side; why = Given; tag = 0 }
+
+-- the clauses -1 2 3 and -1 -2 as the steps 0 and 1, and the cube -1 3 as the step 2
+abbrev pub covered : State
+covered =
+    with_step (with_step (with_step no_steps (given Exists) mixed) (given Exists) lone) (given Forall)
+    (minus 1 ∷ plus 3 ∷ [])
+
+-- -1, 2 and 3 are true, and 4 may be
+abbrev pub three_true : Trail → Trail
+three_true rest =
+    record { literal = minus 1; cause = Decided }
+    ∷ record { literal = plus 2; cause = Decided }
+    ∷ record { literal = plus 3; cause = Decided }
+    ∷ rest
+
+abbrev pub all_true : Trail
+all_true = three_true (record { literal = plus 4; cause = Decided } ∷ [])
+
+-- which steps are due under a 1, e 2, e 3 4
+pub record WorkedDue : Type 0 where
+  -- no decision is due where none is allowed, nor where all are assigned
+  pub not_allowed : IsDue three_scopes (search_of no_steps (record (trail_of []) { allowed = NoDecision })) → ⊥
+  pub none_open : IsDue three_scopes (search_of no_steps (trail_of all_true)) → ⊥
+  -- where all are assigned, the cube -1 3 is an initial one, of which 3 is to go; a clause is none
+  pub initial : IsInitialCube three_scopes (search_of covered (trail_of all_true)) 2
+  pub cube_due : IsDue three_scopes (search_of covered (trail_of all_true))
+  pub unassigned : IsInitialCube three_scopes (search_of covered (trail_of (three_true []))) 2 → ⊥
+  pub a_clause : IsInitialCube three_scopes (search_of covered (trail_of all_true)) 1 → ⊥
+
 -- one assignment of three variables, at which the counter stood at 10 when the search began
 abbrev pub once : Quant → Trail
 once pivot = record { literal = bad pivot 1; cause = Assumed } ∷ []
@@ -119,10 +160,6 @@ spent n = record { spent = n; budget = 100 }
 -- what a stop tells of so many variables, after so many assignments
 abbrev pub stopped : ℕ → ℕ → Account
 stopped vars assigned = record { budget = 100; vars = vars; assigned = assigned; restarts = 0 }
-
--- a derivation of no steps
-abbrev pub no_steps : State
-no_steps = record { notes = []; rows = Some [] }
 
 -- e 1
 abbrev pub alone : List Scope

@@ -1,8 +1,9 @@
--- Worked values: which rows are long learned ones, how many of them are attached, which are reasons, and which may be
--- forgotten, with rows of both sides.
+-- Worked values: which rows are long learned ones, how many of them are attached, which are reasons, which may be
+-- forgotten, and what forgetting leaves, with rows of both sides.
 use Rattle.std.specs.Prelude.{◌≡◌, ℕ, true, false, List, [], ◌∷◌, Option, Some}
 use Rattle.prefix.specs.declared.quant.Quant.{Quant}
 use Rattle.prefix.specs.declared.quant.Quant.TheVariants.{Exists, Forall}
+use Rattle.prefix.specs.Scopes.{Scope}
 use Rattle.prefix.specs.Sides.{opposite}
 use Rattle.calculus.specs.Derivations.{Why}
 use Rattle.calculus.specs.Derivations.Why.{Given, ReducedFrom, ResolvedFrom, FinishedFrom}
@@ -12,11 +13,10 @@ use Rattle.calculus.specs.Search.Cause.{Decided, Propagated}
 use Rattle.calculus.specs.Worked.{plus}
 use Rattle.calculus.specs.WorkedSearch.{alternating, bad, three}
 use Rattle.derive.specs.State.{State, with_step}
-use Rattle.watch.specs.State.{new_watch}
-use Rattle.search.specs.Forgetting.{AreLive, HasFewLong, HaveAllReasons, Lets, is_held, is_reason, may_go, without_detached}
+use Rattle.search.specs.Forgetting.{AreLive, Clears, Forgets, HasFewLong, HaveAllReasons, LeavesEnough, Lets, Thins, is_held, is_reason, may_go, without_detached}
 use Rattle.search.specs.Long.{is_kept_long, is_long, long_in}
-use Rattle.search.specs.State.{IsTallied, SearchState, rows_of, with_long}
-use Rattle.search.specs.Worked.{attached_to, detached, trail_of}
+use Rattle.search.specs.State.{IsSearching, IsTallied, SearchState, rows_of, with_long}
+use Rattle.search.specs.Worked.{attached_to, detached, search_of, trail_of}
 
 abbrev pub four : Row
 four = plus 1 ∷ plus 2 ∷ plus 3 ∷ plus 4 ∷ []
@@ -39,16 +39,7 @@ resolvent = ResolvedFrom 7 8 6
 
 -- a search over a row, with this trail
 abbrev pub search_with : Quant → Row → List (Option ℕ) → Trail → SearchState
-search_with side row links placed = record {
-  derivation = one_row side resolvent row links;
-  trail = trail_of placed;
-  clauses = new_watch;
-  cubes = new_watch;
-  signs = [];
-  watched = 0 ∷ [];
-  joined = true;
-  long = 0;
-}
+search_with side row links placed = search_of (one_row side resolvent row links) (trail_of placed)
 
 -- 2 was propagated from a row
 abbrev pub propagated_by : Quant → ℕ → Trail
@@ -103,3 +94,32 @@ pub record WorkedForgetting (side : Quant) : Type 0 where
   -- 512 and one for each of three variables are few
   pub few : HasFewLong (alternating side) (with_long (long_row side []) 515)
   pub many : HasFewLong (alternating side) (with_long (long_row side []) 516) → ⊥
+  -- 256 are enough, and fewer only where there were no more
+  pub enough : LeavesEnough (with_long (long_row side []) 516) (with_long (long_row side []) 256)
+  pub no_more : LeavesEnough (with_long (long_row side []) 255) (with_long (long_row side []) 255)
+  pub not_enough : LeavesEnough (with_long (long_row side []) 516) (with_long (long_row side []) 255) → ⊥
+  -- nothing needs to go; where few are attached nothing needs to be forgotten
+  pub thins_none : (scopes : List Scope) (s : SearchState) → IsSearching scopes s → Thins scopes s s
+  pub clears_none : (scopes : List Scope) (s : SearchState) → IsSearching scopes s → Clears scopes s s
+  pub forgets_none : (scopes : List Scope) (s : SearchState) → IsSearching scopes s → HasFewLong scopes s
+      → Forgets scopes s s
+  -- not with another trail, nor where a reason is detached
+  pub thins_trail : Thins (alternating side) (long_row side []) (long_row side (propagated_by side 7)) → ⊥
+  pub thins_reason : Thins (alternating side) (long_row side (propagated_by side 0))
+      (search_with side four detached (propagated_by side 0)) → ⊥
+  -- not where the list changes, or the count isn't that of the attached rows
+  pub thins_list : Thins (alternating side) (long_row side []) (record (long_row side []) { watched = [] }) → ⊥
+  pub thins_count : Thins (alternating side) (with_long (long_row side []) 1) (long_row side []) → ⊥
+  -- not with another trail or count, nor where any row is detached, or attached
+  pub clears_trail : Clears (alternating side) (long_row side []) (long_row side (propagated_by side 7)) → ⊥
+  pub clears_count : Clears (alternating side) (long_row side []) (with_long (long_row side []) 1) → ⊥
+  pub clears_row : Clears (alternating side) (long_row side []) (search_with side four detached []) → ⊥
+  pub clears_more : Clears (alternating side) (search_with side four detached []) (long_row side []) → ⊥
+  -- not with another trail, nor where a reason is detached, nor where too many are left, or too few
+  pub forgets_trail : Forgets (alternating side) (long_row side []) (long_row side (propagated_by side 7)) → ⊥
+  pub forgets_reason : Forgets (alternating side) (long_row side (propagated_by side 0))
+      (search_with side four detached (propagated_by side 0)) → ⊥
+  pub forgets_too_few : Forgets (alternating side) (with_long (long_row side []) 516)
+      (with_long (long_row side []) 516) → ⊥
+  pub forgets_too_many : Forgets (alternating side) (with_long (long_row side []) 516)
+      (with_long (long_row side []) 255) → ⊥

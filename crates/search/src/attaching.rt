@@ -1,9 +1,9 @@
 //! Rows that are attached to the watches, and detached.
-ghost use Rattle.std.specs.Prelude.{◌≡◌, ◌<◌, ℕ, IsTrue, Contains, length, slice_index, true, false, filter, ◌+◌, ◌-◌, ◌≤◌, if◌then◌else◌};
+ghost use Rattle.std.specs.Prelude.{◌≡◌, ◌<◌, ℕ, IsTrue, Contains, length, slice_index, true, false, filter, ◌+◌, ◌-◌, ◌≤◌, if◌then◌else◌, OnOk};
 ghost use Rattle.derive.specs.State.{has_rows, is_live, next_id, side_at};
 ghost use Rattle.watch.specs.Links.{is_attached};
 ghost use Rattle.clean.specs.Reasons.{IsReducedStep};
-ghost use Rattle.search.specs.State.{IsIntact, IsPaused, IsResting, IsSearching, IsTallied, rows_of, with_long};
+ghost use Rattle.search.specs.State.{IsAttached, IsIntact, IsPaused, IsResting, IsSearching, IsTallied, rows_of, with_long};
 ghost use Rattle.search.specs.Long.{is_long};
 ghost use Rattle.search.specs.Moves.{SameSteps};
 ghost use Rattle.search.specs.Forcing.{HasNoCubes, NoCubeAttached};
@@ -97,6 +97,7 @@ impl Search {
         ensures parts { Parts prefix.now self.old self.new id }
         ensures tallied { IsTallied self.new }
         ensures fewer { self.new.long ≤ self.old.long }
+        ensures one { self.old.long ≤ self.new.long + 1 }
     {
         if self.has(id) {
             self.detach(prefix, id);
@@ -205,7 +206,8 @@ impl Search {
     pub(crate) fn keep(&mut self, prefix: &Prefix, row: StepId) -> Result<(), NoMemory>
         requires searching { IsSearching prefix.now self.old }
         requires reduced { IsReducedStep (side_at self.old.derivation row) prefix.now self.old.derivation row }
-        ensures { Keeps prefix.now self.old self.new }
+        ensures keeps { Keeps prefix.now self.old self.new }
+        ensures kept { OnOk result (IsAttached self.new (side_at self.old.derivation row) row) }
     {
         if self.has(row) {
             return Ok(());

@@ -42,8 +42,8 @@ impl Search {
         Ok(())
     }
 
-    /// Puts in a clause of a frame, with its reduction where something goes; every cube that was learned goes, since it
-    /// may miss the clause. With no memory the steps are as they were.
+    /// Puts in a clause of a frame, with its reduction where something goes; the initial cubes that hold no literal of
+    /// it go, with all that rests on them, and the other cubes stay. With no memory the steps are as they were.
     pub fn add_clause(
         &mut self,
         prefix: &Prefix,

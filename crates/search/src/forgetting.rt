@@ -8,7 +8,7 @@ ghost use Rattle.calculus.specs.Search.{cause_on, place_on};
 ghost use Rattle.calculus.specs.Search.Cause.{Propagated as propagated};
 ghost use Rattle.derive.specs.State.{arena_of, has_rows, is_live, note_at, row_of};
 ghost use Rattle.search.specs.Long.{is_input, is_kept_long, is_learned, is_long, long_in};
-ghost use Rattle.search.specs.Forgetting.{AreLive, Clears, Forgets, HaveAllReasons, Thins, is_from, is_held, is_reason, may_go, reason_of, without_detached};
+ghost use Rattle.search.specs.Forgetting.{AreLive, Clears, Forgets, HaveAllReasons, Thins, is_from, is_held, is_reason, left_long, many_long, may_go, reason_of, without_detached};
 ghost use Rattle.search.specs.State.{IsIntact, IsResting, IsSearching, IsTallied};
 
 use crate::search::Search;
@@ -36,7 +36,8 @@ impl Search {
         self.long
     }
 
-    // Forgets the oldest long learned rows where many are no reasons, and drops steps that none rests on any more.
+    // Forgets the oldest long learned rows where many are no reasons: they are detached, and steps may be dropped. What
+    // else is attached stays so.
     pub(crate) fn forget(&mut self, prefix: &Prefix) -> Result<(), NoMemory>
         requires searching { IsSearching prefix.now self.old }
         ensures ok { OnOk result (Forgets prefix.now self.old self.new) }
@@ -82,11 +83,18 @@ impl Search {
     // The same until so many long learned rows are left, or all of them are reasons.
     fn forget_oldest(&mut self, prefix: &Prefix, most: usize) -> Result<(), NoMemory>
         requires searching { IsSearching prefix.now self.old }
-        requires most { most ≤ 512 + length self.old.trail.placed }
+        requires least { left_long ≤ most }
+        requires more { most ≤ self.old.long }
+        requires most { most ≤ many_long + length self.old.trail.placed }
         ensures ok { OnOk result (Forgets prefix.now self.old self.new) }
         ensures err { OnErr result (self.new ≡ self.old) }
     {
         clauses_are_listed();
+        if self.derivation.next_id() < self.sweep_at {
+            self.thin(prefix, most);
+            self.leave_out();
+            return Ok(());
+        }
         let mut keep = Vec::new(*self.watched.allocator());
         push_reasons(&mut keep, &self.trail, &self.derivation)?;
         keep.reserve(self.watched.len())?;
@@ -100,6 +108,7 @@ impl Search {
     fn thin(&mut self, prefix: &Prefix, most: usize)
         requires { IsSearching prefix.now self.old }
         ensures thins { Thins prefix.now self.old self.new }
+        ensures enough { most ≤ self.old.long → most ≤ self.new.long }
         ensures few { (self.new.long ≤ most) ⊎ (self.new.long ≤ length self.old.trail.placed) }
     {
         for k in 0..self.watched.len() {
@@ -118,6 +127,7 @@ impl Search {
             ⊎ (IsTrue (is_kept_long self.new.derivation (slice_index self.old.watched k)) →
             IsTrue (is_reason self.new (slice_index self.old.watched k))) }
         ensures fewer { self.new.long ≤ self.old.long }
+        ensures enough { most ≤ self.old.long → most ≤ self.new.long }
     {
         let id = self.watched[k];
         if self.long > most && self.may_go(id) {
@@ -142,8 +152,8 @@ impl Search {
         leave_out_detached(&mut self.watched, &mut self.derivation);
     }
 
-    // Drops the steps that are no input clauses and that neither a row to watch nor one of these steps rests on, where
-    // many ids were given since this was done last.
+    // Drops the steps that are no input clauses and that neither a row to watch nor one of these steps rests on. This
+    // is due again once a quarter more ids were given.
     fn clear(&mut self, prefix: &Prefix, keep: &mut Vec<StepId>)
         requires searching { IsSearching prefix.now self.old }
         requires live { AreLive self.old.derivation keep.old.items }
@@ -152,9 +162,6 @@ impl Search {
         ensures { Clears prefix.now self.old self.new }
     {
         let next = self.derivation.next_id();
-        if next < self.sweep_at {
-            return;
-        }
         holding_laws();
         agreeing_laws();
         let _ = keep.extend_from_slice(&self.watched);

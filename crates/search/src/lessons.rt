@@ -61,10 +61,11 @@ impl Search {
             Lesson::End { row } => Ok(Some(EndRow { side, row })),
             Lesson::Learn { row, lit, level } => {
                 if self.is_restart_due(restarts) {
-                    self.start_over(prefix, row)?;
+                    self.begin_anew(prefix, row)?;
                 } else {
-                    self.go_back(prefix, side, row, lit, level, steps)?;
+                    self.backjump(prefix, side, row, lit, level, steps)?;
                 }
+                self.forget(prefix)?;
                 Ok(None)
             }
         }
@@ -82,25 +83,6 @@ impl Search {
         }
         self.lessons_left = LESSONS;
         self.trail.restarts() < u64::from(restarts)
-    }
-
-    // Begins anew with a learned row, and forgets long ones where there are many.
-    fn start_over(&mut self, prefix: &Prefix, row: StepId) -> Result<(), NoMemory>
-        requires searching { IsSearching prefix.now self.old }
-        requires row { IsReducedStep (side_at self.old.derivation row) prefix.now self.old.derivation row }
-        requires below { 0 < last_level self.old.trail.placed }
-        requires small { self.old.trail.restarts + 1 < 2 ^ 64 }
-        ensures ok { OnOk result ((steps : Counter) →
-            Advances prefix.now (lesson_cost (size_of prefix.now)) self.old self.new steps steps) }
-        ensures err { OnErr result ((steps : Counter) →
-            Halts prefix.now (lesson_cost (size_of prefix.now)) self.old self.new steps steps) }
-        ensures reductions { reductions_in self.new.derivation ≤ reductions_in self.old.derivation }
-        ensures restarts { self.new.trail.restarts ≡ self.old.trail.restarts + 1 }
-        ensures long { OnOk result (HasFewLong prefix.now self.new) }
-    {
-        self.begin_anew(prefix, row)?;
-        self.forget(prefix)?;
-        Ok(())
     }
 
     // Undoes to level 0, from where the search begins anew, and keeps a learned row.
@@ -178,34 +160,6 @@ impl Search {
         // The counter is within its budget.
         let _budget = steps.budget();
         lesson
-    }
-
-    // Goes back with a learned row, and forgets long ones where there are many.
-    fn go_back(
-        &mut self,
-        prefix: &Prefix,
-        side: Quant,
-        row: StepId,
-        lit: Lit,
-        level: usize,
-        steps: &mut Steps,
-    ) -> Result<(), Stop>
-        requires searching { IsSearching prefix.now self.old }
-        requires row { IsReducedStep side prefix.now self.old.derivation row }
-        requires unit { MakesUnitAt side prefix.now self.old.trail.placed (row_of self.old.derivation row) lit level }
-        ensures ok { OnOk result (Advances prefix.now (lesson_cost (size_of prefix.now)) self.old self.new
-            steps.old steps.new) }
-        ensures err { OnErr result (Halts prefix.now (lesson_cost (size_of prefix.now)) self.old self.new
-            steps.old steps.new) }
-        ensures spent { result ≡ Err spent → steps.new.spent ≡ steps.new.budget }
-        ensures due { result ≡ Err spent → WasDue prefix.now self.old self.new }
-        ensures reductions { reductions_in self.new.derivation ≤ reductions_in self.old.derivation }
-        ensures restarts { self.new.trail.restarts ≡ self.old.trail.restarts }
-        ensures long { OnOk result (HasFewLong prefix.now self.new) }
-    {
-        self.backjump(prefix, side, row, lit, level, steps)?;
-        self.forget(prefix)?;
-        Ok(())
     }
 
     // Undoes to the level of a learned row, keeps the row, and assigns the literal in which it is unit then.

@@ -15,4 +15,6 @@ mod worked;
 pub use changing::resting_grows;
 pub use outcome::{Outcome, SolveStop};
 pub use search::Search;
-pub use worked::{worked_counts, worked_finds, worked_finishes, worked_forgetting, worked_stops};
+pub use worked::{
+    worked_counts, worked_dues, worked_finds, worked_finishes, worked_forgetting, worked_stops,
+};

@@ -43,11 +43,13 @@ impl Search {
     /// variables.
     ///
     /// Where more than 512 long learned rows are no reasons, which it looks for at its start and after each lesson, the
-    /// oldest are forgotten until 256 are left, with the steps that nothing kept rests on. With an outcome at most
-    /// 513 of them and one for each variable are kept.
+    /// oldest of these are forgotten until 256 of them are left. Steps that nothing kept rests on are dropped then, or
+    /// at a later such time, once a quarter more ids were given. With an outcome at most 513 long learned rows and one
+    /// for each variable are kept.
     ///
     /// Spent comes only where a step is due and the budget is spent, which with as many steps left as suffice for the
-    /// variables is never so. After it and after want of memory the search is at rest, with the same open clauses.
+    /// variables and the restarts is never so. After it and after want of memory the search is at rest, with the same
+    /// open clauses.
     pub fn solve(
         &mut self,
         prefix: &Prefix,
@@ -61,7 +63,8 @@ impl Search {
         requires outer { AreOuter prefix.now assumptions.now }
         requires ascending { IsAscending (variables_in assumptions.now) }
         ensures outcome { IfOk result (IsOutcome prefix.now matrix.now assumptions.now self.new.derivation) }
-        ensures stop { IfErr result (IsStop restarts prefix.now self.old.derivation assumptions.now steps.old steps.new) }
+        ensures stop { IfErr result
+            (IsStop restarts prefix.now self.old.derivation assumptions.now steps.old steps.new) }
         ensures quick { HasNoCubes self.old → IsRefuted prefix.now matrix.now assumptions.now →
             IfErr result (IsQuickStop (size_of prefix.now) steps.old) }
         ensures resting { IsResting prefix.now self.new }
@@ -80,8 +83,7 @@ impl Search {
             Ok(end) => self.conclude(prefix, matrix, end, assumptions),
             Err(Stop::Spent) => Err(SolveStop::Spent(self.stop(prefix, steps))),
             Err(Stop::NoMemory) => {
-                self.settle(prefix);
-                self.drop_finish(prefix);
+                self.give_up(prefix);
                 Err(SolveStop::NoMemory)
             }
         }

@@ -1,11 +1,16 @@
 //! Worked values of the definitions, each proved.
 ghost use Rattle.prefix.specs.declared.quant.Quant.{Quant};
 ghost use Rattle.search.specs.WorkedForgetting.{WorkedForgetting};
-ghost use Rattle.search.specs.Worked.{WorkedCounts, WorkedFinds, WorkedFinishes, WorkedStops};
+ghost use Rattle.search.specs.Worked.{WorkedCounts, WorkedDue, WorkedFinds, WorkedFinishes, WorkedStops};
 
 /// What is found and due, for rows of either side.
 pub fn worked_finds()
     ensures { (pivot : Quant) → WorkedFinds pivot }
+{}
+
+/// When a decision is due, and the reduction of an initial cube.
+pub fn worked_dues()
+    ensures { WorkedDue }
 {}
 
 /// Counted steps, matrices and room.
@@ -23,7 +28,8 @@ pub fn worked_stops()
     ensures { WorkedStops }
 {}
 
-/// Which rows are long learned ones, how many are attached, and which may be forgotten, for rows of either side.
+/// Which rows are long learned ones, how many are attached, which may be forgotten, and what forgetting leaves, for
+/// rows of either side.
 pub fn worked_forgetting()
     ensures { (side : Quant) → WorkedForgetting side }
 {}

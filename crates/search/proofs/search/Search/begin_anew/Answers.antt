@@ -1,53 +1,45 @@
-use Rattle.std.proofs.Common.{ap, subst, ◌∙◌}
+use Rattle.std.proofs.Common.{◌≡◌, List, subst}
 use Rattle.clean.proofs.Rounds.{on_err}
+use Rattle.prefix.specs.Scopes.{Scope}
 use Rattle.decide.specs.Memory.{Memory}
 use Rattle.search.specs.State.{SearchState}
 use Rattle.search.specs.Moves.{BeginsAnew}
-use Rattle.search.proofs.Following.{advances_anew, halts_anew, restarts_anew}
+use Rattle.search.specs.contracts.search.Search.{the_view}
+use Rattle.search.proofs.Following.{advances_anew, bumped_same, halts_anew, restarts_anew}
 use Rattle.search.proofs.search.Search.begin_anew.Goals as goal
 
-began : (c : goal.In_ok-keep) → BeginsAnew c.args.prefix.now c.args.self.now c.restart.new.self
-began c =
-    let same = ap (λ (signs : Memory). record {
-      derivation = c.self.inside.derivation;
-      trail = c.self.inside.trail;
-      clauses = c.self.inside.clauses;
-      cubes = c.self.inside.cubes;
-      signs = signs;
-      watched = c.self.inside.watched.items;
-      joined = c.self.inside.joined;
-      long = c.self.inside.long;
-    })
-    c.bump.ensures ∙ c.self.view_is in
-    subst (λ (s : SearchState). BeginsAnew c.args.prefix.now s c.restart.new.self) same c.restart.ensures
-
-began_err : (c : goal.After-from_residual) → BeginsAnew c.args.prefix.now c.args.self.now c.restart.new.self
-began_err c =
-    let same = ap (λ (signs : Memory). record {
-      derivation = c.self.inside.derivation;
-      trail = c.self.inside.trail;
-      clauses = c.self.inside.clauses;
-      cubes = c.self.inside.cubes;
-      signs = signs;
-      watched = c.self.inside.watched.items;
-      joined = c.self.inside.joined;
-      long = c.self.inside.long;
-    })
-    c.bump.ensures ∙ c.self.view_is in
-    subst (λ (s : SearchState). BeginsAnew c.args.prefix.now s c.restart.new.self) same c.restart.ensures
+began : (scopes : List Scope) (s old new : SearchState) (signs : Memory) → signs ≡ s.signs → s ≡ old
+    → BeginsAnew scopes (record s { signs = signs }) new → BeginsAnew scopes old new
+began scopes s old new signs same view h =
+    subst (λ (t : SearchState). BeginsAnew scopes t new) (bumped_same s old signs same view) h
 
 pub returns-clause-ok : goal.returns-clause-ok
-returns-clause-ok c = λ steps. advances_anew c.args.prefix.now c.args.self.now c.restart.new.self c.keep.new.self steps
-    (began c) c.keep.ensures c.requires.small
+returns-clause-ok c = λ steps.
+    advances_anew c.args.prefix.now c.args.self.now c.restart.new.self c.keep.new.self steps
+    (began c.args.prefix.now (the_view c.self.inside) c.args.self.now c.restart.new.self _ c.bump.ensures c.self.view_is
+    c.restart.ensures)
+    c.keep.ensures.keeps c.requires.small
 
 pub returns-in_err-keep-clause-err : goal.returns-in_err-keep-clause-err
-returns-in_err-keep-clause-err c = on_err c.from_residual.result (λ steps. halts_anew c.args.prefix.now c.args.self.now
-    c.restart.new.self c.keep.new.self steps (began_err c) c.keep.ensures)
+returns-in_err-keep-clause-err c =
+    on_err c.from_residual.result (λ steps.
+    halts_anew c.args.prefix.now c.args.self.now c.restart.new.self c.keep.new.self steps
+    (began c.args.prefix.now (the_view c.self.inside) c.args.self.now c.restart.new.self _ c.bump.ensures c.self.view_is
+    c.restart.ensures)
+    c.keep.ensures.keeps)
 
 pub returns-clause-restarts : goal.returns-clause-restarts
-returns-clause-restarts c = restarts_anew c.args.prefix.now c.args.self.now c.restart.new.self c.keep.new.self
-    (record { spent = 0; budget = 0 }) (began c) c.keep.ensures c.requires.small
+returns-clause-restarts c =
+    restarts_anew c.args.prefix.now c.args.self.now c.restart.new.self c.keep.new.self
+    (record { spent = 0; budget = 0 })
+    (began c.args.prefix.now (the_view c.self.inside) c.args.self.now c.restart.new.self _ c.bump.ensures c.self.view_is
+    c.restart.ensures)
+    c.keep.ensures.keeps c.requires.small
 
 pub returns-in_err-keep-clause-restarts : goal.returns-in_err-keep-clause-restarts
-returns-in_err-keep-clause-restarts c = restarts_anew c.args.prefix.now c.args.self.now c.restart.new.self
-    c.keep.new.self (record { spent = 0; budget = 0 }) (began_err c) c.keep.ensures c.requires.small
+returns-in_err-keep-clause-restarts c =
+    restarts_anew c.args.prefix.now c.args.self.now c.restart.new.self c.keep.new.self
+    (record { spent = 0; budget = 0 })
+    (began c.args.prefix.now (the_view c.self.inside) c.args.self.now c.restart.new.self _ c.bump.ensures c.self.view_is
+    c.restart.ensures)
+    c.keep.ensures.keeps c.requires.small

@@ -1,10 +1,12 @@
-use Rattle.std.proofs.Common.{◌≡◌, ◌∙◌, sym, subst}
-use Rattle.derive.specs.State.{side_at}
+use Rattle.std.proofs.Common.{◌≡◌, ◌∙◌, ap, sym, subst}
+use Rattle.derive.specs.State.{side_at, side_in}
 use Rattle.clean.specs.Reasons.{IsReducedStep}
-use Rattle.search.specs.State.{IsSearching, SearchState}
+use Rattle.search.specs.State.{IsAttached, IsSearching, SearchState}
 use Rattle.search.specs.Watching.{Keeps}
 use Rattle.search.specs.contracts.search.Search.{the_view}
+use Rattle.search.proofs.Joining.{attached_own}
 use Rattle.search.proofs.Listing.{intact_more, keeps_more}
+use Rattle.search.proofs.Marks.{note_same}
 use Rattle.search.proofs.search.Search.keep.Goals as goal
 
 pub join-requires-clause-intact : goal.join-requires-clause-intact
@@ -16,8 +18,19 @@ join-requires-clause-intact c =
     (side_at t.derivation c.args.row) c.args.prefix.now t.derivation c.args.row) (sym is) c.requires.reduced)
     (subst (IsSearching c.args.prefix.now) (sym is) c.requires.searching).paused.intact
 
-pub returns : goal.returns
-returns c =
+pub returns-clause-kept : goal.returns-clause-kept
+returns-clause-kept c =
+    let s = the_view c.self.inside in
+    let is : s ≡ c.args.self.now = c.self.view_is ∙ c.has.ensures.same in
+    let joins = c.join.ensures.joins in
+    let side : side_at c.join.new.self.derivation c.args.row ≡ side_at s.derivation c.args.row =
+    ap side_in (note_same s.derivation c.join.new.self.derivation joins.steps c.args.row) in
+    subst (λ (t : SearchState). IsAttached c.join.new.self (side_at t.derivation c.args.row) c.args.row) is
+    (subst (λ q. IsAttached c.join.new.self q c.args.row) side
+    (attached_own c.args.prefix.now c.join.new.self c.args.row joins.intact joins.here))
+
+pub returns-clause-keeps : goal.returns-clause-keeps
+returns-clause-keeps c =
     let s = the_view c.self.inside in
     let is : s ≡ c.args.self.now = c.self.view_is ∙ c.has.ensures.same in
     subst (λ (t : SearchState). Keeps c.args.prefix.now t c.join.new.self) is

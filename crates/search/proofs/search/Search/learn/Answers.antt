@@ -4,30 +4,12 @@ use Rattle.steps.specs.declared.stop.Stop.TheVariants.{Spent as spent}
 use Rattle.analyse.specs.declared.lesson.Lesson.{Lesson}
 use Rattle.analyse.specs.Lessons.{IsLesson}
 use Rattle.clean.proofs.Rounds.{on_err}
-use Rattle.search.specs.Moves.{Analyses}
-use Rattle.search.specs.State.{SearchState}
-use Rattle.search.proofs.Following.{advances_later, due_later, ends_analysed, halts_later}
+use Rattle.search.specs.Counting.{lesson_cost, size_of}
+use Rattle.search.specs.Moves.{Advances, Analyses}
+use Rattle.search.specs.State.{IsSearching, SearchState}
+use Rattle.search.proofs.Following.{advances_at, advances_forgot, advances_later, due_later, ends_analysed, halts_advanced, halts_later}
 use Rattle.search.proofs.search.Search.learn.Goals as goal
-
-pub returns-in_err-go_back-in-Learn-clause-due : goal.returns-in_err-go_back-in-Learn-clause-due
-returns-in_err-go_back-in-Learn-clause-due c = λ is.
-    let p = err_from_is_err_and c.from_residual-in_err-go_back-in-Learn.result
-    c.from_residual-in_err-go_back-in-Learn.ensures.1 in
-    let same : c.in_err-go_back-in-Learn.field-0.0 ≡ spent = (let g = sym p.1 ∙ is in cc) in
-    due_later c.args.prefix.now c.args.self.now c.is_restart_due.new.self c.go_back.new.self c.args.steps.now
-    c.analysed.new.steps c.go_back.new.steps
-    (subst (λ (s : SearchState). Analyses c.args.prefix.now c.args.self.now s c.args.steps.now c.analysed.new.steps)
-    (sym c.is_restart_due.ensures.same) c.in_ok-row.ensures.ok)
-    (c.in_err-go_back-in-Learn.ensures.due (ap Err same))
-
-pub returns-in_err-start_over-in-Learn-clause-err : goal.returns-in_err-start_over-in-Learn-clause-err
-returns-in_err-start_over-in-Learn-clause-err c =
-    on_err c.from_residual-in_err-start_over-in-Learn.result
-    (halts_later c.args.prefix.now c.args.self.now c.is_restart_due.new.self c.start_over.new.self c.args.steps.now
-    c.analysed.new.steps c.analysed.new.steps
-    (subst (λ (s : SearchState). Analyses c.args.prefix.now c.args.self.now s c.args.steps.now c.analysed.new.steps)
-    (sym c.is_restart_due.ensures.same) c.in_ok-row.ensures.ok)
-    (c.in_err-start_over-in-Learn.ensures.err c.analysed.new.steps))
+use Rattle.search.proofs.search.Search.learn.Goals.{then-is_restart_due+in_ok-begin_anew-in-Learn, else-is_restart_due+in_ok-backjump-in-Learn}
 
 pub returns-in-End-clause-end : goal.returns-in-End-clause-end
 returns-in-End-clause-end c =
@@ -36,18 +18,73 @@ returns-in-End-clause-end c =
     ends_analysed c.args.prefix.now c.args.self.now c.analysed.new.self c.args.steps.now c.analysed.new.steps
     c.args.side c.in-End.row c.in_ok-row.ensures.ok lesson.0 lesson.1
 
-pub returns-in_ok-go_back-in-Learn-clause-go : goal.returns-in_ok-go_back-in-Learn-clause-go
-returns-in_ok-go_back-in-Learn-clause-go c = λ is.
-    advances_later c.args.prefix.now c.args.self.now c.is_restart_due.new.self c.go_back.new.self c.args.steps.now
-    c.analysed.new.steps c.go_back.new.steps
-    (subst (λ (s : SearchState). Analyses c.args.prefix.now c.args.self.now s c.args.steps.now c.analysed.new.steps)
-    (sym c.is_restart_due.ensures.same) c.in_ok-row.ensures.ok)
-    c.in_ok-go_back-in-Learn.ensures.ok
-
-pub returns-in_ok-start_over-in-Learn-clause-go : goal.returns-in_ok-start_over-in-Learn-clause-go
-returns-in_ok-start_over-in-Learn-clause-go c = λ is.
-    advances_later c.args.prefix.now c.args.self.now c.is_restart_due.new.self c.start_over.new.self c.args.steps.now
+pub returns-in_err-begin_anew-in-Learn-clause-err : goal.returns-in_err-begin_anew-in-Learn-clause-err
+returns-in_err-begin_anew-in-Learn-clause-err c =
+    on_err c.from_residual-in_err-begin_anew-in-Learn.result
+    (halts_later c.args.prefix.now c.args.self.now c.is_restart_due.new.self c.begin_anew.new.self c.args.steps.now
     c.analysed.new.steps c.analysed.new.steps
     (subst (λ (s : SearchState). Analyses c.args.prefix.now c.args.self.now s c.args.steps.now c.analysed.new.steps)
     (sym c.is_restart_due.ensures.same) c.in_ok-row.ensures.ok)
-    (c.in_ok-start_over-in-Learn.ensures.ok c.analysed.new.steps)
+    (c.in_err-begin_anew-in-Learn.ensures.err c.analysed.new.steps))
+
+pub returns-in_err-backjump-in-Learn-clause-due : goal.returns-in_err-backjump-in-Learn-clause-due
+returns-in_err-backjump-in-Learn-clause-due c = λ is.
+    let p = err_from_is_err_and c.from_residual-in_err-backjump-in-Learn.result
+    c.from_residual-in_err-backjump-in-Learn.ensures.1 in
+    let same : c.in_err-backjump-in-Learn.field-0.0 ≡ spent = (let g = sym p.1 ∙ is in cc) in
+    due_later c.args.prefix.now c.args.self.now c.is_restart_due.new.self c.backjump.new.self c.args.steps.now
+    c.analysed.new.steps c.backjump.new.steps
+    (subst (λ (s : SearchState). Analyses c.args.prefix.now c.args.self.now s c.args.steps.now c.analysed.new.steps)
+    (sym c.is_restart_due.ensures.same) c.in_ok-row.ensures.ok)
+    (c.in_err-backjump-in-Learn.ensures.due (ap Err same))
+
+pub forget-requires : goal.forget-requires
+forget-requires c = record {
+  searching = elim c.if-is_restart_due.branch [
+    | then-is_restart_due+in_ok-begin_anew-in-Learn w ↦ subst (IsSearching c.args.prefix.now) (sym w.self-is)
+        (w.in_ok-begin_anew-in-Learn.ensures.ok c.analysed.new.steps).searching
+    | else-is_restart_due+in_ok-backjump-in-Learn w ↦ subst (IsSearching c.args.prefix.now) (sym w.self-is)
+        w.in_ok-backjump-in-Learn.ensures.ok.searching
+  ];
+}
+
+pub returns-in_err-forget-in-Learn-clause-err : goal.returns-in_err-forget-in-Learn-clause-err
+returns-in_err-forget-in-Learn-clause-err c =
+    let cost = lesson_cost (size_of c.args.prefix.now) in
+    let went : Advances c.args.prefix.now cost c.is_restart_due.new.self c.if-is_restart_due.self c.analysed.new.steps
+    c.if-is_restart_due.steps = elim c.if-is_restart_due.branch [
+      | then-is_restart_due+in_ok-begin_anew-in-Learn w ↦ advances_at c.args.prefix.now cost
+          c.is_restart_due.new.self w.begin_anew.new.self c.if-is_restart_due.self c.analysed.new.steps
+          c.analysed.new.steps c.if-is_restart_due.steps w.self-is w.steps-is
+          (w.in_ok-begin_anew-in-Learn.ensures.ok c.analysed.new.steps)
+      | else-is_restart_due+in_ok-backjump-in-Learn w ↦ advances_at c.args.prefix.now cost
+          c.is_restart_due.new.self w.backjump.new.self c.if-is_restart_due.self c.analysed.new.steps
+          w.backjump.new.steps c.if-is_restart_due.steps w.self-is w.steps-is w.in_ok-backjump-in-Learn.ensures.ok
+    ] in
+    on_err c.from_residual-in_err-forget-in-Learn.result
+    (halts_later c.args.prefix.now c.args.self.now c.is_restart_due.new.self c.forget.new.self c.args.steps.now
+    c.analysed.new.steps c.if-is_restart_due.steps
+    (subst (λ (s : SearchState). Analyses c.args.prefix.now c.args.self.now s c.args.steps.now c.analysed.new.steps)
+    (sym c.is_restart_due.ensures.same) c.in_ok-row.ensures.ok)
+    (halts_advanced c.args.prefix.now cost c.is_restart_due.new.self c.if-is_restart_due.self c.forget.new.self
+    c.analysed.new.steps c.if-is_restart_due.steps went c.in_err-forget-in-Learn.ensures.err))
+
+pub returns-in_ok-forget-in-Learn-clause-go : goal.returns-in_ok-forget-in-Learn-clause-go
+returns-in_ok-forget-in-Learn-clause-go c = λ is.
+    let cost = lesson_cost (size_of c.args.prefix.now) in
+    let went : Advances c.args.prefix.now cost c.is_restart_due.new.self c.if-is_restart_due.self c.analysed.new.steps
+    c.if-is_restart_due.steps = elim c.if-is_restart_due.branch [
+      | then-is_restart_due+in_ok-begin_anew-in-Learn w ↦ advances_at c.args.prefix.now cost
+          c.is_restart_due.new.self w.begin_anew.new.self c.if-is_restart_due.self c.analysed.new.steps
+          c.analysed.new.steps c.if-is_restart_due.steps w.self-is w.steps-is
+          (w.in_ok-begin_anew-in-Learn.ensures.ok c.analysed.new.steps)
+      | else-is_restart_due+in_ok-backjump-in-Learn w ↦ advances_at c.args.prefix.now cost
+          c.is_restart_due.new.self w.backjump.new.self c.if-is_restart_due.self c.analysed.new.steps
+          w.backjump.new.steps c.if-is_restart_due.steps w.self-is w.steps-is w.in_ok-backjump-in-Learn.ensures.ok
+    ] in
+    advances_later c.args.prefix.now c.args.self.now c.is_restart_due.new.self c.forget.new.self c.args.steps.now
+    c.analysed.new.steps c.if-is_restart_due.steps
+    (subst (λ (s : SearchState). Analyses c.args.prefix.now c.args.self.now s c.args.steps.now c.analysed.new.steps)
+    (sym c.is_restart_due.ensures.same) c.in_ok-row.ensures.ok)
+    (advances_forgot c.args.prefix.now cost c.is_restart_due.new.self c.if-is_restart_due.self c.forget.new.self
+    c.analysed.new.steps c.if-is_restart_due.steps went c.in_ok-forget-in-Learn.ensures.ok)

@@ -11,7 +11,8 @@ returns-in_default-clause-go c = λ is.
     advances_covered c.args.prefix.now c.args.self.now c.solution.new.self c.learn.new.self c.args.steps.now
     c.solution.new.steps c.learn.new.steps
     (covers_moved c.args.prefix.now _ c.args.self.now c.solution.new.self c.args.steps.now c.solution.new.steps
-    (ap (λ (s : SearchState). clauses_of s.derivation) c.self.view_is) (ap (λ (s : SearchState). s.trail) c.self.view_is)
+    (ap (λ (s : SearchState). clauses_of s.derivation) c.self.view_is)
+    (ap (λ (s : SearchState). s.trail) c.self.view_is)
     c.in_ok-cube.ensures.ok)
     (c.learn.ensures.go is)
 
@@ -21,7 +22,8 @@ returns-in_default-clause-end c =
     (λ e. ends_covered c.args.prefix.now c.args.self.now c.solution.new.self c.learn.new.self c.args.steps.now
     c.solution.new.steps c.learn.new.steps
     (covers_moved c.args.prefix.now _ c.args.self.now c.solution.new.self c.args.steps.now c.solution.new.steps
-    (ap (λ (s : SearchState). clauses_of s.derivation) c.self.view_is) (ap (λ (s : SearchState). s.trail) c.self.view_is)
+    (ap (λ (s : SearchState). clauses_of s.derivation) c.self.view_is)
+    (ap (λ (s : SearchState). s.trail) c.self.view_is)
     c.in_ok-cube.ensures.ok)
     e.side e.row)
     c.learn.ensures.end
@@ -32,7 +34,8 @@ returns-in_default-clause-err c =
     (halts_covered c.args.prefix.now c.args.self.now c.solution.new.self c.learn.new.self c.args.steps.now
     c.solution.new.steps c.learn.new.steps
     (covers_moved c.args.prefix.now _ c.args.self.now c.solution.new.self c.args.steps.now c.solution.new.steps
-    (ap (λ (s : SearchState). clauses_of s.derivation) c.self.view_is) (ap (λ (s : SearchState). s.trail) c.self.view_is)
+    (ap (λ (s : SearchState). clauses_of s.derivation) c.self.view_is)
+    (ap (λ (s : SearchState). s.trail) c.self.view_is)
     c.in_ok-cube.ensures.ok))
     c.learn.ensures.err
 
@@ -47,6 +50,7 @@ returns-in_default-clause-due c = λ is.
 pub returns-in_err-decide-clause-due : goal.returns-in_err-decide-clause-due
 returns-in_err-decide-clause-due c = λ is.
     due_decision c.args.prefix.now c.args.self.now c.decide.new.self c.in-Some.lit.variable c.requires.searching
+    c.requires.allowed
     (subst (λ (s : SearchState). IsDecision c.args.prefix.now s.trail.placed c.in-Some.lit.variable) c.self.view_is
     c.in-Some.ensures.decision)
     (ap (λ (s : SearchState). s.trail.assigned) c.in_err-decide.ensures.same

@@ -4,6 +4,7 @@ use Rattle.prefix.specs.declared.quant.Quant.{Quant}
 use Rattle.calculus.specs.Rows.{Row, reduce}
 use Rattle.calculus.specs.Search.{IsBadRow, value_on}
 use Rattle.truth.specs.Matrix.{clause_true}
+use Rattle.trail.specs.Open.{AreAssigned}
 use Rattle.derive.specs.State.{OpenClause, State, clauses_of, row_of, side_at, why_in}
 use Rattle.search.specs.State.{IsSearching, SearchState}
 use Rattle.search.proofs.Covering.{bad_reduced, quiet_true}
@@ -143,6 +144,8 @@ returns-clause-due c = λ is.
       assigned = refl;
       due = cube c.in_ok-cube.cube
           (record {
+            assigned = subst (λ (s : SearchState). AreAssigned c.args.prefix.now s.trail.placed) (sym c.self.view_is)
+                c.requires.assigned;
             step = step.step;
             of_side = step.has_side;
             why = ap why_in covers.adds.there;

@@ -17,8 +17,9 @@ pub returns-in-Err-Spent-clause-stop : goal.returns-in-Err-Spent-clause-stop
 returns-in-Err-Spent-clause-stop c =
     let is = c.in-Err-Spent.is ∙ ap Err c.in-Err-Spent.field-0-is in
     let e = c.run.ensures in
-    is_spent c.args.restarts c.args.prefix.now c.args.self.now.derivation c.args.assumptions.now c.args.steps.now c.run.new.steps
-    c.run.new.self.trail c.stop.result e.restarts e.paused.intact.trail (e.spent is) e.budget
+    is_spent c.args.restarts c.args.prefix.now c.args.self.now.derivation c.args.assumptions.now
+    c.args.steps.now c.run.new.steps c.run.new.self.trail c.stop.result e.restarts e.paused.intact.trail (e.spent is)
+    e.budget
     (due_first c.args.prefix.now c.args.self.now.derivation c.start.new.self.derivation c.args.assumptions.now
     c.args.steps.now c.run.new.self.trail.assigned c.start.ensures.clauses (e.due is))
     e.bounded

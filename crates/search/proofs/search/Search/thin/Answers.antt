@@ -9,10 +9,13 @@ loop-k-init c = thinned_none c.args.prefix.now c.args.self.now c.args.most c.req
 pub loop-k-preserved : goal.loop-k-preserved
 loop-k-preserved c =
     thinned_more c.args.prefix.now _ c.loop-k.self c.thin_at.new.self c.loop-k.k c.args.most c.loop-k.invariant
-    c.thin_at.ensures.thins c.thin_at.ensures.fewer c.thin_at.ensures.seen
+    c.thin_at.ensures.thins c.thin_at.ensures.fewer c.thin_at.ensures.enough c.thin_at.ensures.seen
 
 pub returns-clause-thins : goal.returns-clause-thins
 returns-clause-thins c = c.loop-k.invariant.thins
+
+pub returns-clause-enough : goal.returns-clause-enough
+returns-clause-enough c = c.loop-k.invariant.enough
 
 pub returns-clause-few : goal.returns-clause-few
 returns-clause-few c =
