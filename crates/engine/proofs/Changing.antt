@@ -15,7 +15,7 @@ use Rattle.calculus.specs.Derivations.{Extends, Inference, Step}
 use Rattle.calculus.specs.DerivationTheorems.{PrefixesGrow}
 use Rattle.calculus.specs.Rows.{Row}
 use Rattle.calculus.specs.Verdicts.{IsEndRow, finished, proof_of, relevant_of}
-use Rattle.calculus.proofs.Lists.{among_at, among_from}
+use Rattle.calculus.proofs.Lists.{among_at, among_from, contains_nil}
 use Rattle.clauses.specs.Clause.{as_row, is_tautology}
 use Rattle.derive.specs.State.{Note, Notes, OpenClause, State, clauses_of, is_finish, is_live, may_be_antecedent, note_at, note_in, row_of, side_at, side_in, why_at, why_in}
 use Rattle.frames.specs.declared.refusal.FrameRefusal.{FrameRefusal}
@@ -31,6 +31,7 @@ use Rattle.search.specs.Long.{long_in}
 use Rattle.search.specs.Moves.{SameSteps}
 use Rattle.search.specs.State.{HasRoom, IsResting, SearchState}
 use Rattle.search.proofs.Reducing.{steps_same}
+use Rattle.search.proofs.Tallying.{tally_none}
 use Rattle.engine.specs.declared.counts.Counts.{Counts}
 use Rattle.engine.specs.declared.verdict.Held.{Held}
 use Rattle.engine.specs.declared.verdict.Verdict.{Verdict}
@@ -370,7 +371,17 @@ module _ (f new : OpenFormula) (lits : List ℤ) (old : SearchState) (tied : Are
       (row_added f old s (as_row lits) tied (subst (λ (g : OpenFormula). IsResting g.scopes s) e resting)
       (subst (λ n. AddsClause n (as_row lits) (clauses_of old.derivation) (clauses_of s.derivation)) at adds))
 
--- with fewer long learned rows
+-- long learned rows
+
+-- none is attached where no row is to be watched
+pub none_long : (s : SearchState) → IsResting [] s → s.watched ≡ [] → s.long ≡ 0
+none_long s resting none =
+    let watched = resting.intact.watched in
+    resting.tallied ∙ tally_none s.derivation (λ id. ⊎_elim (λ u. u)
+    (λ a. absurd (contains_nil id (subst (λ ids. Contains ids id) none (watched.listed a.0 id a.1))))
+    (watched.marked id))
+
+-- with fewer of them
 pub fewer_long : (v : Option Held) (d e : State) (n : ℕ) → long_in e ≤ long_in d
     → IfSome v (λ _. long_in d ≤ 513 + n) → IfSome v (λ _. long_in e ≤ 513 + n)
 fewer_long None d e n fewer few = tt

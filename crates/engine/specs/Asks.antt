@@ -11,10 +11,9 @@ use Rattle.calculus.specs.Limits.{gate_weight}
 use Rattle.calculus.specs.Plays.{DependsOnEarlier, FollowsProof, KeepsInputs, Wins, first_of_two, literals_of, played}
 use Rattle.calculus.specs.Rows.{Assignment, Row, bad_choice, literal_over, variables_in}
 use Rattle.calculus.specs.Verdicts.{AreOuter, IsProof}
-use Rattle.derive.specs.State.{IsLegalFor, State, open_clauses, row_of, why_at}
+use Rattle.derive.specs.State.{State, row_of, why_at}
 use Rattle.frames.specs.State.{OpenFormula, clauses_in}
 use Rattle.qrp_trace.specs.Cores.{end_row_in}
-use Rattle.search.specs.Long.{long_in}
 use Rattle.aig.specs.declared.edge.Node.TheVariants.{Constant}
 use Rattle.aig.specs.declared.strategy.Strategy.{Strategy}
 use Rattle.aig.specs.Strategies.{output_of, output_vars, values_of as circuit_values}
@@ -33,13 +32,6 @@ IfAnswered verdict result P = IfSome verdict (λ v. IfOk result (P v))
 -- the truth with the step that the proof ends in
 abbrev pub verdict_of : VerdictState → Verdict
 verdict_of v = record { truth = v.truth; end = v.end }
-
--- so many long learned rows are attached in a legal derivation of the formula's clauses
-pub record HasSoManyLong (formula : OpenFormula) (n : ℕ) : Type 0 where
-  pub derivation : State
-  pub clauses : open_clauses derivation ≡ clauses_in formula.frames
-  pub legal : IsLegalFor formula.scopes derivation
-  pub long : n ≡ long_in derivation
 
 -- what holds of the verdict of a formula: it is the truth under its assumptions, which are of the first scope and
 -- ascend by variable, and it has a proof, whose last row is that of its end

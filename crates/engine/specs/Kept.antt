@@ -76,6 +76,7 @@ pub record IsEngine (formula : OpenFormula) (s : SearchState) (verdict : Option 
   pub held : IfSome verdict (IsHeld formula s.derivation)
   pub finishes : HasFinishesOf verdict s.derivation
   pub cubes : counts.solves ≡ 0 → HasNoCubes s
-  pub reductions : reductions_in s.derivation < removal_bound counts.clauses counts.solves counts.budget counts.restarts counts.vars
+  pub reductions : reductions_in s.derivation <
+      removal_bound counts.clauses counts.solves counts.budget counts.restarts counts.vars
   pub variables : IfSome verdict (λ _. size_of formula.scopes ≤ counts.vars)
   pub long : IfSome verdict (λ _. long_in s.derivation ≤ 513 + size_of formula.scopes)

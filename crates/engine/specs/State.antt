@@ -17,16 +17,17 @@ pub record VerdictState : Type 0 where
   pub end : ℕ
   pub row : Row
 
--- the open formula with its assumptions, the verdict where no change came after it, the counts, and how often a solve
--- may begin anew
+-- the open formula with its assumptions, the verdict where no change came after it, the counts, how often a solve may
+-- begin anew, and how many long learned rows are attached
 pub record EngineState : Type 0 where
   pub formula : OpenFormula
   pub verdict : Option VerdictState
   pub counts : Counts
   pub restarts : ℕ
+  pub kept_long : ℕ
 
 abbrev pub new_engine : EngineState
-new_engine = record { formula = empty_formula; verdict = None; counts = no_counts; restarts = 0 }
+new_engine = record { formula = empty_formula; verdict = None; counts = no_counts; restarts = 0; kept_long = 0 }
 
 -- an engine after an accepted change of its formula: there is no verdict
 abbrev pub changed : EngineState → Command → EngineState

@@ -10,17 +10,16 @@ use Rattle.derive.specs.State.{Note, State}
 use Rattle.clean.specs.Turns.{reductions_in}
 use Rattle.frames.specs.Commands.{Push}
 use Rattle.frames.specs.Fold.{state_of}
-use Rattle.frames.specs.State.{Frame, OpenFormula, empty_formula, popped}
+use Rattle.frames.specs.State.{Frame, OpenFormula, popped}
 use Rattle.frames.specs.Worked.{framed as framed_commands}
 use Rattle.qrp_trace.specs.Cores.{proof_at}
 use Rattle.qrp_trace.specs.Worked.{clause, derived, stored}
 use Rattle.search.specs.Finishes.{finishes_in}
 use Rattle.engine.specs.declared.counts.Counts.{Counts}
 use Rattle.engine.specs.declared.verdict.Verdict.{Verdict}
-use Rattle.engine.specs.Asks.{HasSoManyLong}
 use Rattle.engine.specs.Counting.{one_more, with_clause, with_solve}
 use Rattle.engine.specs.Kept.{framed, framed_as}
-use Rattle.engine.specs.State.{EngineState, changed}
+use Rattle.engine.specs.State.{EngineState, changed, new_engine}
 use Rattle.engine.specs.Verdicts.{HasProof, told}
 
 abbrev pub some_counts : Counts
@@ -48,13 +47,14 @@ finished_proof =
     ∷ record { row = plus 1 ∷ []; reason = One (plus 1 ∷ plus 2 ∷ []) }
     ∷ []
 
--- an engine with a verdict
+-- an engine with a verdict, and with long learned rows
 abbrev pub decided : EngineState
 decided = record {
   formula = (state_of framed_commands).formula;
   verdict = Some (told derived (record { verdict = record { truth = false; end = 6 }; assumed = []; relevant = [] }));
   counts = some_counts;
   restarts = 0;
+  kept_long = 3;
 }
 
 pub record WorkedEngines : Type 0 where
@@ -80,7 +80,8 @@ pub record WorkedEngines : Type 0 where
   pub removals : removals_of finished_proof ≡ 1
   pub finishes : finishes_in (finished_with clause) ≡ 1
   pub reductions : reductions_in (finished_with clause) ≡ 0
-  -- where there are no clauses, there is a derivation without long learned rows
-  pub none_long : HasSoManyLong empty_formula 0
+  -- no long learned row is attached at first; a change leaves those that are
+  pub none_long : new_engine.kept_long ≡ 0
+  pub some_long : (changed decided Push).kept_long ≡ 3
   -- no verdict, no proof
   pub none : (formula : OpenFormula) (verdict : Verdict) → HasProof formula verdict None → ⊥

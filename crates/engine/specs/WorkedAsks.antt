@@ -63,7 +63,8 @@ satisfied_under = verdict_with true (minus 1 ∷ plus 2 ∷ []) (record { row = 
 
 -- an engine with a formula, and with a verdict or none
 abbrev pub engine_of : OpenFormula → Option VerdictState → EngineState
-engine_of formula verdict = record { formula = formula; verdict = verdict; counts = some_counts; restarts = 0 }
+engine_of formula verdict =
+    record { formula = formula; verdict = verdict; counts = some_counts; restarts = 0; kept_long = 0 }
 
 -- a verdict that is held with its assumptions, none of which matters
 abbrev pub held_under : Bool → List Literal → ℕ → Held

@@ -13,8 +13,9 @@ ghost use Rattle.frames.specs.State.{clauses_in};
 ghost use Rattle.qrp_trace.specs.Cores.{IsNumbered, inferences_of, proof_at};
 ghost use Rattle.search.specs.Counting.{size_of};
 ghost use Rattle.search.specs.Finishes.{finishes_in};
+ghost use Rattle.search.specs.Long.{long_in};
 ghost use Rattle.aig.specs.Strategies.{IsStrategy};
-ghost use Rattle.engine.specs.Asks.{Decides, HasSoManyLong, IfAnswered, IsCertificateOf, IsVerdictOf, PlaysFirst, end_row_of, first_value, first_values, removed_value, values_of, verdict_of};
+ghost use Rattle.engine.specs.Asks.{Decides, IfAnswered, IsCertificateOf, IsVerdictOf, PlaysFirst, end_row_of, first_value, first_values, removed_value, values_of, verdict_of};
 ghost use Rattle.engine.specs.Refusals.{ask_refusal, value_refusal, winner_of, is_outermost};
 
 use crate::engine::Engine;
@@ -56,24 +57,27 @@ impl Engine {
     /// proof is made of its steps. This takes no memory.
     ///
     /// Of its live steps at most `c + k * (min(N, limit(n)) + 1) + 1` are reductions and finishes: with c clauses
-    /// accepted and k solves so far, however these ended, N their greatest budget, n their greatest number of
-    /// variables, and `limit(n) = (8n + 8) * 2^(n + 1)`. A count that came to 2^64 - 1 stays there.
+    /// accepted and k solves so far, however these ended; N, R and n the greatest budget, number of restarts and number
+    /// of variables of these; and `limit(n) = (R + 1) * (8n + 8) * 2^(n + 1)`. A count that came to 2^64 - 1 stays
+    /// there.
     pub fn derivation(&self) -> &Derivation
         ensures clauses { open_clauses result.now ≡ clauses_in self.now.formula.frames }
         ensures legal { IsLegalFor self.now.formula.scopes result.now }
         ensures proof { IfSome self.now.verdict (λ v. v.proof ≡ proof_at result.now v.assumptions v.end) }
         ensures few { reductions_in result.now + finishes_in result.now ≤ removal_bound self.now.counts.clauses
             self.now.counts.solves self.now.counts.budget self.now.counts.restarts self.now.counts.vars }
+        ensures long { long_in result.now ≡ self.now.kept_long }
         ensures rows { IsTrue (has_rows result.now) }
     {
         self.search.derivation()
     }
 
     /// How many long learned rows are attached: rows with more than three literals that are neither an input clause nor
-    /// the reduction of one. With a verdict these are at most 513, and one for each variable. This takes no memory and
+    /// the reduction of one. With a verdict these are at most 513, and one for each variable. After an accepted clause,
+    /// a pop, or want of memory in `clause`, none may be attached until the next solve. This takes no memory and
     /// constant time.
     pub fn kept_long(&self) -> usize
-        ensures value { HasSoManyLong self.now.formula result }
+        ensures value { result ≡ self.now.kept_long }
         ensures few { IfSome self.now.verdict (λ _. result ≤ 513 + size_of self.now.formula.scopes) }
     {
         self.search.kept_long()
@@ -135,17 +139,18 @@ impl Engine {
         }
     }
 
-    /// The steps of the last verdict's proof, numbered. Those that remove literals, reductions and a finish, are no more
-    /// than `derivation` says. Refused, in this order, with NoVerdict and with NoMemory. It takes time in proportion to
-    /// the ids from the oldest step of the proof to its end, and to the proof's literals.
+    /// The steps of the last verdict's proof, numbered. Those that remove literals, reductions and a finish, are no
+    /// more than `derivation` says. Refused, in this order, with NoVerdict and with NoMemory. It takes time in
+    /// proportion to the ids from the oldest step of the proof to its end, and to the proof's literals.
     pub fn trace_core(&self) -> Result<Core, AskRefusal>
         ensures refused { MatchOption (ask_refusal self.now) (IsOkUnless result AskRefusal.NoMemory)
             (λ e. result ≡ Err e) }
         ensures winner { IfAnswered self.now.verdict result (λ v core. core.winner ≡ winner_of v.truth) }
         ensures list { IfAnswered self.now.verdict result (λ v core. inferences_of core.lines ≡ v.proof) }
         ensures numbered { IfOk result (λ core. IsNumbered core.lines) }
-        ensures few { IfOk result (λ core. removals_of (inferences_of core.lines) ≤ removal_bound
-            self.now.counts.clauses self.now.counts.solves self.now.counts.budget self.now.counts.restarts self.now.counts.vars) }
+        ensures few { IfOk result (λ core. removals_of (inferences_of core.lines) ≤
+            removal_bound self.now.counts.clauses self.now.counts.solves self.now.counts.budget
+            self.now.counts.restarts self.now.counts.vars) }
         ensures verdict { IfSome self.now.verdict (IsVerdictOf self.now.formula) }
     {
         let _facts = self.verdict();
@@ -156,8 +161,8 @@ impl Engine {
     }
 
     /// The circuit of the last verdict's proof, by which the winner wins: a certificate of the verdict under its
-    /// assumptions. It has at most `n * (n + 1)` gates, with the n of `derivation`, for each of the steps that this bounds.
-    /// Refused, in this order, with NoVerdict and with NoMemory. It takes the time of `trace_core`, and of
+    /// assumptions. It has at most `n * (n + 1)` gates, with the n of `derivation`, for each of the steps that this
+    /// bounds. Refused, in this order, with NoVerdict and with NoMemory. It takes the time of `trace_core`, and of
     /// `extract::extract` for that core.
     pub fn certificate(&self) -> Result<Strategy, AskRefusal>
         ensures refused { MatchOption (ask_refusal self.now) (IsOkUnless result AskRefusal.NoMemory)

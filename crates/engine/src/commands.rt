@@ -1,5 +1,5 @@
 //! Commands that change the formula.
-ghost use Rattle.std.specs.Prelude.{◌≡◌, IsOk, OnOk, OnErr, IsOkUnless, MatchOption};
+ghost use Rattle.std.specs.Prelude.{◌≡◌, ◌≢◌, ◌≤◌, IsOk, IfErr, OnOk, OnErr, IsOkUnless, MatchOption};
 ghost use Rattle.frames.specs.Commands.{AddClause, AddScope, AddVariable, Assume, Pop, Push, refusal_of};
 ghost use Rattle.engine.specs.Counting.{with_clause};
 ghost use Rattle.engine.specs.State.{changed};
@@ -54,14 +54,18 @@ impl Engine {
     /// Puts a clause into the top frame, given by signed numbers as QDIMACS 1.1 writes literals.
     ///
     /// Refused, in this order, with UnknownVar where a number's variable isn't in the prefix, with Limit where the
-    /// clause is no tautology and goes beyond `Frames::MAX_CLAUSES` or `Frames::MAX_LITERALS`, and with NoMemory.
+    /// clause is no tautology and goes beyond `Frames::MAX_CLAUSES` or `Frames::MAX_LITERALS`, and with NoMemory. After
+    /// want of memory rows may be detached until the next solve, and all else is as it was.
     pub fn clause(&mut self, lits: &[i64]) -> Result<(), FrameRefusal>
         ensures ok { OnOk result (self.new ≡ record (changed self.old (AddClause lits.now)) {
           counts = with_clause self.old.counts;
+          kept_long = self.new.kept_long;
         }) }
         ensures refused { MatchOption (refusal_of self.old.formula (AddClause lits.now))
             (IsOkUnless result FrameRefusal.NoMemory) (λ e. result ≡ Err e) }
-        ensures err { OnErr result (self.new ≡ self.old) }
+        ensures stays { IfErr result (λ e. e ≢ FrameRefusal.NoMemory → self.new ≡ self.old) }
+        ensures err { OnErr result (self.new ≡ record self.old { kept_long = self.new.kept_long }) }
+        ensures fewer { OnErr result (self.new.kept_long ≤ self.old.kept_long) }
     {
         put_clause(&mut self.frames, &mut self.search, lits)?;
         forget_outcome(&mut self.search, &self.frames);
@@ -86,7 +90,7 @@ impl Engine {
     /// Drops the top pushed frame with its clauses, and all that was learned from them. Refused with NoFrame where no
     /// pushed frame is open; it takes no memory.
     pub fn pop(&mut self) -> Result<(), FrameRefusal>
-        ensures ok { OnOk result (self.new ≡ changed self.old Pop) }
+        ensures ok { OnOk result (self.new ≡ record (changed self.old Pop) { kept_long = self.new.kept_long }) }
         ensures refused { MatchOption (refusal_of self.old.formula Pop) (IsOk result) (λ e. result ≡ Err e) }
         ensures err { OnErr result (self.new ≡ self.old) }
     {

@@ -2,8 +2,8 @@
 ghost use Rattle.std.specs.Prelude.{◌≡◌};
 ghost use Rattle.engine.specs.Counting.{no_counts, with_clause, with_solve};
 
-// The accepted clauses and the solves so far, however these ended, and the greatest budget, the greatest number of restarts
-// and the greatest number of variables at a solve. A count at its greatest value stays.
+// The accepted clauses and the solves so far, however these ended, and the greatest budget, the greatest number of
+// restarts and the greatest number of variables at a solve. A count at its greatest value stays.
 #[derive(Clone, Copy, Debug)]
 pub(crate) struct Counts {
     pub clauses: u64,

@@ -50,6 +50,7 @@ impl Model for Engine {
       verdict = option_map (told e.search.derivation) e.verdict;
       counts = e.counts;
       restarts = e.restarts;
+      kept_long = e.search.long;
     } };
 
     ghost invariant = { λ e. IsEngine e.frames.formula e.search e.verdict e.counts };
@@ -78,8 +79,8 @@ impl Engine {
         self.frames.prefix()
     }
 
-    /// How often a solve may begin anew, after each 64th of its lessons; before the first call never. This is no change:
-    /// a verdict stays.
+    /// How often a solve may begin anew, after each 64th of its lessons; before the first call never. This is no
+    /// change: a verdict stays.
     pub fn set_restarts(&mut self, restarts: u32)
         ensures { self.new ≡ record self.old { restarts = restarts } }
     {
@@ -90,9 +91,9 @@ impl Engine {
     /// change, and a solve that stops is one.
     ///
     /// Spent comes only where a step is due and the budget is spent, which with as many steps left as suffice for the
-    /// variables is never so; at the first solve, where propagation from the assumptions refutes the clauses, only with
-    /// fewer than `2 * n * (n + 3)` steps left, n being the number of variables. After it and after want of memory the
-    /// formula and the assumptions are as before, and there is no verdict.
+    /// variables and the restarts is never so; at the first solve, where propagation from the assumptions refutes the
+    /// clauses, only with fewer than `2 * n * (n + 3)` steps left, n being the number of variables. After it and after
+    /// want of memory the formula and the assumptions are as before, and there is no verdict.
     pub fn solve(&mut self, steps: &mut Steps) -> Result<Verdict, SolveStop>
         ensures truth { IfOk result (λ v. v.truth
             ≡ truth_under self.old.formula.assumptions self.old.formula.scopes (clauses_in self.old.formula.frames)) }

@@ -1,5 +1,5 @@
 //! Frames and a search that belong together.
-ghost use Rattle.std.specs.Prelude.{◌≡◌, ◌≤◌, ◌<◌, ◌+◌, ◌-◌, ◌^◌, ◌==◌, ℕ, ◌++◌, ◌∷◌, [], not, filter, length, List, IfOk, IfErr, OnOk, OnErr, IsOkUnless, MatchOption};
+ghost use Rattle.std.specs.Prelude.{◌≡◌, ◌≢◌, ◌≤◌, ◌<◌, ◌+◌, ◌-◌, ◌^◌, ◌==◌, ℕ, ◌++◌, ◌∷◌, [], not, filter, length, List, IfOk, IfErr, OnOk, OnErr, IsOkUnless, MatchOption};
 ghost use Rattle.steps.specs.Counter.{step_limit};
 ghost use Rattle.calculus.specs.Rows.{Row};
 ghost use Rattle.calculus.specs.Search.{IsRefuted};
@@ -31,6 +31,7 @@ pub(crate) fn forget_outcome(search: &mut Search, frames: &Frames)
     ensures cubes { HasNoCubes search.old → HasNoCubes search.new }
     ensures reductions { reductions_in search.new.derivation ≡ reductions_in search.old.derivation }
     ensures fit { reductions_in search.new.derivation < 2 ^ 64 }
+    ensures long { search.new.long ≡ search.old.long }
 {
     search.drop_finish(frames.prefix());
     // Ids are fewer than 2 ^ 64.
@@ -79,7 +80,8 @@ pub(crate) fn decide(
     })
 }
 
-// Puts a clause into the frames, and its row into the search. With no memory the formula and the steps stay.
+// Puts a clause into the frames, and its row into the search. With no memory the formula and the steps stay; where the
+// clause is refused, all does.
 pub(crate) fn put_clause(
     frames: &mut Frames,
     search: &mut Search,
@@ -90,8 +92,9 @@ pub(crate) fn put_clause(
     ensures refused { MatchOption (refusal_of frames.old.formula (AddClause lits.now))
         (IsOkUnless result FrameRefusal.NoMemory) (λ e. result ≡ Err e) }
     ensures err { OnErr result (frames.new.formula ≡ frames.old.formula) }
+    ensures stays { IfErr result (λ e. e ≢ FrameRefusal.NoMemory → search.new ≡ search.old) }
     ensures same { OnErr result (SameSteps search.old.derivation search.new.derivation) }
-    ensures fewer { OnErr result (long_in search.new.derivation ≤ long_in search.old.derivation) }
+    ensures fewer { OnErr result (search.new.long ≤ search.old.long) }
     ensures tied { AreTied frames.new.formula search.new }
     ensures cubes { HasNoCubes search.old → HasNoCubes search.new }
     ensures reductions { reductions_in search.new.derivation ≤ reductions_in search.old.derivation + 1 }

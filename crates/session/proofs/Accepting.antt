@@ -135,9 +135,10 @@ pub record HasChanged (change : FrameCommand) (before e : EngineState) : Type 0 
   pub restarts : e.restarts ≡ before.restarts
   pub most_restarts : e.counts.restarts ≡ before.counts.restarts
 
-pub has_changed : (change : FrameCommand) (before e : EngineState) → e ≡ changed before change
+pub has_changed : (change : FrameCommand) (before e : EngineState) (long : ℕ)
+    → e ≡ record (changed before change) { kept_long = long }
     → clauses_after before.counts.clauses change ≡ before.counts.clauses → HasChanged change before e
-has_changed change before e same none_more = record {
+has_changed change before e long same none_more = record {
   formula = ap (λ (f : EngineState). f.formula) same;
   verdict = ap (λ (f : EngineState). f.verdict) same;
   clauses = let count = ap (λ (f : EngineState). f.counts.clauses) same in omega (arith, count, none_more);
@@ -149,7 +150,10 @@ has_changed change before e same none_more = record {
 }
 
 pub has_clause : (clause : List ℤ) (before e : EngineState)
-    → e ≡ record (changed before (AddClause clause)) { counts = with_clause before.counts }
+    → e ≡ record (changed before (AddClause clause)) {
+      counts = with_clause before.counts;
+      kept_long = e.kept_long;
+    }
     → HasChanged (AddClause clause) before e
 has_clause clause before e same = record {
   formula = ap (λ (f : EngineState). f.formula) same;
@@ -163,6 +167,22 @@ has_clause clause before e same = record {
   restarts = ap (λ (f : EngineState). f.restarts) same;
   most_restarts = ap (λ (f : EngineState). f.counts.restarts) same;
 }
+
+-- what is held of an engine is held of one with another number of long learned rows
+pub held_again : (terms : Terms) (s : Standing) (before e : EngineState) (long : ℕ) → Holds terms before s
+    → e ≡ record before { kept_long = long } → Holds terms e s
+held_again terms s before e long holds same = subst (λ f. Holds terms f s) (sym same) (record {
+  formula = holds.formula;
+  verdict = holds.verdict;
+  proof = holds.proof;
+  values = holds.values;
+  clauses = holds.clauses;
+  solves = holds.solves;
+  budgets = holds.budgets;
+  restarts = holds.restarts;
+  most_restarts = holds.most_restarts;
+  variables = holds.variables;
+})
 
 module _ {S : Type 0} (written flushed : S → Option (List ℕ)) (faults : S → ℕ) (has_room : S → ℕ → Type 0)
     (terms : Terms) (command : Command) (change : FrameCommand) (s : Standing) (before e : EngineState)
@@ -234,27 +254,27 @@ module _ {S : Type 0} (written flushed : S → Option (List ℕ)) (faults : S �
         holds_next none leaves,
       ))
 
-  wants : (old new : S) (result : Result Reply SessionStop) → e ≡ before → result ≡ Err NoMemory → new ≡ old
+  wants : (old new : S) (result : Result Reply SessionStop) → Holds terms e s → result ≡ Err NoMemory → new ≡ old
       → Goal old new result
   wants old new result kept is same =
       subst (Goal old new) (sym is) (subst (λ n. Goal old n (Err NoMemory)) (sym same) (
         nothing written flushed faults has_room old,
-        subst (λ t. Holds terms e t) (sym left) (subst (λ f. Holds terms f s) (sym kept) holds),
+        subst (λ t. Holds terms e t) (sym left) kept,
       ))
 
   refused : (old new : S) (result : Result Reply SessionStop) (x : FrameRefusal) (n : ℕ)
-      → refusal_of before.formula change ≡ Some x → number_of x ≡ Some n → e ≡ before
+      → refusal_of before.formula change ≡ Some x → number_of x ≡ Some n → Holds terms e s
       → Refuses written flushed faults has_room (number_of x) old new result → Goal old new result
   refused old new result x n some numbers kept refuses =
       stepped written flushed faults has_room terms command s s old new e (Refused n) (refused_text n) result
       (subst (λ m. IsReplyWith m terms s command (says (refused_text n)) s)
-      (sym (number_is (Some x) some ∙ numbers)) (refl, refl)) refl (subst (λ f. Holds terms f s) (sym kept) holds)
+      (sym (number_is (Some x) some ∙ numbers)) (refl, refl)) refl kept
       (subst (λ m. Refuses written flushed faults has_room m old new result) numbers refuses)
 
   pub accepts : (P : Type 0) (r : Result (Unit {0}) FrameRefusal) (old new : S) (result : Result Reply SessionStop)
       → OnOk r (HasChanged change before e)
       → MatchOption (refusal_of before.formula change) P (λ x. r ≡ Err x)
-      → (P → (x : FrameRefusal) → r ≡ Err x → x ≡ NoSpace) → OnErr r (e ≡ before)
+      → (P → (x : FrameRefusal) → r ≡ Err x → x ≡ NoSpace) → OnErr r (Holds terms e s)
       → MatchResult r (λ u. (result ≡ Ok Silent) × (new ≡ old))
       (λ x. Refuses written flushed faults has_room (number_of x) old new result) → Goal old new result
   accepts P (Ok u) old new result ok refusal only err answer = by (refusal_of before.formula change) refl refusal

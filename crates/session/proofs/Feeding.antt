@@ -128,7 +128,7 @@ module _ (scopes : List Scope) (clauses : List (List Literal)) (valid : IsPrefix
       ap (λ f. refusal_of f (AddClause ns)) holds.formula ∙ ap (λ m. refusal_of (formula_with scopes (take i clauses)) (AddClause m)) as_numbers
       ∙ clause_taken scopes (take i clauses) row valid this_over (omega (arith, long, low, count)) (omega (arith, before, few))
 
-  pub clause_fed : (old new : EngineState) → HoldsFormula scopes (take i clauses) old → new ≡ record (changed old (AddClause ns)) { counts = with_clause old.counts } → HoldsFormula scopes (take (i + 1) clauses) new
+  pub clause_fed : (old new : EngineState) → HoldsFormula scopes (take i clauses) old → new ≡ record (changed old (AddClause ns)) { counts = with_clause old.counts; kept_long = new.kept_long } → HoldsFormula scopes (take (i + 1) clauses) new
   clause_fed old new holds is_new = record {
     formula = ap (λ (e : EngineState). e.formula) is_new ∙ ap (λ f. formula_after f (AddClause ns)) holds.formula ∙ ap (λ m. formula_after (formula_with scopes (take i clauses)) (AddClause m)) as_numbers
         ∙ clause_given scopes (take i clauses) row valid this_over ∙ ap (λ rows. formula_with scopes rows) (ap (λ r. take i clauses ++ r ∷ []) is ∙ sym (take_more clauses i row low));

@@ -174,9 +174,8 @@ pub record Decides (s : Standing) (out : Output) (after : Standing) : Type 0 whe
   pub state : after.script ≡ state_after s.script (Decide (Verdict truth))
 
 -- Without a verdict the budget is below the step limit of the formula's variables, for a search that may begin anew so
--- often, and a search over these stopped at
--- it. At the first solve, where propagation refutes the clauses from the assumptions, the budget is below the limit of
--- propagation.
+-- often, and a search over these stopped at it. At the first solve, where propagation refutes the clauses from the
+-- assumptions, the budget is below the limit of propagation.
 pub record GivesUp (terms : Terms) (s : Standing) (out : Output) (after : Standing) : Type 0 where
   pub stopped : Account
   pub short : terms.budget < step_limit terms.restarts (size_of s.script.formula.scopes)

@@ -49,10 +49,12 @@ pub record WorkedAnswers : Type 0 where
   pub not_told : IsStopAt (terms_of 36 0) 2 (record { budget = 36; vars = 2; assigned = 0; restarts = 0 }) → ⊥
   pub restarted : IsStopAt (terms_of 36 1) 2 (record at_thirty_six { restarts = 1 })
   pub not_restarted : IsStopAt (terms_of 36 0) 2 (record at_thirty_six { restarts = 1 }) → ⊥
+  pub not_as_before : IsStopAt (with_restarts 0 (terms_of 36 1)) 2 (record at_thirty_six { restarts = 1 }) → ⊥
   -- with one restart twice as many steps suffice
   pub twice : IsAnswerTo (terms_of 384 1) (differs Forall Exists) Unknown → ⊥
   -- the greatest number of restarts stays
   pub fewer_restarts : with_restarts 2 (terms_of 9 7) ≡ record { budget = 9; restarts = 2; greatest = 7 }
+  pub more_restarts : with_restarts 9 (terms_of 5 7) ≡ record { budget = 5; restarts = 9; greatest = 9 }
   -- an entry where the answer is unknown alone
   pub entry : AddsEntry (IsStopAt (terms_of 36 0) 2) [] (at_thirty_six ∷ []) Unknown
   pub no_entry : AddsEntry (IsStopAt (terms_of 36 0) 2) [] (at_thirty_six ∷ []) Unsat → ⊥
@@ -99,6 +101,8 @@ pub record WorkedReplies : Type 0 where
   pub not_sat : (after : Standing) → Decides contradiction (says (codes "SAT\n")) after → ⊥
   -- with enough steps for its variables a solve doesn't give up
   pub short : (out : Output) (after : Standing) → GivesUp (terms_of 16 0) contradiction out after → ⊥
+  pub short_again : (out : Output) (after : Standing)
+      → GivesUp (with_restarts 0 (terms_of 16 1)) contradiction out after → ⊥
   -- an empty script ends well
   pub empty : IsScriptEnding (codes "p qscript 1\n") (Done 0)
   pub not_refused : IsScriptEnding (codes "p qscript 1\n") (Refused 30 1) → ⊥

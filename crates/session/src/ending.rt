@@ -14,8 +14,8 @@ use steps::NoMemory;
 pub enum Job {
     /// Whether the formula is true.
     Solve,
-    /// The same as a solution line, with the values of the outermost variables where their quantifier wins (QDIMACS 1.1,
-    /// output format).
+    /// The same as a solution line, with the values of the outermost variables where their quantifier wins (QDIMACS
+    /// 1.1, output format).
     Qdo,
     /// The trace of the verdict's proof, as QRP.
     Trace,

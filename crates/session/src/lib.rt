@@ -1,8 +1,8 @@
 //! Files of formulas, decided, and scripts of commands, replied to.
 //!
-//! A formula is read, fed to an engine and solved. `specs/Solve` says what the answer to a text is, `specs/Jobs` what is
-//! written for it, and `specs/Stops` what is told of a search that stopped. `specs/Replies` says what the commands of a
-//! script may reply, `specs/Scripts` what the work on a script comes to.
+//! A formula is read, fed to an engine and solved. `specs/Terms` says on what terms, `specs/Solve` what the answer to a
+//! text is, `specs/Jobs` what is written for it, and `specs/Stops` what is told of a search that stopped.
+//! `specs/Replies` says what the commands of a script may reply, `specs/Scripts` what the work on a script comes to.
 #![tactic(auto)]
 
 mod answer;

@@ -27,7 +27,8 @@ pub enum Reply {
 /// Why a command has no reply.
 #[derive(Debug, Drop)]
 pub enum SessionStop {
-    /// The reply couldn't be written; a front of it is. Where it was `UNKNOWN`, with what the search that stopped tells.
+    /// The reply couldn't be written; a front of it is. Where it was `UNKNOWN`, with what the search that stopped
+    /// tells.
     WriteFault(Option<Stopped>),
     /// There is no memory. Nothing is written; a solve leaves the formula and the assumptions, and no verdict, and any
     /// other command all as it was.

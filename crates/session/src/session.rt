@@ -42,8 +42,8 @@ impl Model for Session {
 }
 
 impl Session {
-    /// A session of no commands, in which each solve takes at most so many steps, and never begins anew. This takes no
-    /// memory.
+    /// A session of no commands, in which each solve takes at most so many steps, and never begins anew until
+    /// `set_restarts` allows it. This takes no memory.
     pub fn new(alloc: Global, budget: u64) -> Result<Self, NoMemory>
         ensures made { IsOk result }
         ensures terms { IfOk result (λ s. s.terms ≡ terms_of budget 0) }

@@ -1,5 +1,4 @@
-use Rattle.std.proofs.Common.{◌≡◌, [], Some, None, refl}
-use Rattle.derive.proofs.Legality.{legal_none}
+use Rattle.std.proofs.Common.{◌≡◌, Some, None, refl}
 use Rattle.engine.specs.State.{VerdictState}
 use Rattle.engine.proofs.worked.worked_engines.Goals as goal
 
@@ -23,11 +22,7 @@ returns c = record {
   removals = refl;
   finishes = refl;
   reductions = refl;
-  none_long = record {
-    derivation = record { notes = []; rows = Some [] };
-    clauses = refl;
-    legal = legal_none [] [] (Some []) refl;
-    long = refl;
-  };
+  none_long = refl;
+  some_long = refl;
   none = λ f v p. apart p.state p.there;
 }

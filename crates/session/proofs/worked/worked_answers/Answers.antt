@@ -17,8 +17,10 @@ returns c = record {
   not_told = λ s. absurd (let low : 36 < 24 = s.few in omega (arith, low));
   restarted = record { budget = refl; vars = refl; few = lit< tt; restarts = omega arith };
   not_restarted = λ s. absurd (let low : 1 ≤ 0 = s.restarts in omega (arith, low));
+  not_as_before = λ s. absurd (let low : 1 ≤ 0 = s.restarts in omega (arith, low));
   twice = λ s. absurd (let low : 384 < 384 = s.limit in omega (arith, low));
   fewer_restarts = refl;
+  more_restarts = refl;
   entry = (at_thirty_six, refl, record { budget = refl; vars = refl; few = lit< tt; restarts = omega arith });
   no_entry = none_given;
 }

@@ -43,6 +43,7 @@ returns c = record {
   not_sat = λ after d. absurd (let t : false ≡ d.truth = d.right in
       let line : codes "SAT\n" ≡ codes "UNSAT\n" = ap (λ o. o.text) (rw (← t) at d.says_truth) in cc);
   short = λ out after g. absurd (let low : 16 < 16 = g.short in omega (arith, low));
+  short_again = λ out after g. absurd (let low : 16 < 16 = g.short in omega (arith, low));
   empty = empty_script;
   not_refused = λ r. empty_ends r;
 }

@@ -1,11 +1,13 @@
-use Rattle.std.proofs.Common.{◌∙◌, ap, ap₂, sym, Option}
+use Rattle.std.proofs.Common.{◌≤◌, ◌∙◌, ap, ap₂, arith, subst, sym, Option, option_map}
 use Rattle.std.proofs.lemmas.Result.{err_from_is_err_and}
 use Rattle.clean.specs.Turns.{reductions_in}
 use Rattle.frames.specs.State.{OpenFormula}
 use Rattle.search.specs.Counting.{size_of}
 use Rattle.search.proofs.Reducing.{reductions_same}
 use Rattle.engine.specs.declared.counts.Counts.{Counts}
-use Rattle.engine.specs.State.{VerdictState}
+use Rattle.search.specs.State.{SearchState}
+use Rattle.engine.specs.State.{EngineState, VerdictState}
+use Rattle.engine.specs.Verdicts.{told}
 use Rattle.engine.proofs.Bounding.{clause_counted}
 use Rattle.engine.proofs.Changing.{fewer_long, finishes_kept, held_kept, verdict_kept}
 use Rattle.engine.proofs.engine.Engine.clause.Goals as goal
@@ -23,9 +25,13 @@ invariant_of-self c =
       reductions = rw (reductions_same c.self.inside.search.derivation c.put_clause.new.search.derivation e.same)
           c.self.invariant.reductions;
       variables = rw e.err c.self.invariant.variables;
-      long = rw e.err (fewer_long c.self.inside.verdict c.self.inside.search.derivation
-          c.put_clause.new.search.derivation (size_of c.self.inside.frames.formula.scopes) e.fewer
-          c.self.invariant.long);
+      long =
+          let now = c.put_clause.ensures.tied.resting.tallied in
+          let before = c.self.invariant.tied.resting.tallied in
+          let fewer = e.fewer in
+          rw e.err (fewer_long c.self.inside.verdict c.self.inside.search.derivation
+          c.put_clause.new.search.derivation (size_of c.self.inside.frames.formula.scopes)
+          (omega (arith, fewer, now, before)) c.self.invariant.long);
     }
 
 pub returns-in_err-put_clause-clause-err : goal.returns-in_err-put_clause-clause-err
@@ -34,9 +40,37 @@ returns-in_err-put_clause-clause-err c =
     let e = c.in_err-put_clause.ensures in
     rw h.1
     (ap₂ (λ (f : OpenFormula) (v : Option VerdictState).
-    record { formula = f; verdict = v; counts = c.self.inside.counts; restarts = c.self.inside.restarts })
+    record {
+      formula = f;
+      verdict = v;
+      counts = c.self.inside.counts;
+      restarts = c.self.inside.restarts;
+      kept_long = c.put_clause.new.search.long;
+    })
     e.err (verdict_kept c.self.inside.search.derivation c.put_clause.new.search.derivation e.same
-    c.self.inside.verdict) ∙ c.self.view_is)
+    c.self.inside.verdict)
+    ∙ ap (λ (x : EngineState). record x { kept_long = c.put_clause.new.search.long }) c.self.view_is)
+
+pub returns-in_err-put_clause-clause-stays : goal.returns-in_err-put_clause-clause-stays
+returns-in_err-put_clause-clause-stays c =
+    let h = err_from_is_err_and c.from_residual.result c.from_residual.ensures.1 in
+    let e = c.in_err-put_clause.ensures in
+    rw (h.1, h.2) (λ other.
+    ap₂ (λ (f : OpenFormula) (s : SearchState).
+    record {
+      formula = f;
+      verdict = option_map (told s.derivation) c.self.inside.verdict;
+      counts = c.self.inside.counts;
+      restarts = c.self.inside.restarts;
+      kept_long = s.long;
+    })
+    e.err (e.stays other) ∙ c.self.view_is)
+
+pub returns-in_err-put_clause-clause-fewer : goal.returns-in_err-put_clause-clause-fewer
+returns-in_err-put_clause-clause-fewer c =
+    let h = err_from_is_err_and c.from_residual.result c.from_residual.ensures.1 in
+    rw h.1 (subst (λ (x : EngineState). c.put_clause.new.search.long ≤ x.kept_long) c.self.view_is
+    c.in_err-put_clause.ensures.fewer)
 
 pub invariant_of-self-2 : goal.invariant_of-self-2
 invariant_of-self-2 c = record {

@@ -1,7 +1,8 @@
-use Rattle.std.proofs.Common.{ap, arith, ◌∙◌}
+use Rattle.std.proofs.Common.{ap, arith, sym, ◌∙◌}
 use Rattle.derive.specs.State.{open_clauses}
 use Rattle.engine.specs.State.{EngineState}
 use Rattle.frames.specs.State.{clauses_in}
+use Rattle.search.specs.Long.{long_in}
 use Rattle.engine.proofs.Bounding.{finishes_few}
 use Rattle.engine.proofs.Framing.{same_rows}
 use Rattle.engine.proofs.engine.Engine.derivation.Goals as goal
@@ -18,3 +19,8 @@ returns-clause-few c =
     let few = c.self.invariant.reductions in
     let one = finishes_few c.self.inside.verdict d c.self.invariant.finishes in
     rw (← c.self.view_is, c.derivation.ensures) (omega (arith, few, one))
+
+pub returns-clause-long : goal.returns-clause-long
+returns-clause-long c =
+    ap long_in c.derivation.ensures ∙ sym c.self.invariant.tied.resting.tallied
+    ∙ ap (λ (e : EngineState). e.kept_long) c.self.view_is

@@ -2,33 +2,41 @@ use Rattle.std.proofs.Common.{SFits, refl, rules, w64}
 use Rattle.std.proofs.Math.Facts.{to_z-of_z}
 use Rattle.std.specs.Prelude.{length, not, ◌&&◌, ◌==◌}
 use Rattle.std.specs.List.{list_all}
-use Rattle.std.proofs.lemmas.Result.{on_ok_weaker}
+use Rattle.std.proofs.lemmas.Result.{on_err_weaker, on_ok_weaker}
 use Rattle.clauses.specs.Clause.{is_tautology, variables_of}
 use Rattle.frames.specs.declared.refusal.FrameRefusal.TheVariants.{AssumeClash, AssumeScope, Limit, NoFrame, UnknownVar}
 use Rattle.frames.specs.Commands.{AddClause, AddScope, AddVariable, Assume, Pop, Push, clashes_with, is_beyond, is_known, is_outermost, max_pushed}
 use Rattle.frames.specs.State.{clauses_in, depth}
 use Rattle.qscript.specs.declared.command.Command.TheVariants as command
-use Rattle.session.proofs.Accepting.{accepts, always, has_changed, has_clause, one_numbered, scope_numbered, three_numbered, two_numbered, unless_memory, variable_numbered}
+use Rattle.session.proofs.Accepting.{accepts, always, has_changed, has_clause, held_again, one_numbered, scope_numbered, three_numbered, two_numbered, unless_memory, variable_numbered}
 use Rattle.session.proofs.session.Session.step.Goals as goal
 
 pub returns-in-Scope-clause-steps : goal.returns-in-Scope-clause-steps
 returns-in-Scope-clause-steps g c = rw (← c.self.view_is, c.in-Scope.is) (λ s holds.
     accepts g.S.Sink.written g.S.Sink.flushed g.S.Sink.faults g.S.Sink.has_room _
-    (command.Scope c.in-Scope.quant c.in-Scope.at) (AddScope c.in-Scope.quant c.in-Scope.at) s c.self.inside.engine c.scope.new.self holds refl
+    (command.Scope c.in-Scope.quant c.in-Scope.at) (AddScope c.in-Scope.quant c.in-Scope.at)
+    s c.self.inside.engine c.scope.new.self holds refl
     (λ out after h. h) refl refl refl refl refl (λ f. scope_numbered f c.in-Scope.quant c.in-Scope.at) _ c.scope.result
     c.args.sink.now c.accept.new.sink c.accept.result
     (on_ok_weaker c.scope.result
-    (λ same. has_changed (AddScope c.in-Scope.quant c.in-Scope.at) c.self.inside.engine c.scope.new.self same refl) c.scope.ensures.ok) c.scope.ensures.refused (unless_memory c.scope.result) c.scope.ensures.err
+    (λ same. has_changed (AddScope c.in-Scope.quant c.in-Scope.at) c.self.inside.engine c.scope.new.self _ same refl)
+    c.scope.ensures.ok) c.scope.ensures.refused (unless_memory c.scope.result)
+    (on_err_weaker c.scope.result (held_again _ s c.self.inside.engine c.scope.new.self _ holds)
+    c.scope.ensures.err)
     c.accept.ensures)
 
 pub returns-in-Var-clause-steps : goal.returns-in-Var-clause-steps
 returns-in-Var-clause-steps g c = rw (← c.self.view_is, c.in-Var.is) (λ s holds.
     accepts g.S.Sink.written g.S.Sink.flushed g.S.Sink.faults g.S.Sink.has_room _
-    (command.Var c.in-Var.var c.in-Var.scope) (AddVariable c.in-Var.var c.in-Var.scope) s c.self.inside.engine c.var.new.self holds refl
+    (command.Var c.in-Var.var c.in-Var.scope) (AddVariable c.in-Var.var c.in-Var.scope)
+    s c.self.inside.engine c.var.new.self holds refl
     (λ out after h. h) refl refl refl refl refl (λ f. variable_numbered f c.in-Var.var c.in-Var.scope) _ c.var.result
     c.args.sink.now c.accept-in-Var.new.sink c.accept-in-Var.result
     (on_ok_weaker c.var.result
-    (λ same. has_changed (AddVariable c.in-Var.var c.in-Var.scope) c.self.inside.engine c.var.new.self same refl) c.var.ensures.ok) c.var.ensures.refused (unless_memory c.var.result) c.var.ensures.err
+    (λ same. has_changed (AddVariable c.in-Var.var c.in-Var.scope) c.self.inside.engine c.var.new.self _ same refl)
+    c.var.ensures.ok) c.var.ensures.refused (unless_memory c.var.result)
+    (on_err_weaker c.var.result (held_again _ s c.self.inside.engine c.var.new.self _ holds)
+    c.var.ensures.err)
     c.accept-in-Var.ensures)
 
 pub returns-in-Clause-clause-steps : goal.returns-in-Clause-clause-steps
@@ -41,18 +49,24 @@ returns-in-Clause-clause-steps g c = rw (← c.self.view_is, c.in-Clause.is) (λ
     UnknownVar Limit refl refl) _ c.clause.result
     c.args.sink.now c.accept-in-Clause.new.sink c.accept-in-Clause.result
     (on_ok_weaker c.clause.result
-    (λ same. has_clause c.in-Clause.lits c.self.inside.engine c.clause.new.self same) (rw c.numbers.ensures at c.clause.ensures.ok))
-    (rw c.numbers.ensures at c.clause.ensures.refused) (unless_memory c.clause.result) c.clause.ensures.err
+    (λ same. has_clause c.in-Clause.lits c.self.inside.engine c.clause.new.self same)
+    (rw c.numbers.ensures at c.clause.ensures.ok))
+    (rw c.numbers.ensures at c.clause.ensures.refused) (unless_memory c.clause.result)
+    (on_err_weaker c.clause.result (held_again _ s c.self.inside.engine c.clause.new.self _ holds)
+    c.clause.ensures.err)
     c.accept-in-Clause.ensures)
 
 pub returns-in-Push-clause-steps : goal.returns-in-Push-clause-steps
 returns-in-Push-clause-steps g c = rw (← c.self.view_is, c.in-Push.is) (λ s holds.
     accepts g.S.Sink.written g.S.Sink.flushed g.S.Sink.faults g.S.Sink.has_room _
     command.Push Push s c.self.inside.engine c.push.new.self holds refl
-    (λ out after h. h) refl refl refl refl refl (λ f. one_numbered (depth f.frames == max_pushed) Limit refl) _ c.push.result
-    c.args.sink.now c.accept-in-Push.new.sink c.accept-in-Push.result
+    (λ out after h. h) refl refl refl refl refl (λ f. one_numbered (depth f.frames == max_pushed) Limit refl) _
+    c.push.result c.args.sink.now c.accept-in-Push.new.sink c.accept-in-Push.result
     (on_ok_weaker c.push.result
-    (λ same. has_changed Push c.self.inside.engine c.push.new.self same refl) c.push.ensures.ok) c.push.ensures.refused (unless_memory c.push.result) c.push.ensures.err
+    (λ same. has_changed Push c.self.inside.engine c.push.new.self _ same refl)
+    c.push.ensures.ok) c.push.ensures.refused (unless_memory c.push.result)
+    (on_err_weaker c.push.result (held_again _ s c.self.inside.engine c.push.new.self _ holds)
+    c.push.ensures.err)
     c.accept-in-Push.ensures)
 
 pub returns-in-Pop-clause-steps : goal.returns-in-Pop-clause-steps
@@ -62,7 +76,10 @@ returns-in-Pop-clause-steps g c = rw (← c.self.view_is, c.in-Pop.is) (λ s hol
     (λ out after h. h) refl refl refl refl refl (λ f. one_numbered (depth f.frames == 0) NoFrame refl) _ c.pop.result
     c.args.sink.now c.accept-in-Pop.new.sink c.accept-in-Pop.result
     (on_ok_weaker c.pop.result
-    (λ same. has_changed Pop c.self.inside.engine c.pop.new.self same refl) c.pop.ensures.ok) c.pop.ensures.refused (always c.pop.result) c.pop.ensures.err
+    (λ same. has_changed Pop c.self.inside.engine c.pop.new.self _ same refl)
+    c.pop.ensures.ok) c.pop.ensures.refused (always c.pop.result)
+    (on_err_weaker c.pop.result (held_again _ s c.self.inside.engine c.pop.new.self _ holds)
+    c.pop.ensures.err)
     c.accept-in-Pop.ensures)
 
 pub returns-in-Assume-clause-steps : goal.returns-in-Assume-clause-steps
@@ -78,7 +95,10 @@ returns-in-Assume-clause-steps g c = rw (← c.self.view_is, c.in-Assume.is) (λ
     (clashes_with f.assumptions c.in-Assume.lit) UnknownVar AssumeScope AssumeClash refl refl refl) _ c.assume.result
     c.args.sink.now c.accept-in-Assume.new.sink c.accept-in-Assume.result
     (on_ok_weaker c.assume.result
-    (λ same. has_changed (Assume c.in-Assume.lit) c.self.inside.engine c.assume.new.self same refl) ok) refused (unless_memory c.assume.result) c.assume.ensures.err
+    (λ same. has_changed (Assume c.in-Assume.lit) c.self.inside.engine c.assume.new.self _ same refl)
+    ok) refused (unless_memory c.assume.result)
+    (on_err_weaker c.assume.result (held_again _ s c.self.inside.engine c.assume.new.self _ holds)
+    c.assume.ensures.err)
     c.accept-in-Assume.ensures)
 
 pub returns-in-Solve-clause-steps : goal.returns-in-Solve-clause-steps
