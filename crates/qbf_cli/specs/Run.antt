@@ -39,7 +39,8 @@ use Rattle.qbf_cli.specs.declared.ending.RunEnding.TheVariants.{Worked, Usage}
 abbrev pub HasTruth : Text → Bool → Type 0
 HasTruth text value = (f : Formula) × Reads text (parsed f) × (truth f.prefix f.clauses ≡ value)
 
--- The text is a formula, and the budget is below the step limit of its variables.
+-- The text is a formula, and the budget is below the step limit of its variables, for a search that may begin anew so
+-- often.
 abbrev pub IsBeyond : Terms → Text → Type 0
 IsBeyond terms text = (f : Formula) × Reads text (parsed f) ×
     (terms.budget < step_limit terms.restarts (size_of f.prefix))
@@ -71,7 +72,8 @@ abbrev pub IsLimitedScript : Text → Type 0
 IsLimitedScript text = (at : ℕ) × EndsIn text (script_limit at)
 
 -- What the status says of the words and the input: a true formula, a false one, one for which the budget may be too
--- low, a script that ends well or no input at all, a malformed text, one beyond a limit, or words that ask for no command.
+-- low, a script that ends well or no input at all, a malformed text, one beyond a limit, or words that ask for no
+-- command.
 pub record IsVerdict (words : List Text) (content : Text → Option Text) (status : ℕ) : Type 0 where
   pub sat : status ≡ 10 → Asked words content (λ terms text. HasTruth text true)
   pub unsat : status ≡ 20 → Asked words content (λ terms text. HasTruth text false)
@@ -151,8 +153,8 @@ pub record IsErrorOutput (words : List Text) (content : Text → Option Text) (f
   pub front : AppendsFront old new line
   pub whole : ¬ Rose faults.0 faults.1 → Appends old new line
 
--- What is known of the work of a job on a formula that an input holds. `output` is what stood on the output and stands on it,
--- `told` the list of stopped searches before and after.
+-- What is known of the work of a job on a formula that an input holds. `output` is what stood on the output and stands
+-- on it, `told` the list of stopped searches before and after.
 pub record IsSolved (job : Job) (terms : Terms) (known left : Option Text) (output : Option Text × Option Text)
     (told : List Account × List Account) (e : Ending) : Type 0 where
   pub ending : IfSome known (λ text. IsEnding terms text e)

@@ -1,15 +1,16 @@
 //! The program as a function over a desk and two sinks.
-ghost use Rattle.std.specs.Prelude.{◌≡◌, ◌≢◌, [], ◌∷◌, map, option_map, Contains, Some, string_bytes};
+ghost use Rattle.std.specs.Prelude.{◌≡◌, ◌≢◌, [], ◌∷◌, List, map, option_map, Contains, Some, string_bytes};
 ghost use Rattle.std.specs.Io.KnownBytes.{Appends};
 ghost use Rattle.ports.specs.Bytes.{AllFlushed, AppendsFront};
 ghost use Rattle.ports.specs.Causes.{IsCounted, Rose};
+ghost use Rattle.command.specs.Forms.{Asks, Text};
 ghost use Rattle.session.specs.Jobs.{RoomForJob};
 ghost use Rattle.session.specs.Scripts.{RoomForReplies};
 ghost use Rattle.session.specs.Solve.{HasAnswer, IsDone};
 ghost use Rattle.session.specs.Terms.{terms_of};
-ghost use Rattle.qbf_cli.specs.Asked.{AskedAny, RoomForOutput, SteadyForInput, input_name as name_of_input, solve_job};
+ghost use Rattle.qbf_cli.specs.Asked.{AskedAny, RoomForCommand, RoomForOutput, SteadyFor, SteadyForInput, input_name as name_of_input, known_for, solve_job};
 ghost use Rattle.qbf_cli.specs.Complete.{IsValid};
-ghost use Rattle.qbf_cli.specs.Run.{Carried, IsAnswered, IsErrorOutput, IsReplied, IsSolved, IsVerdict, line_of, status_of};
+ghost use Rattle.qbf_cli.specs.Run.{Carried, IsAnswered, IsErrorOutput, IsReplied, IsSolved, IsVerdict, IsWorkOf, line_of, status_of};
 ghost use Rattle.qbf_cli.specs.Told.{IsOutput};
 
 use super::ending::RunEnding;
@@ -33,7 +34,8 @@ use trail::Stopped;
 /// - `gen SEED VARS CLAUSES` writes a formula that is made from a seed, and `demo SEED COUNT` how many of so many of
 ///   these are true and false.
 ///
-/// What else happens is said on `err`. With each `UNKNOWN` what the search that stopped tells is put into `stops`.
+/// What else happens is said on `err`. With each `UNKNOWN` what the search that stopped tells is put into `stops`,
+/// which is empty at first.
 ///
 /// Answers the exit status: 10 for a true formula, 20 for a false one, and 0 where the budget was spent; 0 too where a
 /// script ends well, and of `gen` and `demo`; 2 where the input is malformed and 6 where it goes beyond a limit, each
@@ -116,51 +118,58 @@ fn ending_of<D: Desk, O: Sink>(
     ensures flushed { IsAnswered result → AllFlushed (O.written out.new) (O.flushed out.old) (O.flushed out.new) }
 {
     match read_command(alloc, words) {
-        Ok(
-            Command::Solve {
-                budget,
-                restarts,
-                qdo,
-                name,
-            },
-        ) => {
-            RunEnding::Worked(work(alloc, job_of(qdo), budget, restarts, name, desk, out, stops))
-        }
-        Ok(
-            Command::Trace {
-                budget,
-                restarts,
-                name,
-            },
-        ) => {
-            RunEnding::Worked(work(alloc, Job::Trace, budget, restarts, name, desk, out, stops))
-        }
-        Ok(
-            Command::Cert {
-                budget,
-                restarts,
-                name,
-            },
-        ) => { RunEnding::Worked(work(alloc, Job::Cert, budget, restarts, name, desk, out, stops)) }
-        Ok(
-            Command::Script {
-                budget,
-                restarts,
-                name,
-            },
-        ) => { RunEnding::Worked(reply(alloc, budget, restarts, name, desk, out, stops)) }
-        Ok(
-            Command::Gen {
-                seed,
-                vars,
-                clauses,
-            },
-        ) => RunEnding::Worked(write_sample(alloc, seed, vars, clauses, out)),
-        Ok(Command::Demo { seed, count }) => {
-            RunEnding::Worked(count_samples(alloc, seed, count, out))
-        }
+        Ok(command) => RunEnding::Worked(carry_out(alloc, command, desk, out, stops)),
         Err(Refused::Usage(text)) => RunEnding::Usage(text),
         Err(Refused::NoMemory) => RunEnding::Worked(Ending::NoMemory),
+    }
+}
+
+// Carries a command out.
+fn carry_out<D: Desk, O: Sink>(
+    alloc: Global,
+    command: Command,
+    desk: &mut D,
+    out: &mut O,
+    stops: &mut Vec<Stopped>,
+) -> Ending
+    requires { (words : List Text) × Asks words command }
+    ensures work { IsWorkOf command.entry (known_for (D.content desk.old) command.entry) (D.left desk.new)
+        (O.written out.old, O.written out.new) (stops.old.items, stops.new.items) result }
+    ensures read_fault { IsCounted (result ≡ Ending.ReadFault) (IsDone result) (D.faults desk.old) (D.faults desk.new) }
+    ensures write_fault { IsCounted (result ≡ Ending.WriteFault) (IsDone result) (O.faults out.old) (O.faults out.new) }
+    ensures steady { SteadyFor command.entry (D.steady desk.old) → result ≢ Ending.ReadFault }
+    ensures room { RoomForCommand command.entry (known_for (D.content desk.old) command.entry) (O.has_room out.old)
+        → result ≢ Ending.WriteFault }
+    ensures flushed { IsDone result → AllFlushed (O.written out.new) (O.flushed out.old) (O.flushed out.new) }
+{
+    match command {
+        Command::Solve {
+            budget,
+            restarts,
+            qdo,
+            name,
+        } => work(alloc, job_of(qdo), budget, restarts, name, desk, out, stops),
+        Command::Trace {
+            budget,
+            restarts,
+            name,
+        } => work(alloc, Job::Trace, budget, restarts, name, desk, out, stops),
+        Command::Cert {
+            budget,
+            restarts,
+            name,
+        } => work(alloc, Job::Cert, budget, restarts, name, desk, out, stops),
+        Command::Script {
+            budget,
+            restarts,
+            name,
+        } => reply(alloc, budget, restarts, name, desk, out, stops),
+        Command::Gen {
+            seed,
+            vars,
+            clauses,
+        } => write_sample(alloc, seed, vars, clauses, out),
+        Command::Demo { seed, count } => count_samples(alloc, seed, count, out),
     }
 }
 

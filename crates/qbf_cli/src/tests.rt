@@ -3,6 +3,7 @@ ghost use Rattle.std.specs.Prelude.{◌<◌};
 
 mod jobs;
 mod made;
+mod pigeons;
 mod restarts;
 mod scripts;
 

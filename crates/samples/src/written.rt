@@ -26,7 +26,8 @@ pub fn write_sample<S: Sink>(
     requires low { 3 ≤ vars }
     requires high { vars ≤ 32000 }
     requires count { clauses ≤ 1000000 }
-    ensures output { LeavesText (formula_text (made seed vars clauses)) (S.written sink.old) (S.written sink.new) result }
+    ensures output { LeavesText (formula_text (made seed vars clauses)) (S.written sink.old) (S.written sink.new)
+        result }
     ensures write_fault { IsCounted (result ≡ Ending.WriteFault) (IsDone result) (S.faults sink.old)
         (S.faults sink.new) }
     ensures room { S.has_room sink.old (length (formula_text (made seed vars clauses))) → result ≢ Ending.WriteFault }

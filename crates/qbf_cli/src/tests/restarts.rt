@@ -2,7 +2,9 @@
 ghost use Rattle.std.specs.Prelude.{◌<◌};
 
 use super::desk;
+use super::pigeons::{formula_of, script_of};
 use super::scripts::carry_out;
+use generate::Draws;
 use ports::Desk;
 use qdimacs::read_formula;
 use std::alloc::Global;
@@ -10,47 +12,30 @@ use std::test::Fail;
 use steps::Steps;
 use truth::decide_plain;
 
-// A sequence of numbers that looks random: the generator that the C standard gives as an example.
-#[derive(Drop)]
-struct Random {
-    last: u32,
-}
-
-impl Random {
-    // A number below this one.
-    fn below(&mut self, end: u32) -> u32
-        requires { 0 < end }
-        ensures { result < end }
-    {
-        self.last = self.last.wrapping_mul(1_103_515_245).wrapping_add(12_345);
-        (self.last >> 16) % end
-    }
-}
-
 // A formula over so many variables that is drawn from a seed, with one to six clauses.
 fn drawn(alloc: Global, seed: u32, vars: u32) -> Result<String, Fail>
     requires { vars < 5 }
 {
-    let mut random = Random { last: seed };
-    let clauses = 1 + random.below(6);
+    let mut draws = Draws::new(seed);
+    let clauses = 1 + draws.draw(6);
     let mut text = format!(in alloc; "p cnf {vars} {clauses}\n")?;
     for var in 1..vars + 1 {
-        let quant = if random.below(2) == 0 { "a" } else { "e" };
+        let quant = if draws.draw(2) == 0 { "a" } else { "e" };
         text.push_str(&format!(in alloc; "{quant} {var} 0\n")?)?;
     }
     for _ in 0..clauses {
-        text.push_str(&clause_drawn(alloc, &mut random, vars)?)?;
+        text.push_str(&clause_drawn(alloc, &mut draws, vars)?)?;
     }
     Ok(text)
 }
 
 // A clause over so many variables.
-fn clause_drawn(alloc: Global, random: &mut Random, vars: u32) -> Result<String, Fail>
+fn clause_drawn(alloc: Global, draws: &mut Draws, vars: u32) -> Result<String, Fail>
     requires { vars < 5 }
 {
     let mut line = String::new(alloc);
     for var in 1..vars + 1 {
-        match random.below(3) {
+        match draws.draw(3) {
             0 => line.push_str(&format!(in alloc; "{var} ")?)?,
             1 => line.push_str(&format!(in alloc; "-{var} ")?)?,
             _ => {}
@@ -74,7 +59,7 @@ fn enough_steps_decide_with_two_restarts(rt: HostRuntime) -> Result<(), Fail> {
     let alloc = rt.alloc();
     // The step limits of one to four variables with two restarts.
     for (vars, budget) in [(1, "192"), (2, "576"), (3, "1536"), (4, "3840")] {
-        for seed in 0..75 {
+        for seed in 0..25 {
             let text = drawn(alloc, seed, vars)?;
             let found = carry_out(
                 alloc,
@@ -86,6 +71,52 @@ fn enough_steps_decide_with_two_restarts(rt: HostRuntime) -> Result<(), Fail> {
             assert_eq!(rt; found.status, status_of(alloc, text.as_str())?, "{text:?}");
             assert_eq!(rt; found.stops, 0);
         }
+    }
+    Ok(())
+}
+
+// The status of a run on six pigeons and five holes that has too few steps, and how often its search began anew.
+fn stopped(
+    alloc: Global,
+    command: &str,
+    restarts: &str,
+    text: &[u8],
+) -> Result<(u8, Option<u64>), Fail> {
+    let found = carry_out(
+        alloc,
+        &["qbf", command, "--restarts", restarts, "--budget", "2000"],
+        text,
+        Vec::new(alloc),
+        Vec::new(alloc),
+    )?;
+    Ok((found.status, found.restarts))
+}
+
+#[test]
+fn a_run_begins_anew_as_often_as_its_words_allow(rt: HostRuntime) -> Result<(), Fail> {
+    let alloc = rt.alloc();
+    let formula = formula_of(alloc, 5, 8)?;
+    for (command, restarts, made) in [
+        ("solve", "0", 0),
+        ("solve", "1", 1),
+        ("trace", "0", 0),
+        ("trace", "1", 1),
+        ("cert", "0", 0),
+        ("cert", "1", 1),
+    ] {
+        let found = stopped(alloc, command, restarts, formula.as_bytes())?;
+        assert_eq!(rt; found, (0, Some(made)), "{command} {restarts}");
+    }
+    Ok(())
+}
+
+#[test]
+fn a_script_begins_anew_as_often_as_its_words_allow(rt: HostRuntime) -> Result<(), Fail> {
+    let alloc = rt.alloc();
+    let script = script_of(alloc, 5, 8)?;
+    for (restarts, made) in [("0", 0), ("1", 1)] {
+        let found = stopped(alloc, "script", restarts, script.as_bytes())?;
+        assert_eq!(rt; found, (0, Some(made)), "{restarts}");
     }
     Ok(())
 }

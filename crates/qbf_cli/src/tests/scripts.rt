@@ -15,6 +15,8 @@ pub(super) struct Outcome {
     pub(super) flushed: String,
     pub(super) err: String,
     pub(super) stops: usize,
+    // How often the search that stopped first began anew.
+    pub(super) restarts: Option<u64>,
 }
 
 // A text whose lines end in `/`, as bytes.
@@ -58,6 +60,7 @@ pub(super) fn carry_out(
         flushed: String::from_utf8_lossy(alloc, out.flushed())?,
         err: String::from_utf8_lossy(alloc, err.bytes())?,
         stops: stops.len(),
+        restarts: stops.first().map(|stopped| stopped.restarts()),
     })
 }
 
@@ -278,8 +281,8 @@ const TWO_REPLIES: &str = "p qscript 1/scope e/var 1 1/clause 1 0/solve/value 1/
 fn a_failing_input_leaves_a_front_of_the_replies(rt: HostRuntime) -> Result<(), Fail> {
     let alloc = rt.alloc();
     let script = lines(alloc, TWO_REPLIES)?;
-    let want = written(alloc, "SAT/value 1/")?;
-    // The choice, the 53 bytes one by one, and the end.
+    // The choice, the 53 bytes one by one, and the end. With the 52nd call the word behind `solve` has ended, so that
+    // this is replied to; `value` is only at the end.
     for failing in 1..56 {
         let found = carry_out(
             alloc,
@@ -290,7 +293,8 @@ fn a_failing_input_leaves_a_front_of_the_replies(rt: HostRuntime) -> Result<(), 
         )?;
         assert_eq!(rt; found.status, 3, "{failing}");
         assert_eq!(rt; found.err.as_str(), "qbf: read fault\n");
-        assert!(rt; want.starts_with(found.out.as_str()), "{failing}");
+        let replies = if failing > 52 { "SAT\n" } else { "" };
+        assert_eq!(rt; found.out.as_str(), replies, "{failing}");
     }
     Ok(())
 }
