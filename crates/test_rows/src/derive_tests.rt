@@ -100,8 +100,10 @@ fn reductions_on_both_sides(rt: HostRuntime) -> Result<(), Fail> {
     Ok(())
 }
 
+// Two cubes, what rests on each and on both: a clause that both hit takes none of them, one that the second misses
+// takes it with what rests on it, and the empty one takes all.
 #[test]
-fn a_clause_takes_the_cubes(rt: HostRuntime) -> Result<(), Fail> {
+fn a_clause_takes_the_cubes_that_miss_it(rt: HostRuntime) -> Result<(), Fail> {
     let mut shop = shop_of(rt.alloc(), Quant::Forall)?;
     assert_eq!(rt; shop.cube(&[literal(1)?, literal(2)?])?, 0);
     assert_eq!(rt; shop.cube(&[literal(-1)?, literal(2)?])?, 1);
@@ -110,8 +112,14 @@ fn a_clause_takes_the_cubes(rt: HostRuntime) -> Result<(), Fail> {
     assert!(rt; shop.has(2, Step::Reduced(0), 0, &[1])?);
     let pivot = variable(1)?;
     assert!(rt; shop.has(3, Step::Resolved { a: 2, b: 1, pivot }, 0, &[2])?);
-    assert_eq!(rt; shop.clause(&[literal(1)?, literal(2)?], 5)?, (4, 4));
-    assert!(rt; shop.lives(&[false, false, false, false, true]));
+    assert_eq!(rt; shop.clause(&[literal(-1)?, literal(2)?], 5)?, (4, 4));
+    assert!(rt; shop.lives(&[true, true, true, true, true]));
+    assert_eq!(rt; shop.clause(&[literal(1)?, literal(-2)?], 5)?, (5, 5));
+    assert!(rt; shop.lives(&[true, false, true, false, true, true]));
+    assert!(rt; shop.has(0, Step::InputCube, 0, &[1, 2])?);
+    assert_eq!(rt; shop.cube(&[literal(1)?, literal(2)?])?, 6);
+    assert_eq!(rt; shop.clause(&[], 5)?, (7, 7));
+    assert!(rt; shop.lives(&[false, false, false, false, true, true, false, true]));
     Ok(())
 }
 
@@ -154,6 +162,25 @@ fn a_finish_keeps_what_is_assumed(rt: HostRuntime) -> Result<(), Fail> {
     let mut derivation = Derivation::new(rt.alloc());
     let end = derivation.input_cube(&row(rt.alloc(), &[1, 2])?)?;
     finished(&rt, rt.alloc(), &mut derivation, &cubes, end)
+}
+
+#[test]
+fn steps_that_name_a_variable_go(rt: HostRuntime) -> Result<(), Fail> {
+    let prefix = by_turns(rt.alloc(), Quant::Exists, &[3])?;
+    let mut derivation = Derivation::new(rt.alloc());
+    derivation.input_clause(&prefix, &row(rt.alloc(), &[1, 2])?, 0)?;
+    derivation.input_clause(&prefix, &row(rt.alloc(), &[-2, 3])?, 0)?;
+    derivation.drop_var(variable(1)?);
+    assert_eq!(rt;
+        (derivation.is_live(0), derivation.is_live(1)),
+        (false, true)
+    );
+    derivation.drop_var(variable(3)?);
+    assert_eq!(rt;
+        (derivation.is_live(0), derivation.is_live(1)),
+        (false, false)
+    );
+    Ok(())
 }
 
 #[test]

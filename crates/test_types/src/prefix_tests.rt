@@ -39,6 +39,24 @@ fn scopes_move_up_when_one_is_put_in_front(rt: HostRuntime) -> Result<(), Fail> 
 }
 
 #[test]
+fn a_variable_is_taken_out_and_its_scope_stays(rt: HostRuntime) -> Result<(), Fail> {
+    let mut prefix = Prefix::new(rt.alloc());
+    prefix.add_scope(Quant::Exists, None)?;
+    prefix.add_var(1, 1)?;
+    prefix.add_var(2, 1)?;
+    prefix.add_scope(Quant::Forall, None)?;
+    prefix.add_var(3, 2)?;
+    for (number, second, third) in [(2, None, Some(2)), (3, None, None), (9, None, None)] {
+        prefix.remove_var(variable(number)?);
+        assert_eq!(rt; prefix.level(variable(1)?), Some(1), "without {number}");
+        assert_eq!(rt; prefix.level(variable(2)?), second, "without {number}");
+        assert_eq!(rt; prefix.level(variable(3)?), third, "without {number}");
+        assert_eq!(rt; prefix.scopes(), 2);
+    }
+    Ok(())
+}
+
+#[test]
 fn refusals_come_in_order(rt: HostRuntime) -> Result<(), Fail> {
     let mut prefix = Prefix::new(rt.alloc());
     prefix.add_scope(Quant::Exists, None)?;
