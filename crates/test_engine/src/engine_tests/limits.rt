@@ -11,8 +11,8 @@ use std::test::Fail;
 use steps::Steps;
 use truth::ClauseList;
 
-// So many variables, as many choices of quantifiers, the steps that always suffice, and those that do where a search may
-// begin anew twice.
+// So many variables, as many choices of quantifiers, the steps that always suffice, and those that do where a search
+// may begin anew twice.
 const LIMITS: [(u32, u32, u64, u64); 4] = [
     (1, 2, 64, 192),
     (2, 4, 192, 576),
@@ -101,20 +101,43 @@ impl Shape {
         )
     }
 
-    // Whether a solve finds this truth, or spends its budget, where it is below the limit.
-    fn is_right(&self, truth: bool, restarts: u32, budget: u64, limit: u64) -> Result<bool, Fail> {
+    // The truth that a solve finds, unless it spends its budget, and the steps that it takes.
+    fn solve(&self, restarts: u32, budget: u64) -> Result<(Option<bool>, u64), Fail> {
         let mut engine = self.engine()?;
         engine.set_restarts(restarts);
         let mut steps = Steps::new(budget);
         match engine.solve(&mut steps) {
-            Ok(verdict) => Ok(verdict.truth == truth),
-            Err(SolveStop::Spent(_)) => Ok(steps.spent() == budget && budget < limit),
+            Ok(verdict) => Ok((Some(verdict.truth), steps.spent())),
+            Err(SolveStop::Spent(_)) => Ok((None, steps.spent())),
             Err(SolveStop::NoMemory) => Err("no memory")?,
         }
     }
 
-    // Whether it is so with no step, with one, and with one less than the limit and all of it; and where a search may
-    // begin anew twice.
+    // Whether a solve finds this truth, or spends its budget, where it is below the limit.
+    fn is_right(&self, truth: bool, restarts: u32, budget: u64, limit: u64) -> Result<bool, Fail> {
+        let (found, spent) = self.solve(restarts, budget)?;
+        Ok(match found {
+            Some(found) => found == truth,
+            None => spent == budget && budget < limit,
+        })
+    }
+
+    // Whether the steps that a solve takes suffice for this truth, and one less, where it takes any, doesn't.
+    fn needs_its_steps(&self, truth: bool) -> Result<bool, Fail> {
+        let (_, taken) = self.solve(0, u64::MAX)?;
+        let (found, spent) = self.solve(0, taken)?;
+        if found != Some(truth) || spent != taken {
+            return Ok(false);
+        }
+        if taken == 0 {
+            return Ok(true);
+        }
+        let (found, _) = self.solve(0, taken - 1)?;
+        Ok(found.is_none())
+    }
+
+    // Whether it is so with no step, with one, with as many as are due and one less, and with one less than the limit
+    // and all of it; and where a search may begin anew twice.
     fn keeps_limits(&self, once: u64, thrice: u64) -> Result<bool, Fail> {
         let truth = self.plain()?;
         for budget in [0, 1, once.saturating_sub(1), once] {
@@ -122,7 +145,7 @@ impl Shape {
                 return Ok(false);
             }
         }
-        self.is_right(truth, 2, thrice, thrice)
+        Ok(self.needs_its_steps(truth)? && self.is_right(truth, 2, thrice, thrice)?)
     }
 }
 

@@ -1,5 +1,6 @@
-//! What the search saves, in steps: no clause says that lessons, the order of rows that wait, priorities, first signs or
-//! restarts help. Each number lies between the steps that a solve takes and those that it takes without one of these.
+//! What the search saves, in steps: no clause says that lessons, the order of rows that wait, priorities, first signs
+//! or restarts help. Each number lies between the steps that a solve takes and those that it takes without one of
+//! these.
 ghost use Rattle.std.specs.Prelude.{◌<◌};
 
 use super::play::{put, put_scope};
