@@ -21,12 +21,12 @@ test:
 	.ci/run
 
 install: bin/qbf
-	install -D -m 755 bin/qbf $(INSTALLED)/bin/qbf
-	install -D -m 644 man/qbf.1 $(PAGE)
-	install -D -m 644 completion/qbf.bash $(COMPLETION)
+	install -D -m 755 bin/qbf "$(INSTALLED)/bin/qbf"
+	install -D -m 644 man/qbf.1 "$(PAGE)"
+	install -D -m 644 completion/qbf.bash "$(COMPLETION)"
 
 uninstall:
-	rm -f $(INSTALLED)/bin/qbf $(PAGE) $(COMPLETION)
+	rm -f "$(INSTALLED)/bin/qbf" "$(PAGE)" "$(COMPLETION)"
 
 clean:
 	rm -rf bin out crates/*/out

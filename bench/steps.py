@@ -63,7 +63,10 @@ def least_budget(command, path, limit):
         low, high = high, 2 * high
     while high - low > 1:
         middle = (low + high) // 2
-        if decides(command, path, middle, limit):
+        enough = decides(command, path, middle, limit)
+        if enough is None:
+            return None
+        if enough:
             high = middle
         else:
             low = middle

@@ -4,7 +4,8 @@
 usage: circuits.py PROGRAM
 
 PROGRAM is a built qbf, such as bin/qbf; each formula is given to `PROGRAM cert` and `PROGRAM trace` on standard input.
-The formulas are some by hand, some of bench/families.py, and some drawn at random from fixed seeds.
+The formulas are some by hand, some of bench/families.py, and some drawn at random from fixed seeds; and two over which
+a search learns long enough to begin anew, which are decided with restarts and without.
 
 A circuit is read as strictly as docs/CIRCUITS.md has it. Its inputs are to be the loser's variables and its outputs the
 winner's, in prefix order. All inputs are simulated: each output depends on inputs of earlier scopes alone, and the
@@ -20,7 +21,7 @@ refusals, the truth of each verdict, by the whole table of the open formula unde
 it; traces and circuits by the same rules, over that formula and under these assumptions.
 
 This needs Python 3 alone. abc and DepQBF are the commands berkeley-abc and depqbf of Debian's packages of these names;
-without one of them all else is checked, and a line says so. It takes some twenty seconds. Prints a line a case and one
+without one of them all else is checked, and a line says so. It takes some thirty seconds. Prints a line a case and one
 that counts them, and ends with status 1 if a case failed.
 """
 
@@ -181,8 +182,8 @@ def formulas():
 # The cases.
 
 
-def cert(program, tools, text, wanted):
-    status, out = run(program, "cert", text)
+def cert(program, tools, text, wanted, *options):
+    status, out = run(program, "cert", text, *options)
     require(status == wanted if wanted else status in (TRUE, FALSE), f"status {status}")
     formula, circuit = Formula.read(text), whole(Circuit, out)
     require(circuit.kind == ("skolem" if status == TRUE else "herbrand"), f"{circuit.kind} with status {status}")
@@ -191,8 +192,8 @@ def cert(program, tools, text, wanted):
         ask_abc(formula, circuit)
 
 
-def trace(program, tools, text, wanted):
-    status, out = run(program, "trace", text)
+def trace(program, tools, text, wanted, *options):
+    status, out = run(program, "trace", text, *options)
     require(status == wanted if wanted else status in (TRUE, FALSE), f"status {status}")
     formula, found = Formula.read(text), whole(Trace, out)
     require(found.verdict == ("SAT" if status == TRUE else "UNSAT"), f"{found.verdict} with status {status}")
@@ -206,11 +207,22 @@ def unknown(program, command, text):
     require((status, out) == (0, "UNKNOWN\n"), f"status {status} and {out!r} without a step")
 
 
+def long_cases(program, tools):
+    """Searches that learn enough to begin anew, and over pigeons to forget, whose circuit has too many inputs."""
+    restarts = ("--restarts", "16")
+    pigeons, equality = families.pigeons(7).text(), families.equality(7).text()
+    for name, options in ("at_once", ()), ("with_restarts", restarts):
+        yield f"pigeons_7_{name}.trace", partial(trace, program, tools, pigeons, FALSE, *options)
+        yield f"equality_7_{name}.trace", partial(trace, program, tools, equality, FALSE, *options)
+        yield f"equality_7_{name}.cert", partial(cert, program, tools, equality, FALSE, *options)
+
+
 def cases(program, tools):
     """Each case with its name."""
     for name, wanted, text in formulas():
         yield f"{name}.cert", partial(cert, program, tools, text, wanted)
         yield f"{name}.trace", partial(trace, program, tools, text, wanted)
+    yield from long_cases(program, tools)
     differs = text_of([("a", [1]), ("e", [2])], [[1, 2], [-1, -2]])
     for command in ("cert", "trace"):
         yield f"no_budget.{command}", partial(unknown, program, command, differs)

@@ -1,6 +1,7 @@
 #!/bin/sh
 # Runs what the pages for users show, and compares with what they say: README, examples/README.md, docs/EXAMPLES.md,
-# docs/SCRIPTS.md and docs/CIRCUITS.md. The files of examples/ are to be those of the pages, letter by letter.
+# docs/SCRIPTS.md and docs/CIRCUITS.md. The files of examples/ are to be those of the pages, letter by letter, and
+# docs/LIBRARY.md quotes the crate example_engine.
 # Usage: checks/examples.sh PROGRAM. Prints a line a case, and ends with status 1 if one failed.
 # This needs Python 3. What needs abc (berkeley-abc), iverilog or aigtoaig is left out without it, and a line says so.
 set -u
@@ -48,6 +49,22 @@ block() {
         /^#/ { sub(/^#+ /, ""); inside = $0 == heading; count = 0; open = 0; next }
         !/^    / { open = 0; next }
         inside { count += !open; open = 1; if (count == wanted) print substr($0, 5) }' "$root/$1"
+}
+
+# quoted PAGE HEADING: all that is indented in a section, with the subsections, without empty lines.
+quoted() {
+    awk -v heading="$2" '
+        /^## / { inside = substr($0, 4) == heading; next }
+        inside && /^    / { print substr($0, 5) }' "$root/$1"
+}
+
+# A section quotes files whole, piece by piece: page_file NAME PAGE HEADING FILE..
+page_file() {
+    name=$1
+    page=$2
+    heading=$3
+    shift 3
+    report "$name" "$(quoted "$page" "$heading")" "$(cd "$root" && cat "$@" | grep .)"
 }
 
 # first_column PAGE HEADING: the pieces of code in the first column of a section's table, a line each.
@@ -178,13 +195,34 @@ if has berkeley-abc; then
 else
     without berkeley-abc "the arbiter's module"
 fi
-if has berkeley-abc && has aigtoaig; then
-    aigtoaig "$examples/arbiter.aag" "$folder/arbiter.aig"
-    got=$(cd "$folder" && berkeley-abc -c "cec -n arbiter.aig $examples/arbiter.v" | grep -o 'Networks are equivalent')
-    report abc_same "$got" 'Networks are equivalent'
+python3 "$examples/binary.py" "$examples/arbiter.aag" > "$folder/arbiter.aig"
+report binary $? 0 "$(head -1 "$folder/arbiter.aig")" 'aig 8 3 0 3 5' \
+    "$(tail -n +5 "$folder/arbiter.aig" | head -c 10 | od -An -tu1 | tr -s ' ')" ' 3 2 2 1 7 3 2 5 9 3'
+# equivalent TEXT MODULE: what abc says of a circuit in binary form and a module.
+equivalent() {
+    (cd "$folder" && berkeley-abc -q "cec -n $1 $2" | grep -o 'Networks are [NOT ]*[Ee][A-Za-z]*')
+}
+sed 's/= n12 & ~r3/= n12/' "$examples/arbiter.v" > "$folder/other.v"
+if has berkeley-abc; then
+    report abc_same "$(equivalent arbiter.aig "$examples/arbiter.v")" 'Networks are equivalent' \
+        "$(equivalent arbiter.aig other.v)" 'Networks are NOT EQUIVALENT'
 else
-    without aigtoaig "that abc finds the arbiter's text and module equivalent"
+    without berkeley-abc "that abc finds the arbiter's text and module equivalent"
 fi
+if has berkeley-abc && has aigtoaig; then
+    aigtoaig "$examples/arbiter.aag" "$folder/converted.aig"
+    report abc_converted "$(equivalent converted.aig "$examples/arbiter.v")" 'Networks are equivalent'
+else
+    without aigtoaig "that abc finds what it makes of the arbiter's text equivalent"
+fi
+
+# docs/LIBRARY.md: the crate's definitions and its code, and the line in crates.txt.
+page_file library_answers docs/LIBRARY.md 'What is an answer' crates/example_engine/specs/Answers.antt
+page_file library_decided docs/LIBRARY.md 'A formula decided' crates/example_engine/src/answer.rt
+page_file library_built docs/LIBRARY.md 'A formula built' crates/example_engine/specs/Differing.antt \
+    crates/example_engine/src/differ.rt
+report library_line "$(block docs/LIBRARY.md 'The line in crates.txt' 1)" \
+    "$(grep '^example_engine:' "$root/crates.txt")"
 
 # The arbiter by a table, and a simulation that is to fail: one assignment has an input in the place of its negation.
 printf '.i 3\n.o 3\n.type fr\n.ilb r1 r2 r3\n.ob g1 g2 g3\n--1 001\n-10 010\n100 100\n000 000\n' > "$folder/arbiter.pla"
@@ -209,7 +247,7 @@ while read -r section; do
         if [ -n "$tool" ] && ! has "$tool"; then
             without "$tool" "$name"
         else
-            got=$(cd "$folder/walk" && sh ../commands 2>&1)
+            got=$(cd "$folder/walk" && sh ../commands < /dev/null 2>&1)
             report "$name" "$got" "$(sed '/^\$ /d' "$folder/block")"
         fi
     done

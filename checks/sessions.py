@@ -115,7 +115,7 @@ class Model:
         self.verdict = None
         if said == "UNKNOWN":
             n = len(formula.level)
-            require(self.budget is not None and self.budget < (4 * n + 4) * 2 ** (n + 1), "UNKNOWN without need")
+            require(self.budget is not None and self.budget < (8 * n + 8) * 2 ** (n + 1), "UNKNOWN without need")
             return
         truth = formula.truth(self.assumed)
         require((said == "SAT") == truth, f"{said} of a formula that is {truth}, assumed {self.assumed}")

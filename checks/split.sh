@@ -72,6 +72,10 @@ report some_part_decides "$(join "$folder/either")" "$(printf 'SAT\n10')"
 report no_part_is_true "$(join "$folder/neither")" "$(printf 'UNSAT\n20')"
 report each_part_is_true "$(join "$folder/each")" "$(printf 'SAT\n10')"
 
+# A full device takes nothing.
+"$tools/join" "$folder/each" > /dev/full 2> "$folder/err"
+report full_device $? 4 "$(cat "$folder/err")" "join: write fault"
+
 # Without a step no part decides; where another one does, that is enough, and where it doesn't, nothing is known.
 for formula in either neither; do
     run "$folder/$formula" --budget 0
@@ -111,11 +115,17 @@ printf 'p cnf 0 1\n0\n' > "$folder/empty.qdimacs"
 report one_part "$(join "$folder/empty")" "$(printf 'UNSAT\n20')"
 report circuit_of_one_part "$(join --cert "$folder/empty")" "$(printf 'aag 0 0 0 0 0\nc\nherbrand\n20')"
 
-# What is refused: malformed formulas as by the program, another scope's variable, too many, a folder in use.
+# What is refused: malformed formulas as by the program, another scope's variable, too many, a folder in use. Among the
+# formulas are a number of 5,000 digits, one of as many zeros and a 1, and one scope more than are read, with a literal
+# behind it that is none.
+nines=$(printf '%05000d' 0 | tr 0 9)
+zeros=$(printf '%05000d' 0)
+sets=$(awk 'BEGIN { for (v = 1; v <= 65537; v++) print v % 2 ? "e" : "a", v, 0 }')
 number=0
 for text in '' 'p cnf 1' 'p cnf 1\n1\n1 0\n' 'p cnf cnf 1\n' 'p cnf 1 1\n2 0\n' 'p cnf 1 1\n1 e\n' 'p cnf 1 2\n1 0\n' \
     'p cnf 2 1\ne 1 0\na 1 0\n1 0\n' 'p cnf 1 0\n1 0\n' 'p cnf 1 1\n-0\n' 'p cnf 1 1\n1 0\ne 1 0\n' \
-    'p cnf 1048577 0\n\n' 'p cnf 9223372036854775808 0\n'; do
+    'p cnf 1048577 0\n\n' 'p cnf 9223372036854775808 0\n' "p cnf 1 1\n-${nines} 0\n" "p cnf ${zeros}1 1\n2 0\n" \
+    "p cnf 65537 1\n$sets\nx 0\n"; do
     number=$((number + 1))
     # shellcheck disable=SC2059 # The text has line ends to be printed as such.
     printf "$text" > "$folder/text"
