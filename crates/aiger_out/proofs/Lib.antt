@@ -1,5 +1,9 @@
 pub mod Numerals
 pub mod Reading
+pub mod Parts
 pub mod Same
+pub mod Deltas
+pub mod SameBytes
 pub mod Lines
 pub mod Texts
+pub mod WorkedGates

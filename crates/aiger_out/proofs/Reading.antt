@@ -24,7 +24,7 @@ IsPlainLine [] = ⊥
 IsPlainLine (w ∷ []) = IsPlain w
 IsPlainLine (w ∷ v ∷ ws) = IsPlain w × IsPlainLine (v ∷ ws)
 
-line_cut : (l m : Line) (r s : List ℕ) → IsPlainLine l → IsPlainLine m → line_text l ++ r ≡ line_text m ++ s
+pub line_cut : (l m : Line) (r s : List ℕ) → IsPlainLine l → IsPlainLine m → line_text l ++ r ≡ line_text m ++ s
     → (l ≡ m) × (r ≡ s)
 line_cut [] m r s p q e = absurd p
 line_cut (w ∷ []) [] r s p q e = absurd q
@@ -69,6 +69,18 @@ same_lines (l ∷ ls) (m ∷ ms) p q e =
     let c = line_cut l m (text_of ls) (text_of ms) p.0 q.0 e in
     ap₂ (λ (z : Line) zs. z ∷ zs) c.0 (same_lines ls ms p.1 q.1 c.1)
 
+-- as many lines in front
+pub lines_cut : (ls ms : List Line) (r s : List ℕ) → ArePlain ls → ArePlain ms → length ls ≡ length ms
+    → text_of ls ++ r ≡ text_of ms ++ s → (ls ≡ ms) × (r ≡ s)
+lines_cut [] [] r s p q h e = (refl, e)
+lines_cut [] (m ∷ ms) r s p q h e = absurd (omega arith)
+lines_cut (l ∷ ls) [] r s p q h e = absurd (omega arith)
+lines_cut (l ∷ ls) (m ∷ ms) r s p q h e =
+    let c = line_cut l m (text_of ls ++ r) (text_of ms ++ s) p.0 q.0
+    (sym (append_assoc (line_text l) (text_of ls) r) ∙ e ∙ append_assoc (line_text m) (text_of ms) s) in
+    let rest = lines_cut ls ms r s p.1 q.1 (omega (arith, h)) c.1 in
+    (ap₂ (λ (z : Line) zs. z ∷ zs) c.0 rest.0, rest.1)
+
 pub plain_append : (ls ms : List Line) → ArePlain ls → ArePlain ms → ArePlain (ls ++ ms)
 plain_append [] ms p q = q
 plain_append (l ∷ ls) ms p q = (p.0, plain_append ls ms p.1 q)
@@ -84,9 +96,9 @@ same_front (l ∷ ls) (m ∷ ms) rs ss h e =
     let rest = same_front ls ms rs ss (omega arith) tail in
     (ap₂ (λ (z : Line) zs. z ∷ zs) head rest.0, rest.1)
 
--- lines of things, one each
+-- lines or bytes of things, one each
 
-pub each_length : {X : Type 0} (R : ℕ → Line → X → Type 0) (k : ℕ) (ls : List Line) (xs : List X) → EachAt R k ls xs
+pub each_length : {L X : Type 0} (R : ℕ → L → X → Type 0) (k : ℕ) (ls : List L) (xs : List X) → EachAt R k ls xs
     → length ls ≡ length xs
 each_length R k [] [] h = refl
 each_length R k [] (x ∷ xs) h = absurd h
@@ -100,9 +112,9 @@ each_plain R plain k [] (x ∷ xs) h = tt
 each_plain R plain k (l ∷ ls) [] h = absurd h
 each_plain R plain k (l ∷ ls) (x ∷ xs) h = (plain k l x h.0, each_plain R plain (k + 1) ls xs h.1)
 
--- what one line says of two things
-pub each_zip : {X : Type 0} (R Q : ℕ → Line → X → Type 0) (P : X → X → Type 0)
-    → ((k : ℕ) (l : Line) (x y : X) → R k l x → Q k l y → P x y) → (k : ℕ) (ls : List Line) (xs ys : List X)
+-- what one form says of two things
+pub each_zip : {L X : Type 0} (R Q : ℕ → L → X → Type 0) (P : X → X → Type 0)
+    → ((k : ℕ) (l : L) (x y : X) → R k l x → Q k l y → P x y) → (k : ℕ) (ls : List L) (xs ys : List X)
     → EachAt R k ls xs → EachAt Q k ls ys → AllZip P xs ys
 each_zip R Q P one k [] [] [] f g = tt
 each_zip R Q P one k [] [] (y ∷ ys) f g = absurd g
@@ -111,16 +123,16 @@ each_zip R Q P one k (l ∷ ls) [] ys f g = absurd f
 each_zip R Q P one k (l ∷ ls) (x ∷ xs) [] f g = absurd g
 each_zip R Q P one k (l ∷ ls) (x ∷ xs) (y ∷ ys) f g = (one k l x y f.0 g.0, each_zip R Q P one (k + 1) ls xs ys f.1 g.1)
 
--- one thing has one line
-pub each_line : {X : Type 0} (R : ℕ → Line → X → Type 0) → ((k : ℕ) (l m : Line) (x : X) → R k l x → R k m x → l ≡ m)
-    → (k : ℕ) (ls ms : List Line) (xs : List X) → EachAt R k ls xs → EachAt R k ms xs → ls ≡ ms
-each_line R one k [] [] xs f g = refl
-each_line R one k [] (m ∷ ms) [] f g = absurd g
-each_line R one k [] (m ∷ ms) (x ∷ xs) f g = absurd f
-each_line R one k (l ∷ ls) ms [] f g = absurd f
-each_line R one k (l ∷ ls) [] (x ∷ xs) f g = absurd g
-each_line R one k (l ∷ ls) (m ∷ ms) (x ∷ xs) f g =
-    ap₂ (λ (z : Line) zs. z ∷ zs) (one k l m x f.0 g.0) (each_line R one (k + 1) ls ms xs f.1 g.1)
+-- one thing has one form
+pub each_form : {L X : Type 0} (R : ℕ → L → X → Type 0) → ((k : ℕ) (l m : L) (x : X) → R k l x → R k m x → l ≡ m)
+    → (k : ℕ) (ls ms : List L) (xs : List X) → EachAt R k ls xs → EachAt R k ms xs → ls ≡ ms
+each_form R one k [] [] xs f g = refl
+each_form R one k [] (m ∷ ms) [] f g = absurd g
+each_form R one k [] (m ∷ ms) (x ∷ xs) f g = absurd f
+each_form R one k (l ∷ ls) ms [] f g = absurd f
+each_form R one k (l ∷ ls) [] (x ∷ xs) f g = absurd g
+each_form {L} R one k (l ∷ ls) (m ∷ ms) (x ∷ xs) f g =
+    ap₂ (λ (z : L) zs. z ∷ zs) (one k l m x f.0 g.0) (each_form R one (k + 1) ls ms xs f.1 g.1)
 
 pub zip_both : {X : Type 0} (P Q : X → X → Type 0) → ((x y : X) → P x y → Q x y → x ≡ y) → (xs ys : List X)
     → AllZip P xs ys → AllZip Q xs ys → xs ≡ ys

@@ -1,18 +1,20 @@
-use Rattle.aiger_out.specs.Written.{header_text, sections_text}
+use Rattle.aiger_out.specs.Written.{header_text, sections_bytes}
 use Rattle.ports.proofs.Pieces.{part_more, writes_err, writes_then}
 use Rattle.aiger_out.proofs.write.put_circuit.Goals as goal
 
 pub returns-in_err-put_header-clause-written : goal.returns-in_err-put_header-clause-written
 returns-in_err-put_header-clause-written g c =
-    let s = c.args.strategy.now in
+    let header = header_text c.args.form c.args.strategy.now in
+    let rest = sections_bytes c.args.form c.args.strategy.now in
     writes_err g.S.Sink.written g.S.Sink.flushed g.S.Sink.faults g.S.Sink.has_room _ c.from_residual.result
     c.args.sink.now c.put_header.new.sink _ c.from_residual.ensures.1
     (part_more g.S.Sink.written g.S.Sink.flushed g.S.Sink.faults g.S.Sink.has_room c.args.sink.now
-    c.put_header.new.sink (header_text s) (sections_text s) c.in_err-put_header.ensures.written)
+    c.put_header.new.sink header rest c.in_err-put_header.ensures.written)
 
 pub returns-clause-written : goal.returns-clause-written
 returns-clause-written g c =
-    let s = c.args.strategy.now in
+    let header = header_text c.args.form c.args.strategy.now in
+    let rest = sections_bytes c.args.form c.args.strategy.now in
     writes_then g.S.Sink.written g.S.Sink.flushed g.S.Sink.faults g.S.Sink.has_room c.put_sections.result
-    c.args.sink.now c.put_header.new.sink c.put_sections.new.sink (header_text s) (sections_text s)
+    c.args.sink.now c.put_header.new.sink c.put_sections.new.sink header rest
     c.in_ok-put_header.ensures.written c.put_sections.ensures

@@ -1,12 +1,12 @@
 use Rattle.std.proofs.Common.{◌≤◌, suc, length, get_or, refl, arith}
-use Rattle.aiger_out.specs.Written.{section_text, sections}
+use Rattle.aiger_out.specs.Written.{section_bytes, sections}
 use Rattle.aiger_out.specs.declared.section.Section.TheVariants.{Inputs}
 use Rattle.ports.proofs.Pieces.{each_more, each_stops}
 use Rattle.aiger_out.proofs.write.put_sections.Goals as goal
 
 pub loop-section-preserved : goal.loop-section-preserved
 loop-section-preserved g c =
-    let text = section_text c.args.strategy.now in
+    let text = section_bytes c.args.form c.args.strategy.now in
     let k = c.loop-section.section-index in
     let below : suc k ≤ length sections = omega arith in
     each_more g.S.Sink.written g.S.Sink.flushed g.S.Sink.faults g.S.Sink.has_room text sections k Inputs
@@ -15,7 +15,7 @@ loop-section-preserved g c =
 
 pub returns-in_err-put_section : goal.returns-in_err-put_section
 returns-in_err-put_section g c =
-    let text = section_text c.args.strategy.now in
+    let text = section_bytes c.args.form c.args.strategy.now in
     let k = c.loop-section.section-index in
     let below : suc k ≤ length sections = omega arith in
     each_stops g.S.Sink.written g.S.Sink.flushed g.S.Sink.faults g.S.Sink.has_room text sections k Inputs

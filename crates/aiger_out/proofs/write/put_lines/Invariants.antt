@@ -3,7 +3,7 @@ use Rattle.std.specs.List.{flat_map}
 use Rattle.ports.specs.Writing.{Wrote}
 use Rattle.aiger_out.specs.Text.{line_text}
 use Rattle.aiger_out.specs.Written.{section_lines}
-use Rattle.aiger_out.proofs.write.put_section.Given as goal
+use Rattle.aiger_out.proofs.write.put_lines.Given as goal
 
 -- the lines up to this one are written
 abbrev pub invariant-loop-place : goal.invariant-loop-place

@@ -2,7 +2,7 @@ use Rattle.std.proofs.Common.{◌≤◌, [], suc, length, sym, arith}
 use Rattle.aiger_out.specs.Text.{line_text}
 use Rattle.aiger_out.specs.Written.{section_lines}
 use Rattle.ports.proofs.Pieces.{each_more, each_stops}
-use Rattle.aiger_out.proofs.write.put_section.Goals as goal
+use Rattle.aiger_out.proofs.write.put_lines.Goals as goal
 
 pub loop-place-preserved : goal.loop-place-preserved
 loop-place-preserved g c =
