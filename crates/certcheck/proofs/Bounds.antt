@@ -17,7 +17,8 @@ use Rattle.aig.specs.declared.edge.And.{And}
 use Rattle.aig.specs.declared.strategy.Output.{Output}
 use Rattle.aig.specs.declared.strategy.Strategy.{Strategy}
 use Rattle.aig.proofs.Values.{edge_node}
-use Rattle.certcheck.specs.Check.{Named, flipped, named_inputs, named_outputs, named_output, names, number_in, number_of, number_when, numbered, given_of, given, given_outputs, units, conjunction, gate_clauses, falsified, satisfied, lost, lost_count, selectors, greatest, variable_count, check_clauses}
+use Rattle.builder.specs.Rows.{flipped}
+use Rattle.certcheck.specs.Check.{Named, named_inputs, named_outputs, named_output, names, number_in, number_of, number_when, numbered, given_of, given, given_outputs, units, conjunction, gate_clauses, falsified, satisfied, lost, lost_count, selectors, greatest, variable_count, check_clauses}
 use Rattle.certcheck.proofs.Numbers.{flipped_below, when_below}
 use Rattle.certcheck.proofs.Rows.{map_at}
 

@@ -22,7 +22,8 @@ use Rattle.aig.specs.Strategies.{output_of, output_vars, value_or, values_of}
 use Rattle.aig.specs.declared.edge.Edge.{Edge}
 use Rattle.aig.specs.declared.strategy.Output.{Output}
 use Rattle.aig.specs.declared.strategy.Strategy.{Strategy}
-use Rattle.certcheck.specs.Check.{Named, named_inputs, named_output, named_outputs, names, number_in, numbered, given, given_outputs, units, gate_clauses, falsified, lost, lost_count, selectors, all_selectors, greatest, variable_count, check_clauses, rows_of, scopes_to}
+use Rattle.builder.specs.Rows.{rows_of}
+use Rattle.certcheck.specs.Check.{Named, named_inputs, named_output, named_outputs, names, number_in, numbered, given, given_outputs, units, gate_clauses, falsified, lost, lost_count, selectors, all_selectors, greatest, variable_count, check_clauses, scopes_to}
 use Rattle.certcheck.specs.Theorems.{IsFor, ChecksWinning}
 use Rattle.certcheck.proofs.Numbers.{value_suc, number_true, even_true, holds, all_hold, units_hold, unit_holds}
 use Rattle.certcheck.proofs.Rows.{map_at, rows_hold}

@@ -12,7 +12,8 @@ use Rattle.calculus.specs.Plays.{total}
 use Rattle.calculus.proofs.Lists.{contains_nil, contains_head, contains_tail, among_from, filter_at}
 use Rattle.calculus.proofs.Winning.{winning_decides}
 use Rattle.std.specs.List.{range_with_len}
-use Rattle.certcheck.specs.Check.{scopes_to, rows_of, as_row, literal_of, is_left_out}
+use Rattle.builder.specs.Rows.{as_row, is_left_out, literal_of, rows_of}
+use Rattle.certcheck.specs.Check.{scopes_to}
 use Rattle.certcheck.proofs.Rows.{map_at, kept_at, none_there}
 
 -- the truth under no assumptions is the truth

@@ -4,15 +4,16 @@ use Rattle.std.specs.List.{AllByRecursion, list_any}
 use Rattle.std.proofs.lemmas.Bool.{false_from_ne_true, true≢false, or_right, not-true}
 use Rattle.prefix.specs.Literal.{Literal}
 use Rattle.prefix.specs.Scopes.{Scope, all_variables, is_among, IsAscending}
-use Rattle.qdimacs.specs.Formula.{ascending}
+use Rattle.clauses.specs.Clause.{ascending}
 use Rattle.qdimacs.specs.Formed.{IsClauseOver}
-use Rattle.qdimacs.specs.Kept.{has_pair}
-use Rattle.qdimacs.proofs.Ascending.{ascending_is}
-use Rattle.qdimacs.proofs.Ending.{halves_ascend, pair_witness}
+use Rattle.clauses.specs.Codes.{has_pair}
+use Rattle.clauses.proofs.Ascending.{ascending_is}
+use Rattle.clauses.proofs.Rows.{halves_ascend, pair_witness}
 use Rattle.calculus.proofs.Lists.{contains_head, contains_tail, any_from, among_at, among_from, filter_at}
-use Rattle.certcheck.specs.Check.{flipped, literal_of, is_left_out, as_row, rows_of, scopes_to, variable_count, check_clauses}
+use Rattle.builder.specs.Rows.{as_row, flipped, is_left_out, literal_of, rows_of}
+use Rattle.certcheck.specs.Check.{scopes_to, variable_count, check_clauses}
 use Rattle.certcheck.specs.Theorems.{RowsAreFormed}
-use Rattle.certcheck.proofs.Numbers.{flip_even}
+use Rattle.builder.proofs.Opposites.{flip_even}
 use Rattle.certcheck.proofs.Rows.{kept_at, map_at}
 use Rattle.certcheck.proofs.Deciding.{rows_over}
 use Rattle.certcheck.proofs.Bounds.{check_below}

@@ -10,7 +10,8 @@ use Rattle.aig.specs.declared.edge.Node.{Node}
 use Rattle.aig.specs.declared.edge.Node.TheVariants.{Constant, Input, Gate}
 use Rattle.aig.specs.declared.edge.And.{And}
 use Rattle.aig.proofs.Values.{pass_more, pass_end}
-use Rattle.certcheck.specs.Check.{flipped, conjunction, gate_clauses}
+use Rattle.builder.specs.Rows.{flipped}
+use Rattle.certcheck.specs.Check.{conjunction, gate_clauses}
 use Rattle.certcheck.proofs.Numbers.{value_at, value_zero, value_suc, number_true, even_true, odd_true, flipped_true, holds, all_hold}
 
 -- The assignment gives the inputs and the gates these values.

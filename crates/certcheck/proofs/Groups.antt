@@ -1,5 +1,9 @@
 -- One more clause of a group.
 use Rattle.std.proofs.Common.{◌≡◌, ℕ, suc, ◌+◌, ◌*◌, ◌<◌, ◌≤◌, Bool, true, false, cond, List, [], ◌∷◌, ◌++◌, length, map, take, get_or, sym, ap, ap₂, subst, ◌∙◌, arith, append_assoc, append-nil}
+use Rattle.std.specs.List.{All}
+use Rattle.std.proofs.lemmas.List.Elements.{All-cons}
+use Rattle.prefix.specs.declared.quant.Quant.{Quant}
+use Rattle.prefix.specs.declared.quant.Quant.TheVariants.{Exists, Forall}
 use Rattle.std.proofs.lemmas.List.{map_more, map-append, take_more, length-map, length-take-le}
 use Rattle.aig.specs.Circuits.{edge_number, node_number, IsNode, IsGate}
 use Rattle.aig.specs.declared.edge.Edge.{Edge}
@@ -8,10 +12,12 @@ use Rattle.aig.specs.declared.edge.Node.TheVariants.{Constant, Input, Gate}
 use Rattle.aig.specs.declared.edge.And.{And}
 use Rattle.prefix.specs.Literal.{Literal}
 use Rattle.calculus.specs.Rows.{Row}
-use Rattle.certcheck.specs.Check.{Named, flipped, units, conjunction, gate_clauses, falsified, satisfied, numbered, number_of}
-use Rattle.certcheck.specs.Building.{Adds}
-use Rattle.certcheck.specs.declared.build.Build.{Build}
-use Rattle.certcheck.proofs.Built.{adds_more, adds_same}
+use Rattle.builder.specs.Rows.{flipped}
+use Rattle.certcheck.specs.Building.{lost_clause, selectors_before}
+use Rattle.certcheck.specs.Check.{Named, units, conjunction, gate_clauses, falsified, satisfied, lost, lost_count, numbered, number_of}
+use Rattle.builder.specs.Building.{Adds}
+use Rattle.builder.specs.Building.{Kept}
+use Rattle.builder.proofs.Adding.{adds_more, adds_none, adds_same}
 
 gate_push : (inputs place : ℕ) (gs : List And) (g : And)
     → gate_clauses inputs place (gs ++ g ∷ []) ≡ gate_clauses inputs place gs
@@ -62,7 +68,7 @@ pub maps_more : {X Y Z : Type 0} (f : Y → Z) (g : X → Y) (xs : List X) (i : 
 maps_more f g xs i d below =
     ap (map f) (map_more g xs i d below) ∙ map-append f (map g (take i xs)) (g (get_or xs i d) ∷ [])
 
-module _ (first mid last : Build) where
+module _ (first mid last : Kept) where
   pub units_step : (ns : List ℕ) (i d n : ℕ) → i < length ns → n ≡ get_or ns i d → Adds first mid (units (take i ns))
       → Adds mid last ((n ∷ []) ∷ [])
       → Adds first last (units (take (i + 1) ns))
@@ -149,18 +155,55 @@ module _ (first mid last : Build) where
       ∙ ap (λ y. xs ++ f (map (number_of ns) y) ∷ []) (sym is)))
       (adds_more first mid last xs (f (map (number_of ns) c) ∷ []) before now)
 
+  -- the clause at a place, for both winners
+  pub lost_step : (winner : Quant) (ns : List Named) (from : ℕ) (cs : List Row) (i : ℕ) (d c : Row) (s : ℕ)
+      → i < length cs → c ≡ get_or cs i d → s ≡ 2 * (from + selectors_before winner i)
+      → Adds first mid (lost winner from (numbered ns (take i cs)))
+      → Adds mid last (lost_clause winner s (map (number_of ns) c))
+      → Adds first last (lost winner from (numbered ns (take (i + 1) cs)))
+  lost_step Exists ns from cs i d c s below is own before now =
+      falsified_step ns from cs i d c below is before
+      (subst (λ k. Adds mid last (pairs_of k (map (number_of ns) c))) own now)
+  lost_step Forall ns from cs i d c s below is own before now =
+      let one : s ≡ 2 * from = omega (arith, own) in
+      satisfied_step ns from cs i d c below is before
+      (subst (λ k. Adds mid last ((flipped k ∷ map (number_of ns) c) ∷ [])) one now)
+
+pub lost_none : (build : Kept) (winner : Quant) (first : ℕ) → Adds build build (lost winner first [])
+lost_none build Exists first = adds_none build
+lost_none build Forall first = adds_none build
+
+-- the selector of a clause is small
+pub place_small : (winner : Quant) (first : ℕ) (cs : List Row) (i : ℕ) → i < length cs
+    → first + lost_count winner cs ≤ 1048577 → first + selectors_before winner i ≤ 1048576
+place_small Exists first cs i below few = omega (arith, below, few)
+place_small Forall first cs i below few = omega (arith, few)
+
+-- literals of short clauses
+abbrev IsLow : ℕ → Type 0
+IsLow n = n < 2097154
+
+pub all_one : (a : ℕ) → IsLow a → All IsLow (a ∷ [])
+all_one a p = All-cons IsLow a [] p (λ k d below. absurd (omega (arith, below)))
+
+pub all_two : (a b : ℕ) → IsLow a → IsLow b → All IsLow (a ∷ b ∷ [])
+all_two a b p q = All-cons IsLow a (b ∷ []) p (all_one b q)
+
+pub all_three : (a b c : ℕ) → IsLow a → IsLow b → IsLow c → All IsLow (a ∷ b ∷ c ∷ [])
+all_three a b c p q r = All-cons IsLow a (b ∷ c ∷ []) p (all_two b c q r)
+
 -- some gate, for a place past the end
 pub any_gate : And
 any_gate =
     record { left = record { node = Constant; negated = false }; right = record { node = Constant; negated = false } }
 
-pub two_as : (first last : Build) (x y z w : ℕ) → x ≡ z → y ≡ w → Adds first last ((x ∷ y ∷ []) ∷ [])
+pub two_as : (first last : Kept) (x y z w : ℕ) → x ≡ z → y ≡ w → Adds first last ((x ∷ y ∷ []) ∷ [])
     → Adds first last ((z ∷ w ∷ []) ∷ [])
 two_as first last x y z w e f a = adds_same first last ((x ∷ y ∷ []) ∷ []) ((z ∷ w ∷ []) ∷ [])
     (ap₂ (λ p q. (p ∷ q ∷ []) ∷ []) e f) a
 
 -- three clauses of a conjunction
-pub conjunction_step : (first mid late last : Build) (l a b f g h k : ℕ) → f ≡ flipped l → g ≡ flipped l
+pub conjunction_step : (first mid late last : Kept) (l a b f g h k : ℕ) → f ≡ flipped l → g ≡ flipped l
     → h ≡ flipped a → k ≡ flipped b
     → Adds first mid ((f ∷ a ∷ []) ∷ []) → Adds mid late ((g ∷ b ∷ []) ∷ []) → Adds late last ((l ∷ h ∷ k ∷ []) ∷ [])
     → Adds first last (conjunction l a b)

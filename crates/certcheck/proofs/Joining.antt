@@ -4,12 +4,13 @@ use Rattle.prefix.specs.Literal.{Literal}
 use Rattle.calculus.specs.Rows.{Row}
 use Rattle.aig.specs.declared.strategy.Strategy.{Strategy}
 use Rattle.certcheck.specs.Check.{check_clauses, falsified, gate_clauses, given, given_outputs, greatest, lost, lost_count, named_inputs, names, numbered, selectors, units}
-use Rattle.certcheck.specs.Building.{Adds, Builds, losing_clauses}
-use Rattle.certcheck.specs.declared.build.Build.{Build}
-use Rattle.certcheck.proofs.Built.{adds_more, adds_same}
+use Rattle.builder.specs.Building.{Adds, Builds}
+use Rattle.certcheck.specs.Building.{losing_clauses}
+use Rattle.builder.specs.Building.{Kept}
+use Rattle.builder.proofs.Adding.{adds_more, adds_same}
 use Rattle.certcheck.proofs.Selecting.{selectors_joined}
 
-pub losing_joined : (first mid late last : Build) (clauses : List Row) (outputs : List ℕ) (s : Strategy) (from k : ℕ)
+pub losing_joined : (first mid late last : Kept) (clauses : List Row) (outputs : List ℕ) (s : Strategy) (from k : ℕ)
     → from ≡ greatest s + 1 → k ≡ lost_count s.winner clauses
     → Adds first mid (lost s.winner from (numbered (names s) clauses))
     → Adds mid late (falsified (from + k) (units outputs))
@@ -26,7 +27,7 @@ losing_joined first mid late last clauses outputs s from k is count a b c =
     (falsified (from + k) (units outputs) ++ selectors from (k + length outputs) ∷ []) a
     (adds_more mid late last (falsified (from + k) (units outputs)) (selectors from (k + length outputs) ∷ []) b c))
 
-pub all_joined : (first mid last : Build) (clauses : List Row) (assumptions : List Literal) (outputs : List ℕ)
+pub all_joined : (first mid last : Kept) (clauses : List Row) (assumptions : List Literal) (outputs : List ℕ)
     (s : Strategy) → outputs ≡ given_outputs assumptions s → Builds first []
     → Adds first mid (units (given assumptions (named_inputs 0 s.inputs)) ++ gate_clauses s.aig.inputs 0 s.aig.gates)
     → Adds mid last (losing_clauses clauses outputs s) → Builds last (check_clauses clauses assumptions s)

@@ -7,8 +7,6 @@ pub mod Bounds
 pub mod Deciding
 pub mod Checking
 pub mod Formed
-pub mod Sorting
-pub mod Built
 pub mod Groups
 pub mod Named
 pub mod Selecting

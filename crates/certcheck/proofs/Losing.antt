@@ -8,8 +8,10 @@ use Rattle.prefix.specs.declared.quant.Quant.TheVariants.{Exists, Forall}
 use Rattle.prefix.specs.Sides.{bad_of, opposite}
 use Rattle.calculus.specs.Rows.{Assignment}
 use Rattle.calculus.proofs.Lists.{any_at, any_from, all_at, all_from}
-use Rattle.certcheck.specs.Check.{flipped, falsified, satisfied, lost, selectors}
-use Rattle.certcheck.proofs.Numbers.{number_true, flipped_true, holds, all_hold, or_off}
+use Rattle.builder.specs.Rows.{flipped}
+use Rattle.certcheck.specs.Check.{falsified, satisfied, lost, selectors}
+use Rattle.builder.proofs.Lists.{or_off}
+use Rattle.certcheck.proofs.Numbers.{number_true, flipped_true, holds, all_hold}
 
 -- the selectors from one on have these values
 abbrev pub Selects : Assignment → ℕ → List Bool → Type 0

@@ -1,10 +1,13 @@
 -- The truth of circuit literals and of clauses of them.
-use Rattle.std.proofs.Common.{◌≡◌, ℕ, zero, suc, ◌+◌, ◌-◌, ◌*◌, ◌/◌, ◌%◌, ◌<◌, ◌⊎◌, inl, inr, ⊎_elim, Bool, true, false, not, ◌&&◌, ◌||◌, cond, List, [], ◌∷◌, refl, sym, ap, ap₂, ◌∙◌, arith, nat_eq}
+use Rattle.std.proofs.Common.{◌≡◌, ℕ, zero, suc, ◌+◌, ◌*◌, ◌/◌, ◌%◌, ◌<◌, ⊎_elim, Bool, true, false, not, ◌&&◌, cond, List, [], ◌∷◌, refl, sym, ap, ap₂, ◌∙◌, arith, nat_eq}
 use Rattle.std.specs.List.{list_any, list_all}
-use Rattle.std.proofs.lemmas.Bool.{cond-true, cond-false, eq-eqb, ne_eqb, cases_eq}
+use Rattle.std.proofs.lemmas.Bool.{cond-true, cond-false, eq-eqb, ne_eqb}
 use Rattle.truth.specs.Matrix.{same}
 use Rattle.calculus.specs.Rows.{Assignment}
-use Rattle.certcheck.specs.Check.{flipped, number_when, units}
+use Rattle.builder.specs.Rows.{flipped}
+use Rattle.builder.proofs.Lists.{or_off}
+use Rattle.builder.proofs.Opposites.{flip_even, flip_odd, parity}
+use Rattle.certcheck.specs.Check.{number_when, units}
 
 -- Number 0 is no variable, and false.
 pub value_at : Assignment → ℕ → Bool
@@ -47,22 +50,6 @@ odd_true σ n m e =
     cond-false (nat_eq (n % 2) 0) (value_at σ (n / 2)) (not (value_at σ (n / 2))) (ne_eqb (n % 2) 0 rest)
     ∙ ap (λ v. not (value_at σ v)) half
 
-pub flip_even : (n m : ℕ) → n ≡ 2 * m → flipped n ≡ 2 * m + 1
-flip_even n m e =
-    let rest : n % 2 ≡ 0 = omega (arith, e) in
-    cond-true (nat_eq (n % 2) 0) (n + 1) (n - 1) (eq-eqb (n % 2) 0 rest) ∙ ap (λ k. k + 1) e
-
-pub flip_odd : (n m : ℕ) → n ≡ 2 * m + 1 → flipped n ≡ 2 * m
-flip_odd n m e =
-    let rest : n % 2 ≡ 0 → ⊥ = λ r. omega (arith, e, r) in
-    let less : n - 1 ≡ 2 * m = omega (arith, e) in
-    cond-false (nat_eq (n % 2) 0) (n + 1) (n - 1) (ne_eqb (n % 2) 0 rest) ∙ less
-
--- a literal is even or odd
-pub parity : (n : ℕ) → (n ≡ 2 * (n / 2)) ⊎ (n ≡ 2 * (n / 2) + 1)
-parity n = ⊎_elim (λ (e : n % 2 ≡ 0). inl (omega (arith, e))) (λ (o : n % 2 ≡ 0 → ⊥). inr (omega (arith, o)))
-    (cases_eq (n % 2) 0)
-
 not_not : (b : Bool) → b ≡ not (not b)
 not_not true = refl
 not_not false = refl
@@ -99,18 +86,9 @@ pub when_below : (b : Bool) (n m : ℕ) → n < 2 * m → number_when b n < 2 * 
 when_below true n m below = below
 when_below false n m below = flipped_below n m below
 
-pub or_off : (b : Bool) → (b || false) ≡ b
-or_off true = refl
-or_off false = refl
-
 pub unit_holds : (σ : Assignment) (n : ℕ) → holds σ (n ∷ []) ≡ number_true σ n
 unit_holds σ n = or_off (number_true σ n)
 
 pub units_hold : (σ : Assignment) (ns : List ℕ) → all_hold σ (units ns) ≡ list_all (number_true σ) ns
 units_hold σ [] = refl
 units_hold σ (n ∷ ns) = ap₂ (λ a b. a && b) (unit_holds σ n) (units_hold σ ns)
-
-pub same_bools : (a b : Bool) → (a ≡ true → b ≡ true) → (b ≡ true → a ≡ true) → a ≡ b
-same_bools true b f g = sym (f refl)
-same_bools false true f g = g refl
-same_bools false false f g = refl

@@ -7,10 +7,12 @@ use Rattle.truth.specs.Matrix.{same, literal_true, clause_true, matrix_true}
 use Rattle.calculus.specs.Rows.{Assignment}
 use Rattle.calculus.specs.Plays.{total}
 use Rattle.calculus.proofs.Lists.{any_at, any_from, among_at, among_from, contains_cons, contains_nil, contains_head, contains_tail, filter_at, filter_from}
-use Rattle.qdimacs.specs.Formula.{ascending}
-use Rattle.qdimacs.proofs.Ascending.{ascending_among}
-use Rattle.certcheck.specs.Check.{flipped, literal_of, is_left_out, as_row, rows_of}
-use Rattle.certcheck.proofs.Numbers.{value_at, value_suc, number_true, even_true, odd_true, flipped_true, parity, holds, all_hold, same_bools, value_zero}
+use Rattle.clauses.specs.Clause.{ascending}
+use Rattle.clauses.proofs.Ascending.{ascending_among}
+use Rattle.builder.specs.Rows.{as_row, flipped, is_left_out, literal_of, rows_of}
+use Rattle.builder.proofs.Opposites.{parity}
+use Rattle.builder.proofs.Lists.{same_bools}
+use Rattle.certcheck.proofs.Numbers.{value_at, value_suc, number_true, even_true, odd_true, flipped_true, holds, all_hold, value_zero}
 
 pub any_map : {X Y : Type 0} (p : Y → Bool) (f : X → Y) (xs : List X)
     → list_any p (map f xs) ≡ list_any (λ x. p (f x)) xs

@@ -1,50 +1,60 @@
--- The scope of the variables 1 to n, put in one after the other.
-use Rattle.std.proofs.Common.{◌≡◌, ℕ, zero, suc, ◌+◌, ◌-◌, ◌≤◌, ◌||◌, false, List, [], ◌∷◌, length, Result, Err, refl, ap, ◌∙◌, arith}
-use Rattle.std.specs.Prelude.{nat_lt, IsOkUnless, MatchOption}
-use Rattle.std.specs.List.{range_with_len}
-use Rattle.std.proofs.lemmas.Bool.{cond-false, le-ltb, ne_eqb}
+-- The scope of the variables 1 to n.
+use Rattle.std.proofs.Common.{◌≡◌, ℕ, zero, suc, ◌+◌, ◌<◌, ◌≤◌, ◌||◌, ⊎_elim, true, false, List, [], ◌∷◌, ◌++◌, refl, sym, ap, ◌∙◌, arith, nat_eq}
+use Rattle.std.specs.List.{AllByRecursion, range_with_len}
+use Rattle.std.proofs.lemmas.Bool.{eqb-true, ne_eqb, or_cases, true≢false}
 use Rattle.prefix.specs.declared.quant.Quant.TheVariants.{Exists}
-use Rattle.prefix.specs.declared.refusal.PrefixRefusal.{PrefixRefusal}
-use Rattle.prefix.specs.declared.refusal.PrefixRefusal.TheVariants.{NoMemory}
-use Rattle.prefix.specs.Refusals.{variable_refusal}
-use Rattle.prefix.specs.Scopes.{Scope, insert_ascending, is_among, level_of, with_variable_at}
-use Rattle.qdimacs.proofs.Building.{last_none, variable_memory}
+use Rattle.prefix.specs.Scopes.{AreDistinct, IsAscending, is_among}
+use Rattle.clauses.proofs.Ascending.{ascending_of}
+use Rattle.builder.specs.NewScope.{AreNew, scope_of}
+use Rattle.certcheck.specs.Check.{scopes_to}
 
-range_apart : (u a n : ℕ) → a + n ≤ u → is_among u (range_with_len a n) ≡ false
-range_apart u a zero h = refl
-range_apart u a (suc n) h =
-    ap (λ b. b || is_among u (range_with_len (a + 1) n)) (ne_eqb a u (λ e. omega arith))
-    ∙ range_apart u (a + 1) n (omega arith)
+range_after : (v a n : ℕ) → v < a → is_among v (range_with_len a n) ≡ false
+range_after v a zero h = refl
+range_after v a (suc n) h =
+    ap (λ b. b || is_among v (range_with_len (a + 1) n)) (ne_eqb a v (λ e. omega (arith, e, h)))
+    ∙ range_after v (a + 1) n (omega (arith, h))
 
--- the next one goes behind them
-range_put : (a n : ℕ) → insert_ascending (a + n) (range_with_len a n) ≡ range_with_len a (suc n)
-range_put a zero = ap (λ u. u ∷ []) (let e : a + 0 ≡ a = omega arith in e)
-range_put a (suc n) =
-    cond-false (nat_lt (a + suc n) a) ((a + suc n) ∷ range_with_len a (suc n))
-    (a ∷ insert_ascending (a + suc n) (range_with_len (a + 1) n)) (le-ltb (a + suc n) a (omega arith))
-    ∙ ap (λ u. a ∷ insert_ascending u (range_with_len (a + 1) n)) (let e : a + suc n ≡ a + 1 + n = omega arith in e)
-    ∙ ap (λ us. a ∷ us) (range_put (a + 1) n)
+range_distinct : (a n : ℕ) → AreDistinct (range_with_len a n)
+range_distinct a zero = tt
+range_distinct a (suc n) = (range_after a (a + 1) n (omega arith), range_distinct (a + 1) n)
 
--- a scope with the variables before v
-abbrev pub before : ℕ → List Scope
-before v = record { quantifier = Exists; variables = range_with_len 1 (v - 1) } ∷ []
+range_within : (v a n : ℕ) → is_among v (range_with_len a n) ≡ true → (a ≤ v) × (v < a + n)
+range_within v a zero t = absurd (true≢false (sym t))
+range_within v a (suc n) t =
+    ⊎_elim (λ e. let same : a ≡ v = eqb-true a v e in (omega (arith, same), omega (arith, same)))
+    (λ e. let w = range_within v (a + 1) n e in (omega (arith, w.0), omega (arith, w.1)))
+    (or_cases (nat_eq a v) (is_among v (range_with_len (a + 1) n)) t)
 
-pub scope_grows : (old : List Scope) (v : ℕ) → 1 ≤ v → old ≡ before v → with_variable_at old 0 v ≡ before (v + 1)
-scope_grows old v low is =
-    let n = v - 1 in
-    let own : v ≡ 1 + n = omega arith in
-    let next : suc n ≡ v + 1 - 1 = omega arith in
-    ap (λ ss. with_variable_at ss 0 v) is
-    ∙ ap (λ us. record { quantifier = Exists; variables = us } ∷ [])
-    (ap (λ u. insert_ascending u (range_with_len 1 n)) own ∙ range_put 1 n ∙ ap (range_with_len 1) next)
+range_above : (w a n : ℕ) → w < a → AllByRecursion (λ u. w < u) (range_with_len a n)
+range_above w a zero h = tt
+range_above w a (suc n) h = (h, range_above w (a + 1) n (omega arith))
 
--- the next variable is refused for want of memory alone
-pub next_memory : (old : List Scope) (v : ℕ) (r : Result (Unit {0}) PrefixRefusal) → 1 ≤ v → v ≤ 1048576
-    → old ≡ before v
-    → MatchOption (variable_refusal old v 1) (IsOkUnless r NoMemory) (λ e. r ≡ Err e) → IsOkUnless r NoMemory
-next_memory old v r low high is h =
-    let out : is_among v (range_with_len 1 (v - 1)) ≡ false = range_apart v 1 (v - 1) (omega arith) in
-    let long : length old ≡ 1 = ap length is in
-    variable_memory old v 1 r low high
-    (ap (λ o. level_of o v) is ∙ last_none [] Exists (range_with_len 1 (v - 1)) v refl out)
-    (omega arith) (omega (arith, long)) h
+range_ascends : (a n : ℕ) → IsAscending (range_with_len a n)
+range_ascends a zero = tt
+range_ascends a (suc n) = (range_above a (a + 1) n (omega arith), range_ascends (a + 1) n)
+
+push : (a n : ℕ) → range_with_len a (suc n) ≡ range_with_len a n ++ (a + n) ∷ []
+push a zero = ap (λ u. u ∷ []) (let e : a ≡ a + 0 = omega arith in e)
+push a (suc n) =
+    ap (λ us. a ∷ us) (push (a + 1) n
+    ∙ ap (λ u. range_with_len (a + 1) n ++ u ∷ []) (let e : a + 1 + n ≡ a + suc n = omega arith in e))
+
+-- the numbers before v, and v behind them
+pub range_push : (v next : ℕ) → next ≡ v + 1 → range_with_len 1 v ++ next ∷ [] ≡ range_with_len 1 next
+range_push v next is =
+    let first : next ≡ 1 + v = omega (arith, is) in
+    let more : suc v ≡ next = omega (arith, is) in
+    ap (λ u. range_with_len 1 v ++ u ∷ []) first ∙ sym (push 1 v) ∙ ap (range_with_len 1) more
+
+-- they may stand in the first scope
+pub range_new : (n : ℕ) → n ≤ 1048576 → AreNew [] (range_with_len 1 n)
+range_new n few = record {
+  distinct = range_distinct 1 n;
+  each = λ v t. let w = range_within v 1 n t in (w.0, omega (arith, w.1, few), refl);
+}
+
+pub scopes_are : (n : ℕ) → 0 < n → [] ++ scope_of Exists (range_with_len 1 n) ∷ [] ≡ scopes_to n
+scopes_are zero h = absurd (omega (arith, h))
+scopes_are (suc n) h =
+    ap (λ (us : List ℕ). record { quantifier = Exists; variables = us } ∷ [])
+    (sym (ascending_of (range_with_len 1 (suc n)) (range_with_len 1 (suc n)) (range_ascends 1 (suc n)) (λ v. refl)))

@@ -1,39 +1,19 @@
 -- The check formula of a circuit, which says that the circuit loses.
--- Its clauses are first written with the literals of AIGER 1.9: 2v is variable v and 2v + 1 its negation, 0 is false
--- and 1 is true. Variable v of the circuit is variable v of the formula, and the selectors come behind those.
-use Rattle.std.specs.Prelude.{ℕ, zero, suc, ◌+◌, ◌-◌, ◌*◌, ◌/◌, ◌%◌, ◌==◌, ◌||◌, Bool, not, if◌then◌else◌, List, [], ◌∷◌, ◌++◌, length, map, filter, Option, Some, None}
-use Rattle.std.specs.List.{list_any, flat_map, range_with_len}
+-- Its clauses are first written as circuit literals, as AIGER 1.9 writes those, and come to rows as the crate `builder`
+-- says. Variable v of the circuit is variable v of the formula, and the selectors come behind those.
+use Rattle.std.specs.Prelude.{ℕ, zero, suc, ◌+◌, ◌*◌, ◌==◌, Bool, if◌then◌else◌, List, [], ◌∷◌, ◌++◌, length, map, Option, Some, None}
+use Rattle.std.specs.List.{flat_map, range_with_len}
 use Rattle.prefix.specs.declared.quant.Quant.{Quant}
 use Rattle.prefix.specs.declared.quant.Quant.TheVariants.{Exists, Forall}
 use Rattle.prefix.specs.Literal.{Literal}
-use Rattle.prefix.specs.Scopes.{Scope, is_among}
+use Rattle.prefix.specs.Scopes.{Scope}
 use Rattle.truth.specs.declared.formula.Formula.{Formula}
 use Rattle.truth.specs.Truth.{assumed_value}
 use Rattle.aig.specs.Circuits.{edge_number}
 use Rattle.aig.specs.declared.edge.And.{And}
 use Rattle.aig.specs.declared.strategy.Output.{Output}
 use Rattle.aig.specs.declared.strategy.Strategy.{Strategy}
-use Rattle.qdimacs.specs.Formula.{ascending}
-
--- the opposite literal
-abbrev pub flipped : ℕ → ℕ
-flipped n = if n % 2 == 0 then n + 1 else n - 1
-
--- a literal as a formula has it
-abbrev pub literal_of : ℕ → Literal
-literal_of n = record { variable = n / 2; positive = n % 2 == 0 }
-
--- a clause is left out where it has the constant true, or a literal with its opposite
-abbrev pub is_left_out : List ℕ → Bool
-is_left_out ns = is_among 1 ns || list_any (λ n. is_among (flipped n) ns) ns
-
--- the literals of a clause once each, ascending by variable; the constant false is left out
-abbrev pub as_row : List ℕ → List Literal
-as_row ns = map literal_of (ascending (filter (λ n. not (n == 0)) ns))
-
--- the clauses that aren't left out
-abbrev pub rows_of : List (List ℕ) → List (List Literal)
-rows_of clauses = map as_row (filter (λ c. not (is_left_out c)) clauses)
+use Rattle.builder.specs.Rows.{flipped, rows_of}
 
 -- a variable of the formula that was decided, with its literal in the circuit
 pub record Named : Type 0 where

@@ -12,7 +12,8 @@ use Rattle.calculus.specs.Plays.{Wins}
 use Rattle.aig.specs.Circuits.{AreGates}
 use Rattle.aig.specs.Strategies.{IsStrategy, output_vars, values_of}
 use Rattle.aig.specs.declared.strategy.Strategy.{Strategy}
-use Rattle.certcheck.specs.Check.{check_clauses, rows_of, scopes_to, variable_count}
+use Rattle.builder.specs.Rows.{rows_of}
+use Rattle.certcheck.specs.Check.{check_clauses, scopes_to, variable_count}
 
 -- A circuit for a formula: its inputs are the loser's variables and its outputs the winner's, in prefix order. Whether
 -- it wins is left open.

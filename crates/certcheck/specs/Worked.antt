@@ -9,7 +9,8 @@ use Rattle.aig.specs.Worked.{input, both, gate}
 use Rattle.aig.specs.declared.edge.Edge.{Edge}
 use Rattle.aig.specs.declared.strategy.Strategy.{Strategy}
 use Rattle.certcheck.specs.Building.{limit_of}
-use Rattle.certcheck.specs.Check.{check_clauses, formula_over, rows_of, scopes_to, variable_count}
+use Rattle.builder.specs.Rows.{rows_of}
+use Rattle.certcheck.specs.Check.{check_clauses, formula_over, scopes_to, variable_count}
 
 abbrev pub yes_ : ℕ → Literal
 yes_ v = record { variable = v; positive = true }

@@ -8,12 +8,13 @@ ghost use Rattle.truth.specs.Truth.{truth};
 ghost use Rattle.calculus.specs.Plays.{Wins};
 ghost use Rattle.qdimacs.specs.Formed.{IsFormed};
 ghost use Rattle.aig.specs.Strategies.{IsStrategy, values_of};
-ghost use Rattle.certcheck.specs.Check.{check_clauses, checked, formula_over, gate_clauses, given, given_outputs as given_outputs_of, greatest, lost_count, named_inputs, rows_of, scopes_to, units};
+ghost use Rattle.builder.specs.Rows.{rows_of};
+ghost use Rattle.certcheck.specs.Check.{check_clauses, checked, formula_over, gate_clauses, given, given_outputs as given_outputs_of, greatest, lost_count, named_inputs, scopes_to, units};
 ghost use Rattle.certcheck.specs.Theorems.{IsFor};
-ghost use Rattle.certcheck.specs.Building.{Adds, Builds, IsAnswer, losing_clauses};
+ghost use Rattle.builder.specs.Building.{Adds, Builds};
+ghost use Rattle.certcheck.specs.Building.{IsAnswer, losing_clauses, quantity_of as quantity_of_limit};
 ghost use Rattle.certcheck.specs.Tables.{IsTableOfAssumed};
 
-use crate::build::{Build, MAX_CLAUSES, MAX_LITERALS};
 use crate::fault::CheckFault;
 use crate::given::{given_inputs, given_outputs};
 use crate::laws::{check_formulas_decide, check_rows_are_formed};
@@ -21,10 +22,11 @@ use crate::lost::{lost_selectors, put_lost, put_missed, put_selectors};
 use crate::names::{assumed_of, table_of};
 use crate::put::{put_gates, put_units};
 use aig::Strategy;
+use builder::{Beyond, RowBuilder, add_scope};
 use prefix::{Lit, LitList, Prefix, PrefixRefusal, Quant, Var};
 use qdimacs::Quantity;
 use std::alloc::{AllocError, Global};
-use truth::{ClauseList, Formula};
+use truth::Formula;
 
 /// The formula that says that a circuit loses: it is unsatisfiable exactly where the circuit wins, whether it does or
 /// not. So any solver of existential formulas checks a certificate.
@@ -37,10 +39,10 @@ use truth::{ClauseList, Formula};
 /// true. A constant true literal takes its clause out, a constant false one is left out of its clause, repeats count
 /// once, and tautologies are left out. `specs/Check` writes it out.
 ///
-/// Refused, in this order, with Limit of Variables where the formula has more than 1,048,576 variables, of Clauses
-/// where it has more than 2^24 clauses, of Literals where these have more than 2^28 literals, and with NoMemory. It
-/// takes time and memory in proportion to the gates, the greatest variable and the literals of the clauses, but for the
-/// sorting of each clause.
+/// Refused with Limit of Variables where the formula has more than 1,048,576 variables, else of Clauses where it has
+/// more than 2^24 clauses, else of Literals where these have more than 2^28 literals. Want of memory may come in place
+/// of any answer. It takes time and memory in proportion to the gates, the greatest variable and the literals of the
+/// clauses, but for the sorting of each clause.
 pub fn check_formula(
     alloc: Global,
     f: &Formula,
@@ -48,7 +50,7 @@ pub fn check_formula(
     s: &Strategy,
 ) -> Result<Formula, CheckFault>
     requires { IsFor f.now.prefix f.now.clauses assumptions.now s.now }
-    // The formula, or the first limit that it passes; want of memory says nothing.
+    // The formula, or the first limit that it goes beyond; want of memory says nothing.
     ensures answer { IsAnswer result (checked f.now.clauses assumptions.now s.now) }
     ensures decides { IfOk result (λ g. (truth g.prefix g.clauses ≡ false)
         ↔ Wins (opposite s.now.winner) f.now.prefix f.now.clauses assumptions.now (values_of s.now)) }
@@ -101,7 +103,7 @@ fn build_clauses(
     s: &Strategy,
     assumed: &[Option<bool>],
     outputs: &[u32],
-) -> Result<Build, AllocError>
+) -> Result<RowBuilder, AllocError>
     requires strategy { IsStrategy s.now }
     requires few { greatest s.now + lost_count s.now.winner clauses.now + length outputs.now ≤ 1048576 }
     requires below { All (λ n. n < 2097154) outputs.now }
@@ -109,7 +111,7 @@ fn build_clauses(
         → outputs.now ≡ given_outputs_of assumptions s.now
         → Builds build (check_clauses clauses.now assumptions s.now)) }
 {
-    let mut build = Build::new(alloc);
+    let mut build = RowBuilder::new(alloc);
     let mut buffer = Vec::new(alloc);
     put_circuit(alloc, &mut build, &mut buffer, s, assumed)?;
     put_losing(alloc, &mut build, &mut buffer, clauses, s, outputs)?;
@@ -119,7 +121,7 @@ fn build_clauses(
 // Puts that the assumed inputs have their values, and that the gates are what they are.
 fn put_circuit(
     alloc: Global,
-    build: &mut Build,
+    build: &mut RowBuilder,
     buffer: &mut Vec<u32>,
     s: &Strategy,
     assumed: &[Option<bool>],
@@ -140,7 +142,7 @@ fn put_circuit(
 // Puts that a selector is true, and what the selectors say.
 fn put_losing(
     alloc: Global,
-    build: &mut Build,
+    build: &mut RowBuilder,
     buffer: &mut Vec<u32>,
     clauses: &[LitList],
     s: &Strategy,
@@ -160,31 +162,40 @@ fn put_losing(
     put_selectors(build, buffer, first, lost + outputs.len() as u32)
 }
 
-// The formula of the rows, or the limit that they pass.
-fn finish(alloc: Global, build: Build, count: u32) -> Result<Formula, CheckFault>
+// The formula of the rows, or the limit that they go beyond.
+fn finish(alloc: Global, build: RowBuilder, count: u32) -> Result<Formula, CheckFault>
     requires { count ≤ 1048576 }
     ensures { (clauses : List (List ℕ)) → Builds build clauses
         → IsAnswer result (formula_over count (rows_of clauses)) }
 {
-    if build.count > MAX_CLAUSES {
-        return Err(CheckFault::Limit {
-            quantity: Quantity::Clauses,
-        });
-    }
-    if build.amount > MAX_LITERALS {
-        return Err(CheckFault::Limit {
-            quantity: Quantity::Literals,
-        });
-    }
+    let clauses = match build.finish() {
+        Ok(clauses) => clauses,
+        Err(limit) => {
+            return Err(CheckFault::Limit {
+                quantity: quantity_of(limit),
+            });
+        }
+    };
     let Ok(prefix) = prefix_to(alloc, count) else {
         return Err(CheckFault::NoMemory);
     };
+    let declared_clauses = clauses.clauses().len() as u32;
     Ok(Formula {
         prefix,
-        clauses: ClauseList::from_vec(build.rows),
+        clauses,
         declared_vars: count,
-        declared_clauses: build.count as u32,
+        declared_clauses,
     })
+}
+
+// The quantity of a limit of rows.
+fn quantity_of(limit: Beyond) -> Quantity
+    ensures { result ≡ quantity_of_limit limit }
+{
+    match limit {
+        Beyond::Clauses => Quantity::Clauses,
+        Beyond::Literals => Quantity::Literals,
+    }
 }
 
 // The prefix with the existential variables 1 to `count`.
@@ -194,23 +205,23 @@ fn prefix_to(alloc: Global, count: u32) -> Result<Prefix, PrefixRefusal>
     ensures memory { IsOkUnless result PrefixRefusal.NoMemory }
 {
     let mut prefix = Prefix::new(alloc);
-    if count > 0 {
-        add_variables(&mut prefix, count)?;
+    if count == 0 {
+        return Ok(prefix);
     }
+    let vars = numbers_to(alloc, count)?;
+    add_scope(&mut prefix, Quant::Exists, &vars)?;
     Ok(prefix)
 }
 
-// Puts the variables 1 to `count` into an existential scope of a prefix without scopes.
-fn add_variables(prefix: &mut Prefix, count: u32) -> Result<(), PrefixRefusal>
-    requires empty { prefix.old ≡ [] }
-    requires bound { count ≤ 1048576 }
-    ensures ok { OnOk result (prefix.new
-        ≡ record { quantifier = Exists; variables = range_with_len 1 count } ∷ []) }
-    ensures memory { IsOkUnless result PrefixRefusal.NoMemory }
+// The numbers from 1 to `last`.
+fn numbers_to(alloc: Global, last: u32) -> Result<Vec<u32>, AllocError>
+    requires { last ≤ 1048576 }
+    ensures { IfOk result (λ numbers. numbers.items ≡ range_with_len 1 last) }
 {
-    prefix.add_scope(Quant::Exists, None)?;
-    for v in 1..count + 1 {
-        prefix.add_var(v as u64, 1)?;
+    let mut numbers = Vec::new(alloc);
+    numbers.reserve(last as usize)?;
+    for n in 1..last + 1 {
+        numbers.push(n)?;
     }
-    Ok(())
+    Ok(numbers)
 }

@@ -3,7 +3,6 @@
 //! `specs/Check` has the clauses, and `specs/Theorems` that they are unsatisfiable exactly where the circuit wins.
 #![tactic(auto)]
 
-mod build;
 mod check;
 mod fault;
 mod given;

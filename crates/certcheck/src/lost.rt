@@ -1,13 +1,15 @@
 //! Puts that the circuit loses: the matrix is decided against the winner, or an output misses its assumed value.
 ghost use Rattle.std.specs.Prelude.{◌≡◌, ℕ, ◌+◌, ◌*◌, ◌<◌, ◌≤◌, ◌∷◌, [], length, map, All, OnOk, IfSome, List};
 ghost use Rattle.prefix.specs.Literal.{Literal};
-ghost use Rattle.certcheck.specs.Check.{Named, falsified, flipped, lost, lost_count, number_of as number_in_circuit, numbered, satisfied, selectors, units};
-ghost use Rattle.certcheck.specs.Building.{Adds};
+ghost use Rattle.builder.specs.Rows.{flipped};
+ghost use Rattle.certcheck.specs.Check.{Named, falsified, lost, lost_count, number_of as number_in_circuit, numbered, selectors, units};
+ghost use Rattle.builder.specs.Building.{Adds};
+ghost use Rattle.certcheck.specs.Building.{lost_clause, selectors_before};
 ghost use Rattle.certcheck.specs.Tables.{IsSmall, IsTableOf};
 
-use crate::build::Build;
 use crate::names::entry_at;
-use crate::put::{flip, put_two, when};
+use crate::put::{flip, put_clause, when};
+use builder::RowBuilder;
 use prefix::{Lit, LitList, Quant};
 use std::alloc::AllocError;
 
@@ -23,7 +25,7 @@ pub(crate) fn lost_selectors(winner: Quant, clauses: usize) -> usize
 
 // Puts that the matrix is decided against the winner, where a selector is true.
 pub(crate) fn put_lost(
-    build: &mut Build,
+    build: &mut RowBuilder,
     buffer: &mut Vec<u32>,
     winner: Quant,
     first: u32,
@@ -37,42 +39,49 @@ pub(crate) fn put_lost(
         Adds build.old build.new (lost winner first (numbered ns clauses.now))) }
     ensures empty { OnOk result (buffer.new.items ≡ []) }
 {
-    match winner {
-        Quant::Exists => put_falsified(build, buffer, first, table, clauses),
-        Quant::Forall => put_satisfied(build, buffer, first, table, clauses),
-    }
-}
-
-// Puts for each clause that it is false where its selector is true.
-fn put_falsified(
-    build: &mut Build,
-    buffer: &mut Vec<u32>,
-    first: u32,
-    table: &[Option<u32>],
-    clauses: &[LitList],
-) -> Result<(), AllocError>
-    requires empty { buffer.old.items ≡ [] }
-    requires few { first + length clauses.now ≤ 1048577 }
-    requires small { IsSmall table.now }
-    ensures adds { OnOk result ((ns : List Named) → IsTableOf table.now ns →
-        Adds build.old build.new (falsified first (numbered ns clauses.now))) }
-    ensures empty { OnOk result (buffer.new.items ≡ []) }
-{
     for i in 0..clauses.len() {
-        put_false_clause(
-            build,
-            buffer,
-            2 * (first + i as u32),
-            table,
-            clauses[i].lits(),
-        )?;
+        let selector = selector_of(winner, first, i);
+        put_lost_clause(build, buffer, winner, selector, table, clauses[i].lits())?;
     }
     Ok(())
 }
 
+// The selector of the clause at a place: one of its own, or that of all clauses.
+fn selector_of(winner: Quant, first: u32, place: usize) -> u32
+    requires { first + selectors_before winner place ≤ 1048576 }
+    ensures { result ≡ 2 * (first + selectors_before winner place) }
+{
+    match winner {
+        Quant::Exists => 2 * (first + place as u32),
+        Quant::Forall => 2 * first,
+    }
+}
+
+// Puts what the selector of a clause says of it.
+fn put_lost_clause(
+    build: &mut RowBuilder,
+    buffer: &mut Vec<u32>,
+    winner: Quant,
+    selector: u32,
+    table: &[Option<u32>],
+    clause: &[Lit],
+) -> Result<(), AllocError>
+    requires empty { buffer.old.items ≡ [] }
+    requires own { selector < 2097154 }
+    requires small { IsSmall table.now }
+    ensures adds { OnOk result ((ns : List Named) → IsTableOf table.now ns →
+        Adds build.old build.new (lost_clause winner selector (map (number_in_circuit ns) clause.now))) }
+    ensures empty { OnOk result (buffer.new.items ≡ []) }
+{
+    match winner {
+        Quant::Exists => put_false_clause(build, buffer, selector, table, clause),
+        Quant::Forall => put_true_clause(build, buffer, selector, table, clause),
+    }
+}
+
 // Puts for each literal of a clause that it is false where the selector is true.
 fn put_false_clause(
-    build: &mut Build,
+    build: &mut RowBuilder,
     buffer: &mut Vec<u32>,
     selector: u32,
     table: &[Option<u32>],
@@ -86,35 +95,18 @@ fn put_false_clause(
     ensures empty { OnOk result (buffer.new.items ≡ []) }
 {
     for lit in clause {
-        put_two(build, buffer, flip(selector), flip(number_of(table, *lit)))?;
-    }
-    Ok(())
-}
-
-// Puts each clause with the opposite of the selector.
-fn put_satisfied(
-    build: &mut Build,
-    buffer: &mut Vec<u32>,
-    first: u32,
-    table: &[Option<u32>],
-    clauses: &[LitList],
-) -> Result<(), AllocError>
-    requires empty { buffer.old.items ≡ [] }
-    requires few { first + 1 ≤ 1048577 }
-    requires small { IsSmall table.now }
-    ensures adds { OnOk result ((ns : List Named) → IsTableOf table.now ns →
-        Adds build.old build.new (satisfied first (numbered ns clauses.now))) }
-    ensures empty { OnOk result (buffer.new.items ≡ []) }
-{
-    for i in 0..clauses.len() {
-        put_true_clause(build, buffer, 2 * first, table, clauses[i].lits())?;
+        put_clause(
+            build,
+            buffer,
+            &[flip(selector), flip(number_of(table, *lit))],
+        )?;
     }
     Ok(())
 }
 
 // Puts a clause with the opposite of the selector.
 fn put_true_clause(
-    build: &mut Build,
+    build: &mut RowBuilder,
     buffer: &mut Vec<u32>,
     selector: u32,
     table: &[Option<u32>],
@@ -136,7 +128,7 @@ fn put_true_clause(
 
 // Puts for each literal that it is false where its selector is true.
 pub(crate) fn put_missed(
-    build: &mut Build,
+    build: &mut RowBuilder,
     buffer: &mut Vec<u32>,
     first: u32,
     ns: &[u32],
@@ -148,14 +140,14 @@ pub(crate) fn put_missed(
     ensures empty { OnOk result (buffer.new.items ≡ []) }
 {
     for i in 0..ns.len() {
-        put_two(build, buffer, flip(2 * (first + i as u32)), flip(ns[i]))?;
+        put_clause(build, buffer, &[flip(2 * (first + i as u32)), flip(ns[i])])?;
     }
     Ok(())
 }
 
 // Puts a clause of all these selectors.
 pub(crate) fn put_selectors(
-    build: &mut Build,
+    build: &mut RowBuilder,
     buffer: &mut Vec<u32>,
     first: u32,
     count: u32,

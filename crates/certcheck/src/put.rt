@@ -2,11 +2,12 @@
 ghost use Rattle.std.specs.Prelude.{◌≡◌, ℕ, ◌+◌, ◌*◌, ◌<◌, ◌≤◌, ◌^◌, ◌++◌, ◌∷◌, [], length, slice_index_or, OnOk, All};
 ghost use Rattle.aig.specs.Circuits.{edge_number};
 ghost use Rattle.aig.specs.declared.edge.And.{And};
-ghost use Rattle.certcheck.specs.Check.{flipped, number_when, units, conjunction, gate_clauses};
-ghost use Rattle.certcheck.specs.Building.{Adds};
+ghost use Rattle.builder.specs.Rows.{flipped};
+ghost use Rattle.certcheck.specs.Check.{number_when, units, conjunction, gate_clauses};
+ghost use Rattle.builder.specs.Building.{Adds};
 
-use crate::build::Build;
 use aig::Aig;
+use builder::RowBuilder;
 use std::alloc::AllocError;
 
 // The opposite literal.
@@ -27,59 +28,24 @@ pub(crate) fn when(positive: bool, n: u32) -> u32
     if positive { n } else { flip(n) }
 }
 
-// Puts a clause of one literal.
-pub(crate) fn put_one(build: &mut Build, buffer: &mut Vec<u32>, a: u32) -> Result<(), AllocError>
-    requires empty { buffer.old.items ≡ [] }
-    requires below { a < 2097154 }
-    ensures adds { OnOk result (Adds build.old build.new ((a ∷ []) ∷ [])) }
-    ensures empty { OnOk result (buffer.new.items ≡ []) }
-{
-    buffer.push(a)?;
-    build.put(buffer)
-}
-
-// Puts a clause of two literals.
-pub(crate) fn put_two(
-    build: &mut Build,
+// Puts a clause of these literals.
+pub(crate) fn put_clause(
+    build: &mut RowBuilder,
     buffer: &mut Vec<u32>,
-    a: u32,
-    b: u32,
+    lits: &[u32],
 ) -> Result<(), AllocError>
     requires empty { buffer.old.items ≡ [] }
-    requires first { a < 2097154 }
-    requires second { b < 2097154 }
-    ensures adds { OnOk result (Adds build.old build.new ((a ∷ b ∷ []) ∷ [])) }
+    requires below { All (λ n. n < 2097154) lits.now }
+    ensures adds { OnOk result (Adds build.old build.new (lits.now ∷ [])) }
     ensures empty { OnOk result (buffer.new.items ≡ []) }
 {
-    buffer.push(a)?;
-    buffer.push(b)?;
-    build.put(buffer)
-}
-
-// Puts a clause of three literals.
-pub(crate) fn put_three(
-    build: &mut Build,
-    buffer: &mut Vec<u32>,
-    a: u32,
-    b: u32,
-    c: u32,
-) -> Result<(), AllocError>
-    requires empty { buffer.old.items ≡ [] }
-    requires first { a < 2097154 }
-    requires second { b < 2097154 }
-    requires third { c < 2097154 }
-    ensures adds { OnOk result (Adds build.old build.new ((a ∷ b ∷ c ∷ []) ∷ [])) }
-    ensures empty { OnOk result (buffer.new.items ≡ []) }
-{
-    buffer.push(a)?;
-    buffer.push(b)?;
-    buffer.push(c)?;
+    buffer.extend_from_slice(lits)?;
     build.put(buffer)
 }
 
 // Puts a clause for each literal.
 pub(crate) fn put_units(
-    build: &mut Build,
+    build: &mut RowBuilder,
     buffer: &mut Vec<u32>,
     ns: &[u32],
 ) -> Result<(), AllocError>
@@ -89,14 +55,14 @@ pub(crate) fn put_units(
     ensures empty { OnOk result (buffer.new.items ≡ []) }
 {
     for i in 0..ns.len() {
-        put_one(build, buffer, ns[i])?;
+        put_clause(build, buffer, &[ns[i]])?;
     }
     Ok(())
 }
 
 // Puts that one literal is the conjunction of two.
 fn put_conjunction(
-    build: &mut Build,
+    build: &mut RowBuilder,
     buffer: &mut Vec<u32>,
     l: u32,
     a: u32,
@@ -109,14 +75,14 @@ fn put_conjunction(
     ensures adds { OnOk result (Adds build.old build.new (conjunction l a b)) }
     ensures empty { OnOk result (buffer.new.items ≡ []) }
 {
-    put_two(build, buffer, flip(l), a)?;
-    put_two(build, buffer, flip(l), b)?;
-    put_three(build, buffer, l, flip(a), flip(b))
+    put_clause(build, buffer, &[flip(l), a])?;
+    put_clause(build, buffer, &[flip(l), b])?;
+    put_clause(build, buffer, &[l, flip(a), flip(b)])
 }
 
 // Puts the clauses of a gate.
 fn put_gate(
-    build: &mut Build,
+    build: &mut RowBuilder,
     buffer: &mut Vec<u32>,
     aig: &Aig,
     place: usize,
@@ -139,7 +105,7 @@ fn put_gate(
 
 // Puts the clauses of all gates.
 pub(crate) fn put_gates(
-    build: &mut Build,
+    build: &mut RowBuilder,
     buffer: &mut Vec<u32>,
     aig: &Aig,
 ) -> Result<(), AllocError>

@@ -1,4 +1,5 @@
 //! Texts of check formulas, and their truth by the plain decider.
+use crate::conjunctions::{check_assumed_input, check_assumed_output};
 use crate::games::{Rule, check_nothing, check_rule};
 use ports::MemorySink;
 use prefix::Quant;
@@ -12,6 +13,11 @@ const OPPOSITE: &str = "p cnf 3 5\ne 1 2 3 0\n-1 -2 0\n1 -2 0\n1 -3 0\n-1 -3 0\n
 const FALSE: &str = "p cnf 3 4\ne 1 2 3 0\n-1 -2 0\n1 -3 0\n-3 0\n2 3 0\n";
 
 const TRUE: &str = "p cnf 3 4\ne 1 2 3 0\n-1 -2 0\n-2 0\n1 -3 0\n2 3 0\n";
+
+const ASSUMED_OUTPUT: &str = "p cnf 4 5\ne 1 2 3 4 0\n2 -3 0\n1 -3 0\n-1 -2 3 0\n-3 -4 0\n4 0\n";
+
+const ASSUMED_INPUT: &str =
+    "p cnf 4 6\ne 1 2 3 4 0\n-1 0\n2 -3 0\n1 -3 0\n-1 -2 3 0\n-3 -4 0\n4 0\n";
 
 #[test]
 fn circuits_have_these_formulas(rt: HostRuntime) -> Result<(), Fail> {
@@ -37,6 +43,22 @@ fn without_variables_there_is_no_scope(rt: HostRuntime) -> Result<(), Fail> {
         write_formula(&check_nothing(rt.alloc(), winner)?, &mut sink)?;
         assert_eq!(rt; sink.bytes(), want.as_bytes(), "{winner:?}");
     }
+    Ok(())
+}
+
+#[test]
+fn assumed_outputs_have_selectors(rt: HostRuntime) -> Result<(), Fail> {
+    let mut sink = MemorySink::new(rt.alloc(), 128, 128, Vec::new(rt.alloc()))?;
+    write_formula(&check_assumed_output(rt.alloc())?, &mut sink)?;
+    assert_eq!(rt; sink.bytes(), ASSUMED_OUTPUT.as_bytes());
+    Ok(())
+}
+
+#[test]
+fn assumed_inputs_have_their_values(rt: HostRuntime) -> Result<(), Fail> {
+    let mut sink = MemorySink::new(rt.alloc(), 128, 128, Vec::new(rt.alloc()))?;
+    write_formula(&check_assumed_input(rt.alloc())?, &mut sink)?;
+    assert_eq!(rt; sink.bytes(), ASSUMED_INPUT.as_bytes());
     Ok(())
 }
 

@@ -21,7 +21,7 @@ pub(crate) enum Rule {
 }
 
 // The variable with this number.
-fn variable(n: u32) -> Result<Var, Fail>
+pub(crate) fn variable(n: u32) -> Result<Var, Fail>
     ensures { IfOk result (λ v. v ≡ n) }
 {
     Ok(Var::new(n).ok_or("range")?)

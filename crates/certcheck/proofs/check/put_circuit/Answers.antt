@@ -1,8 +1,8 @@
 use Rattle.std.proofs.Common.{◌≡◌, List, ℕ, ap, subst, ◌∙◌}
 use Rattle.std.proofs.lemmas.Result.{on_ok_weaker}
 use Rattle.certcheck.specs.Check.{gate_clauses, given, named_inputs, units}
-use Rattle.certcheck.specs.Building.{Adds}
-use Rattle.certcheck.proofs.Built.{adds_more}
+use Rattle.builder.specs.Building.{Adds}
+use Rattle.builder.proofs.Adding.{adds_more}
 use Rattle.certcheck.proofs.check.put_circuit.Goals as goal
 
 pub returns-clause-adds : goal.returns-clause-adds

@@ -1,6 +1,6 @@
 use Rattle.std.proofs.Common.{◌≡◌, List, [], map, take}
 use Rattle.certcheck.specs.Check.{Named, number_of}
-use Rattle.certcheck.specs.Building.{Adds}
+use Rattle.builder.specs.Building.{Adds}
 use Rattle.certcheck.specs.Tables.{IsTableOf}
 use Rattle.certcheck.proofs.Groups.{pairs_of}
 use Rattle.certcheck.proofs.lost.put_false_clause.Given as goal

@@ -1,6 +1,6 @@
 use Rattle.std.proofs.Common.{◌≡◌, [], take}
 use Rattle.certcheck.specs.Check.{falsified, units}
-use Rattle.certcheck.specs.Building.{Adds}
+use Rattle.builder.specs.Building.{Adds}
 use Rattle.certcheck.proofs.lost.put_missed.Given as goal
 
 abbrev pub invariant-loop-i : goal.invariant-loop-i

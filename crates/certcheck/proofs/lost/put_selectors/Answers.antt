@@ -2,7 +2,7 @@ use Rattle.std.proofs.Common.{◌≡◌, ◌+◌, ◌*◌, ◌<◌, ◌++◌, �
 use Rattle.std.specs.List.{All}
 use Rattle.std.proofs.lemmas.Result.{on_ok_weaker}
 use Rattle.certcheck.specs.Check.{selectors}
-use Rattle.certcheck.specs.Building.{Adds}
+use Rattle.builder.specs.Building.{Adds}
 use Rattle.certcheck.proofs.Selecting.{selectors_push, selectors_small}
 use Rattle.certcheck.proofs.lost.put_selectors.Goals as goal
 

@@ -2,8 +2,9 @@ use Rattle.std.proofs.Common.{◌≡◌, List, ℕ, ◌∷◌, [], map, ap, subs
 use Rattle.std.proofs.lemmas.List.{take_all}
 use Rattle.std.proofs.lemmas.Result.{on_ok_weaker}
 use Rattle.prefix.specs.Literal.{Literal}
-use Rattle.certcheck.specs.Check.{flipped, number_of}
-use Rattle.certcheck.specs.Building.{Adds}
+use Rattle.builder.specs.Rows.{flipped}
+use Rattle.certcheck.specs.Check.{number_of}
+use Rattle.builder.specs.Building.{Adds}
 use Rattle.certcheck.proofs.lost.put_true_clause.Goals as goal
 
 pub returns-clause-adds : goal.returns-clause-adds

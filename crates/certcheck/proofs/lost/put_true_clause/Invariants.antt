@@ -1,6 +1,7 @@
 use Rattle.std.proofs.Common.{◌≡◌, ◌<◌, List, ◌∷◌, map, take}
 use Rattle.std.specs.List.{All}
-use Rattle.certcheck.specs.Check.{Named, flipped, number_of}
+use Rattle.builder.specs.Rows.{flipped}
+use Rattle.certcheck.specs.Check.{Named, number_of}
 use Rattle.certcheck.specs.Tables.{IsTableOf}
 use Rattle.certcheck.proofs.lost.put_true_clause.Given as goal
 

@@ -1,6 +1,6 @@
 use Rattle.std.proofs.Common.{◌≡◌, [], take}
 use Rattle.certcheck.specs.Check.{units}
-use Rattle.certcheck.specs.Building.{Adds}
+use Rattle.builder.specs.Building.{Adds}
 use Rattle.certcheck.proofs.put.put_units.Given as goal
 
 abbrev pub invariant-loop-i : goal.invariant-loop-i

@@ -1,0 +1,4 @@
+pub mod Building
+pub mod NewScope
+pub mod Rows
+pub mod Worked
