@@ -1,0 +1,10 @@
+pub mod Over
+pub mod TrueRows
+pub mod Defined
+pub mod Scoping
+pub mod Known
+pub mod Places
+pub mod Placed
+pub mod Putting
+pub mod Formed
+pub mod Translated

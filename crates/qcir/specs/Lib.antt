@@ -1,0 +1,4 @@
+pub mod Building
+pub mod Translation
+pub mod Truth
+pub mod Worked
