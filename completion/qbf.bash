@@ -8,7 +8,8 @@ _qbf() {
     fi
     case ${COMP_WORDS[1]} in
         solve) options="$options --qdo" ;;
-        trace | cert | script) ;;
+        cert) options="$options --binary --trim" ;;
+        trace | script) ;;
         help)
             mapfile -t COMPREPLY < <(compgen -W 'solve trace cert script gen demo' -- "$word")
             return

@@ -11,15 +11,16 @@ use Rattle.clap.specs.declared.error.ErrorKind.TheVariants.{OutOfMemory}
 use Rattle.clap.specs.Walk.{rows_after}
 use Rattle.clap.proofs.OnLiterals.{clap_on_literals}
 use Rattle.command.specs.Account.{AreInput, AreValues, IsFoundAs, IsSet, has_dashes, is_set, qbf_app}
-use Rattle.command.specs.Forms.{AreAlike, Asks, AsksInput, Explains, GivesInput, Setting, budget_of, name_of, numbers_of, qdo_of, restarts_of, word_of}
+use Rattle.command.specs.Forms.{AreAlike, Asks, AsksInput, Explains, Flag, GivesInput, Setting, budget_of, cert_flags, flag_name, flags_of, name_of, numbers_of, restarts_of, solve_flags, word_of}
+use Rattle.command.specs.Forms.Flag.{the_qdo, the_binary, the_trim}
 use Rattle.command.specs.Forms.Setting.{the_budget, the_restarts}
 use Rattle.command.specs.declared.command.Command.{Command}
 use Rattle.command.specs.declared.command.Command.TheVariants.{Cert, Demo, Gen, Script, Solve, Trace}
 use Rattle.command.specs.declared.refused.Refused.{Refused}
 use Rattle.command.specs.declared.refused.Refused.TheVariants.{Usage, NoMemory}
 use Rattle.command.proofs.InputForms.{setting_small}
-use Rattle.command.proofs.InputWords.{solve_rules}
-use Rattle.command.proofs.Calls.{asked, called, calls, is_solve_input, qdo_is, told}
+use Rattle.command.proofs.InputWords.{full_rules}
+use Rattle.command.proofs.Calls.{any_flag_is, asked, called, calls, is_any_input, told}
 
 pub is_plain_command : is_simple_and_free qbf_app ≡ true
 unfolding clap_on_literals
@@ -46,18 +47,19 @@ one_number s rows m n x y =
     let text : decimal m ≡ decimal n = ap (λ o. unwrap_or o []) (sym x.0 ∙ y.0) in
     decimal_injective m n (setting_small s m x.1.1) (setting_small s n y.1.1) text
 
-pub one_input : (words : List Text) (v w : Text) (m n j k : ℕ) (q r : Bool) (g h : Option Text)
-    → AsksInput v words m j q g → AsksInput w words n k r h → (v ≡ w) × (m ≡ n) × (j ≡ k) × (q ≡ r) × (g ≡ h)
+pub one_input : (words : List Text) (v w : Text) (m n j k : ℕ) (q r : Flag → Bool) (g h : Option Text)
+    → AsksInput v words m j q g → AsksInput w words n k r h
+    → (v ≡ w) × (m ≡ n) × (j ≡ k) × ((f : Flag) → q f ≡ r f) × (g ≡ h)
 one_input words v w m n j k q r g h a b =
     let both : a.0 ∷ v ∷ a.1 ≡ b.0 ∷ w ∷ b.1 = sym a.2 ∙ b.2 in
     let word : v ≡ w = cc in
     let same : a.1 ≡ b.1 = cc in
-    let x = is_solve_input b.1 m j q g (subst (λ (ws : List Text). GivesInput ws m j q g) same a.3) in
-    let y = is_solve_input b.1 n k r h b.3 in (
+    let x = is_any_input b.1 m j q g (subst (λ (ws : List Text). GivesInput ws m j q g) same a.3) in
+    let y = is_any_input b.1 n k r h b.3 in (
       word,
-      one_number the_budget (rows_after solve_rules [] b.1) m n x.values.0 y.values.0,
-      one_number the_restarts (rows_after solve_rules [] b.1) j k x.values.1 y.values.1,
-      qdo_is b.1 m j q g x ∙ sym (qdo_is b.1 n k r h y),
+      one_number the_budget (rows_after full_rules [] b.1) m n x.values.0 y.values.0,
+      one_number the_restarts (rows_after full_rules [] b.1) j k x.values.1 y.values.1,
+      (λ f. any_flag_is b.1 m j q g x f ∙ sym (any_flag_is b.1 n k r h y f)),
       sym x.values.2 ∙ y.values.2,
     )
 
@@ -73,37 +75,64 @@ names_of_numbers w =
 abbrev AreSmall : List ℕ → Type 0
 AreSmall numbers = AllByRecursion (λ n. n < 2 ^ 64) numbers
 
+-- the command of this word takes the flag
+abbrev takes : Text → Flag → Bool
+takes w the_qdo = bytes_eq w (codes "solve")
+takes w the_binary = bytes_eq w (codes "cert")
+takes w the_trim = bytes_eq w (codes "cert")
+
 -- the values of a command, by its word alone
 record AreOfInput (rows : List Row) (c : Command) : Type 0 where
   pub input : AreInput rows (budget_of c) (restarts_of c) (name_of c)
-  pub qdo : qdo_of c ≡ cond (bytes_eq (word_of c) (codes "solve")) (is_set rows) false
+  pub flags : (f : Flag) → flags_of c f ≡ cond (takes (word_of c) f) (is_set (flag_name f) rows) false
   pub numbers : numbers_of c ≡ []
 
 record AreOfNumbers (rows : List Row) (c : Command) : Type 0 where
   pub budget : budget_of c ≡ 2 ^ 64 - 1
   pub restarts : restarts_of c ≡ 0
-  pub qdo : qdo_of c ≡ false
+  pub flags : (f : Flag) → flags_of c f ≡ false
   pub name : name_of c ≡ None
   pub small : AreSmall (numbers_of c)
   pub numbers : map (λ n. Some (decimal n)) (numbers_of c) ≡ map (λ id. first_of id rows) (names_of_numbers (word_of c))
 
+module _ (rows : List Row) where
+  plain_flags : (w : Text) → bytes_eq w (codes "solve") ≡ false → bytes_eq w (codes "cert") ≡ false → (f : Flag)
+      → false ≡ cond (takes w f) (is_set (flag_name f) rows) false
+  plain_flags w s c the_qdo = rw s refl
+  plain_flags w s c the_binary = rw c refl
+  plain_flags w s c the_trim = rw c refl
+
+  solve_taken : (q : Bool) → q ≡ is_set (codes "qdo") rows → (f : Flag)
+      → solve_flags q f ≡ cond (takes (codes "solve") f) (is_set (flag_name f) rows) false
+  solve_taken q is the_qdo = is
+  solve_taken q is the_binary = refl
+  solve_taken q is the_trim = refl
+
+  cert_taken : (b t : Bool) → b ≡ is_set (codes "binary") rows → t ≡ is_set (codes "trim") rows → (f : Flag)
+      → cert_flags b t f ≡ cond (takes (codes "cert") f) (is_set (flag_name f) rows) false
+  cert_taken b t binary trim the_qdo = refl
+  cert_taken b t binary trim the_binary = binary
+  cert_taken b t binary trim the_trim = trim
+
 of_input : (rows : List Row) (c : Command) → takes_numbers (word_of c) ≡ false → AreValues rows c → AreOfInput rows c
-of_input rows (Solve n k q g) e v = record { input = v.0; qdo = v.1; numbers = refl }
-of_input rows (Trace n k g) e v = record { input = v; qdo = refl; numbers = refl }
-of_input rows (Cert n k g) e v = record { input = v; qdo = refl; numbers = refl }
-of_input rows (Script n k g) e v = record { input = v; qdo = refl; numbers = refl }
+of_input rows (Solve n k q g) e v = record { input = v.0; flags = solve_taken rows q v.1; numbers = refl }
+of_input rows (Trace n k g) e v =
+    record { input = v; flags = plain_flags rows (codes "trace") refl refl; numbers = refl }
+of_input rows (Cert n k b t g) e v = record { input = v.0; flags = cert_taken rows b t v.1 v.2; numbers = refl }
+of_input rows (Script n k g) e v =
+    record { input = v; flags = plain_flags rows (codes "script") refl refl; numbers = refl }
 of_input rows (Gen s v k) e r = absurd cc
 of_input rows (Demo s k) e r = absurd cc
 
 of_numbers : (rows : List Row) (c : Command) → takes_numbers (word_of c) ≡ true → AreValues rows c → AreOfNumbers rows c
 of_numbers rows (Solve n k q g) e v = absurd cc
 of_numbers rows (Trace n k g) e v = absurd cc
-of_numbers rows (Cert n k g) e v = absurd cc
+of_numbers rows (Cert n k b t g) e v = absurd cc
 of_numbers rows (Script n k g) e v = absurd cc
 of_numbers rows (Gen s v k) e r = record {
   budget = refl;
   restarts = refl;
-  qdo = refl;
+  flags = λ f. refl;
   name = refl;
   small = (omega (arith, r.0.1.1), (omega (arith, r.1.1.1), (omega (arith, r.2.1.1), tt)));
   numbers = λ i. sym r.0.0 i ∷ sym r.1.0 i ∷ sym r.2.0 i ∷ [];
@@ -111,7 +140,7 @@ of_numbers rows (Gen s v k) e r = record {
 of_numbers rows (Demo s k) e r = record {
   budget = refl;
   restarts = refl;
-  qdo = refl;
+  flags = λ f. refl;
   name = refl;
   small = (omega (arith, r.0.1.1), (omega (arith, r.1.1.1), tt));
   numbers = λ i. sym r.0.0 i ∷ sym r.1.0 i ∷ [];
@@ -138,7 +167,7 @@ alike rows c d word v w = go (takes_numbers (word_of c)) refl
           words = word;
           budgets = one_number the_budget rows (budget_of c) (budget_of d) x.input.0 y.input.0;
           restarts = one_number the_restarts rows (restarts_of c) (restarts_of d) x.input.1 y.input.1;
-          qdo = x.qdo ∙ ap (λ t. cond (bytes_eq t (codes "solve")) (is_set rows) false) word ∙ sym y.qdo;
+          flags = λ f. x.flags f ∙ ap (λ t. cond (takes t f) (is_set (flag_name f) rows) false) word ∙ sym (y.flags f);
           names = sym x.input.2 ∙ y.input.2;
           numbers = x.numbers ∙ sym y.numbers;
         }
@@ -150,7 +179,7 @@ alike rows c d word v w = go (takes_numbers (word_of c)) refl
           words = word;
           budgets = x.budget ∙ sym y.budget;
           restarts = x.restarts ∙ sym y.restarts;
-          qdo = x.qdo ∙ sym y.qdo;
+          flags = λ f. x.flags f ∙ sym (y.flags f);
           names = x.name ∙ sym y.name;
           numbers = same_numbers (numbers_of c) (numbers_of d) x.small y.small texts;
         }

@@ -7,16 +7,17 @@ use Rattle.clap.specs.Words.{Row, Rule, Text, fault_of, subcommand_of}
 use Rattle.clap.specs.Walk.{nothing_held, rows_after, with_default}
 use Rattle.clap.specs.Faults.{level_fault}
 use Rattle.command.specs.Account.{AreInput, AreValues, IsFoundAs, command_apps, has_dashes, is_set, qbf_app}
-use Rattle.command.specs.Forms.{Asks, AsksInput, AsksWith, GivesInput, GivesSetting, Part, Setting, default_of, greatest_of, word_of}
+use Rattle.command.specs.Forms.{Asks, AsksInput, Flag, GivesInput, GivesSetting, Part, Setting, all_flags, cert_flags, default_of, flag_name, greatest_of, no_flags, solve_flags, word_of}
+use Rattle.command.specs.Forms.Flag.{the_qdo, the_binary, the_trim}
 use Rattle.command.specs.Forms.Setting.{the_budget, the_restarts}
 use Rattle.command.specs.declared.command.Command.{Command}
 use Rattle.command.specs.declared.command.Command.TheVariants.{Cert, Demo, Gen, Script, Solve, Trace}
 use Rattle.command.proofs.Turns.{leaf, rules_of}
-use Rattle.command.proofs.WordKinds.{IsNotDashes, KnowsQdo, KnowsSetting}
+use Rattle.command.proofs.WordKinds.{IsNotDashes, KnowsFlag}
 use Rattle.command.proofs.PartWalk.{LacksDashes}
 use Rattle.command.proofs.PartUses.{AreOnce, either_false, name, new_row, part_at}
-use Rattle.command.proofs.InputWords.{AreInputRules, AreRead, are_read, input_are, input_rules, solve_are, solve_rules}
-use Rattle.command.proofs.InputForms.{are_told, in_form, no_qdo, qdo_set, two}
+use Rattle.command.proofs.InputWords.{AreInputRules, AreRead, are_read, cert_are, cert_rules, full_are, full_rules, input_are, input_rules, solve_are, solve_rules}
+use Rattle.command.proofs.InputForms.{are_told, flag_set, in_form, no_flag, two}
 use Rattle.command.proofs.NumberWords.{demo_found, demo_in_form, gen_found, gen_in_form}
 use Rattle.command.proofs.TopWalk.{app_for, command_account, command_fault, is_command, known_or_other, name_alone, no_words, other_word, word_is, IsCommandWord, IsNoneOf}
 
@@ -112,22 +113,52 @@ told words c h = subst (λ ws. IsTold ws c) (sym h.words_are) (record {
 
 -- ---- a command that reads an input
 
--- words that pass, and their account, are those of a form
-input_asks : (c : List Rule) → AreInputRules c → (word : Text) (words : List Text) (program : Text) (args : List Text)
-    → words ≡ program ∷ word ∷ args → LacksDashes args → level_fault (leaf c) [] nothing_held args false [] ≡ []
-    → (n k : ℕ) (given : Option Text) → AreInput (rows_after c [] args) n k given → (q : Bool)
-    → ((a : AreRead c args) → q ≡ is_some (part_at (codes "qdo") a.parts)) → AsksInput word words n k q given
-input_asks c r word words program args is lacks passes n k given values q qdo =
-    let a = are_read c r args lacks passes in
-    (program, args, is, subst (λ b. GivesInput args n k b given) (sym (qdo a)) (in_form c r args a n k given values))
+module _ (c : List Rule) (taken : List Flag) (r : AreInputRules c taken) where
+  -- words that pass, and their account, are those of a form
+  input_asks : (word : Text) (words : List Text) (program : Text) (args : List Text) → words ≡ program ∷ word ∷ args
+      → LacksDashes args → level_fault (leaf c) [] nothing_held args false [] ≡ [] → (n k : ℕ) (given : Option Text)
+      → AreInput (rows_after c [] args) n k given → (q : Flag → Bool)
+      → ((a : AreRead c args) (f : Flag) → q f ≡ is_some (part_at (flag_name f) a.parts))
+      → AsksInput word words n k q given
+  input_asks word words program args is lacks passes n k given values q flags =
+      let a = are_read c taken r args lacks passes in
+      (program, args, is, in_form c taken r args a n k given values q (flags a))
 
-plain_asks : (word : Text) (words : List Text) (program : Text) (args : List Text) → words ≡ program ∷ word ∷ args
-    → LacksDashes args → level_fault (leaf input_rules) [] nothing_held args false [] ≡ []
-    → (n k : ℕ) (given : Option Text)
-    → AreInput (rows_after input_rules [] args) n k given → AsksWith word words n k given
-plain_asks word words program args is lacks passes n k given values =
-    input_asks input_rules input_are word words program args is lacks passes n k given values false
-    (λ a. sym (ap is_some (no_qdo (name ∷ []) a.parts a.taken)))
+  -- a flag that the command takes, and one that it doesn't
+  one_taken : (args : List Text) (a : AreRead c args) (f : Flag) (b : Bool)
+      → b ≡ is_set (flag_name f) (rows_after c [] args) → b ≡ is_some (part_at (flag_name f) a.parts)
+  one_taken args a f b is = is ∙ ap (is_set (flag_name f)) a.rows_are ∙ flag_set c taken r f a.parts a.once
+
+  one_refused : (args : List Text) (a : AreRead c args) (f : Flag) → (KnowsFlag f c → ⊥)
+      → false ≡ is_some (part_at (flag_name f) a.parts)
+  one_refused args a f none = sym (ap is_some (no_flag c f none (name ∷ []) a.parts a.taken))
+
+input_refuses : (f : Flag) → KnowsFlag f input_rules → ⊥
+input_refuses the_qdo bad = absurd cc
+input_refuses the_binary bad = absurd cc
+input_refuses the_trim bad = absurd cc
+
+input_flags : (args : List Text) (a : AreRead input_rules args) (f : Flag)
+    → no_flags f ≡ is_some (part_at (flag_name f) a.parts)
+input_flags args a f = one_refused input_rules [] input_are args a f (input_refuses f)
+
+solve_given : (args : List Text) (q : Bool) → q ≡ is_set (codes "qdo") (rows_after solve_rules [] args)
+    → (a : AreRead solve_rules args) (f : Flag) → solve_flags q f ≡ is_some (part_at (flag_name f) a.parts)
+solve_given args q is a the_qdo = one_taken solve_rules (the_qdo ∷ []) solve_are args a the_qdo q is
+solve_given args q is a the_binary =
+    one_refused solve_rules (the_qdo ∷ []) solve_are args a the_binary (λ bad. absurd cc)
+solve_given args q is a the_trim =
+    one_refused solve_rules (the_qdo ∷ []) solve_are args a the_trim (λ bad. absurd cc)
+
+cert_given : (args : List Text) (b t : Bool) → b ≡ is_set (codes "binary") (rows_after cert_rules [] args)
+    → t ≡ is_set (codes "trim") (rows_after cert_rules [] args)
+    → (a : AreRead cert_rules args) (f : Flag) → cert_flags b t f ≡ is_some (part_at (flag_name f) a.parts)
+cert_given args b t binary trim a the_qdo =
+    one_refused cert_rules (the_binary ∷ the_trim ∷ []) cert_are args a the_qdo (λ bad. absurd cc)
+cert_given args b t binary trim a the_binary =
+    one_taken cert_rules (the_binary ∷ the_trim ∷ []) cert_are args a the_binary b binary
+cert_given args b t binary trim a the_trim =
+    one_taken cert_rules (the_binary ∷ the_trim ∷ []) cert_are args a the_trim t trim
 
 default_most : (s : Setting) → default_of s ≤ greatest_of s
 default_most the_budget = omega arith
@@ -138,71 +169,92 @@ setting_most s parts n (inl h) = subst (λ m. m ≤ greatest_of s) (sym h.1) (de
 setting_most s parts n (inr h) = h.0
 
 -- what `clap` makes of words that give an input
-pub record IsInput (c : List Rule) (args : List Text) (n k : ℕ) (q : Bool) (given : Option Text) : Type 0 where
+pub record IsInput (c : List Rule) (args : List Text) (n k : ℕ) (q : Flag → Bool) (given : Option Text) : Type 0 where
   pub lacks : LacksDashes args
   pub passes : level_fault (leaf c) [] nothing_held args false [] ≡ []
   pub values : AreInput (rows_after c [] args) n k given
   pub order : List Part
   pub once : AreOnce [] order
   pub rows_are : rows_after c [] args ≡ fold with_default (map new_row order) c
-  pub qdo : is_some (part_at (codes "qdo") order) ≡ q
+  pub flags : (f : Flag) → is_some (part_at (flag_name f) order) ≡ q f
 
-is_input : (c : List Rule) → AreInputRules c → ((s : Setting) → KnowsSetting s c) → (q : Bool)
-    → (q ≡ true → KnowsQdo c) → (args : List Text) (n k : ℕ) (given : Option Text) → GivesInput args n k q given
-    → IsInput c args n k q given
-is_input c r knows q knows_qdo args n k given s =
-    let t = are_told c knows (two n k) most given r args q knows_qdo s in
-    subst (λ ws. IsInput c ws n k q given) (sym t.words_are) (record {
-      lacks = t.lacks;
-      passes = t.passes;
-      values = subst (λ rows. AreInput rows n k given) (sym t.rows_are) t.values;
-      order = t.order;
-      once = t.once;
-      rows_are = t.rows_are;
-      qdo = t.qdo;
-    })
-  where
-    most : (x : Setting) → two n k x ≤ greatest_of x
-    most the_budget = setting_most the_budget s.budget_parts n s.gives_budget
-    most the_restarts = setting_most the_restarts s.restarts_parts k s.gives_restarts
+module _ (c : List Rule) (taken : List Flag) (r : AreInputRules c taken) (args : List Text) (n k : ℕ)
+    (q : Flag → Bool) (given : Option Text) where
+  is_input : ((f : Flag) → q f ≡ true → KnowsFlag f c) → GivesInput args n k q given → IsInput c args n k q given
+  is_input knows s =
+      let t = are_told c r.knows (two n k) most given taken r args q knows s in
+      subst (λ ws. IsInput c ws n k q given) (sym t.words_are) (record {
+        lacks = t.lacks;
+        passes = t.passes;
+        values = subst (λ rows. AreInput rows n k given) (sym t.rows_are) t.values;
+        order = t.order;
+        once = t.once;
+        rows_are = t.rows_are;
+        flags = t.flags;
+      })
+    where
+      most : (x : Setting) → two n k x ≤ greatest_of x
+      most the_budget = setting_most the_budget s.budget_parts n s.gives_budget
+      most the_restarts = setting_most the_restarts s.restarts_parts k s.gives_restarts
 
-input_knows : (s : Setting) → KnowsSetting s input_rules
-input_knows the_budget = (refl, refl)
-input_knows the_restarts = (refl, refl)
+  -- a flag as `clap` reads it
+  pub flag_is : IsInput c args n k q given → (f : Flag) → q f ≡ is_set (flag_name f) (rows_after c [] args)
+  flag_is i f = sym (ap (is_set (flag_name f)) i.rows_are ∙ flag_set c taken r f i.order i.once ∙ i.flags f)
 
-solve_knows : (s : Setting) → KnowsSetting s solve_rules
-solve_knows the_budget = (refl, refl)
-solve_knows the_restarts = (refl, refl)
+is_plain_input : (args : List Text) (n k : ℕ) (given : Option Text) → GivesInput args n k no_flags given
+    → IsInput input_rules args n k no_flags given
+is_plain_input args n k given = is_input input_rules [] input_are args n k no_flags given (λ f e. absurd cc)
 
-is_plain_input : (args : List Text) (n k : ℕ) (given : Option Text) → GivesInput args n k false given
-    → IsInput input_rules args n k false given
-is_plain_input = is_input input_rules input_are input_knows false (λ e. absurd cc)
+solve_known : (q : Bool) (f : Flag) → solve_flags q f ≡ true → KnowsFlag f solve_rules
+solve_known q the_qdo e = refl
+solve_known q the_binary e = absurd cc
+solve_known q the_trim e = absurd cc
 
-pub is_solve_input : (args : List Text) (n k : ℕ) (q : Bool) (given : Option Text) → GivesInput args n k q given
-    → IsInput solve_rules args n k q given
-is_solve_input args n k q given = is_input solve_rules solve_are solve_knows q (λ e. refl) args n k given
+is_solve_input : (args : List Text) (n k : ℕ) (q : Bool) (given : Option Text)
+    → GivesInput args n k (solve_flags q) given → IsInput solve_rules args n k (solve_flags q) given
+is_solve_input args n k q given =
+    is_input solve_rules (the_qdo ∷ []) solve_are args n k (solve_flags q) given (solve_known q)
 
--- `--qdo` as `clap` reads it
-pub qdo_is : (args : List Text) (n k : ℕ) (q : Bool) (given : Option Text) → IsInput solve_rules args n k q given
-    → q ≡ is_set (rows_after solve_rules [] args)
-qdo_is args n k q given i = sym (ap is_set i.rows_are ∙ qdo_set i.order i.once ∙ i.qdo)
+cert_known : (b t : Bool) (f : Flag) → cert_flags b t f ≡ true → KnowsFlag f cert_rules
+cert_known b t the_qdo e = absurd cc
+cert_known b t the_binary e = refl
+cert_known b t the_trim e = refl
+
+is_cert_input : (args : List Text) (n k : ℕ) (b t : Bool) (given : Option Text)
+    → GivesInput args n k (cert_flags b t) given → IsInput cert_rules args n k (cert_flags b t) given
+is_cert_input args n k b t given =
+    is_input cert_rules (the_binary ∷ the_trim ∷ []) cert_are args n k (cert_flags b t) given (cert_known b t)
+
+full_known : (f : Flag) → KnowsFlag f full_rules
+full_known the_qdo = refl
+full_known the_binary = refl
+full_known the_trim = refl
+
+-- the same with any flags, to a command that takes all
+pub is_any_input : (args : List Text) (n k : ℕ) (q : Flag → Bool) (given : Option Text) → GivesInput args n k q given
+    → IsInput full_rules args n k q given
+is_any_input args n k q given = is_input full_rules all_flags full_are args n k q given (λ f e. full_known f)
+
+pub any_flag_is : (args : List Text) (n k : ℕ) (q : Flag → Bool) (given : Option Text)
+    → IsInput full_rules args n k q given → (f : Flag) → q f ≡ is_set (flag_name f) (rows_after full_rules [] args)
+any_flag_is args n k q given = flag_is full_rules all_flags full_are args n k q given
 
 -- ---- each command
 
 pub asked : (words : List Text) (c : Command) → IsCalled words c → Asks words c
 asked words (Solve n k q g) h =
-    input_asks solve_rules solve_are (codes "solve") words h.program h.args h.words_are h.lacks h.passes n k
-    (option_map (λ s. s.now) g)
-    h.values.0 q (λ a. h.values.1 ∙ ap is_set a.rows_are ∙ qdo_set a.parts a.once)
+    input_asks solve_rules (the_qdo ∷ []) solve_are (codes "solve") words h.program h.args h.words_are h.lacks h.passes
+    n k (option_map (λ s. s.now) g) h.values.0 (solve_flags q) (solve_given h.args q h.values.1)
 asked words (Trace n k g) h =
-    plain_asks (codes "trace") words h.program h.args h.words_are h.lacks h.passes n k (option_map
-    (λ s. s.now) g) h.values
-asked words (Cert n k g) h =
-    plain_asks (codes "cert") words h.program h.args h.words_are h.lacks h.passes n k (option_map (λ s. s.now) g)
-    h.values
+    input_asks input_rules [] input_are (codes "trace") words h.program h.args h.words_are h.lacks h.passes n k
+    (option_map (λ s. s.now) g) h.values no_flags (input_flags h.args)
+asked words (Cert n k b t g) h =
+    input_asks cert_rules (the_binary ∷ the_trim ∷ []) cert_are (codes "cert") words h.program h.args h.words_are
+    h.lacks h.passes n k (option_map (λ s. s.now) g) h.values.0 (cert_flags b t)
+    (cert_given h.args b t h.values.1 h.values.2)
 asked words (Script n k g) h =
-    plain_asks (codes "script") words h.program h.args h.words_are h.lacks h.passes n k (option_map
-    (λ s. s.now) g) h.values
+    input_asks input_rules [] input_are (codes "script") words h.program h.args h.words_are h.lacks h.passes n k
+    (option_map (λ s. s.now) g) h.values no_flags (input_flags h.args)
 asked words (Gen s v k) h =
     let args = gen_in_form h.args h.lacks h.passes s v k h.values in
     let small : s < 2 ^ 32 = omega (arith, h.values.0.1.1) in
@@ -221,14 +273,26 @@ calls words (Solve n k q g) (program, args, is, form) =
       words_are = is;
       lacks = i.lacks;
       passes = i.passes;
-      values = (i.values, qdo_is args n k q (option_map (λ s. s.now) g) i);
+      values = (
+        i.values,
+        flag_is solve_rules (the_qdo ∷ []) solve_are args n k (solve_flags q) (option_map (λ s. s.now) g) i the_qdo,
+      );
     }
 calls words (Trace n k g) (program, args, is, form) =
     let i = is_plain_input args n k (option_map (λ s. s.now) g) form in
     record { program = program; args = args; words_are = is; lacks = i.lacks; passes = i.passes; values = i.values }
-calls words (Cert n k g) (program, args, is, form) =
-    let i = is_plain_input args n k (option_map (λ s. s.now) g) form in
-    record { program = program; args = args; words_are = is; lacks = i.lacks; passes = i.passes; values = i.values }
+calls words (Cert n k b t g) (program, args, is, form) =
+    let i = is_cert_input args n k b t (option_map (λ s. s.now) g) form in
+    let flags = flag_is cert_rules (the_binary ∷ the_trim ∷ []) cert_are args n k (cert_flags b t)
+    (option_map (λ s. s.now) g) i in
+    record {
+      program = program;
+      args = args;
+      words_are = is;
+      lacks = i.lacks;
+      passes = i.passes;
+      values = (i.values, flags the_binary, flags the_trim);
+    }
 calls words (Script n k g) (program, args, is, form) =
     let i = is_plain_input args n k (option_map (λ s. s.now) g) form in
     record { program = program; args = args; words_are = is; lacks = i.lacks; passes = i.passes; values = i.values }

@@ -1,5 +1,5 @@
--- The form `[--budget N] [--restarts R] [--qdo] [NAME]`, and `clap`'s account of the words.
-use Rattle.std.proofs.Common.{◌≡◌, ◌≢◌, ◌⊎◌, ◌∙◌, ◌++◌, ◌+◌, ◌≤◌, ◌<◌, ◌^◌, ℕ, zero, suc, Bool, Decides, true, false, List, [], ◌∷◌, map, fold, Option, Some, None, codes, decimal, option_map, slice_get, is_some, unwrap_or, refl, sym, ap, subst, inl, inr, arith}
+-- The form `[--budget N] [--restarts R] [--FLAG] .. [NAME]`, and `clap`'s account of the words.
+use Rattle.std.proofs.Common.{◌≡◌, ◌≢◌, ◌⊎◌, ◌∙◌, ◌++◌, ◌&&◌, ◌+◌, ◌≤◌, ◌<◌, ◌^◌, ℕ, zero, suc, Bool, true, false, List, [], ◌∷◌, map, fold, Option, Some, None, IsPermutation, codes, decimal, option_map, slice_get, is_some, unwrap_or, refl, sym, ap, ap₂, subst, inl, inr, arith, append_assoc}
 use Rattle.std.specs.Fmt.{digits}
 use Rattle.std.specs.List.{AllByRecursion, filter, flat_map}
 use Rattle.std.specs.Option.{option_map_or}
@@ -8,21 +8,22 @@ use Rattle.std.proofs.lemmas.Fmt.{decimal_injective}
 use Rattle.std.proofs.lemmas.List.Elements.{All-from_recursion, recursion_from_All}
 use Rattle.std.proofs.lemmas.List.Sorted.{All-permutation, sum_by-IsPermutation}
 use Rattle.std.proofs.lemmas.List.Sums.{sum_by-append}
-use Rattle.std.proofs.lemmas.Slice.Eq.{bytes_eq-Decides}
 use Rattle.clap.specs.Words.{Rule, Text, first_of}
 use Rattle.clap.specs.Faults.{level_fault}
 use Rattle.clap.specs.Walk.{nothing_held, rows_after, with_default}
 use Rattle.command.specs.Account.{AreInput, HasNoHyphen, IsSet, default_text, is_set}
-use Rattle.command.specs.Forms.{GivesInput, GivesName, GivesQdo, GivesSetting, Part, Setting, default_of, greatest_of, setting_name, spelled}
-use Rattle.command.specs.Forms.Part.{setting_part, joined_part, qdo_part, name_part}
+use Rattle.command.specs.Forms.{Flag, GivesInput, GivesName, GivesSetting, Part, Setting, all_flags, default_of, flag_name, flag_parts, greatest_of, setting_name, spelled}
+use Rattle.command.specs.Forms.Flag.{the_qdo, the_binary, the_trim}
+use Rattle.command.specs.Forms.Part.{setting_part, joined_part, flag_part, name_part}
 use Rattle.command.specs.Forms.Setting.{the_budget, the_restarts}
 use Rattle.command.proofs.DecimalWords.{decimal_passes, decimal_word, plain_word}
-use Rattle.command.proofs.Spelled.{joined_not_dashes, option_not_dashes}
+use Rattle.command.proofs.Names.{apart_name, apart_setting, bit, flag_names, name_apart, one_argument, same_flag, setting_apart, times}
+use Rattle.command.proofs.Spelled.{flag_not_dashes, joined_not_dashes, option_not_dashes}
 use Rattle.command.proofs.Turns.{IsPlainWord, leaf}
-use Rattle.command.proofs.WordKinds.{KnowsQdo, KnowsSetting}
+use Rattle.command.proofs.WordKinds.{KnowsFlag, KnowsSetting}
 use Rattle.command.proofs.PartWalk.{AreTaken, LacksDashes}
-use Rattle.command.proofs.PartUses.{AreOnce, IsAccepted, IsUnused, IsUsedOnce, argument_order, bit, holds_of_part, of_itself, id_of, is_of, name_left, new_row, part_at, tally, tally-cons, unused, used_once, value_of}
-use Rattle.command.proofs.InputWords.{AreInputRules, AreRead, input_rules, name_read, parts_pass, qdo_read, rows_of_passing, setting_read, solve_rules}
+use Rattle.command.proofs.PartUses.{AreOnce, IsAccepted, IsUnused, IsUsedOnce, argument_order, by_names, holds_of_part, of_itself, id_of, is_of, name_left, new_row, part_at, tally, tally-cons, unused, used_once, value_of}
+use Rattle.command.proofs.InputWords.{AreInputRules, AreRead, flag_read, name_read, parts_pass, rows_of_passing, says_true, setting_read}
 
 default_is : (s : Setting) → decimal (default_of s) ≡ default_text s
 unfolding digits
@@ -61,19 +62,30 @@ once_or_not id ps h = go (tally id ps) refl h
 record IsSettingPart (s : Setting) (p : Part) : Type 0 where
   pub either : (p ≡ setting_part s (value_of p)) ⊎ (p ≡ joined_part s (value_of p))
 
+unlike : (b : Bool) → b ≡ false → b ≡ true → ⊥
+unlike true f t = absurd (let bad : false ≡ true = sym f in cc)
+unlike false f t = absurd (let bad : false ≡ true = t in cc)
+
 setting_part_is : (s : Setting) (p : Part) → is_of (setting_name s) p ≡ true → IsSettingPart s p
 setting_part_is the_budget (setting_part the_budget t) is = record { either = inl refl }
 setting_part_is the_budget (joined_part the_budget t) is = record { either = inr refl }
 setting_part_is the_budget (setting_part the_restarts t) is = absurd cc
 setting_part_is the_budget (joined_part the_restarts t) is = absurd cc
-setting_part_is the_budget qdo_part is = absurd cc
+setting_part_is the_budget (flag_part f) is = absurd (unlike _ (apart_setting f the_budget) is)
 setting_part_is the_budget (name_part w) is = absurd cc
 setting_part_is the_restarts (setting_part the_restarts t) is = record { either = inl refl }
 setting_part_is the_restarts (joined_part the_restarts t) is = record { either = inr refl }
 setting_part_is the_restarts (setting_part the_budget t) is = absurd cc
 setting_part_is the_restarts (joined_part the_budget t) is = absurd cc
-setting_part_is the_restarts qdo_part is = absurd cc
+setting_part_is the_restarts (flag_part f) is = absurd (unlike _ (apart_setting f the_restarts) is)
 setting_part_is the_restarts (name_part w) is = absurd cc
+
+-- a part of a flag
+flag_part_is : (f : Flag) (p : Part) → is_of (flag_name f) p ≡ true → p ≡ flag_part f
+flag_part_is f (setting_part s t) is = absurd (unlike _ (setting_apart s f) is)
+flag_part_is f (joined_part s t) is = absurd (unlike _ (setting_apart s f) is)
+flag_part_is f (flag_part g) is = ap flag_part (same_flag f g is)
+flag_part_is f (name_part w) is = absurd (unlike _ (name_apart f) is)
 
 module _ (s : Setting) (n : ℕ) (most : n ≤ greatest_of s) (parts : List Part) where
   setting_alone : (p : Part) → IsSettingPart s p → parts ≡ p ∷ [] → value_of p ≡ decimal n → GivesSetting s parts n
@@ -83,14 +95,6 @@ module _ (s : Setting) (n : ℕ) (most : n ≤ greatest_of s) (parts : List Part
       go (inl same) = inr (most, inl (alone ∙ ap (λ q. q ∷ []) (same ∙ ap (setting_part s) e)))
       go (inr same) = inr (most, inr (alone ∙ ap (λ q. q ∷ []) (same ∙ ap (joined_part s) e)))
 
-qdo_alone : (parts : List Part) (p : Part) → is_of (codes "qdo") p ≡ true → parts ≡ p ∷ [] → GivesQdo parts true
-qdo_alone parts (setting_part the_budget t) is alone = absurd cc
-qdo_alone parts (setting_part the_restarts t) is alone = absurd cc
-qdo_alone parts (joined_part the_budget t) is alone = absurd cc
-qdo_alone parts (joined_part the_restarts t) is alone = absurd cc
-qdo_alone parts qdo_part is alone = alone
-qdo_alone parts (name_part w) is alone = absurd cc
-
 name_alone : (parts : List Part) (p : Part) → is_of (codes "name") p ≡ true → parts ≡ p ∷ []
     → HasNoHyphen (Some (value_of p))
     → GivesName parts (Some (value_of p))
@@ -98,7 +102,7 @@ name_alone parts (setting_part the_budget t) is alone h = absurd cc
 name_alone parts (setting_part the_restarts t) is alone h = absurd cc
 name_alone parts (joined_part the_budget t) is alone h = absurd cc
 name_alone parts (joined_part the_restarts t) is alone h = absurd cc
-name_alone parts qdo_part is alone h = absurd cc
+name_alone parts (flag_part f) is alone h = absurd (unlike _ (apart_name f) is)
 name_alone parts (name_part w) is alone h = (alone, h)
 
 module _ (ps : List Part) where
@@ -116,73 +120,96 @@ module _ (ps : List Part) where
   setting_given s n most (inr o) e =
       setting_alone s n most _ o.part (setting_part_is s o.part o.is) o.alone (rw o.some at e)
 
-  qdo_given : IsUnused (codes "qdo") ps ⊎ IsUsedOnce (codes "qdo") ps
-      → GivesQdo (filter (is_of (codes "qdo")) ps) (is_some (part_at (codes "qdo") ps))
-  qdo_given (inl u) = rw u.none u.empty
-  qdo_given (inr o) = rw o.some (qdo_alone _ o.part o.is o.alone)
-
   name_given : IsUnused (codes "name") ps ⊎ IsUsedOnce (codes "name") ps
       → HasNoHyphen (option_map value_of (part_at (codes "name") ps))
       → GivesName (filter (is_of (codes "name")) ps) (option_map value_of (part_at (codes "name") ps))
   name_given (inl u) h = rw u.none u.empty
   name_given (inr o) h = rw o.some (name_alone _ o.part o.is o.alone (rw o.some at h))
 
+-- the parts of flags, each of which is used once or not at all
+module _ (ps : List Part) (each : (id : Text) → IsUnused id ps ⊎ IsUsedOnce id ps) (flags : Flag → Bool)
+    (are : (f : Flag) → flags f ≡ is_some (part_at (flag_name f) ps)) where
+  flags_there : (fs : List Flag) → by_names (map flag_name fs) ps ≡ map flag_part (filter flags fs)
+  flags_there [] = refl
+  flags_there (f ∷ fs) = go (each (flag_name f)) (flags_there fs)
+    where
+      go : IsUnused (flag_name f) ps ⊎ IsUsedOnce (flag_name f) ps
+          → by_names (map flag_name fs) ps ≡ map flag_part (filter flags fs)
+          → by_names (map flag_name (f ∷ fs)) ps ≡ map flag_part (filter flags (f ∷ fs))
+      go (inl u) rest =
+          let given : flags f ≡ false = are f ∙ ap is_some u.none in
+          rw (u.empty, given) rest
+      go (inr o) rest =
+          let given : flags f ≡ true = are f ∙ ap is_some o.some in
+          let alone : filter (is_of (flag_name f)) ps ≡ flag_part f ∷ [] =
+          o.alone ∙ ap (λ p. p ∷ []) (flag_part_is f o.part o.is) in
+          rw (alone, given) (ap (λ l. flag_part f ∷ l) rest)
+
+  regrouped : (b r n f : List Part) → IsPermutation (b ++ (r ++ (n ++ f))) ps → IsPermutation (b ++ r ++ n ++ f) ps
+  regrouped b r n f h = rw (append_assoc (b ++ r) n f, append_assoc b r (n ++ f)) h
+
+  in_order : IsPermutation (filter (is_of (codes "budget")) ps ++ filter (is_of (codes "restarts")) ps
+      ++ filter (is_of (codes "name")) ps ++ flag_parts flags) ps
+  in_order =
+      let b = filter (is_of (codes "budget")) ps in
+      let r = filter (is_of (codes "restarts")) ps in
+      let n = filter (is_of (codes "name")) ps in
+      regrouped b r n (flag_parts flags)
+      (subst (λ l. IsPermutation (b ++ (r ++ (n ++ l))) ps) (flags_there all_flags) (argument_order ps))
+
 -- the account of words that don't fail, where its values are in form
-pub in_form : (c : List Rule) (r : AreInputRules c) (args : List Text) (a : AreRead c args) (n k : ℕ)
-    (given : Option Text) → AreInput (rows_after c [] args) n k given
-    → GivesInput args n k (is_some (part_at (codes "qdo") a.parts)) given
-in_form c r args a n k given v =
+pub in_form : (c : List Rule) (taken : List Flag) (r : AreInputRules c taken) (args : List Text) (a : AreRead c args)
+    (n k : ℕ) (given : Option Text) → AreInput (rows_after c [] args) n k given → (flags : Flag → Bool)
+    → ((f : Flag) → flags f ≡ is_some (part_at (flag_name f) a.parts)) → GivesInput args n k flags given
+in_form c taken r args a n k given v flags are =
     let ps = a.parts in
-    let each = λ (id : Text). once_or_not id ps (omega (arith, a.once id)) in
+    let each : (id : Text) → IsUnused id ps ⊎ IsUsedOnce id ps = λ id. once_or_not id ps (omega (arith, a.once id)) in
     let final = a.rows_are in
     let setting : (s : Setting) (m : ℕ) → IsSet s (rows_after c [] args) m
     → GivesSetting s (filter (is_of (setting_name s)) ps) m = λ s m set.
-    setting_given ps s m set.1.1 (each (setting_name s)) (ap (λ o. unwrap_or o []) (sym (setting_read ps c r s)
+    setting_given ps s m set.1.1 (each (setting_name s)) (ap (λ o. unwrap_or o []) (sym (setting_read c taken r ps s)
     ∙ ap (first_of (setting_name s)) (sym final) ∙ set.0)) in
     let named : option_map value_of (part_at (codes "name") ps) ≡ given =
-    sym (name_read ps c r) ∙ ap (first_of (codes "name")) (sym final) ∙ v.2 in
+    sym (name_read c taken r ps) ∙ ap (first_of (codes "name")) (sym final) ∙ v.2 in
     record {
       budget_parts = filter (is_of (codes "budget")) ps;
       restarts_parts = filter (is_of (codes "restarts")) ps;
-      qdo_parts = filter (is_of (codes "qdo")) ps;
       name_parts = filter (is_of (codes "name")) ps;
       gives_budget = setting the_budget n v.0;
       gives_restarts = setting the_restarts k v.1;
-      gives_qdo = qdo_given ps (each (codes "qdo"));
       gives_name = subst (GivesName (filter (is_of (codes "name")) ps)) named
           (name_given ps (each (codes "name")) (subst HasNoHyphen (sym named) v.3));
-      in_any_order = record { order = ps; permutation = argument_order ps; words_are = a.words_are };
+      in_any_order = record { order = ps; permutation = in_order ps each flags are; words_are = a.words_are };
     }
 
--- `--qdo` is set where it is among the words of `solve`
-pub qdo_set : (ps : List Part) → AreOnce [] ps
-    → is_set (fold with_default (map new_row ps) solve_rules) ≡ is_some (part_at (codes "qdo") ps)
-qdo_set ps once = qdo_read ps ∙ go (once_or_not (codes "qdo") ps (omega (arith, once (codes "qdo"))))
+-- a flag is set where it is among the words
+pub flag_set : (c : List Rule) (taken : List Flag) → AreInputRules c taken → (f : Flag) (ps : List Part) → AreOnce [] ps
+    → is_set (flag_name f) (fold with_default (map new_row ps) c) ≡ is_some (part_at (flag_name f) ps)
+flag_set c taken r f ps once =
+    flag_read c taken r ps f ∙ go (once_or_not (flag_name f) ps (omega (arith, once (flag_name f))))
   where
-    is_true : (p : Part) → is_of (codes "qdo") p ≡ true → bytes_eq (value_of p) (codes "true") ≡ true
-    is_true (setting_part the_budget t) is = absurd cc
-    is_true (setting_part the_restarts t) is = absurd cc
-    is_true (joined_part the_budget t) is = absurd cc
-    is_true (joined_part the_restarts t) is = absurd cc
-    is_true qdo_part is = refl
-    is_true (name_part w) is = absurd cc
-
-    go : IsUnused (codes "qdo") ps ⊎ IsUsedOnce (codes "qdo") ps
-        → bytes_eq (option_map_or value_of (part_at (codes "qdo") ps) (codes "false")) (codes "true")
-        ≡ is_some (part_at (codes "qdo") ps)
+    go : IsUnused (flag_name f) ps ⊎ IsUsedOnce (flag_name f) ps
+        → says_true (option_map value_of (part_at (flag_name f) ps)) ≡ is_some (part_at (flag_name f) ps)
     go (inl u) = rw u.none refl
-    go (inr o) = rw o.some (is_true o.part o.is)
+    go (inr o) =
+        let found : part_at (flag_name f) ps ≡ Some (flag_part f) = o.some ∙ ap Some (flag_part_is f o.part o.is) in
+        rw found refl
 
--- the other commands have no `--qdo`
-pub no_qdo : (left : List Rule) (ps : List Part) → AreTaken input_rules left ps → part_at (codes "qdo") ps ≡ None
-no_qdo left [] taken = refl
-no_qdo left (setting_part the_budget t ∷ ps) taken = no_qdo left ps taken.1
-no_qdo left (setting_part the_restarts t ∷ ps) taken = no_qdo left ps taken.1
-no_qdo left (joined_part the_budget t ∷ ps) taken = no_qdo left ps taken.1
-no_qdo left (joined_part the_restarts t ∷ ps) taken = no_qdo left ps taken.1
-no_qdo left (qdo_part ∷ ps) taken = let bad = taken.0 in absurd cc
-no_qdo [] (name_part w ∷ ps) taken = absurd taken.0
-no_qdo (a ∷ left) (name_part w ∷ ps) taken = no_qdo left ps taken.1
+-- a command that doesn't take a flag has no part of it
+pub no_flag : (c : List Rule) (f : Flag) → (KnowsFlag f c → ⊥) → (left : List Rule) (ps : List Part)
+    → AreTaken c left ps → part_at (flag_name f) ps ≡ None
+no_flag c f none left [] taken = refl
+no_flag c f none left (setting_part s t ∷ ps) taken = rw (setting_apart s f) (no_flag c f none left ps taken.1)
+no_flag c f none left (joined_part s t ∷ ps) taken = rw (setting_apart s f) (no_flag c f none left ps taken.1)
+no_flag c f none left (flag_part g ∷ ps) taken =
+    rw (other (bytes_eq (flag_name g) (flag_name f)) refl) (no_flag c f none left ps taken.1)
+  where
+    other : (b : Bool) → bytes_eq (flag_name g) (flag_name f) ≡ b → bytes_eq (flag_name g) (flag_name f) ≡ false
+    other false e = e
+    other true e = absurd (none (subst (λ h. KnowsFlag h c) (same_flag f g e) taken.0))
+no_flag c f none [] (name_part w ∷ ps) taken = absurd taken.0
+no_flag c f none (a ∷ left) (name_part w ∷ ps) taken =
+    rw (name_apart f) (no_flag c f none left ps taken.1)
 
 -- ---- from the form to the account
 
@@ -190,7 +217,7 @@ no_qdo (a ∷ left) (name_part w ∷ ps) taken = no_qdo left ps taken.1
 abbrev IsGiven : List Rule → (Setting → ℕ) → Option Text → Part → Type 0
 IsGiven c at given (setting_part s t) = t ≡ decimal (at s)
 IsGiven c at given (joined_part s t) = t ≡ decimal (at s)
-IsGiven c at given qdo_part = KnowsQdo c
+IsGiven c at given (flag_part f) = KnowsFlag f c
 IsGiven c at given (name_part w) = (given ≡ Some w) × (slice_get w 0 ≢ Some 45)
 
 all_append : (P : Part → Type 0) (xs ys : List Part) → AllByRecursion P xs → AllByRecursion P ys
@@ -207,32 +234,49 @@ lacks_append : (xs ys : List Text) → LacksDashes xs → LacksDashes ys → Lac
 lacks_append [] ys a b = b
 lacks_append (x ∷ xs) ys a b = (a.0, lacks_append xs ys a.1 b)
 
--- an argument is one of the four at most
-one_argument : (id : Text)
-    → bit (bytes_eq (codes "budget") id) + bit (bytes_eq (codes "restarts") id) + bit (bytes_eq (codes "qdo") id)
-    + bit (bytes_eq (codes "name") id) ≤ 1
-one_argument id = go (bytes_eq (codes "budget") id) (bytes_eq-Decides (codes "budget") id)
-    (bytes_eq (codes "restarts") id) refl (bytes_eq-Decides (codes "restarts") id)
-    (bytes_eq (codes "qdo") id) refl (bytes_eq-Decides (codes "qdo") id)
-  where
-    go : (b : Bool) → Decides b (codes "budget" ≡ id) → (d : Bool) → bytes_eq (codes "restarts") id ≡ d
-        → Decides d (codes "restarts" ≡ id) → (q : Bool) → bytes_eq (codes "qdo") id ≡ q → Decides q (codes "qdo" ≡ id)
-        → bit b + bit (bytes_eq (codes "restarts") id) + bit (bytes_eq (codes "qdo") id)
-        + bit (bytes_eq (codes "name") id) ≤ 1
-    go true x d e y q f z =
-        subst (λ t. 1 + bit (bytes_eq (codes "restarts") t) + bit (bytes_eq (codes "qdo") t)
-        + bit (bytes_eq (codes "name") t) ≤ 1) (x.0 refl) (omega arith)
-    go false x true e y q f z =
-        subst (λ t. 0 + bit (bytes_eq (codes "restarts") t) + bit (bytes_eq (codes "qdo") t)
-        + bit (bytes_eq (codes "name") t) ≤ 1) (y.0 refl) (omega arith)
-    go false x false e y true f z =
-        subst (λ t. 0 + bit (bytes_eq (codes "restarts") t) + bit (bytes_eq (codes "qdo") t)
-        + bit (bytes_eq (codes "name") t) ≤ 1) (z.0 refl) (omega arith)
-    go false x false e y false f z = rw (e, f) (rest (bytes_eq (codes "name") id))
-      where
-        rest : (b : Bool) → 0 + 0 + 0 + bit b ≤ 1
-        rest true = omega arith
-        rest false = omega arith
+both_within : (a b : Bool) → bit (a && b) ≤ bit a
+both_within true true = omega arith
+both_within true false = omega arith
+both_within false b = omega arith
+
+both_given : (a : Bool) → bit a ≡ bit (a && true)
+both_given true = refl
+both_given false = refl
+
+none_given : (a : Bool) → 0 ≡ bit (a && false)
+none_given true = refl
+none_given false = refl
+
+-- how often an argument is among the flags that are given
+module _ (flags : Flag → Bool) where
+  abbrev given_times : Text → List Flag → ℕ
+  given_times id [] = 0
+  given_times id (f ∷ fs) = bit (bytes_eq (flag_name f) id && flags f) + given_times id fs
+
+  flags_tally : (id : Text) (fs : List Flag) → tally id (map flag_part (filter flags fs)) ≡ given_times id fs
+  flags_tally id [] = refl
+  flags_tally id (f ∷ fs) = go (flags f) refl (flags_tally id fs)
+    where
+      go : (b : Bool) → flags f ≡ b → tally id (map flag_part (filter flags fs)) ≡ given_times id fs
+          → tally id (map flag_part (filter flags (f ∷ fs))) ≡ given_times id (f ∷ fs)
+      go true e rest = rw e (tally-cons id (flag_part f) (map flag_part (filter flags fs))
+          ∙ ap₂ (λ m n. m + n) (both_given (bytes_eq (flag_name f) id)) rest)
+      go false e rest =
+          let none = none_given (bytes_eq (flag_name f) id) in
+          rw e (omega (arith, rest, none))
+
+  given_within : (id : Text) (fs : List Flag) → given_times id fs ≤ times id (map flag_name fs)
+  given_within id [] = omega arith
+  given_within id (f ∷ fs) =
+      let one = both_within (bytes_eq (flag_name f) id) (flags f) in
+      let rest = given_within id fs in
+      omega (arith, one, rest)
+
+  -- a flag is among them once, or not at all
+  flag_tally : (f : Flag) → tally (flag_name f) (flag_parts flags) ≡ bit (flags f)
+  flag_tally the_qdo = flags_tally (codes "qdo") all_flags ∙ omega arith
+  flag_tally the_binary = flags_tally (codes "binary") all_flags ∙ omega arith
+  flag_tally the_trim = flags_tally (codes "trim") all_flags ∙ omega arith
 
 module _ (c : List Rule) (knows : (s : Setting) → KnowsSetting s c) (at : Setting → ℕ)
     (most : (s : Setting) → at s ≤ greatest_of s) (given : Option Text) where
@@ -261,19 +305,12 @@ module _ (c : List Rule) (knows : (s : Setting) → KnowsSetting s c) (at : Sett
   one_setting s ps (inr e) =
       record { part = joined_part s (decimal (at s)); alone = e; own = refl; is_given = refl }
 
-  one_qdo : (ps : List Part) → KnowsQdo c → GivesQdo ps true → IsOne (codes "qdo") ps
-  one_qdo ps k e = record { part = qdo_part; alone = e; own = refl; is_given = k }
-
   one_name : (ps : List Part) (w : Text) → given ≡ Some w → GivesName ps (Some w) → IsOne (codes "name") ps
   one_name ps w is h = record { part = name_part w; alone = h.0; own = refl; is_given = (is, h.1) }
 
   some_setting : (s : Setting) (ps : List Part) → GivesSetting s ps (at s) → AtMostOne (setting_name s) ps
   some_setting s ps (inl h) = inl h.0
   some_setting s ps (inr h) = inr (one_setting s ps h.1)
-
-  some_qdo : (ps : List Part) (q : Bool) → (q ≡ true → KnowsQdo c) → GivesQdo ps q → AtMostOne (codes "qdo") ps
-  some_qdo ps false k e = inl e
-  some_qdo ps true k e = inr (one_qdo ps (k refl) e)
 
   some_name : (ps : List Part) (g : Option Text) → given ≡ g → GivesName ps g → AtMostOne (codes "name") ps
   some_name ps None is h = inl h
@@ -299,8 +336,8 @@ module _ (c : List Rule) (knows : (s : Setting) → KnowsSetting s c) (at : Sett
   )
   taken_from b (joined_part s t ∷ ps) all h =
       (knows s, taken_from b ps all.1 (omega (arith, h, tally-cons (codes "name") (joined_part s t) ps)))
-  taken_from b (qdo_part ∷ ps) all h =
-      (all.0, taken_from b ps all.1 (omega (arith, h, tally-cons (codes "name") qdo_part ps)))
+  taken_from b (flag_part f ∷ ps) all h =
+      (all.0, taken_from b ps all.1 (omega (arith, h, tally-cons (codes "name") (flag_part f) ps)))
   taken_from true (name_part w ∷ ps) all h =
       (plain_word w all.0.1, taken_from false ps all.1 (omega (arith, h, tally-cons (codes "name") (name_part w) ps)))
   taken_from false (name_part w ∷ ps) all h = absurd (omega (arith, h, tally-cons (codes "name") (name_part w) ps))
@@ -310,14 +347,14 @@ module _ (c : List Rule) (knows : (s : Setting) → KnowsSetting s c) (at : Sett
       (decimal_passes 0 (greatest_of s) (at s) (greatest_small s) (omega arith, most s))
   accepted (joined_part s t) e = subst (λ x. IsAccepted (joined_part s x)) (sym e)
       (decimal_passes 0 (greatest_of s) (at s) (greatest_small s) (omega arith, most s))
-  accepted qdo_part k = refl
+  accepted (flag_part f) k = refl
   accepted (name_part w) h = refl
 
   lacks : (p : Part) → Given p → LacksDashes (spelled p)
   lacks (setting_part s t) e =
       (option_not_dashes s, ((subst IsPlainWord (sym e) (decimal_word (at s) (small s))).dashes, tt))
   lacks (joined_part s t) e = (joined_not_dashes s t, tt)
-  lacks qdo_part k = (refl, tt)
+  lacks (flag_part f) k = (flag_not_dashes f, tt)
   lacks (name_part w) h = ((plain_word w h.1).dashes, tt)
 
   all_lack : (ps : List Part) → AllByRecursion Given ps → LacksDashes (flat_map spelled ps)
@@ -338,21 +375,22 @@ module _ (c : List Rule) (knows : (s : Setting) → KnowsSetting s c) (at : Sett
   name_value (setting_part the_restarts t) is e = absurd cc
   name_value (joined_part the_budget t) is e = absurd cc
   name_value (joined_part the_restarts t) is e = absurd cc
-  name_value qdo_part is k = absurd cc
+  name_value (flag_part f) is k = absurd (unlike _ (apart_name f) is)
   name_value (name_part w) is h = sym h.0
 
   -- `clap`'s account of words that have the form
-  pub record AreTold (args : List Text) (q : Bool) : Type 0 where
+  pub record AreTold (args : List Text) (q : Flag → Bool) : Type 0 where
     pub order : List Part
     pub words_are : args ≡ flat_map spelled order
     pub once : AreOnce [] order
     pub passes : level_fault (leaf c) [] nothing_held (flat_map spelled order) false [] ≡ []
     pub rows_are : rows_after c [] (flat_map spelled order) ≡ fold with_default (map new_row order) c
     pub values : AreInput (fold with_default (map new_row order) c) (at the_budget) (at the_restarts) given
-    pub qdo : is_some (part_at (codes "qdo") order) ≡ q
+    pub flags : (f : Flag) → is_some (part_at (flag_name f) order) ≡ q f
     pub lacks : LacksDashes (flat_map spelled order)
 
-  module _ (r : AreInputRules c) (args : List Text) (q : Bool) (knows_qdo : q ≡ true → KnowsQdo c)
+  module _ (taken : List Flag) (r : AreInputRules c taken) (args : List Text) (q : Flag → Bool)
+      (knows_flags : (f : Flag) → q f ≡ true → KnowsFlag f c)
       (s : GivesInput args (at the_budget) (at the_restarts) q given) where
     abbrev order : List Part
     order = s.in_any_order.order
@@ -363,60 +401,71 @@ module _ (c : List Rule) (knows : (s : Setting) → KnowsSetting s c) (at : Sett
     restarts_group : AtMostOne (codes "restarts") s.restarts_parts
     restarts_group = some_setting the_restarts s.restarts_parts s.gives_restarts
 
-    qdo_group : AtMostOne (codes "qdo") s.qdo_parts
-    qdo_group = some_qdo s.qdo_parts q knows_qdo s.gives_qdo
-
     name_group : AtMostOne (codes "name") s.name_parts
     name_group = some_name s.name_parts given refl s.gives_name
 
+    flags_given : (fs : List Flag) → AllByRecursion Given (map flag_part (filter q fs))
+    flags_given [] = tt
+    flags_given (f ∷ fs) = go (q f) refl (flags_given fs)
+      where
+        go : (b : Bool) → q f ≡ b → AllByRecursion Given (map flag_part (filter q fs))
+            → AllByRecursion Given (map flag_part (filter q (f ∷ fs)))
+        go true e rest = rw e (knows_flags f e, rest)
+        go false e rest = rw e rest
+
     all : AllByRecursion Given order
     all =
-        let parts = s.budget_parts ++ s.restarts_parts ++ s.qdo_parts ++ s.name_parts in
-        let options = all_append Given s.budget_parts s.restarts_parts
+        let parts = s.budget_parts ++ s.restarts_parts ++ s.name_parts ++ flag_parts q in
+        let numbers = all_append Given s.budget_parts s.restarts_parts
         (all_given (codes "budget") s.budget_parts budget_group)
         (all_given (codes "restarts") s.restarts_parts restarts_group) in
-        let before = all_append Given (s.budget_parts ++ s.restarts_parts ++ s.qdo_parts) s.name_parts
-        (all_append Given (s.budget_parts ++ s.restarts_parts) s.qdo_parts options
-        (all_given (codes "qdo") s.qdo_parts qdo_group)) (all_given (codes "name") s.name_parts name_group) in
+        let before = all_append Given (s.budget_parts ++ s.restarts_parts ++ s.name_parts) (flag_parts q)
+        (all_append Given (s.budget_parts ++ s.restarts_parts) s.name_parts numbers
+        (all_given (codes "name") s.name_parts name_group)) (flags_given all_flags) in
         recursion_from_All Given order
         (All-permutation Given parts order s.in_any_order.permutation (All-from_recursion Given parts before))
 
     count : (id : Text) → tally id order
-        ≡ tally id s.budget_parts + tally id s.restarts_parts + tally id s.qdo_parts + tally id s.name_parts
+        ≡ tally id s.budget_parts + tally id s.restarts_parts + tally id s.name_parts + tally id (flag_parts q)
     count id =
         let f = λ (p : Part). bit (is_of id p) in
         sum_by-IsPermutation f _ order s.in_any_order.permutation
-        ∙ sum_by-append f (s.budget_parts ++ s.restarts_parts ++ s.qdo_parts) s.name_parts
-        ∙ ap (λ k. k + tally id s.name_parts) (sum_by-append f (s.budget_parts ++ s.restarts_parts) s.qdo_parts
-        ∙ ap (λ k. k + tally id s.qdo_parts) (sum_by-append f s.budget_parts s.restarts_parts))
+        ∙ sum_by-append f (s.budget_parts ++ s.restarts_parts ++ s.name_parts) (flag_parts q)
+        ∙ ap (λ k. k + tally id (flag_parts q)) (sum_by-append f (s.budget_parts ++ s.restarts_parts) s.name_parts
+        ∙ ap (λ k. k + tally id s.name_parts) (sum_by-append f s.budget_parts s.restarts_parts))
 
     limits : (id : Text) → (tally id s.budget_parts ≤ bit (bytes_eq (codes "budget") id))
         × (tally id s.restarts_parts ≤ bit (bytes_eq (codes "restarts") id))
-        × (tally id s.qdo_parts ≤ bit (bytes_eq (codes "qdo") id))
         × (tally id s.name_parts ≤ bit (bytes_eq (codes "name") id))
+        × (tally id (flag_parts q) ≤ times id flag_names)
     limits id = (
       one_tally (codes "budget") id s.budget_parts budget_group,
       one_tally (codes "restarts") id s.restarts_parts restarts_group,
-      one_tally (codes "qdo") id s.qdo_parts qdo_group,
       one_tally (codes "name") id s.name_parts name_group,
+      subst (λ n. n ≤ times id flag_names) (sym (flags_tally q id all_flags)) (given_within q id all_flags),
     )
 
     order_once : AreOnce [] order
     order_once id =
         let l = limits id in
-        omega (arith, count id, l.0, l.1, l.2, l.3, one_argument id)
+        let names : bit (bytes_eq (codes "budget") id) + (bit (bytes_eq (codes "restarts") id)
+        + (bit (bytes_eq (codes "name") id) + times id flag_names)) ≤ 1 = one_argument id in
+        omega (arith, count id, l.0, l.1, l.2, l.3, names)
 
-    -- an argument whose parts are none, and one with a part
+    -- an argument without a part, and one with a part
     not_found : (id : Text) → tally id order ≡ 0 → part_at id order ≡ None
     not_found id e = (unused id order e).none
 
-    found : (id : Text) (ps : List Part) → tally id ps ≤ tally id order → IsOne id ps
+    found : (id : Text) → 1 ≤ tally id order
         → (p : Part) × (part_at id order ≡ Some p) × (is_of id p ≡ true) × Given p
-    found id ps within o =
-        let own : is_of id o.part ≡ true = subst (λ t. is_of t o.part ≡ true) o.own (of_itself o.part) in
-        let one : tally id ps ≡ 1 = ap (tally id) o.alone ∙ ap (λ b. 0 + bit b) own in
-        let u = used_once id order (omega (arith, order_once id, within, one)) in
+    found id some =
+        let u = used_once id order (omega (arith, order_once id, some)) in
         (u.part, u.some, u.is, holds_of_part Given id order u.part all u.some)
+
+    one_of : (id : Text) (ps : List Part) → IsOne id ps → tally id ps ≡ 1
+    one_of id ps o =
+        let own : is_of id o.part ≡ true = subst (λ t. is_of t o.part ≡ true) o.own (of_itself o.part) in
+        ap (tally id) o.alone ∙ ap (λ b. 0 + bit b) own
 
     abbrev parts_of : Setting → List Part
     parts_of the_budget = s.budget_parts
@@ -431,15 +480,15 @@ module _ (c : List Rule) (knows : (s : Setting) → KnowsSetting s c) (at : Sett
     none_of the_budget none =
         let id = codes "budget" in
         let r_none : tally id s.restarts_parts ≤ 0 = (limits id).1 in
-        let q_none : tally id s.qdo_parts ≤ 0 = (limits id).2 in
-        let n_none : tally id s.name_parts ≤ 0 = (limits id).3 in
-        omega (arith, count id, none, r_none, q_none, n_none)
+        let n_none : tally id s.name_parts ≤ 0 = (limits id).2 in
+        let f_none : tally id (flag_parts q) ≤ 0 = (limits id).3 in
+        omega (arith, count id, none, r_none, n_none, f_none)
     none_of the_restarts none =
         let id = codes "restarts" in
         let b_none : tally id s.budget_parts ≤ 0 = (limits id).0 in
-        let q_none : tally id s.qdo_parts ≤ 0 = (limits id).2 in
-        let n_none : tally id s.name_parts ≤ 0 = (limits id).3 in
-        omega (arith, count id, none, b_none, q_none, n_none)
+        let n_none : tally id s.name_parts ≤ 0 = (limits id).2 in
+        let f_none : tally id (flag_parts q) ≤ 0 = (limits id).3 in
+        omega (arith, count id, none, b_none, n_none, f_none)
 
     setting_told : (x : Setting) → GivesSetting x (parts_of x) (at x)
         → option_map_or value_of (part_at (setting_name x) order) (default_text x) ≡ decimal (at x)
@@ -448,13 +497,15 @@ module _ (c : List Rule) (knows : (s : Setting) → KnowsSetting s c) (at : Sett
         let none : tally id (parts_of x) ≡ 0 = ap (tally id) h.0 in
         rw (not_found id (none_of x none)) (sym (default_is x) ∙ ap decimal (sym h.1))
     setting_told x (inr h) =
-        let p = found (setting_name x) (parts_of x) (some_of x) (one_setting x (parts_of x) h.1) in
+        let one = one_of (setting_name x) (parts_of x) (one_setting x (parts_of x) h.1) in
+        let within = some_of x in
+        let p = found (setting_name x) (omega (arith, one, within)) in
         rw p.1 (setting_value x p.0 (setting_part_is x p.0 p.2) p.3)
 
     setting_set : (x : Setting) → GivesSetting x (parts_of x) (at x)
         → IsSet x (fold with_default (map new_row order) c) (at x)
     setting_set x gives =
-        (setting_read order c r x ∙ ap (λ t. Some t) (setting_told x gives), (omega arith, most x))
+        (setting_read c taken r order x ∙ ap (λ t. Some t) (setting_told x gives), (omega arith, most x))
 
     name_told : (g : Option Text) → given ≡ g → GivesName s.name_parts g
         → option_map value_of (part_at (codes "name") order) ≡ g
@@ -463,23 +514,33 @@ module _ (c : List Rule) (knows : (s : Setting) → KnowsSetting s c) (at : Sett
         let none : tally id s.name_parts ≡ 0 = ap (tally id) h in
         let b_none : tally id s.budget_parts ≤ 0 = (limits id).0 in
         let r_none : tally id s.restarts_parts ≤ 0 = (limits id).1 in
-        let q_none : tally id s.qdo_parts ≤ 0 = (limits id).2 in
-        rw (not_found id (omega (arith, count id, none, b_none, r_none, q_none))) refl
+        let f_none : tally id (flag_parts q) ≤ 0 = (limits id).3 in
+        rw (not_found id (omega (arith, count id, none, b_none, r_none, f_none))) refl
     name_told (Some w) is h =
-        let p =
-        found (codes "name") s.name_parts (omega (arith, count (codes "name"))) (one_name s.name_parts w is h) in
+        let one = one_of (codes "name") s.name_parts (one_name s.name_parts w is h) in
+        let p = found (codes "name") (omega (arith, count (codes "name"), one)) in
         rw p.1 (name_value p.0 p.2 p.3 ∙ is)
 
-    qdo_told : (b : Bool) → (b ≡ true → KnowsQdo c) → GivesQdo s.qdo_parts b → is_some (part_at (codes "qdo") order) ≡ b
-    qdo_told false k h =
-        let id = codes "qdo" in
-        let none : tally id s.qdo_parts ≡ 0 = ap (tally id) h in
-        let b_none : tally id s.budget_parts ≤ 0 = (limits id).0 in
-        let r_none : tally id s.restarts_parts ≤ 0 = (limits id).1 in
-        let n_none : tally id s.name_parts ≤ 0 = (limits id).3 in
-        rw (not_found id (omega (arith, count id, none, b_none, r_none, n_none))) refl
-    qdo_told true k h =
-        let p = found (codes "qdo") s.qdo_parts (omega (arith, count (codes "qdo"))) (one_qdo s.qdo_parts (k refl) h) in
+    -- what a name takes that is another than a flag's
+    not_flag : (id : Text) (f : Flag) → bytes_eq id (flag_name f) ≡ false → (ps : List Part)
+        → tally (flag_name f) ps ≤ bit (bytes_eq id (flag_name f)) → tally (flag_name f) ps ≡ 0
+    not_flag id f apart ps within = let none : bit (bytes_eq id (flag_name f)) ≡ 0 = ap bit apart in
+        omega (arith, within, none)
+
+    flag_count : (f : Flag) → tally (flag_name f) order ≡ bit (q f)
+    flag_count f =
+        let id = flag_name f in
+        let l = limits id in
+        let b_none = not_flag (codes "budget") f (setting_apart the_budget f) s.budget_parts l.0 in
+        let r_none = not_flag (codes "restarts") f (setting_apart the_restarts f) s.restarts_parts l.1 in
+        let n_none = not_flag (codes "name") f (name_apart f) s.name_parts l.2 in
+        omega (arith, count id, b_none, r_none, n_none, flag_tally q f)
+
+    flag_told : (f : Flag) (b : Bool) → q f ≡ b → is_some (part_at (flag_name f) order) ≡ b
+    flag_told f false e = rw (not_found (flag_name f) (flag_count f ∙ ap bit e)) refl
+    flag_told f true e =
+        let one : tally (flag_name f) order ≡ 1 = flag_count f ∙ ap bit e in
+        let p = found (flag_name f) (omega (arith, one)) in
         rw p.1 refl
 
     no_hyphen : (g : Option Text) → GivesName s.name_parts g → HasNoHyphen g
@@ -489,21 +550,21 @@ module _ (c : List Rule) (knows : (s : Setting) → KnowsSetting s c) (at : Sett
     pub are_told : AreTold args q
     are_told =
         let names : tally (codes "name") order ≤ bit true = omega (arith, order_once (codes "name")) in
-        let taken = taken_from true order all names in
+        let parts = taken_from true order all names in
         let fine = all_map Given IsAccepted accepted order all in
-        let name_is = name_read order c r ∙ name_told given refl s.gives_name in
+        let name_is = name_read c taken r order ∙ name_told given refl s.gives_name in
         record {
           order = order;
           words_are = s.in_any_order.words_are;
           once = order_once;
-          passes = parts_pass c r order taken fine order_once;
-          rows_are = rows_of_passing c r order taken fine order_once;
+          passes = parts_pass c taken r order parts fine order_once;
+          rows_are = rows_of_passing c taken r order parts fine order_once;
           values = (
             setting_set the_budget s.gives_budget,
             setting_set the_restarts s.gives_restarts,
             name_is,
             no_hyphen given s.gives_name,
           );
-          qdo = qdo_told q knows_qdo s.gives_qdo;
+          flags = λ f. flag_told f (q f) refl;
           lacks = all_lack order all;
         }

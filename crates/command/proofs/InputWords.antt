@@ -1,5 +1,5 @@
 -- The words of a command that reads an input, and `clap`'s account of them.
-use Rattle.std.proofs.Common.{◌≡◌, ◌⊎◌, ◌∙◌, ◌||◌, Bool, Decides, cond, true, false, List, [], ◌∷◌, map, fold, Option, Some, None, codes, option_map, slice_get, is_some, refl, sym, ap, ap₂, inl, inr}
+use Rattle.std.proofs.Common.{◌≡◌, ◌⊎◌, ◌∙◌, ◌||◌, Bool, Decides, cond, true, false, List, [], ◌∷◌, map, fold, Option, Some, None, codes, option_map, slice_get, is_some, refl, sym, ap, ap₂, subst, inl, inr}
 use Rattle.std.specs.List.{AllByRecursion, find, flat_map, list_any}
 use Rattle.std.specs.Option.{option_and_then, option_map_or, option_or}
 use Rattle.std.specs.Str.{bytes_eq}
@@ -11,44 +11,51 @@ use Rattle.clap.specs.Walk.{has_row, is_empty, nothing_held, rows_after, with_de
 use Rattle.clap.specs.Faults.{defaults_fault, given_default_fault, level_fault}
 use Rattle.clap.specs.declared.builder.value_parser.Reading.TheVariants.{AsWritten}
 use Rattle.clap.specs.declared.parser.matches.ValueSource.TheVariants.{DefaultValue}
-use Rattle.command.specs.Account.{command_app, default_text, is_set, solve_app}
-use Rattle.command.specs.Forms.{Part, Setting, setting_name, spelled}
+use Rattle.command.specs.Account.{cert_app, command_app, default_text, is_set, solve_app}
+use Rattle.command.specs.Forms.{Flag, Part, Setting, all_flags, flag_name, setting_name, spelled}
+use Rattle.command.specs.Forms.Flag.{the_qdo, the_binary, the_trim}
 use Rattle.command.specs.Forms.Setting.{the_budget, the_restarts}
 use Rattle.command.proofs.Turns.{leaf, no_kinds, rules_of}
-use Rattle.command.proofs.WordKinds.{Long, long_qdo, long_refused, long_setting}
+use Rattle.command.proofs.Names.{apart_name, apart_setting, same_flag, setting_apart}
+use Rattle.command.proofs.WordKinds.{FindsHelpAlone, KnowsFlag, KnowsSetting, Long, long_flag, long_refused, long_setting}
 use Rattle.clap.proofs.WalkLemmas.{find-map}
 use Rattle.command.proofs.PartWalk.{AreRules, AreTaken, LacksDashes, end_fault, fault_of_parts, parts_of_words, rows_of_parts, used_rows, uses_fault, uses_of}
-use Rattle.command.proofs.PartUses.{AreOnce, AreUsed, IsAccepted, joins, name, part_use, uses_are, uses_are_once, uses_pass, new_row, part_at, value_of}
+use Rattle.command.proofs.PartUses.{AreOnce, AreUsed, IsAccepted, first_of_parts, joins, name, part_use, uses_are, uses_are_once, uses_pass, new_row, part_at, value_of}
 
--- the rules of `trace`, `cert` and `script`, and those of `solve`
-abbrev pub input_rules : List Rule
-input_rules = rules_of (command_app [])
+-- ---- names with two hyphens
 
-abbrev pub solve_rules : List Rule
-solve_rules = rules_of solve_app
+-- the name is that of none of these flags
+abbrev AreOthers : Text → List Flag → Type 0
+AreOthers n flags = AllByRecursion (λ f. bytes_eq (flag_name f) n ≡ false) flags
 
-input_long : (n : Text) → Long input_rules n
-input_long n = go (bytes_eq (codes "budget") n) refl (bytes_eq-Decides (codes "budget") n)
-    (bytes_eq (codes "restarts") n) refl (bytes_eq-Decides (codes "restarts") n)
-  where
-    go : (b : Bool) → bytes_eq (codes "budget") n ≡ b → Decides b (codes "budget" ≡ n)
-        → (d : Bool) → bytes_eq (codes "restarts") n ≡ d → Decides d (codes "restarts" ≡ n) → Long input_rules n
-    go true e x d f y = long_setting the_budget (x.0 refl) (refl, refl)
-    go false e x true f y = long_setting the_restarts (y.0 refl) (refl, refl)
-    go false e x false f y = long_refused (rw (e, f) refl)
+abbrev AreKnown : List Rule → List Flag → Type 0
+AreKnown c flags = AllByRecursion (λ f. KnowsFlag f c) flags
 
-solve_long : (n : Text) → Long solve_rules n
-solve_long n = go (bytes_eq (codes "budget") n) refl (bytes_eq-Decides (codes "budget") n)
-    (bytes_eq (codes "restarts") n) refl (bytes_eq-Decides (codes "restarts") n)
-    (bytes_eq (codes "qdo") n) refl (bytes_eq-Decides (codes "qdo") n)
-  where
-    go : (b : Bool) → bytes_eq (codes "budget") n ≡ b → Decides b (codes "budget" ≡ n)
-        → (d : Bool) → bytes_eq (codes "restarts") n ≡ d → Decides d (codes "restarts" ≡ n)
-        → (q : Bool) → bytes_eq (codes "qdo") n ≡ q → Decides q (codes "qdo" ≡ n) → Long solve_rules n
-    go true e x d f y q g z = long_setting the_budget (x.0 refl) (refl, refl)
-    go false e x true f y q g z = long_setting the_restarts (y.0 refl) (refl, refl)
-    go false e x false f y true g z = long_qdo (z.0 refl) refl
-    go false e x false f y false g z = long_refused (rw (e, f, g) refl)
+module _ (c : List Rule) (n : Text) where
+  flag_or_other : (flags : List Flag) → AreKnown c flags → (AreOthers n flags → FindsHelpAlone c n) → Long c n
+  flag_or_other [] known other = long_refused (other tt)
+  flag_or_other (f ∷ fs) known other =
+      go (bytes_eq (flag_name f) n) refl (bytes_eq-Decides (flag_name f) n) (flag_or_other fs known.1)
+    where
+      go : (b : Bool) → bytes_eq (flag_name f) n ≡ b → Decides b (flag_name f ≡ n)
+          → ((AreOthers n fs → FindsHelpAlone c n) → Long c n) → Long c n
+      go true e is rest = long_flag f (is.0 refl) known.0
+      go false e is rest = rest (λ others. other (e, others))
+
+  setting_or_other : (s : Setting) → KnowsSetting s c → (bytes_eq (setting_name s) n ≡ false → Long c n) → Long c n
+  setting_or_other s known other = go (bytes_eq (setting_name s) n) refl (bytes_eq-Decides (setting_name s) n)
+    where
+      go : (b : Bool) → bytes_eq (setting_name s) n ≡ b → Decides b (setting_name s ≡ n) → Long c n
+      go true e is = long_setting s (is.0 refl) known
+      go false e is = other e
+
+  -- the name is that of an option, or the rules find at most help by it
+  long_of_rules : (flags : List Flag) → ((s : Setting) → KnowsSetting s c) → AreKnown c flags
+      → (bytes_eq (codes "budget") n ≡ false → bytes_eq (codes "restarts") n ≡ false → AreOthers n flags
+      → FindsHelpAlone c n) → Long c n
+  long_of_rules flags settings known other =
+      setting_or_other the_budget (settings the_budget) (λ b.
+      setting_or_other the_restarts (settings the_restarts) (λ r. flag_or_other flags known (other b r)))
 
 -- ---- defaults
 
@@ -154,73 +161,187 @@ other_in : (id : Text) (rows : List Row) → bytes_eq (codes "budget") id ≡ fa
     → bytes_eq (codes "restarts") id ≡ false → first_of id (with_settings rows) ≡ first_of id rows
 other_in id rows b r = ap (option_and_then (λ (r : Row). slice_get r.values 0)) (other_find id rows b r)
 
--- the rules are of a command that reads an input
-pub record AreInputRules (c : List Rule) : Type 0 where
+-- the rows with the defaults of these flags
+abbrev with_flags : List Flag → List Row → List Row
+with_flags [] rows = rows
+with_flags (f ∷ fs) rows = with_flags fs (defaulted (flag_name f) (codes "false") rows)
+
+-- another argument than a flag is found as before
+flags_find : (id : Text) → ((f : Flag) → bytes_eq (flag_name f) id ≡ false) → (flags : List Flag) (rows : List Row)
+    → row_at id (with_flags flags rows) ≡ row_at id rows
+flags_find id apart [] rows = refl
+flags_find id apart (f ∷ fs) rows = flags_find id apart fs (defaulted (flag_name f) (codes "false") rows)
+    ∙ kept_find (flag_name f) id (codes "false") rows (apart f)
+
+flags_in : (id : Text) → ((f : Flag) → bytes_eq (flag_name f) id ≡ false) → (flags : List Flag) (rows : List Row)
+    → first_of id (with_flags flags rows) ≡ first_of id rows
+flags_in id apart flags rows =
+    ap (option_and_then (λ (r : Row). slice_get r.values 0)) (flags_find id apart flags rows)
+
+-- ---- whether a flag is given, which its default doesn't change
+
+abbrev pub says_true : Option Text → Bool
+says_true o = option_map_or (λ text. bytes_eq text (codes "true")) o false
+
+own_kept : (id : Text) (rows : List Row) → bytes_eq id id ≡ true
+    → is_set id (defaulted id (codes "false") rows) ≡ is_set id rows
+own_kept id rows same = ap says_true (own_default id (codes "false") rows same) ∙ go (row_at id rows)
+  where
+    go : (o : Option Row) → says_true (value_or (codes "false") o)
+        ≡ says_true (option_and_then (λ (r : Row). slice_get r.values 0) o)
+    go None = refl
+    go (Some r) = refl
+
+flag_itself : (f : Flag) → bytes_eq (flag_name f) (flag_name f) ≡ true
+flag_itself the_qdo = refl
+flag_itself the_binary = refl
+flag_itself the_trim = refl
+
+flag_kept : (f g : Flag) (rows : List Row)
+    → is_set (flag_name f) (defaulted (flag_name g) (codes "false") rows) ≡ is_set (flag_name f) rows
+flag_kept f g rows = go (bytes_eq (flag_name g) (flag_name f)) refl
+  where
+    go : (b : Bool) → bytes_eq (flag_name g) (flag_name f) ≡ b
+        → is_set (flag_name f) (defaulted (flag_name g) (codes "false") rows) ≡ is_set (flag_name f) rows
+    go true e = subst (λ h. is_set (flag_name f) (defaulted (flag_name h) (codes "false") rows)
+        ≡ is_set (flag_name f) rows) (sym (same_flag f g e)) (own_kept (flag_name f) rows (flag_itself f))
+    go false e = ap says_true (kept (flag_name g) (flag_name f) (codes "false") rows e)
+
+flags_kept : (f : Flag) (flags : List Flag) (rows : List Row)
+    → is_set (flag_name f) (with_flags flags rows) ≡ is_set (flag_name f) rows
+flags_kept f [] rows = refl
+flags_kept f (g ∷ gs) rows = flags_kept f gs (defaulted (flag_name g) (codes "false") rows) ∙ flag_kept f g rows
+
+-- ---- the commands
+
+-- the rules are of a command that reads an input and takes these flags
+pub record AreInputRules (c : List Rule) (flags : List Flag) : Type 0 where
   pub rules : AreRules c (name ∷ [])
+  pub knows : (s : Setting) → KnowsSetting s c
+  pub known : AreKnown c flags
   pub ends : (rows : List Row) → end_fault c rows ≡ []
-  pub setting_last : (s : Setting) (rows : List Row)
-      → first_of (setting_name s) (fold with_default rows c) ≡ setting_in s rows
-  pub name_last : (rows : List Row) → first_of (codes "name") (fold with_default rows c) ≡ first_of (codes "name") rows
+  pub last : (rows : List Row) → fold with_default rows c ≡ with_flags flags (with_settings rows)
 
 -- an argument without a default
 none_by : (id : Text) (rows : List Row) → cond (has_row id rows) rows rows ≡ rows
 none_by id rows = same_either (has_row id rows) rows
 
-input_last : (rows : List Row) → fold with_default rows input_rules ≡ with_settings rows
-input_last rows = none_by (codes "help") _ ∙ none_by (codes "name") (with_settings rows)
+-- the rules of `trace` and `script`, of `solve` and of `cert`, and those of a command that takes all flags
+abbrev pub input_rules : List Rule
+input_rules = rules_of (command_app [] [])
 
-solve_last : (rows : List Row) → fold with_default rows solve_rules
-    ≡ defaulted (codes "qdo") (codes "false") (with_settings rows)
-solve_last rows = none_by (codes "help") _
-    ∙ ap (defaulted (codes "qdo") (codes "false")) (none_by (codes "name") (with_settings rows))
+abbrev pub solve_rules : List Rule
+solve_rules = rules_of solve_app
 
-pub input_are : AreInputRules input_rules
+abbrev pub cert_rules : List Rule
+cert_rules = rules_of cert_app
+
+abbrev pub full_rules : List Rule
+full_rules = rules_of (command_app [] all_flags)
+
+input_knows : (s : Setting) → KnowsSetting s input_rules
+input_knows the_budget = (refl, refl)
+input_knows the_restarts = (refl, refl)
+
+pub input_are : AreInputRules input_rules []
 input_are = record {
   rules = record {
     help_alone = λ x. refl;
-    long = input_long;
+    long = λ n. long_of_rules input_rules n [] input_knows tt (λ b r others. rw (b, r) refl);
     left = (refl, record { found = refl; one_use = refl; one_value = refl; no_trail = refl }, refl, refl);
   };
+  knows = input_knows;
+  known = tt;
   ends = λ rows. ap (λ k. or_else k []) (harmless rows input_rules
       (inr refl, (inr refl, (inl refl, (inl refl, tt)))));
-  setting_last = λ s rows. ap (first_of (setting_name s)) (input_last rows) ∙ settings_in s rows;
-  name_last = λ rows. ap (first_of (codes "name")) (input_last rows) ∙ other_in (codes "name") rows refl refl;
+  last = λ rows. none_by (codes "help") _ ∙ none_by (codes "name") (with_settings rows);
 }
 
--- `--qdo` is no option with a number
-qdo_apart : (s : Setting) → bytes_eq (codes "qdo") (setting_name s) ≡ false
-qdo_apart the_budget = refl
-qdo_apart the_restarts = refl
+solve_knows : (s : Setting) → KnowsSetting s solve_rules
+solve_knows the_budget = (refl, refl)
+solve_knows the_restarts = (refl, refl)
 
-pub solve_are : AreInputRules solve_rules
+pub solve_are : AreInputRules solve_rules (the_qdo ∷ [])
 solve_are = record {
   rules = record {
     help_alone = λ x. refl;
-    long = solve_long;
+    long = λ n. long_of_rules solve_rules n (the_qdo ∷ []) solve_knows (refl, tt)
+        (λ b r others. rw (b, r, others.0) refl);
     left = (refl, record { found = refl; one_use = refl; one_value = refl; no_trail = refl }, refl, refl);
   };
+  knows = solve_knows;
+  known = (refl, tt);
   ends = λ rows. ap (λ k. or_else k []) (harmless rows solve_rules
       (inr refl, (inr refl, (inl refl, (inr refl, (inl refl, tt))))));
-  setting_last = λ s rows. ap (first_of (setting_name s)) (solve_last rows)
-      ∙ kept (codes "qdo") (setting_name s) (codes "false") (with_settings rows) (qdo_apart s) ∙ settings_in s rows;
-  name_last = λ rows. ap (first_of (codes "name")) (solve_last rows)
-      ∙ kept (codes "qdo") (codes "name") (codes "false") (with_settings rows) refl
-      ∙ other_in (codes "name") rows refl refl;
+  last = λ rows. none_by (codes "help") _
+      ∙ ap (with_flags (the_qdo ∷ [])) (none_by (codes "name") (with_settings rows));
 }
+
+cert_knows : (s : Setting) → KnowsSetting s cert_rules
+cert_knows the_budget = (refl, refl)
+cert_knows the_restarts = (refl, refl)
+
+pub cert_are : AreInputRules cert_rules (the_binary ∷ the_trim ∷ [])
+cert_are = record {
+  rules = record {
+    help_alone = λ x. refl;
+    long = λ n. long_of_rules cert_rules n (the_binary ∷ the_trim ∷ []) cert_knows (refl, (refl, tt))
+        (λ b r others. rw (b, r, others.0, others.1.0) refl);
+    left = (refl, record { found = refl; one_use = refl; one_value = refl; no_trail = refl }, refl, refl);
+  };
+  knows = cert_knows;
+  known = (refl, (refl, tt));
+  ends = λ rows. ap (λ k. or_else k []) (harmless rows cert_rules
+      (inr refl, (inr refl, (inl refl, (inr refl, (inr refl, (inl refl, tt)))))));
+  last = λ rows. none_by (codes "help") _
+      ∙ ap (with_flags (the_binary ∷ the_trim ∷ [])) (none_by (codes "name") (with_settings rows));
+}
+
+full_knows : (s : Setting) → KnowsSetting s full_rules
+full_knows the_budget = (refl, refl)
+full_knows the_restarts = (refl, refl)
+
+pub full_are : AreInputRules full_rules all_flags
+full_are = record {
+  rules = record {
+    help_alone = λ x. refl;
+    long = λ n. long_of_rules full_rules n all_flags full_knows (refl, (refl, (refl, tt)))
+        (λ b r others. rw (b, r, others.0, others.1.0, others.1.1.0) refl);
+    left = (refl, record { found = refl; one_use = refl; one_value = refl; no_trail = refl }, refl, refl);
+  };
+  knows = full_knows;
+  known = (refl, (refl, (refl, tt)));
+  ends = λ rows. ap (λ k. or_else k []) (harmless rows full_rules
+      (inr refl, (inr refl, (inl refl, (inr refl, (inr refl, (inr refl, (inl refl, tt))))))));
+  last = λ rows. none_by (codes "help") _
+      ∙ ap (with_flags all_flags) (none_by (codes "name") (with_settings rows));
+}
+
+module _ (c : List Rule) (flags : List Flag) (r : AreInputRules c flags) (rows : List Row) where
+  setting_last : (s : Setting) → first_of (setting_name s) (fold with_default rows c) ≡ setting_in s rows
+  setting_last s = ap (first_of (setting_name s)) (r.last rows)
+      ∙ flags_in (setting_name s) (λ f. apart_setting f s) flags (with_settings rows) ∙ settings_in s rows
+
+  name_last : first_of (codes "name") (fold with_default rows c) ≡ first_of (codes "name") rows
+  name_last = ap (first_of (codes "name")) (r.last rows)
+      ∙ flags_in (codes "name") apart_name flags (with_settings rows) ∙ other_in (codes "name") rows refl refl
+
+  flag_last : (f : Flag) → is_set (flag_name f) (fold with_default rows c) ≡ is_set (flag_name f) rows
+  flag_last f = ap (is_set (flag_name f)) (r.last rows) ∙ flags_kept f flags (with_settings rows)
+      ∙ ap says_true (other_in (flag_name f) rows (setting_apart the_budget f) (setting_apart the_restarts f))
 
 -- ---- what `clap` reads of parts
 
 row_of_part : (id : Text) (ps : List Part) → row_at id (map new_row ps) ≡ option_map new_row (part_at id ps)
 row_of_part id ps = sym (find-map (λ r. bytes_eq r.id id) new_row ps)
 
-module _ (ps : List Part) where
+module _ (c : List Rule) (flags : List Flag) (r : AreInputRules c flags) (ps : List Part) where
   abbrev rows : List Row
   rows = map new_row ps
 
-  pub setting_read : (c : List Rule) → AreInputRules c → (s : Setting)
-      → first_of (setting_name s) (fold with_default rows c)
+  pub setting_read : (s : Setting) → first_of (setting_name s) (fold with_default rows c)
       ≡ Some (option_map_or value_of (part_at (setting_name s) ps) (default_text s))
-  setting_read c r s = r.setting_last s rows
+  setting_read s = setting_last c flags r rows s
       ∙ ap (value_or (default_text s)) (row_of_part (setting_name s) ps) ∙ go (part_at (setting_name s) ps)
     where
       go : (o : Option Part) → value_or (default_text s) (option_map new_row o)
@@ -228,30 +349,12 @@ module _ (ps : List Part) where
       go None = refl
       go (Some p) = refl
 
-  pub name_read : (c : List Rule) → AreInputRules c → first_of (codes "name") (fold with_default rows c)
-      ≡ option_map value_of (part_at (codes "name") ps)
-  name_read c r =
-      r.name_last rows ∙ ap (option_and_then (λ (r : Row). slice_get r.values 0)) (row_of_part (codes "name") ps)
-      ∙ go (part_at (codes "name") ps)
-    where
-      go : (o : Option Part) → option_and_then (λ (r : Row). slice_get r.values 0) (option_map new_row o)
-          ≡ option_map value_of o
-      go None = refl
-      go (Some p) = refl
+  pub name_read : first_of (codes "name") (fold with_default rows c) ≡ option_map value_of (part_at (codes "name") ps)
+  name_read = name_last c flags r rows ∙ first_of_parts (codes "name") ps
 
-  pub qdo_read : is_set (fold with_default rows solve_rules)
-      ≡ bytes_eq (option_map_or value_of (part_at (codes "qdo") ps) (codes "false")) (codes "true")
-  qdo_read =
-      let read = ap (first_of (codes "qdo")) (solve_last rows)
-      ∙ own_default (codes "qdo") (codes "false") (with_settings rows) refl
-      ∙ ap (value_or (codes "false")) (other_find (codes "qdo") rows refl refl ∙ row_of_part (codes "qdo") ps) in
-      ap (λ o. option_map_or (λ text. bytes_eq text (codes "true")) o false) read ∙ go (part_at (codes "qdo") ps)
-    where
-      go : (o : Option Part) → option_map_or (λ text. bytes_eq text (codes "true")) (value_or (codes "false")
-          (option_map new_row o)) false
-          ≡ bytes_eq (option_map_or value_of o (codes "false")) (codes "true")
-      go None = refl
-      go (Some p) = refl
+  pub flag_read : (f : Flag) → is_set (flag_name f) (fold with_default rows c)
+      ≡ says_true (option_map value_of (part_at (flag_name f) ps))
+  flag_read f = flag_last c flags r rows f ∙ ap says_true (first_of_parts (flag_name f) ps)
 
 -- ---- words that don't fail, and parts that don't
 
@@ -263,7 +366,7 @@ pub record AreRead (c : List Rule) (args : List Text) : Type 0 where
   pub once : AreOnce [] parts
   pub rows_are : rows_after c [] args ≡ fold with_default (map new_row parts) c
 
-module _ (c : List Rule) (r : AreInputRules c) where
+module _ (c : List Rule) (flags : List Flag) (r : AreInputRules c flags) where
   rows_used : (ps : List Part) → AreTaken c (name ∷ []) ps → AreUsed [] ps
       → rows_after c [] (flat_map spelled ps) ≡ fold with_default (map new_row ps) c
   rows_used ps taken u = rows_of_parts c (name ∷ []) r.rules ps taken

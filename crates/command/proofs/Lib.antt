@@ -1,4 +1,5 @@
 pub mod NumberLemmas
+pub mod Names
 pub mod Turns
 pub mod WordKinds
 pub mod Spelled

@@ -8,12 +8,13 @@ use Rattle.clap.specs.Takes.{value_passes}
 use Rattle.clap.specs.Walk.{nothing_held, rows_after}
 use Rattle.clap.specs.Faults.{defaults_fault, level_fault}
 use Rattle.command.specs.Account.{AreDemo, AreGen, demo_app, gen_app, number_rule}
-use Rattle.command.specs.Forms.{IsBetween, Part, Setting, spelled}
+use Rattle.command.specs.Forms.{Flag, IsBetween, Part, Setting, spelled}
+use Rattle.command.specs.Forms.Flag.{the_qdo, the_binary, the_trim}
 use Rattle.command.specs.Forms.Setting.{the_budget, the_restarts}
-use Rattle.command.specs.Forms.Part.{setting_part, joined_part, qdo_part, name_part}
+use Rattle.command.specs.Forms.Part.{setting_part, joined_part, flag_part, name_part}
 use Rattle.command.proofs.DecimalWords.{decimal_passes, decimal_word}
 use Rattle.command.proofs.Turns.{IsPlainWord, leaf, no_kinds, rules_of}
-use Rattle.command.proofs.WordKinds.{KnowsQdo, KnowsSetting, long_refused}
+use Rattle.command.proofs.WordKinds.{KnowsFlag, KnowsSetting, long_refused}
 use Rattle.command.proofs.PartWalk.{AreRules, AreTaken, LacksDashes, end_fault, fault_of_parts, parts_of_words, rows_of_parts, used_rows, uses_fault, uses_of}
 
 -- the number at a place
@@ -35,7 +36,7 @@ gen_rules = rules_of gen_app
 abbrev pub demo_rules : List Rule
 demo_rules = rules_of demo_app
 
--- neither has an option with a number
+-- neither has an option
 gen_settings : (s : Setting) → KnowsSetting s gen_rules → ⊥
 gen_settings the_budget h = let bad = h.0 in absurd cc
 gen_settings the_restarts h = let bad = h.0 in absurd cc
@@ -43,6 +44,16 @@ gen_settings the_restarts h = let bad = h.0 in absurd cc
 demo_settings : (s : Setting) → KnowsSetting s demo_rules → ⊥
 demo_settings the_budget h = let bad = h.0 in absurd cc
 demo_settings the_restarts h = let bad = h.0 in absurd cc
+
+gen_flags : (f : Flag) → KnowsFlag f gen_rules → ⊥
+gen_flags the_qdo bad = absurd cc
+gen_flags the_binary bad = absurd cc
+gen_flags the_trim bad = absurd cc
+
+demo_flags : (f : Flag) → KnowsFlag f demo_rules → ⊥
+demo_flags the_qdo bad = absurd cc
+demo_flags the_binary bad = absurd cc
+demo_flags the_trim bad = absurd cc
 
 gen_are : AreRules gen_rules gen_places
 gen_are = record {
@@ -80,12 +91,13 @@ record AreWords (c left : List Rule) (ps : List Part) : Type 0 where
   pub words : List Text
   pub parts_are : ps ≡ map name_part words
 
-module _ (c : List Rule) (no_setting : (s : Setting) → KnowsSetting s c → ⊥) (no_qdo : KnowsQdo c → ⊥) where
+module _ (c : List Rule) (no_setting : (s : Setting) → KnowsSetting s c → ⊥)
+    (no_flag : (f : Flag) → KnowsFlag f c → ⊥) where
   are_words : (left : List Rule) (ps : List Part) → AreTaken c left ps → AreWords c left ps
   are_words left [] taken = record { words = []; parts_are = refl }
   are_words left (setting_part s t ∷ ps) taken = absurd (no_setting s taken.0.0)
   are_words left (joined_part s t ∷ ps) taken = absurd (no_setting s taken.0)
-  are_words left (qdo_part ∷ ps) taken = absurd (no_qdo taken.0)
+  are_words left (flag_part f ∷ ps) taken = absurd (no_flag f taken.0)
   are_words [] (name_part w ∷ ps) taken = absurd taken.0
   are_words (a ∷ left) (name_part w ∷ ps) taken =
       let rest = are_words left ps taken.1 in
@@ -104,12 +116,12 @@ record AreTakenWords (c places : List Rule) (args : List Text) : Type 0 where
   pub ends : end_fault c (used_rows [] (uses_of places (map name_part words))) ≡ []
 
 module _ (c places : List Rule) (r : AreRules c places) (no_setting : (s : Setting) → KnowsSetting s c → ⊥)
-    (no_qdo : KnowsQdo c → ⊥) where
+    (no_flag : (f : Flag) → KnowsFlag f c → ⊥) where
   taken_words : (args : List Text) → LacksDashes args → level_fault (leaf c) [] nothing_held args false [] ≡ []
       → AreTakenWords c places args
   taken_words args d e =
       let p = parts_of_words c places r args d e in
-      let w = are_words c no_setting no_qdo places p.parts p.taken in
+      let w = are_words c no_setting no_flag places p.parts p.taken in
       let taken = subst (AreTaken c places) w.parts_are p.taken in
       let words_are = p.words_are ∙ ap (flat_map spelled) w.parts_are in
       let faults = sym (fault_of_parts c places r (map name_part w.words) taken)
@@ -161,7 +173,7 @@ pub gen_in_form : (args : List Text) → LacksDashes args → level_fault
     (leaf gen_rules) [] nothing_held args false [] ≡ []
     → (s v k : ℕ) → AreGen (rows_after gen_rules [] args) s v k → args ≡ decimal s ∷ decimal v ∷ decimal k ∷ []
 gen_in_form args d e s v k r =
-    let w = taken_words gen_rules gen_places gen_are gen_settings (λ bad. absurd cc) args d e in
+    let w = taken_words gen_rules gen_places gen_are gen_settings gen_flags args d e in
     let rows = subst (λ ws. AreGen (rows_after gen_rules [] ws) s v k) w.words_are r in
     w.words_are ∙ gen_form w.words w.taken w.ends s v k rows
 
@@ -216,7 +228,7 @@ pub demo_in_form : (args : List Text) → LacksDashes args → level_fault
     (leaf demo_rules) [] nothing_held args false [] ≡ []
     → (s k : ℕ) → AreDemo (rows_after demo_rules [] args) s k → args ≡ decimal s ∷ decimal k ∷ []
 demo_in_form args d e s k r =
-    let w = taken_words demo_rules demo_places demo_are demo_settings (λ bad. absurd cc) args d e in
+    let w = taken_words demo_rules demo_places demo_are demo_settings demo_flags args d e in
     let rows = subst (λ ws. AreDemo (rows_after demo_rules [] ws) s k) w.words_are r in
     w.words_are ∙ demo_form w.words w.taken w.ends s k rows
 

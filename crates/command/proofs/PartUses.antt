@@ -1,10 +1,10 @@
--- What the parts `[--budget N] [--restarts R] [--qdo] [NAME]` use: each argument once at most.
+-- What the parts `[--budget N] [--restarts R] [--FLAG] .. [NAME]` use: each argument once at most.
 use Rattle.std.proofs.Common.{◌≡◌, ◌≢◌, ◌∙◌, ◌++◌, ◌||◌, ◌+◌, ◌≤◌, ℕ, Bool, cond, true, false, List, [], ◌∷◌, map, Option, Some, None, IsPermutation, codes, option_map, slice_get, refl, sym, ap, subst, arith, append-nil, append_assoc}
 use Rattle.std.specs.List.{AllByRecursion, filter, find, sum_by}
 use Rattle.std.specs.Prelude.{option_and_then}
 use Rattle.std.specs.Str.{bytes_eq}
 use Rattle.std.proofs.lemmas.List.Folds.{list_any-append}
-use Rattle.std.proofs.lemmas.List.Sorted.{IsPermutation-cons, IsPermutation-middle, IsPermutation-refl, IsPermutation-trans}
+use Rattle.std.proofs.lemmas.List.Sorted.{IsPermutation-append_right, IsPermutation-cons, IsPermutation-middle, IsPermutation-refl, IsPermutation-trans}
 use Rattle.std.proofs.lemmas.List.Sums.{sum_by-cons}
 use Rattle.std.proofs.lemmas.Slice.Eq.{bytes_eq-Decides}
 use Rattle.clap.specs.Words.{Row, Rule}
@@ -16,11 +16,13 @@ use Rattle.clap.specs.declared.builder.value_parser.Reading.TheVariants.{AsWritt
 use Rattle.clap.specs.declared.parser.matches.ValueSource.{ValueSource}
 use Rattle.clap.specs.declared.parser.matches.ValueSource.TheVariants.{CommandLine}
 use Rattle.command.specs.Account.{name_rule}
-use Rattle.command.specs.Forms.{Part, setting_name}
-use Rattle.command.specs.Forms.Part.{setting_part, joined_part, qdo_part, name_part}
+use Rattle.command.specs.Forms.{Part, flag_name, setting_name}
+use Rattle.command.specs.Forms.Flag.{the_qdo, the_binary, the_trim}
+use Rattle.command.specs.Forms.Part.{setting_part, joined_part, flag_part, name_part}
 use Rattle.command.specs.Forms.Setting.{the_budget, the_restarts}
+use Rattle.command.proofs.Names.{argument_names, bit}
 use Rattle.command.proofs.Turns.{no_kinds}
-use Rattle.command.proofs.WordKinds.{qdo, setting}
+use Rattle.command.proofs.WordKinds.{flag, setting}
 use Rattle.command.proofs.PartWalk.{AreTaken, Use, used_rows, uses_fault, uses_of}
 
 abbrev pub name : Rule
@@ -30,13 +32,13 @@ name = with_index 1 (filled name_rule)
 abbrev pub id_of : Part → Text
 id_of (setting_part s t) = setting_name s
 id_of (joined_part s t) = setting_name s
-id_of qdo_part = codes "qdo"
+id_of (flag_part f) = flag_name f
 id_of (name_part w) = codes "name"
 
 abbrev pub value_of : Part → Text
 value_of (setting_part s t) = t
 value_of (joined_part s t) = t
-value_of qdo_part = codes "true"
+value_of (flag_part f) = codes "true"
 value_of (name_part w) = w
 
 -- the part is of this argument
@@ -46,7 +48,7 @@ is_of id p = bytes_eq (id_of p) id
 abbrev pub part_use : Part → Use
 part_use (setting_part s t) = (setting s, t ∷ [])
 part_use (joined_part s t) = (setting s, t ∷ [])
-part_use qdo_part = (qdo, [])
+part_use (flag_part f) = (flag f, [])
 part_use (name_part w) = (name, w ∷ [])
 
 -- where the name's place is left, or none
@@ -59,7 +61,7 @@ pub uses_are : (c : List Rule) (b : Bool) (ps : List Part) → AreTaken c (name_
 uses_are c b [] taken = refl
 uses_are c b (setting_part s t ∷ ps) taken = ap (λ us. part_use (setting_part s t) ∷ us) (uses_are c b ps taken.1)
 uses_are c b (joined_part s t ∷ ps) taken = ap (λ us. part_use (joined_part s t) ∷ us) (uses_are c b ps taken.1)
-uses_are c b (qdo_part ∷ ps) taken = ap (λ us. part_use qdo_part ∷ us) (uses_are c b ps taken.1)
+uses_are c b (flag_part f ∷ ps) taken = ap (λ us. part_use (flag_part f) ∷ us) (uses_are c b ps taken.1)
 uses_are c true (name_part w ∷ ps) taken = ap (λ us. part_use (name_part w) ∷ us) (uses_are c false ps taken.1)
 uses_are c false (name_part w ∷ ps) taken = absurd taken.0
 
@@ -107,14 +109,14 @@ module _ (rows : List Row) where
       ≡ rows ++ new_row p ∷ []
   used_is (setting_part s t) none = replaces (setting_name s) (t ∷ []) none
   used_is (joined_part s t) none = replaces (setting_name s) (t ∷ []) none
-  used_is qdo_part none = replaces (codes "qdo") (codes "true" ∷ []) none
+  used_is (flag_part f) none = replaces (flag_name f) (codes "true" ∷ []) none
   used_is (name_part w) none = replaces (codes "name") (w ∷ []) none
 
   -- a second use fails
   fails_twice : (p : Part) → has_row (id_of p) rows ≡ true → use_fault false (part_use p).0 (part_use p).1 rows ≢ []
   fails_twice (setting_part s t) has = rw has (λ e. absurd cc)
   fails_twice (joined_part s t) has = rw has (λ e. absurd cc)
-  fails_twice qdo_part has = rw has (λ e. absurd cc)
+  fails_twice (flag_part f) has = rw has (λ e. absurd cc)
   fails_twice (name_part w) has = rw has (λ e. absurd cc)
 
   -- a first one doesn't, where `clap` accepts the value
@@ -122,13 +124,10 @@ module _ (rows : List Row) where
       → use_fault false (part_use p).0 (part_use p).1 rows ≡ []
   passes_once (setting_part s t) accepted none = rw (none, accepted) refl
   passes_once (joined_part s t) accepted none = rw (none, accepted) refl
-  passes_once qdo_part accepted none = rw none refl
+  passes_once (flag_part f) accepted none = rw none refl
   passes_once (name_part w) accepted none = rw none refl
 
 -- ---- how often an argument is used
-
-abbrev pub bit : Bool → ℕ
-bit b = cond b 1 0
 
 abbrev pub tally : Text → List Part → ℕ
 tally id ps = sum_by (λ p. bit (is_of id p)) ps
@@ -141,7 +140,9 @@ of_itself (setting_part the_budget t) = refl
 of_itself (setting_part the_restarts t) = refl
 of_itself (joined_part the_budget t) = refl
 of_itself (joined_part the_restarts t) = refl
-of_itself qdo_part = refl
+of_itself (flag_part the_qdo) = refl
+of_itself (flag_part the_binary) = refl
+of_itself (flag_part the_trim) = refl
 of_itself (name_part w) = refl
 
 -- an argument is used once at most, those of earlier rows too
@@ -289,41 +290,59 @@ holds_of_part P id (q ∷ ps) p all e = go (is_of id q) refl (λ f. holds_of_par
     go true is rest = let same : q ≡ p = (let here = rw is at e in cc) in subst P same all.0
     go false is rest = rest (rw is at e)
 
--- the parts by their arguments
-abbrev pub by_argument : List Part → List Part
-by_argument ps = filter (is_of (codes "budget")) ps ++ filter (is_of (codes "restarts")) ps
-    ++ filter (is_of (codes "qdo")) ps ++ filter (is_of (codes "name")) ps
+-- ---- the parts by their arguments
 
--- one more in the middle
-one_more : (p : Part) (a b d : List Part) → IsPermutation (a ++ (p ∷ b) ++ d) (p ∷ (a ++ b ++ d))
-one_more p a b d = rw (append_assoc a (p ∷ b) d, append_assoc a b d) (IsPermutation-middle a p (b ++ d))
+abbrev pub by_names : List Text → List Part → List Part
+by_names [] ps = []
+by_names (n ∷ ns) ps = filter (is_of n) ps ++ by_names ns ps
 
--- one more of the restarts, behind those of the budget
-one_restarts : (p : Part) (a b d e : List Part) → IsPermutation (a ++ (p ∷ b) ++ d ++ e) (p ∷ (a ++ b ++ d ++ e))
-one_restarts p a b d e =
-    rw (append_assoc (a ++ (p ∷ b)) d e, append_assoc (a ++ b) d e) (one_more p a b (d ++ e))
+-- how often the argument of a part is among these
+abbrev own : Part → List Text → ℕ
+own p [] = 0
+own p (n ∷ ns) = bit (is_of n p) + own p ns
 
-pub argument_order : (ps : List Part) → IsPermutation (by_argument ps) ps
+-- one more part of another argument
+of_others : (p : Part) (ns : List Text) (ps : List Part) → own p ns ≡ 0 → by_names ns (p ∷ ps) ≡ by_names ns ps
+of_others p [] ps e = refl
+of_others p (n ∷ ns) ps e = go (is_of n p) refl (of_others p ns ps)
+  where
+    go : (b : Bool) → is_of n p ≡ b → (own p ns ≡ 0 → by_names ns (p ∷ ps) ≡ by_names ns ps)
+        → by_names (n ∷ ns) (p ∷ ps) ≡ by_names (n ∷ ns) ps
+    go true is rest = let one : bit (is_of n p) ≡ 1 = ap bit is in absurd (omega (arith, e, one))
+    go false is rest = rw is (ap (λ l. filter (is_of n) ps ++ l) (rest (omega (arith, e))))
+
+-- one more part, whose argument is there
+of_one : (p : Part) (ns : List Text) (ps : List Part) → own p ns ≡ 1
+    → IsPermutation (by_names ns (p ∷ ps)) (p ∷ by_names ns ps)
+of_one p [] ps e = absurd (omega (arith, e))
+of_one p (n ∷ ns) ps e = go (is_of n p) refl (of_one p ns ps)
+  where
+    go : (b : Bool) → is_of n p ≡ b
+        → (own p ns ≡ 1 → IsPermutation (by_names ns (p ∷ ps)) (p ∷ by_names ns ps))
+        → IsPermutation (by_names (n ∷ ns) (p ∷ ps)) (p ∷ by_names (n ∷ ns) ps)
+    go true is rest =
+        let one : bit (is_of n p) ≡ 1 = ap bit is in
+        let others = of_others p ns ps (omega (arith, e, one)) in
+        rw is (subst (λ l. IsPermutation (p ∷ (filter (is_of n) ps ++ l)) (p ∷ by_names (n ∷ ns) ps)) (sym others)
+        (IsPermutation-refl (p ∷ by_names (n ∷ ns) ps)))
+    go false is rest =
+        let none : bit (is_of n p) ≡ 0 = ap bit is in
+        let here = filter (is_of n) ps in
+        let later = IsPermutation-append_right here (by_names ns (p ∷ ps)) (p ∷ by_names ns ps)
+        (rest (omega (arith, e, none))) in
+        rw is (IsPermutation-trans _ _ _ later (IsPermutation-middle here p (by_names ns ps)))
+
+own_once : (p : Part) → own p argument_names ≡ 1
+own_once (setting_part the_budget t) = refl
+own_once (setting_part the_restarts t) = refl
+own_once (joined_part the_budget t) = refl
+own_once (joined_part the_restarts t) = refl
+own_once (name_part w) = refl
+own_once (flag_part the_qdo) = refl
+own_once (flag_part the_binary) = refl
+own_once (flag_part the_trim) = refl
+
+pub argument_order : (ps : List Part) → IsPermutation (by_names argument_names ps) ps
 argument_order [] = IsPermutation-refl []
-argument_order (setting_part the_budget t ∷ ps) =
-    IsPermutation-cons (setting_part the_budget t) (by_argument ps) ps (argument_order ps)
-argument_order (joined_part the_budget t ∷ ps) =
-    IsPermutation-cons (joined_part the_budget t) (by_argument ps) ps (argument_order ps)
-argument_order (setting_part the_restarts t ∷ ps) = IsPermutation-trans _ _ _
-    (one_restarts (setting_part the_restarts t) (filter (is_of (codes "budget")) ps)
-    (filter (is_of (codes "restarts")) ps) (filter (is_of (codes "qdo")) ps) (filter (is_of (codes "name")) ps))
-    (IsPermutation-cons (setting_part the_restarts t) (by_argument ps) ps (argument_order ps))
-argument_order (joined_part the_restarts t ∷ ps) = IsPermutation-trans _ _ _
-    (one_restarts (joined_part the_restarts t) (filter (is_of (codes "budget")) ps)
-    (filter (is_of (codes "restarts")) ps) (filter (is_of (codes "qdo")) ps) (filter (is_of (codes "name")) ps))
-    (IsPermutation-cons (joined_part the_restarts t) (by_argument ps) ps (argument_order ps))
-argument_order (qdo_part ∷ ps) =
-    let options = filter (is_of (codes "budget")) ps ++ filter (is_of (codes "restarts")) ps in
-    IsPermutation-trans _ _ _
-    (one_more qdo_part options (filter (is_of (codes "qdo")) ps) (filter (is_of (codes "name")) ps))
-    (IsPermutation-cons qdo_part (by_argument ps) ps (argument_order ps))
-argument_order (name_part w ∷ ps) =
-    let others = filter (is_of (codes "budget")) ps ++ filter (is_of (codes "restarts")) ps
-    ++ filter (is_of (codes "qdo")) ps in
-    IsPermutation-trans _ _ _ (IsPermutation-middle others (name_part w) (filter (is_of (codes "name")) ps))
-    (IsPermutation-cons (name_part w) (by_argument ps) ps (argument_order ps))
+argument_order (p ∷ ps) = IsPermutation-trans _ _ _ (of_one p argument_names ps (own_once p))
+    (IsPermutation-cons p (by_names argument_names ps) ps (argument_order ps))

@@ -1,5 +1,5 @@
 -- What `clap` makes of the words of the parts behind the word of a command.
-use Rattle.std.proofs.Common.{◌≡◌, ◌≢◌, ◌∙◌, ◌++◌, ◌&&◌, ℕ, suc, Bool, cond, true, false, List, [], ◌∷◌, drop, Option, Some, None, codes, fold, refl, sym, ap, ap₂}
+use Rattle.std.proofs.Common.{◌≡◌, ◌≢◌, ◌∙◌, ◌++◌, ◌&&◌, ℕ, suc, Bool, cond, true, false, List, [], ◌∷◌, drop, Option, Some, None, fold, refl, sym, ap, ap₂}
 use Rattle.std.specs.Prelude.{⊤}
 use Rattle.std.specs.List.{flat_map}
 use Rattle.clap.specs.Lexer.{long_of}
@@ -8,12 +8,12 @@ use Rattle.clap.specs.Kinds.{or_else}
 use Rattle.clap.specs.Walk.{Held, Step, Text, Waiting, Walk, idle, option, positional, after_step, arg_by_id, arg_by_index, arg_by_long, long_word, next, is_multiple, is_pending, next_position, nothing_held, plain_word, pushed, rows_after, settled, settled_rows, subcommand_met, takes_several, to_positional, used, value, walked, with_default, word_met}
 use Rattle.clap.specs.Faults.{check_fault, defaults_fault, level_fault, long_fault, settle_fault, step_fault, turn_fault, use_fault, walk_fault, word_fault}
 use Rattle.clap.proofs.WalkLemmas.{walked_is}
-use Rattle.command.specs.Forms.{Part, Setting, setting_name, spelled}
-use Rattle.command.specs.Forms.Part.{setting_part, joined_part, qdo_part, name_part}
+use Rattle.command.specs.Forms.{Flag, Part, Setting, flag_name, setting_name, spelled}
+use Rattle.command.specs.Forms.Part.{setting_part, joined_part, flag_part, name_part}
 use Rattle.command.specs.Forms.Setting.{the_budget, the_restarts}
 use Rattle.command.proofs.Turns.{IsPlainWord, Pending, as_setting, at, first_of_three, for_setting, held, leaf, no_value_yet, no_kinds, nothing_after, plain_fault, plain_met}
-use Rattle.command.proofs.Spelled.{joined_long, joined_not_dashes, joined_spelled, joined_word, long_spelled, option_long, option_not_dashes, option_spelled, option_word}
-use Rattle.command.proofs.WordKinds.{IsNotDashes, IsRefused, Kind, KnowsHelpAlone, KnowsQdo, KnowsSetting, Long, is_plain, is_qdo, is_refused, is_setting, kind_of_word, long_fault_is, long_met_is, qdo, sets, setting}
+use Rattle.command.proofs.Spelled.{flag_long, flag_not_dashes, flag_spelled, flag_word, joined_long, joined_not_dashes, joined_spelled, joined_word, option_long, option_not_dashes, option_spelled, option_word}
+use Rattle.command.proofs.WordKinds.{IsNotDashes, IsRefused, Kind, KnowsFlag, KnowsHelpAlone, KnowsSetting, Long, flag, is_flag, is_plain, is_refused, is_setting, kind_of_word, long_fault_is, long_met_is, sets, setting}
 
 pub no_subcommand : (waiting : Waiting) (w : Text) → subcommand_met [] waiting w ≡ None
 no_subcommand idle w = refl
@@ -103,12 +103,12 @@ module _ (c : List Rule) where
           by_long (setting_name s) (Some t) l (held (used (setting s) (t ∷ []) settled_here) None) (next idle)
           (rw knows.0 refl) _ (rw knows.0 (nothing_after _))
 
-      -- `--qdo`
-      by_qdo : KnowsQdo c → long_of x ≡ Some (codes "qdo", None)
-          → Leads here (x ∷ rest) (or_else settling (use_fault false qdo [] settled_here))
-          (at idle (used qdo [] settled_here) None position) rest
-      by_qdo knows l =
-          by_long (codes "qdo") None l (held (used qdo [] settled_here) None) (next idle) (rw knows refl) _
+      -- `--FLAG`
+      by_flag : (f : Flag) → KnowsFlag f c → long_of x ≡ Some (flag_name f, None)
+          → Leads here (x ∷ rest) (or_else settling (use_fault false (flag f) [] settled_here))
+          (at idle (used (flag f) [] settled_here) None position) rest
+      by_flag f knows l =
+          by_long (flag_name f) None l (held (used (flag f) [] settled_here) None) (next idle) (rw knows refl) _
           (rw knows (nothing_after _))
 
   -- the option that waits takes the value
@@ -205,7 +205,7 @@ Use = Rule × List Text
 abbrev pub use_of : List Rule → Part → List Use
 use_of left (setting_part s t) = (setting s, t ∷ []) ∷ []
 use_of left (joined_part s t) = (setting s, t ∷ []) ∷ []
-use_of left qdo_part = (qdo, []) ∷ []
+use_of left (flag_part f) = (flag f, []) ∷ []
 use_of [] (name_part w) = []
 use_of (a ∷ left) (name_part w) = (a, w ∷ []) ∷ []
 
@@ -231,7 +231,7 @@ module _ (c : List Rule) where
   abbrev pub IsTaken : List Rule → Part → Type 0
   IsTaken left (setting_part s t) = KnowsSetting s c × IsPlainWord t
   IsTaken left (joined_part s t) = KnowsSetting s c
-  IsTaken left qdo_part = KnowsQdo c
+  IsTaken left (flag_part f) = KnowsFlag f c
   IsTaken [] (name_part w) = ⊥
   IsTaken (a ∷ left) (name_part w) = IsPlainWord w
 
@@ -269,9 +269,9 @@ module _ (c : List Rule) where
       let rest = flat_map spelled ps in
       let knows = taken.0.0 in
       let ih = rw knows.1 at (follow ps settled_here (as_setting s t) i left at_place taken.1) in
-      let flag = by_option c idle rows pending i (option_word s) (t ∷ rest) (option_not_dashes s) s knows
+      let first = by_option c idle rows pending i (option_word s) (t ∷ rest) (option_not_dashes s) s knows
       (option_long s) in
-      then _ _ _ _ _ _ _ _ flag (then _ _ _ _ _ _ _ _ (by_value c s knows settled_here i t rest taken.0.1) ih refl)
+      then _ _ _ _ _ _ _ _ first (then _ _ _ _ _ _ _ _ (by_value c s knows settled_here i t rest taken.0.1) ih refl)
       refl
   follow (joined_part s t ∷ ps) rows pending i left at_place taken =
       let settled_here = settled_rows c pending rows in
@@ -279,11 +279,12 @@ module _ (c : List Rule) where
       let value = by_setting c idle rows pending i (joined_word s t) (flat_map spelled ps) (joined_not_dashes s t) s
       taken.0 t (joined_long s t) in
       then _ _ _ _ _ _ _ _ value ih (first_of_three (settle_fault c false (held rows pending)) _ _)
-  follow (qdo_part ∷ ps) rows pending i left at_place taken =
+  follow (flag_part f ∷ ps) rows pending i left at_place taken =
       let settled_here = settled_rows c pending rows in
-      let ih = follow ps (used qdo [] settled_here) None i left at_place taken.1 in
-      let flag = by_qdo c idle rows pending i (codes "--qdo") (flat_map spelled ps) refl taken.0 refl in
-      then _ _ _ _ _ _ _ _ flag ih (first_of_three (settle_fault c false (held rows pending)) _ _)
+      let ih = follow ps (used (flag f) [] settled_here) None i left at_place taken.1 in
+      let first = by_flag c idle rows pending i (flag_word f) (flat_map spelled ps) (flag_not_dashes f) f taken.0
+      (flag_long f) in
+      then _ _ _ _ _ _ _ _ first ih (first_of_three (settle_fault c false (held rows pending)) _ _)
   follow (name_part w ∷ ps) rows pending i [] at_place taken = absurd taken.0
   follow (name_part w ∷ ps) rows pending i (a ∷ left) at_place taken =
       let settled_here = settled_rows c pending rows in
@@ -350,8 +351,8 @@ module _ (c : List Rule) (help_alone : KnowsHelpAlone c) (long : (name : Text) �
   waited w x xs dashes (sets s k t l) ih i left rows pending at_place knows e =
       let f = by_setting c (for_setting w) rows (no_value_yet w) i x xs dashes s k t l in
       absurd (no_value w rows knows (no_kinds _ _ (no_kinds _ _ (sym f.fate_is ∙ e)).0).0)
-  waited w x xs dashes (is_qdo k l) ih i left rows pending at_place knows e =
-      let f = by_qdo c (for_setting w) rows (no_value_yet w) i x xs dashes k l in
+  waited w x xs dashes (is_flag g k l) ih i left rows pending at_place knows e =
+      let f = by_flag c (for_setting w) rows (no_value_yet w) i x xs dashes g k l in
       absurd (no_value w rows knows (no_kinds _ _ (no_kinds _ _ (sym f.fate_is ∙ e)).0).0)
   waited w x xs dashes (is_refused bad) ih i left rows pending at_place knows e =
       absurd (refused c (for_setting w) rows (no_value_yet w) i x xs bad e)
@@ -387,13 +388,13 @@ module _ (c : List Rule) (help_alone : KnowsHelpAlone c) (long : (name : Text) �
         taken = (knows, next.taken);
         words_are = λ j. joined_spelled s x t l j ∷ next.words_are j;
       }
-  unwaited x xs dashes (is_qdo knows l) ih i left rows pending at_place _ e =
-      let s = by_qdo c idle rows pending i x xs dashes knows l in
+  unwaited x xs dashes (is_flag f knows l) ih i left rows pending at_place _ e =
+      let s = by_flag c idle rows pending i x xs dashes f knows l in
       let next = ih None i left _ None at_place tt (no_kinds _ _ (sym s.fate_is ∙ e)).1 in
       record {
-        parts = qdo_part ∷ next.parts;
+        parts = flag_part f ∷ next.parts;
         taken = (knows, next.taken);
-        words_are = λ j. long_spelled x (codes "qdo") None l j ∷ next.words_are j;
+        words_are = λ j. flag_spelled f x l j ∷ next.words_are j;
       }
   unwaited x xs dashes (is_refused bad) ih i left rows pending at_place _ e =
       absurd (refused c idle rows pending i x xs bad e)

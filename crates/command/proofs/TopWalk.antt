@@ -13,7 +13,7 @@ use Rattle.clap.specs.Faults.{check_fault, defaults_fault, entered_fault, level_
 use Rattle.clap.proofs.WalkLemmas.{walk_stopped}
 use Rattle.clap.proofs.FaultLemmas.{past, stopped_fault}
 use Rattle.clap.proofs.OnLiterals.{clap_on_literals}
-use Rattle.command.specs.Account.{command_app, command_apps, demo_app, gen_app, qbf_app, solve_app}
+use Rattle.command.specs.Account.{cert_app, command_app, command_apps, demo_app, gen_app, qbf_app, solve_app}
 use Rattle.command.specs.Forms.{word_of}
 use Rattle.command.specs.declared.command.Command.{Command}
 use Rattle.command.specs.declared.command.Command.TheVariants.{Cert, Demo, Gen, Script, Solve, Trace}
@@ -132,16 +132,16 @@ all_are = (
 -- how `clap` is told of the command
 abbrev pub app_for : Command → App
 app_for (Solve n k q g) = solve_app
-app_for (Trace n k g) = command_app (codes "trace")
-app_for (Cert n k g) = command_app (codes "cert")
-app_for (Script n k g) = command_app (codes "script")
+app_for (Trace n k g) = command_app (codes "trace") []
+app_for (Cert n k b t g) = cert_app
+app_for (Script n k g) = command_app (codes "script") []
 app_for (Gen s v k) = gen_app
 app_for (Demo s k) = demo_app
 
 pub is_command : (c : Command) → IsCommand (app_for c)
 is_command (Solve n k q g) = all_are.0
 is_command (Trace n k g) = all_are.1.0
-is_command (Cert n k g) = all_are.1.1.0
+is_command (Cert n k b t g) = all_are.1.1.0
 is_command (Script n k g) = all_are.1.1.1.0
 is_command (Gen s v k) = all_are.1.1.1.1.0
 is_command (Demo s k) = all_are.1.1.1.1.1.0
@@ -149,7 +149,7 @@ is_command (Demo s k) = all_are.1.1.1.1.1.0
 pub word_is : (c : Command) → (app_for c).top.name ≡ word_of c
 word_is (Solve n k q g) = refl
 word_is (Trace n k g) = refl
-word_is (Cert n k g) = refl
+word_is (Cert n k b t g) = refl
 word_is (Script n k g) = refl
 word_is (Gen s v k) = refl
 word_is (Demo s k) = refl

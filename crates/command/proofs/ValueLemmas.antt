@@ -53,11 +53,11 @@ module _ (m : ArgMatches) (n k : ℕ) (given : Option Text) where
     fine,
   )
 
--- whether `--qdo` is given
-pub set_is : (m : ArgMatches) (o : Option Text) → o ≡ first_value (found_of m) (codes "qdo")
-    → option_map_or (λ text. bytes_eq text (codes "true")) o false ≡ is_set (rows_of (found_of m))
-set_is m o e = ap (λ p. option_map_or (λ text. bytes_eq text (codes "true")) p false)
-    (e ∙ first_value-rows (found_of m) (codes "qdo"))
+-- whether the flag of this name is given
+pub set_is : (m : ArgMatches) (name : Text) (o : Option Text) → o ≡ first_value (found_of m) name
+    → option_map_or (λ text. bytes_eq text (codes "true")) o false ≡ is_set name (rows_of (found_of m))
+set_is m name o e = ap (λ p. option_map_or (λ text. bytes_eq text (codes "true")) p false)
+    (e ∙ first_value-rows (found_of m) name)
 
 -- ---- a number of a command
 
@@ -93,7 +93,7 @@ module _ (rows : List Row) (word : Text) where
       → ((n k : ℕ) (g : Option Text) → AreInput rows n k g → ⊥) → IsNoCommand
   no_input gen demo none (Solve n k q g) e v = none n k _ v.0
   no_input gen demo none (Trace n k g) e v = none n k _ v
-  no_input gen demo none (Cert n k g) e v = none n k _ v
+  no_input gen demo none (Cert n k b t g) e v = none n k _ v.0
   no_input gen demo none (Script n k g) e v = none n k _ v
   no_input gen demo none (Gen s v k) e h = gen (sym e)
   no_input gen demo none (Demo s k) e h = demo (sym e)

@@ -7,8 +7,8 @@ use Rattle.clap.specs.Walk.{Held, Names, Text, Waiting, arg_by_id, arg_by_long, 
 use Rattle.clap.specs.Faults.{bundle_step_fault, flags_fault, long_fault, react_fault, settle_fault, word_fault}
 use Rattle.clap.specs.Simple.{filled, help_rule}
 use Rattle.clap.specs.declared.error.ErrorKind.TheVariants.{DisplayHelp}
-use Rattle.command.specs.Account.{qdo_rule, setting_rule}
-use Rattle.command.specs.Forms.{Setting, setting_name}
+use Rattle.command.specs.Account.{flag_rule, setting_rule}
+use Rattle.command.specs.Forms.{Flag, Setting, flag_name, setting_name}
 use Rattle.command.proofs.Turns.{IsPlainWord, Pending, held, leaf, some_left, some_right}
 
 abbrev pub IsNotDashes : Text → Type 0
@@ -83,29 +83,29 @@ long_fails c name found v h = go (bytes_eq (codes "help") name) v found
 abbrev pub setting : Setting → Rule
 setting s = filled (setting_rule s)
 
-abbrev pub qdo : Rule
-qdo = filled qdo_rule
+abbrev pub flag : Flag → Rule
+flag f = filled (flag_rule (flag_name f))
 
 -- the rules have the option
 abbrev pub KnowsSetting : Setting → List Rule → Type 0
 KnowsSetting s c = (arg_by_long c (setting_name s) ≡ Some (setting s)) ×
     (arg_by_id c (setting_name s) ≡ Some (setting s))
 
--- the rules have `--qdo`
-abbrev pub KnowsQdo : List Rule → Type 0
-KnowsQdo c = arg_by_long c (codes "qdo") ≡ Some qdo
+-- the rules have the flag
+abbrev pub KnowsFlag : Flag → List Rule → Type 0
+KnowsFlag f c = arg_by_long c (flag_name f) ≡ Some (flag f)
 
 -- what the rules make of a word with two hyphens and this name
 pub data Long (c : List Rule) (name : Text) : Type 0 where
   long_setting : (s : Setting) → setting_name s ≡ name → KnowsSetting s c → Long c name
-  long_qdo : codes "qdo" ≡ name → KnowsQdo c → Long c name
+  long_flag : (f : Flag) → flag_name f ≡ name → KnowsFlag f c → Long c name
   long_refused : FindsHelpAlone c name → Long c name
 
 pub data Kind (c : List Rule) (w : Text) : Type 0 where
   is_plain : IsPlainWord w → Kind c w
   is_setting : (s : Setting) → KnowsSetting s c → long_of w ≡ Some (setting_name s, None) → Kind c w
   sets : (s : Setting) → KnowsSetting s c → (t : Text) → long_of w ≡ Some (setting_name s, Some t) → Kind c w
-  is_qdo : KnowsQdo c → long_of w ≡ Some (codes "qdo", None) → Kind c w
+  is_flag : (f : Flag) → KnowsFlag f c → long_of w ≡ Some (flag_name f, None) → Kind c w
   is_refused : IsRefused (leaf c) [] w → Kind c w
 
 module _ (c : List Rule) (help_alone : KnowsHelpAlone c) (long : (name : Text) → Long c name) (w : Text)
@@ -127,10 +127,10 @@ module _ (c : List Rule) (help_alone : KnowsHelpAlone c) (long : (name : Text) �
       (long_fails c name found v (held rows pending)))
   by_name name None l (long_setting s e knows) = is_setting s knows (l ∙ ap (λ (n : Text). Some (n, None)) (sym e))
   by_name name (Some t) l (long_setting s e knows) = sets s knows t (l ∙ ap (λ (n : Text). Some (n, Some t)) (sym e))
-  by_name name None l (long_qdo e knows) = is_qdo knows (l ∙ ap (λ (n : Text). Some (n, None)) (sym e))
-  by_name name (Some t) l (long_qdo e knows) = is_refused (λ waiting rows pending unmet.
-      let at_qdo = l ∙ ap (λ (n : Text). Some (n, Some t)) (sym e) in
-      rw (long_fault_is (leaf c) [] waiting w unmet dashes rows pending (codes "qdo") (Some t) at_qdo, knows)
+  by_name name None l (long_flag f e knows) = is_flag f knows (l ∙ ap (λ (n : Text). Some (n, None)) (sym e))
+  by_name name (Some t) l (long_flag f e knows) = is_refused (λ waiting rows pending unmet.
+      let at_flag = l ∙ ap (λ (n : Text). Some (n, Some t)) (sym e) in
+      rw (long_fault_is (leaf c) [] waiting w unmet dashes rows pending (flag_name f) (Some t) at_flag, knows)
       (λ bad. absurd cc))
 
   by_long : (o : Option (Text × Option Text)) → long_of w ≡ o → Kind c w

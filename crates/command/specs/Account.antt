@@ -10,7 +10,8 @@ use Rattle.clap.specs.declared.builder.ArgAction.TheVariants.{SetTrue}
 use Rattle.clap.specs.declared.builder.ValueParser.TheVariants as parser
 use Rattle.command.specs.declared.command.Command.{Command}
 use Rattle.command.specs.declared.command.Command.TheVariants.{Solve, Trace, Cert, Script, Gen, Demo}
-use Rattle.command.specs.Forms.{IsBetween, Setting, greatest_of, setting_name, word_of}
+use Rattle.command.specs.Forms.{Flag, IsBetween, Setting, flag_name, greatest_of, setting_name, word_of}
+use Rattle.command.specs.Forms.Flag.{the_qdo, the_binary, the_trim}
 use Rattle.command.specs.Forms.Setting.{the_budget, the_restarts}
 
 -- ---- what `clap` is told
@@ -29,9 +30,9 @@ setting_rule s = record (new_rule (setting_name s)) {
   defaults = default_text s ∷ [];
 }
 
--- `--qdo`
-abbrev pub qdo_rule : Rule
-qdo_rule = record (new_rule (codes "qdo")) { long = Some (codes "qdo"); action = Some SetTrue }
+-- `--FLAG`, by its name
+abbrev pub flag_rule : Text → Rule
+flag_rule name = record (new_rule name) { long = Some name; action = Some SetTrue }
 
 -- `[NAME]`
 abbrev pub name_rule : Rule
@@ -42,13 +43,21 @@ abbrev pub number_rule : Text → ℕ → ℕ → Rule
 number_rule id least most = record (new_rule id) { required = true; parser = Some (parser.Unsigned least most) }
 
 -- `WORD [--budget N] [--restarts R] [NAME]`, for the word of a command
-abbrev pub command_app : Text → App
-command_app word =
+abbrev pub input_app : Text → App
+input_app word =
     with_rule (with_rule (with_rule (new_app word) (setting_rule the_budget)) (setting_rule the_restarts)) name_rule
+
+-- `WORD [--budget N] [--restarts R] [--FLAG] .. [NAME]`, for a command that takes these flags
+abbrev pub command_app : Text → List Flag → App
+command_app word flags = fold (λ app flag. with_rule app (flag_rule (flag_name flag))) (input_app word) flags
 
 -- `solve [--budget N] [--restarts R] [--qdo] [NAME]`
 abbrev pub solve_app : App
-solve_app = with_rule (command_app (codes "solve")) qdo_rule
+solve_app = command_app (codes "solve") (the_qdo ∷ [])
+
+-- `cert [--budget N] [--restarts R] [--binary] [--trim] [NAME]`
+abbrev pub cert_app : App
+cert_app = command_app (codes "cert") (the_binary ∷ the_trim ∷ [])
 
 -- `gen SEED VARS CLAUSES`
 abbrev pub gen_app : App
@@ -62,8 +71,8 @@ demo_app = with_rule (with_rule (new_app (codes "demo")) (number_rule (codes "SE
 
 -- the commands
 abbrev pub command_apps : List App
-command_apps = solve_app ∷ command_app (codes "trace") ∷ command_app (codes "cert") ∷ command_app (codes "script")
-    ∷ gen_app ∷ demo_app ∷ []
+command_apps = solve_app ∷ command_app (codes "trace") [] ∷ cert_app ∷ command_app (codes "script") [] ∷ gen_app
+    ∷ demo_app ∷ []
 
 -- the program without its commands, one of which is wanted
 abbrev pub bare_app : App
@@ -80,9 +89,9 @@ abbrev pub HasNoHyphen : Option Text → Type 0
 HasNoHyphen None = ⊤
 HasNoHyphen (Some word) = slice_get word 0 ≢ Some 45
 
--- `--qdo` is given
-abbrev pub is_set : List Row → Bool
-is_set rows = option_map_or (λ text. bytes_eq text (codes "true")) (first_of (codes "qdo") rows) false
+-- the flag of this name is given
+abbrev pub is_set : Text → List Row → Bool
+is_set name rows = option_map_or (λ text. bytes_eq text (codes "true")) (first_of name rows) false
 
 -- the number of this name is this one, from the least to the most
 abbrev pub IsNumberAt : Text → ℕ → ℕ → List Row → ℕ → Type 0
@@ -110,9 +119,10 @@ AreDemo rows seed count = IsNumberAt (codes "SEED") 0 4294967295 rows seed
 -- the values that `clap` found are those of the command, and in form
 abbrev pub AreValues : List Row → Command → Type 0
 AreValues rows (Solve budget restarts qdo name) =
-    AreInput rows budget restarts (option_map (λ s. s.now) name) × (qdo ≡ is_set rows)
+    AreInput rows budget restarts (option_map (λ s. s.now) name) × (qdo ≡ is_set (codes "qdo") rows)
 AreValues rows (Trace budget restarts name) = AreInput rows budget restarts (option_map (λ s. s.now) name)
-AreValues rows (Cert budget restarts name) = AreInput rows budget restarts (option_map (λ s. s.now) name)
+AreValues rows (Cert budget restarts binary trim name) = AreInput rows budget restarts (option_map (λ s. s.now) name)
+    × (binary ≡ is_set (codes "binary") rows) × (trim ≡ is_set (codes "trim") rows)
 AreValues rows (Script budget restarts name) = AreInput rows budget restarts (option_map (λ s. s.now) name)
 AreValues rows (Gen seed vars clauses) = AreGen rows seed vars clauses
 AreValues rows (Demo seed count) = AreDemo rows seed count

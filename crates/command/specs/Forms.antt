@@ -1,5 +1,5 @@
 -- The words that ask for a command.
-use Rattle.std.specs.Prelude.{◌≡◌, ◌≢◌, ◌⊎◌, ⊤, ℕ, ◌<◌, ◌≤◌, ◌^◌, ◌-◌, Bool, true, false, List, [], ◌∷◌, ◌++◌, Option, Some, None, IsPermutation, codes, map, option_map, slice_get}
+use Rattle.std.specs.Prelude.{◌≡◌, ◌≢◌, ◌⊎◌, ⊤, ℕ, ◌<◌, ◌≤◌, ◌^◌, ◌-◌, Bool, false, List, [], ◌∷◌, ◌++◌, Option, Some, None, IsPermutation, codes, filter, map, option_map, slice_get}
 use Rattle.std.specs.Fmt.{decimal}
 use Rattle.std.specs.List.{flat_map}
 use Rattle.command.specs.declared.command.Command.{Command}
@@ -10,7 +10,7 @@ use Rattle.command.specs.declared.refused.Refused.TheVariants.{Usage, NoMemory}
 abbrev pub Text : Type 0
 Text = List ℕ
 
--- ---- a command that reads an input: `WORD [--budget N] [--restarts R] [--qdo] [NAME]`
+-- ---- a command that reads an input: `WORD [--budget N] [--restarts R] [--FLAG] .. [NAME]`
 
 -- an option with a number: `--budget N`, or `--restarts R`
 pub data Setting : Type 0 where
@@ -32,14 +32,45 @@ abbrev pub default_of : Setting → ℕ
 default_of the_budget = 2 ^ 64 - 1
 default_of the_restarts = 0
 
+-- an option without a number: `--qdo`, `--binary`, or `--trim`
+pub data Flag : Type 0 where
+  the_qdo : Flag
+  the_binary : Flag
+  the_trim : Flag
+
+-- its name
+abbrev pub flag_name : Flag → Text
+flag_name the_qdo = codes "qdo"
+flag_name the_binary = codes "binary"
+flag_name the_trim = codes "trim"
+
+abbrev pub all_flags : List Flag
+all_flags = the_qdo ∷ the_binary ∷ the_trim ∷ []
+
+-- none is given
+abbrev pub no_flags : Flag → Bool
+no_flags flag = false
+
+-- `solve` takes `--qdo`, which is given or not
+abbrev pub solve_flags : Bool → Flag → Bool
+solve_flags qdo the_qdo = qdo
+solve_flags qdo the_binary = false
+solve_flags qdo the_trim = false
+
+-- `cert` takes `--binary` and `--trim`, each of which is given or not
+abbrev pub cert_flags : (binary trim : Bool) → Flag → Bool
+cert_flags binary trim the_qdo = false
+cert_flags binary trim the_binary = binary
+cert_flags binary trim the_trim = trim
+
 -- a part of the words behind the word of a command
 pub data Part : Type 0 where
   -- `--OPTION TEXT`
   setting_part : Setting → Text → Part
   -- `--OPTION=TEXT`
   joined_part : Setting → Text → Part
-  -- `--qdo`
-  qdo_part : Part
+  -- `--FLAG`
+  flag_part : Flag → Part
   -- NAME
   name_part : Text → Part
 
@@ -47,7 +78,7 @@ pub data Part : Type 0 where
 abbrev pub spelled : Part → List Text
 spelled (setting_part s text) = (codes "--" ++ setting_name s) ∷ text ∷ []
 spelled (joined_part s text) = (codes "--" ++ (setting_name s ++ (codes "=" ++ text))) ∷ []
-spelled qdo_part = codes "--qdo" ∷ []
+spelled (flag_part flag) = (codes "--" ++ flag_name flag) ∷ []
 spelled (name_part word) = word ∷ []
 
 -- the words are those of the parts, in any order
@@ -61,52 +92,47 @@ abbrev pub GivesSetting : Setting → List Part → ℕ → Type 0
 GivesSetting s parts n = ((parts ≡ []) × (n ≡ default_of s))
     ⊎ ((n ≤ greatest_of s) × ((parts ≡ setting_part s (decimal n) ∷ []) ⊎ (parts ≡ joined_part s (decimal n) ∷ [])))
 
--- `[--qdo]`
-abbrev pub GivesQdo : List Part → Bool → Type 0
-GivesQdo parts false = parts ≡ []
-GivesQdo parts true = parts ≡ qdo_part ∷ []
+-- `[--FLAG] ..`: the flags that are given
+abbrev pub flag_parts : (Flag → Bool) → List Part
+flag_parts flags = map flag_part (filter flags all_flags)
 
 -- `[NAME]`: a word that doesn't begin with `-`
 abbrev pub GivesName : List Part → Option Text → Type 0
 GivesName parts None = parts ≡ []
 GivesName parts (Some name) = (parts ≡ name_part name ∷ []) × (slice_get name 0 ≢ Some 45)
 
--- `[--budget N] [--restarts R] [--qdo] [NAME]`, in any order
-pub record GivesInput (words : List Text) (budget restarts : ℕ) (qdo : Bool) (name : Option Text) : Type 0 where
-  pub budget_parts : List Part
-  pub restarts_parts : List Part
-  pub qdo_parts : List Part
-  pub name_parts : List Part
-  pub gives_budget : GivesSetting the_budget budget_parts budget
-  pub gives_restarts : GivesSetting the_restarts restarts_parts restarts
-  pub gives_qdo : GivesQdo qdo_parts qdo
-  pub gives_name : GivesName name_parts name
-  pub in_any_order : AreInAnyOrder words (budget_parts ++ restarts_parts ++ qdo_parts ++ name_parts)
+-- `[--budget N] [--restarts R] [NAME]` and the flags that are given, in any order
+pub record GivesInput (words : List Text) (budget restarts : ℕ) (flags : Flag → Bool) (name : Option Text) : Type 0
+  where
+    pub budget_parts : List Part
+    pub restarts_parts : List Part
+    pub name_parts : List Part
+    pub gives_budget : GivesSetting the_budget budget_parts budget
+    pub gives_restarts : GivesSetting the_restarts restarts_parts restarts
+    pub gives_name : GivesName name_parts name
+    pub in_any_order : AreInAnyOrder words (budget_parts ++ restarts_parts ++ name_parts ++ flag_parts flags)
 
--- behind the program's name, the word of a command and then `[--budget N] [--restarts R] [--qdo] [NAME]`
-abbrev pub AsksInput : Text → List Text → (budget restarts : ℕ) → Bool → Option Text → Type 0
-AsksInput word words budget restarts qdo name = (program : Text) × (rest : List Text)
-    × (words ≡ program ∷ word ∷ rest) × GivesInput rest budget restarts qdo name
-
--- behind the program's name, the word of a command and then `[--budget N] [--restarts R] [NAME]`
-abbrev pub AsksWith : Text → List Text → (budget restarts : ℕ) → Option Text → Type 0
-AsksWith word words budget restarts name = AsksInput word words budget restarts false name
+-- behind the program's name, the word of a command and then `[--budget N] [--restarts R] [--FLAG] .. [NAME]`
+abbrev pub AsksInput : Text → List Text → (budget restarts : ℕ) → (Flag → Bool) → Option Text → Type 0
+AsksInput word words budget restarts flags name = (program : Text) × (rest : List Text)
+    × (words ≡ program ∷ word ∷ rest) × GivesInput rest budget restarts flags name
 
 -- `solve [--budget N] [--restarts R] [--qdo] [NAME]`
 abbrev pub AsksSolve : List Text → (budget restarts : ℕ) → Bool → Option Text → Type 0
-AsksSolve words budget restarts qdo name = AsksInput (codes "solve") words budget restarts qdo name
+AsksSolve words budget restarts qdo name = AsksInput (codes "solve") words budget restarts (solve_flags qdo) name
 
 -- `trace [--budget N] [--restarts R] [NAME]`
 abbrev pub AsksTrace : List Text → (budget restarts : ℕ) → Option Text → Type 0
-AsksTrace words budget restarts name = AsksWith (codes "trace") words budget restarts name
+AsksTrace words budget restarts name = AsksInput (codes "trace") words budget restarts no_flags name
 
--- `cert [--budget N] [--restarts R] [NAME]`
-abbrev pub AsksCert : List Text → (budget restarts : ℕ) → Option Text → Type 0
-AsksCert words budget restarts name = AsksWith (codes "cert") words budget restarts name
+-- `cert [--budget N] [--restarts R] [--binary] [--trim] [NAME]`
+abbrev pub AsksCert : List Text → (budget restarts : ℕ) → (binary trim : Bool) → Option Text → Type 0
+AsksCert words budget restarts binary trim name =
+    AsksInput (codes "cert") words budget restarts (cert_flags binary trim) name
 
 -- `script [--budget N] [--restarts R] [NAME]`
 abbrev pub AsksScript : List Text → (budget restarts : ℕ) → Option Text → Type 0
-AsksScript words budget restarts name = AsksWith (codes "script") words budget restarts name
+AsksScript words budget restarts name = AsksInput (codes "script") words budget restarts no_flags name
 
 -- ---- a command of numbers: `WORD NUMBER ..`
 
@@ -134,7 +160,8 @@ AsksDemo words seed count = AsksNumbers (codes "demo") words (seed ∷ count ∷
 abbrev pub Asks : List Text → Command → Type 0
 Asks words (Solve budget restarts qdo name) = AsksSolve words budget restarts qdo (option_map (λ s. s.now) name)
 Asks words (Trace budget restarts name) = AsksTrace words budget restarts (option_map (λ s. s.now) name)
-Asks words (Cert budget restarts name) = AsksCert words budget restarts (option_map (λ s. s.now) name)
+Asks words (Cert budget restarts binary trim name) =
+    AsksCert words budget restarts binary trim (option_map (λ s. s.now) name)
 Asks words (Script budget restarts name) = AsksScript words budget restarts (option_map (λ s. s.now) name)
 Asks words (Gen seed vars clauses) = AsksGen words seed vars clauses
 Asks words (Demo seed count) = AsksDemo words seed count
@@ -143,7 +170,7 @@ Asks words (Demo seed count) = AsksDemo words seed count
 abbrev pub word_of : Command → Text
 word_of (Solve budget restarts qdo name) = codes "solve"
 word_of (Trace budget restarts name) = codes "trace"
-word_of (Cert budget restarts name) = codes "cert"
+word_of (Cert budget restarts binary trim name) = codes "cert"
 word_of (Script budget restarts name) = codes "script"
 word_of (Gen seed vars clauses) = codes "gen"
 word_of (Demo seed count) = codes "demo"
@@ -152,7 +179,7 @@ word_of (Demo seed count) = codes "demo"
 abbrev pub budget_of : Command → ℕ
 budget_of (Solve budget restarts qdo name) = budget
 budget_of (Trace budget restarts name) = budget
-budget_of (Cert budget restarts name) = budget
+budget_of (Cert budget restarts binary trim name) = budget
 budget_of (Script budget restarts name) = budget
 budget_of (Gen seed vars clauses) = 2 ^ 64 - 1
 budget_of (Demo seed count) = 2 ^ 64 - 1
@@ -161,21 +188,25 @@ budget_of (Demo seed count) = 2 ^ 64 - 1
 abbrev pub restarts_of : Command → ℕ
 restarts_of (Solve budget restarts qdo name) = restarts
 restarts_of (Trace budget restarts name) = restarts
-restarts_of (Cert budget restarts name) = restarts
+restarts_of (Cert budget restarts binary trim name) = restarts
 restarts_of (Script budget restarts name) = restarts
 restarts_of (Gen seed vars clauses) = 0
 restarts_of (Demo seed count) = 0
 
--- whether the command asks for QDIMACS output
-abbrev pub qdo_of : Command → Bool
-qdo_of (Solve budget restarts qdo name) = qdo
-qdo_of _ = false
+-- which flags are given to the command
+abbrev pub flags_of : Command → Flag → Bool
+flags_of (Solve budget restarts qdo name) = solve_flags qdo
+flags_of (Trace budget restarts name) = no_flags
+flags_of (Cert budget restarts binary trim name) = cert_flags binary trim
+flags_of (Script budget restarts name) = no_flags
+flags_of (Gen seed vars clauses) = no_flags
+flags_of (Demo seed count) = no_flags
 
 -- the text of the name of the command's input, if it has one
 abbrev pub name_of : Command → Option Text
 name_of (Solve budget restarts qdo name) = option_map (λ s. s.now) name
 name_of (Trace budget restarts name) = option_map (λ s. s.now) name
-name_of (Cert budget restarts name) = option_map (λ s. s.now) name
+name_of (Cert budget restarts binary trim name) = option_map (λ s. s.now) name
 name_of (Script budget restarts name) = option_map (λ s. s.now) name
 name_of (Gen seed vars clauses) = None
 name_of (Demo seed count) = None
@@ -191,7 +222,7 @@ pub record AreAlike (c d : Command) : Type 0 where
   pub words : word_of c ≡ word_of d
   pub budgets : budget_of c ≡ budget_of d
   pub restarts : restarts_of c ≡ restarts_of d
-  pub qdo : qdo_of c ≡ qdo_of d
+  pub flags : (flag : Flag) → flags_of c flag ≡ flags_of d flag
   pub names : name_of c ≡ name_of d
   pub numbers : numbers_of c ≡ numbers_of d
 

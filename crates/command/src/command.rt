@@ -4,27 +4,33 @@
 /// most 1,000,000 restarts, and none where the words give no number of them.
 #[derive(Clone, Copy, Debug, PartialEq, Eq)]
 pub enum Command<'a> {
-    /// Decide one formula, with at most this many steps and restarts, and reply in the lines of QDIMACS where `qdo`
-    /// asks for them.
+    /// Decide one formula, with a budget of this many steps and at most so many restarts, and reply in the lines of
+    /// QDIMACS where `qdo` asks for them.
     Solve {
         budget: u64,
         restarts: u32,
         qdo: bool,
         name: Option<&'a str>,
     },
-    /// Write the derivation that a formula's verdict rests on, with at most this many steps and restarts.
+    /// Write the derivation that a formula's verdict rests on, with a budget of this many steps and at most so many
+    /// restarts.
     Trace {
         budget: u64,
         restarts: u32,
         name: Option<&'a str>,
     },
-    /// Write the circuit that wins for a formula's verdict, with at most this many steps and restarts.
+    /// Write the circuit that wins for a formula's verdict, with a budget of this many steps and at most so many
+    /// restarts: in AIGER's binary form where `binary` asks for it, and without the gates that no output is reached
+    /// from where `trim` does.
     Cert {
         budget: u64,
         restarts: u32,
+        binary: bool,
+        trim: bool,
         name: Option<&'a str>,
     },
-    /// Reply to a script of incremental commands, with at most this many steps and restarts in each of its solves.
+    /// Reply to a script of incremental commands, each of its solves with a budget of this many steps and at most so
+    /// many restarts.
     Script {
         budget: u64,
         restarts: u32,

@@ -2,7 +2,7 @@
 ghost use Rattle.std.specs.Prelude.{◌≡◌, IfOk, false};
 ghost use Rattle.clap.specs.Words.{app_of, rule_of};
 ghost use Rattle.clap.specs.declared.builder.Command.TheViews.{out-Command as fields_of};
-ghost use Rattle.command.specs.Account.{command_app, demo_app, gen_app, number_rule, qbf_app, setting_rule, solve_app};
+ghost use Rattle.command.specs.Account.{cert_app, demo_app, flag_rule, gen_app, input_app, number_rule, qbf_app, setting_rule, solve_app};
 ghost use Rattle.command.specs.Forms.Setting.{the_budget, the_restarts};
 
 use clap::builder::ValueParser;
@@ -36,11 +36,7 @@ pub(crate) fn program<'a>(alloc: Global) -> Result<Command<'a>, AllocError>
             "trace",
             "Writes the derivation of a formula's verdict",
         )?)?
-        .subcommand(command(
-            alloc,
-            "cert",
-            "Writes the winning circuit of a formula's verdict",
-        )?)?
+        .subcommand(certifier(alloc)?)?
         .subcommand(command(alloc, "script", "Replies to a script of commands")?)?
         .subcommand(generator(alloc)?)?
         .subcommand(demonstration(alloc)?)
@@ -51,16 +47,34 @@ fn solve<'a>(alloc: Global) -> Result<Command<'a>, AllocError>
     ensures app { IfOk result (λ c. app_of c ≡ solve_app) }
     ensures local { IfOk result (λ c. (fields_of c).has_globals ≡ false) }
 {
-    let qdo = Arg::new(alloc, "qdo")
-        .long("qdo")
-        .help("Writes the verdict and the outermost values as QDIMACS output")
-        .action(ArgAction::SetTrue);
-    command(alloc, "solve", "Decides one formula in QDIMACS")?.arg(qdo)
+    command(alloc, "solve", "Decides one formula in QDIMACS")?.arg(flag(
+        alloc,
+        "qdo",
+        "Writes the verdict and the outermost values as QDIMACS output",
+    ))
+}
+
+// The command that writes a winning circuit.
+fn certifier<'a>(alloc: Global) -> Result<Command<'a>, AllocError>
+    ensures app { IfOk result (λ c. app_of c ≡ cert_app) }
+    ensures local { IfOk result (λ c. (fields_of c).has_globals ≡ false) }
+{
+    command(
+        alloc,
+        "cert",
+        "Writes the winning circuit of a formula's verdict",
+    )?
+    .arg(flag(alloc, "binary", "Writes the circuit in AIGER's binary form"))?
+    .arg(flag(
+        alloc,
+        "trim",
+        "Leaves out gates that no output is reached from",
+    ))
 }
 
 // A command of this word that reads an input, of which help says this about it.
 fn command<'a>(alloc: Global, word: &'a str, about: &'a str) -> Result<Command<'a>, AllocError>
-    ensures app { IfOk result (λ c. app_of c ≡ command_app word.entry.now) }
+    ensures app { IfOk result (λ c. app_of c ≡ input_app word.entry.now) }
     ensures local { IfOk result (λ c. (fields_of c).has_globals ≡ false) }
 {
     let name = Arg::new(alloc, "name")
@@ -97,6 +111,17 @@ fn restarts<'a>(alloc: Global) -> Arg<'a>
         .help("How often a search may begin anew, at most 1000000")
         .value_parser(ValueParser::unsigned(0, u64::from(GREATEST_RESTARTS)))
         .default_value("0")
+}
+
+// An option without a number, of which help says this.
+fn flag<'a>(alloc: Global, name: &'a str, help: &'a str) -> Arg<'a>
+    ensures rule { rule_of result ≡ flag_rule name.entry.now }
+    ensures local { result.global ≡ false }
+{
+    Arg::new(alloc, name)
+        .long(name)
+        .help(help)
+        .action(ArgAction::SetTrue)
 }
 
 // The command that writes a generated formula.

@@ -4,7 +4,7 @@ ghost use Rattle.std.specs.List.{list_any};
 ghost use Rattle.std.specs.Str.{bytes_eq};
 ghost use Rattle.clap.specs.Words.{found_of, kind_of, rows_of, subcommand_rows_of};
 ghost use Rattle.command.specs.Account.{IsAccountOf, IsFoundAs, has_dashes};
-ghost use Rattle.command.specs.Forms.{AreAlike, Asks, AsksInput, Explains, Text};
+ghost use Rattle.command.specs.Forms.{AreAlike, Asks, AsksInput, Explains, Flag, Text};
 ghost use Rattle.command.specs.declared.command.Command.{Command as CommandSpec};
 
 use super::command::Command;
@@ -93,7 +93,8 @@ fn contains_dashes(words: &[String]) -> bool
 /// A law: words ask for one command at most.
 pub fn words_ask_for_one_command()
     // whatever the words of two commands that read an input are
-    ensures values { (words : List Text) (v w : Text) (m n j k : ℕ) (q r : Bool) (g h : Option Text)
-        → AsksInput v words m j q g → AsksInput w words n k r h → (v ≡ w) × (m ≡ n) × (j ≡ k) × (q ≡ r) × (g ≡ h) }
+    ensures values { (words : List Text) (v w : Text) (m n j k : ℕ) (q r : Flag → Bool) (g h : Option Text)
+        → AsksInput v words m j q g → AsksInput w words n k r h
+        → (v ≡ w) × (m ≡ n) × (j ≡ k) × ((flag : Flag) → q flag ≡ r flag) × (g ≡ h) }
     ensures commands { (words : List Text) (c d : CommandSpec) → Asks words c → Asks words d → AreAlike c d }
 {}

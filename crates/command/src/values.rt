@@ -37,7 +37,7 @@ fn input_command<'a>(word: &str, found: &ArgMatches<'a>) -> Option<Command<'a>>
         "solve" => Some(Command::Solve {
             budget,
             restarts,
-            qdo: is_set(found),
+            qdo: is_set(found, "qdo"),
             name,
         }),
         "trace" => Some(Command::Trace {
@@ -48,6 +48,8 @@ fn input_command<'a>(word: &str, found: &ArgMatches<'a>) -> Option<Command<'a>>
         "cert" => Some(Command::Cert {
             budget,
             restarts,
+            binary: is_set(found, "binary"),
+            trim: is_set(found, "trim"),
             name,
         }),
         "script" => Some(Command::Script {
@@ -59,11 +61,11 @@ fn input_command<'a>(word: &str, found: &ArgMatches<'a>) -> Option<Command<'a>>
     }
 }
 
-// Whether `--qdo` is given.
-fn is_set(found: &ArgMatches<'_>) -> bool
-    ensures { result ≡ is_set (rows_of (found_of found.now)) }
+// Whether the flag of this name is given.
+fn is_set(found: &ArgMatches<'_>, name: &str) -> bool
+    ensures { result ≡ is_set name.now (rows_of (found_of found.now)) }
 {
-    match found.get_str("qdo") {
+    match found.get_str(name) {
         Some(text) => text == "true",
         None => false,
     }

@@ -105,9 +105,9 @@ module _ (one : OneOutcome) (single : OneReading) where
     by (Trace budget restarts name) f asks so read write =
         formula_complete (terms_of budget restarts) _ (valid.valid (Trace budget restarts name) asks) f so.ending
         so.status read write
-    by (Cert budget restarts name) f asks so read write =
-        formula_complete (terms_of budget restarts) _ (valid.valid (Cert budget restarts name) asks) f so.ending
-        so.status read write
+    by (Cert budget restarts binary trim name) f asks so read write =
+        formula_complete (terms_of budget restarts) _ (valid.valid (Cert budget restarts binary trim name) asks) f
+        so.ending so.status read write
     by (Script budget restarts name) f asks so read write =
         script_complete _ (valid.valid (Script budget restarts name) asks) f so.ending so.status read write
     by (Gen seed vars clauses) f asks so read write =

@@ -96,9 +96,9 @@ module _ (words : List Text) (content : Content) (left : Option Text) (output : 
       by (Trace budget restarts name) f asks so =
           solve_verdict words content left output told TraceJob (terms_of budget restarts)
           (Trace budget restarts name) asks (λ P h. h) f so
-      by (Cert budget restarts name) f asks so =
-          solve_verdict words content left output told CertJob (terms_of budget restarts) (Cert budget restarts name)
-          asks (λ P h. h) f so
+      by (Cert budget restarts binary trim name) f asks so =
+          solve_verdict words content left output told (CertJob binary trim) (terms_of budget restarts)
+          (Cert budget restarts binary trim name) asks (λ P h. h) f so
       by (Script budget restarts name) f asks so =
           script_verdict words content left output told (terms_of budget restarts) (Script budget restarts name) asks
           (λ P h. h) f so
@@ -119,8 +119,8 @@ module _ (words : List Text) (content : Content) (left : Option Text) (output : 
           output told empty f so
       by (Trace budget restarts name) f so = solve_output TraceJob (terms_of budget restarts) _ left output told
           empty f so
-      by (Cert budget restarts name) f so = solve_output CertJob (terms_of budget restarts) _ left output told empty
-          f so
+      by (Cert budget restarts binary trim name) f so = solve_output (CertJob binary trim) (terms_of budget restarts)
+          _ left output told empty f so
       by (Script budget restarts name) f so = script_output (terms_of budget restarts) _ output told empty f so.answered
       by (Gen seed vars clauses) f so = sample_output _ output told empty f so
       by (Demo seed count) f so = sample_output _ output told empty f so
@@ -144,9 +144,9 @@ module _ (words : List Text) (content : Content) (left : Option Text) (output : 
       by (Trace budget restarts name) f asks so =
           solve_line words content left output told TraceJob (terms_of budget restarts) (Trace budget restarts name)
           asks (λ P h. h) f so
-      by (Cert budget restarts name) f asks so =
-          solve_line words content left output told CertJob (terms_of budget restarts) (Cert budget restarts name)
-          asks (λ P h. h) f so
+      by (Cert budget restarts binary trim name) f asks so =
+          solve_line words content left output told (CertJob binary trim) (terms_of budget restarts)
+          (Cert budget restarts binary trim name) asks (λ P h. h) f so
       by (Script budget restarts name) f asks so =
           script_line words content left output told (terms_of budget restarts) (Script budget restarts name) asks
           (λ P h. h) f so
@@ -172,9 +172,9 @@ module _ (words : List Text) (content : Content) (left : Option Text) (output : 
       by (Trace budget restarts name) f asks so h =
           inl (inl (solve_read words content left output told TraceJob (terms_of budget restarts)
           (Trace budget restarts name) asks (λ P h. h) f so h))
-      by (Cert budget restarts name) f asks so h =
-          inl (inl (solve_read words content left output told CertJob (terms_of budget restarts)
-          (Cert budget restarts name) asks (λ P h. h) f so h))
+      by (Cert budget restarts binary trim name) f asks so h =
+          inl (inl (solve_read words content left output told (CertJob binary trim) (terms_of budget restarts)
+          (Cert budget restarts binary trim name) asks (λ P h. h) f so h))
       by (Script budget restarts name) f asks so h =
           inl (inr (script_read words content left output told (terms_of budget restarts)
           (Script budget restarts name) asks (λ P h. h) f so h))
@@ -186,7 +186,7 @@ module _ (words : List Text) (content : Content) (left : Option Text) (output : 
       → f ≡ Done s → HasAnswer s
   done_status (Solve budget restarts qdo name) f so = so.status
   done_status (Trace budget restarts name) f so = so.status
-  done_status (Cert budget restarts name) f so = so.status
+  done_status (Cert budget restarts binary trim name) f so = so.status
   done_status (Script budget restarts name) f so = λ s is. (Unknown, so.status s is)
   done_status (Gen seed vars clauses) f so = λ s is. (Unknown, sample_status _ output told f so s is)
   done_status (Demo seed count) f so = λ s is. (Unknown, sample_status _ output told f so s is)

@@ -30,7 +30,7 @@ solve_job false = SolveJob
 abbrev pub known_for : (Text → Option Text) → Command → Option Text
 known_for content (Solve budget restarts qdo name) = content (input_of (Solve budget restarts qdo name))
 known_for content (Trace budget restarts name) = content (input_of (Trace budget restarts name))
-known_for content (Cert budget restarts name) = content (input_of (Cert budget restarts name))
+known_for content (Cert budget restarts binary trim name) = content (input_of (Cert budget restarts binary trim name))
 known_for content (Script budget restarts name) = content (input_of (Script budget restarts name))
 known_for content (Gen seed vars clauses) = None
 known_for content (Demo seed count) = None
@@ -42,8 +42,8 @@ OfFormula (Solve budget restarts qdo name) content P = IfSome (content (input_of
     (P (terms_of budget restarts))
 OfFormula (Trace budget restarts name) content P = IfSome (content (input_of (Trace budget restarts name)))
     (P (terms_of budget restarts))
-OfFormula (Cert budget restarts name) content P = IfSome (content (input_of (Cert budget restarts name)))
-    (P (terms_of budget restarts))
+OfFormula (Cert budget restarts binary trim name) content P =
+    IfSome (content (input_of (Cert budget restarts binary trim name))) (P (terms_of budget restarts))
 OfFormula (Script budget restarts name) content P = ⊥
 OfFormula (Gen seed vars clauses) content P = ⊥
 OfFormula (Demo seed count) content P = ⊥
@@ -52,7 +52,7 @@ OfFormula (Demo seed count) content P = ⊥
 abbrev pub OfScript : Command → (Text → Option Text) → (Terms → Text → Type 0) → Type 0
 OfScript (Solve budget restarts qdo name) content P = ⊥
 OfScript (Trace budget restarts name) content P = ⊥
-OfScript (Cert budget restarts name) content P = ⊥
+OfScript (Cert budget restarts binary trim name) content P = ⊥
 OfScript (Script budget restarts name) content P = IfSome (content (input_of (Script budget restarts name)))
     (P (terms_of budget restarts))
 OfScript (Gen seed vars clauses) content P = ⊥
@@ -62,7 +62,7 @@ OfScript (Demo seed count) content P = ⊥
 abbrev pub IsSample : Command → Type 0
 IsSample (Solve budget restarts qdo name) = ⊥
 IsSample (Trace budget restarts name) = ⊥
-IsSample (Cert budget restarts name) = ⊥
+IsSample (Cert budget restarts binary trim name) = ⊥
 IsSample (Script budget restarts name) = ⊥
 IsSample (Gen seed vars clauses) = ⊤
 IsSample (Demo seed count) = ⊤
@@ -91,7 +91,7 @@ AskedAny words content P Q = AskedEither words content P Q ⊎ AskedSample words
 abbrev pub SteadyFor : Command → (Text → Type 0) → Type 0
 SteadyFor (Solve budget restarts qdo name) steady = steady (input_of (Solve budget restarts qdo name))
 SteadyFor (Trace budget restarts name) steady = steady (input_of (Trace budget restarts name))
-SteadyFor (Cert budget restarts name) steady = steady (input_of (Cert budget restarts name))
+SteadyFor (Cert budget restarts binary trim name) steady = steady (input_of (Cert budget restarts binary trim name))
 SteadyFor (Script budget restarts name) steady = steady (input_of (Script budget restarts name))
 SteadyFor (Gen seed vars clauses) steady = ⊤
 SteadyFor (Demo seed count) steady = ⊤
@@ -106,7 +106,8 @@ RoomForCommand (Solve budget restarts qdo name) known has_room = RoomForJob (sol
     (terms_of budget restarts) known has_room
 RoomForCommand (Trace budget restarts name) known has_room = RoomForJob TraceJob (terms_of budget restarts) known
     has_room
-RoomForCommand (Cert budget restarts name) known has_room = RoomForJob CertJob (terms_of budget restarts) known has_room
+RoomForCommand (Cert budget restarts binary trim name) known has_room = RoomForJob (CertJob binary trim)
+    (terms_of budget restarts) known has_room
 RoomForCommand (Script budget restarts name) known has_room = RoomForReplies (terms_of budget restarts) known has_room
 RoomForCommand (Gen seed vars clauses) known has_room = has_room (length (formula_text (made seed vars clauses)))
 RoomForCommand (Demo seed count) known has_room = has_room (length (counts_text seed count))

@@ -22,7 +22,8 @@ IsScript known = IsSomeAnd known (λ text. EndsIn text done)
 abbrev pub IsValidFor : Command → (Text → Option Text) → Type 0
 IsValidFor (Solve budget restarts qdo name) content = IsFormula (content (input_of (Solve budget restarts qdo name)))
 IsValidFor (Trace budget restarts name) content = IsFormula (content (input_of (Trace budget restarts name)))
-IsValidFor (Cert budget restarts name) content = IsFormula (content (input_of (Cert budget restarts name)))
+IsValidFor (Cert budget restarts binary trim name) content =
+    IsFormula (content (input_of (Cert budget restarts binary trim name)))
 IsValidFor (Script budget restarts name) content = IsScript (content (input_of (Script budget restarts name)))
 IsValidFor (Gen seed vars clauses) content = ⊤
 IsValidFor (Demo seed count) content = ⊤

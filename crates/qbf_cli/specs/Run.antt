@@ -183,8 +183,8 @@ IsWorkOf (Solve budget restarts qdo name) known left output told e = IsSolved (s
     (terms_of budget restarts) known left output told e
 IsWorkOf (Trace budget restarts name) known left output told e = IsSolved TraceJob (terms_of budget restarts) known
     left output told e
-IsWorkOf (Cert budget restarts name) known left output told e = IsSolved CertJob (terms_of budget restarts) known
-    left output told e
+IsWorkOf (Cert budget restarts binary trim name) known left output told e = IsSolved (CertJob binary trim)
+    (terms_of budget restarts) known left output told e
 IsWorkOf (Script budget restarts name) known left output told e = IsReplied (terms_of budget restarts) known left
     output told e
 IsWorkOf (Gen seed vars clauses) known left output told e = IsMade (formula_text (made seed vars clauses)) output told e

@@ -66,8 +66,8 @@ IsOutputOf (Solve budget restarts qdo name) known written stops status =
     IsJobOutput (solve_job qdo) (terms_of budget restarts) known written stops status
 IsOutputOf (Trace budget restarts name) known written stops status = IsJobOutput TraceJob (terms_of budget restarts)
     known written stops status
-IsOutputOf (Cert budget restarts name) known written stops status = IsJobOutput CertJob (terms_of budget restarts)
-    known written stops status
+IsOutputOf (Cert budget restarts binary trim name) known written stops status =
+    IsJobOutput (CertJob binary trim) (terms_of budget restarts) known written stops status
 IsOutputOf (Script budget restarts name) known written stops status = IsScriptOutput (terms_of budget restarts) known
     written stops status
 IsOutputOf (Gen seed vars clauses) known written stops status =

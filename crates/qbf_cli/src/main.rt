@@ -35,5 +35,11 @@ fn main(rt: HostRuntime) -> ExitCode {
 
 // The words of the command line as the system gives them, the program's name first.
 fn given(rt: &(impl Env + AllocGlobal)) -> io::Result<Vec<String>> {
-    Ok(env::args(rt)?.collect(rt.alloc())?)
+    let mut words = Vec::new(rt.alloc());
+    for word in env::args(rt)? {
+        if words.push(word).is_err() {
+            return Err(io::Error::from(io::ErrorKind::OutOfMemory));
+        }
+    }
+    Ok(words)
 }

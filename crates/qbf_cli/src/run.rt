@@ -24,13 +24,16 @@ use std::alloc::Global;
 use trail::Stopped;
 
 /// Carries out the command that the words ask for, the program's name first:
-/// - `solve [--budget N] [--restarts R] [NAME]` decides the formula of the file NAME, or of standard input, by search
-///   with at most N steps, which may begin anew R times, and writes `SAT`, `UNSAT` or `UNKNOWN` to `out`; with `--qdo`
-///   the lines of QDIMACS 1.1's output format.
-/// - `trace` and `cert` with the same words write in the place of `SAT` and `UNSAT` the trace of the verdict's proof
-///   (QRP), and the circuit by which its winner wins (AIGER 1.9, ASCII).
+/// - `solve [--budget N] [--restarts R] [--qdo] [NAME]` decides the formula of the file NAME, or of standard input, by
+///   search with a budget of N steps, which may begin anew R times, and writes `SAT`, `UNSAT` or `UNKNOWN` to `out`;
+///   with `--qdo` the lines of QDIMACS 1.1's output format.
+/// - `trace [--budget N] [--restarts R] [NAME]` writes in the place of `SAT` and `UNSAT` the trace of the verdict's proof
+///   (QRP).
+/// - `cert [--budget N] [--restarts R] [--binary] [--trim] [NAME]` writes there the circuit by which the verdict's winner
+///   wins (AIGER 1.9): in ASCII, or with `--binary` in the binary form; with `--trim` without the gates that no output
+///   is reached from. `UNKNOWN` stays a line of text.
 /// - `script [--budget N] [--restarts R] [NAME]` replies on `out` to the commands of that input, each of its solves
-///   with at most N steps and R restarts.
+///   with a budget of N steps and R restarts.
 /// - `gen SEED VARS CLAUSES` writes a formula that is made from a seed, and `demo SEED COUNT` how many of so many of
 ///   these are true and false.
 ///
@@ -157,8 +160,19 @@ fn carry_out<D: Desk, O: Sink>(
         Command::Cert {
             budget,
             restarts,
+            binary,
+            trim,
             name,
-        } => work(alloc, Job::Cert, budget, restarts, name, desk, out, stops),
+        } => work(
+            alloc,
+            Job::Cert { binary, trim },
+            budget,
+            restarts,
+            name,
+            desk,
+            out,
+            stops,
+        ),
         Command::Script {
             budget,
             restarts,

@@ -366,6 +366,21 @@ fn words_choose_the_input_and_the_budget(rt: HostRuntime) -> Result<(), Fail> {
         ),
         (&["qbf", "trace", "--budget", "0"], 0, "UNKNOWN\n"),
         (&["qbf", "cert", "--budget", "0"], 0, "UNKNOWN\n"),
+        (
+            &["qbf", "cert", "--binary", "--trim", "--budget", "0"],
+            0,
+            "UNKNOWN\n",
+        ),
+        (
+            &["qbf", "cert", "--trim", "--budget=64", "--binary"],
+            10,
+            "aig 0 0 0 1 0\n1\no0 1\nc\nskolem\n",
+        ),
+        (
+            &["qbf", "cert", "f", "--trim", "--restarts", "2"],
+            20,
+            "aag 0 0 0 1 0\n0\no0 1\nc\nherbrand\n",
+        ),
         (&["qbf", "trace", "g"], 3, ""),
         (&["qbf", "cert", "g"], 3, ""),
         (&["qbf", "solve", "g"], 3, ""),
@@ -415,12 +430,57 @@ fn other_words_are_usage(rt: HostRuntime) -> Result<(), Fail> {
         &["qbf", "script", "--budget", "x"],
         &["qbf", "trace", "f", "g"],
         &["qbf", "cert", "--budget", "x"],
+        &["qbf", "cert", "--binary", "--binary"],
+        &["qbf", "cert", "--trim", "f", "--trim"],
+        &["qbf", "cert", "--binary=true"],
+        &["qbf", "cert", "--qdo"],
+        &["qbf", "solve", "--binary"],
+        &["qbf", "trace", "--trim"],
+        &["qbf", "script", "--binary"],
         &["qbf", "certificate"],
     ] {
         let (found, written, silent) = runs(alloc, others)?;
         assert_eq!(rt; found, 7, "{others:?}");
         assert_eq!(rt; written.as_str(), "", "{others:?}");
         assert!(rt; !silent, "{others:?}");
+    }
+    Ok(())
+}
+
+// What `qbf` with these words says on the error output.
+fn told(alloc: Global, others: &[&str]) -> Result<String, Fail> {
+    let mut desk = desk(alloc, b"", 7, Vec::new(alloc))?;
+    let mut out = MemorySink::new(alloc, 64, 64, Vec::new(alloc))?;
+    let mut err = MemorySink::new(alloc, 4096, 64, Vec::new(alloc))?;
+    let mut stops = Vec::new(alloc);
+    let given = words(alloc, others)?;
+    let _ = run(alloc, &given, &mut desk, &mut out, &mut err, &mut stops);
+    Ok(String::from_utf8_lossy(alloc, err.bytes())?)
+}
+
+#[test]
+fn wrong_words_are_told_with_what_is_wrong(rt: HostRuntime) -> Result<(), Fail> {
+    let alloc = rt.alloc();
+    for (others, part) in [
+        (["qbf", "jump"].as_slice(), "unrecognized subcommand 'jump'"),
+        (
+            &["qbf", "solve", "--budget", "x"],
+            "invalid value 'x' for '--budget <N>'",
+        ),
+        (&["qbf", "solve", "f", "g"], "unexpected argument 'g'"),
+        (&["qbf", "solve", "--trim"], "unexpected argument '--trim'"),
+        (
+            &["qbf", "cert", "-h"],
+            "Writes the circuit in AIGER's binary form",
+        ),
+        (
+            &["qbf", "cert", "--help"],
+            "Leaves out gates that no output is reached from",
+        ),
+        (&["qbf", "solve", "-"], "NAME begins with no '-'"),
+    ] {
+        let text = told(alloc, others)?;
+        assert!(rt; text.as_str().contains(part), "{others:?}");
     }
     Ok(())
 }

@@ -19,7 +19,8 @@ use Rattle.frames.specs.State.{OpenFormula, clauses_in}
 use Rattle.search.specs.Counting.{size_of}
 use Rattle.engine.specs.State.{EngineState}
 use Rattle.qscript.specs.declared.command.Command.{Command}
-use Rattle.qscript.specs.declared.command.Command.TheVariants.{Cert as CertCommand, Trace as TraceCommand}
+use Rattle.qscript.specs.declared.command.Command.TheVariants.{Trace as TraceCommand}
+use Rattle.aig.specs.declared.strategy.Strategy.{Strategy}
 use Rattle.ports.specs.Writing.{Wrote, Writes}
 use Rattle.ports.specs.declared.failed.Failed.{Failed}
 use Rattle.session.specs.declared.answer.Answer.{Answer}
@@ -34,7 +35,7 @@ use Rattle.session.specs.declared.reply.SessionStop.TheVariants.{WriteFault as U
 use Rattle.session.specs.Endings.{IsUnread, ending_at, ending_with}
 use Rattle.session.specs.Feeding.{HoldsFormula}
 use Rattle.session.specs.Jobs.{HasVerdictFor, HasVerdictText, IsAnsweredBy, IsJobText, IsReplyTo, IsUntouched, IsVerdict, LeavesOutput, RepliesTo, RoomForJob, WritesJob, answer_with, built, gates_for, opened, solution_line, unassumed, unknown_text, value_lines}
-use Rattle.session.specs.Replies.{Decides, GivesUp, IsAccepted, IsCertText, IsReply, IsReplyWith, IsTraceText, Output, Text, gates_after, no_verdict, says, verdict_text}
+use Rattle.session.specs.Replies.{AllReached, Certifies, Decides, Denotes, GivesUp, IsAccepted, IsReply, IsReplyWith, IsTraceText, Output, Text, gates_after, no_verdict, says, verdict_text}
 use Rattle.session.specs.Solve.{IsAnswerTo, IsDone, IsEnding, Solves, answer_line}
 use Rattle.session.specs.Standing.{IsWitness, Standing}
 use Rattle.session.specs.State.{Holds, given_of}
@@ -180,22 +181,34 @@ module _ (terms : Terms) (f : Formula) (s after : Standing) (out : Output) where
             (subst (λ (g : OpenFormula). IsTraceText g.scopes t s.witness.proof tells.text) formula told);
       }
 
-  circuit_of : (t : Bool) → gates_after terms s.script ≡ gates_for terms f → s.script.formula ≡ opened f
-      → s.script.verdict ≡ Some (unassumed t)
-      → IsWitness (opened f) (unassumed t) s.witness → IsReply terms s CertCommand out after
-      → HasVerdictText Cert terms f t out.text
-  circuit_of t gates formula verdict witness reply =
-      let tells = told_with terms CertCommand s after out (unassumed t) verdict reply in
-      let told = subst (λ o. IfSome o (λ given. IsCertText s.script.formula given s.witness.values
-      (gates_after terms s.script) tells.text)) verdict tells.told in
+  pub traced : (a : Answer) → IsVerdict a → IsAnsweredBy f a s → IsReply terms s TraceCommand out after
+      → IsJobText Trace terms f a out.text
+  traced Sat there is reply = trace_of true is.formula is.verdict.0 is.verdict.1 reply
+  traced Unsat there is reply = trace_of false is.formula is.verdict.0 is.verdict.1 reply
+  traced Unknown there is reply = absurd there
+
+-- a text of a circuit that certifies the verdict of a formula
+module _ (terms : Terms) (f : Formula) (s : Standing) (binary trim : Bool) (strategy : Strategy) (text : Text)
+    (denotes : Denotes binary text strategy) (reached : trim ≡ true → AllReached strategy)
+    (certifies : IfSome s.script.verdict
+    (λ given. Certifies s.script.formula given s.witness.values (gates_after terms s.script) strategy)) where
+  certificate_of : (t : Bool) → gates_after terms s.script ≡ gates_for terms f → s.script.formula ≡ opened f
+      → s.script.verdict ≡ Some (unassumed t) → IsWitness (opened f) (unassumed t) s.witness
+      → HasVerdictText (Cert binary trim) terms f t text
+  certificate_of t gates formula verdict witness =
+      let told = subst (λ o. IfSome o (λ given. Certifies s.script.formula given s.witness.values
+      (gates_after terms s.script) strategy)) verdict certifies in
       record {
         witness = s.witness;
         is_witness = witness;
-        says = subst (IsCertText (opened f) (unassumed t) s.witness.values (gates_for terms f))
-            (sym (same_text tells.text tells.says_text))
-            (subst (λ n. IsCertText (opened f) (unassumed t) s.witness.values n tells.text) gates
-            (subst (λ g. IsCertText g (unassumed t) s.witness.values (gates_after terms s.script) tells.text) formula
-            told));
+        says = record {
+          strategy = strategy;
+          denotes = denotes;
+          certifies = subst (λ n. Certifies (opened f) (unassumed t) s.witness.values n strategy) gates
+              (subst (λ g. Certifies g (unassumed t) s.witness.values (gates_after terms s.script) strategy) formula
+              told);
+          reached = reached;
+        };
       }
 
   gates_are : (a : Answer) → IsAnsweredBy f a s → gates_after terms s.script ≡ gates_for terms f
@@ -204,17 +217,10 @@ module _ (terms : Terms) (f : Formula) (s after : Standing) (out : Output) where
       ∙ ap (λ k. weight_bound (length f.clauses) k terms.budget terms.greatest s.script.greatest) is.solves
       ∙ ap (weight_bound (length f.clauses) 1 terms.budget terms.greatest) is.greatest
 
-  pub traced : (a : Answer) → IsVerdict a → IsAnsweredBy f a s → IsReply terms s TraceCommand out after
-      → IsJobText Trace terms f a out.text
-  traced Sat there is reply = trace_of true is.formula is.verdict.0 is.verdict.1 reply
-  traced Unsat there is reply = trace_of false is.formula is.verdict.0 is.verdict.1 reply
-  traced Unknown there is reply = absurd there
-
-  pub certified : (a : Answer) → IsVerdict a → IsAnsweredBy f a s → IsReply terms s CertCommand out after
-      → IsJobText Cert terms f a out.text
-  certified Sat there is reply = circuit_of true (gates_are Sat is) is.formula is.verdict.0 is.verdict.1 reply
-  certified Unsat there is reply = circuit_of false (gates_are Unsat is) is.formula is.verdict.0 is.verdict.1 reply
-  certified Unknown there is reply = absurd there
+  pub certified : (t : Bool) → IsAnsweredBy f (answer_with t) s
+      → IsJobText (Cert binary trim) terms f (answer_with t) text
+  certified true is = certificate_of true (gates_are Sat is) is.formula is.verdict.0 is.verdict.1
+  certified false is = certificate_of false (gates_are Unsat is) is.formula is.verdict.0 is.verdict.1
 
 -- the line of a verdict is the text of a solve
 pub solved : (terms : Terms) (f : Formula) (a : Answer) (s : Standing) → IsAnsweredBy f a s
@@ -228,13 +234,23 @@ pub unknown_line : (job : Job) (f : Formula) → (job ≡ Qdo → ⊥) → answe
 unknown_line Solve f apart = refl
 unknown_line Qdo f apart = absurd (apart refl)
 unknown_line Trace f apart = refl
-unknown_line Cert f apart = refl
+unknown_line (Cert binary trim) f apart = refl
 
 -- an answer that isn't unknown is a verdict
 pub is_verdict : (a : Answer) → (a ≡ Unknown → ⊥) → IsVerdict a
 is_verdict Sat apart = tt
 is_verdict Unsat apart = tt
 is_verdict Unknown apart = absurd (apart refl)
+
+-- a verdict is the answer with a truth
+pub with_truth : (P : Answer → Type 0) → ((t : Bool) → P (answer_with t)) → (a : Answer) → IsVerdict a → P a
+with_truth P each Sat there = each true
+with_truth P each Unsat there = each false
+with_truth P each Unknown there = absurd there
+
+pub is_told : (t : Bool) → IsVerdict (answer_with t)
+is_told true = tt
+is_told false = tt
 
 module _ {S : Type 0} (written flushed : S → Option (List ℕ)) (faults : S → ℕ) (has_room : S → ℕ → Type 0) where
   -- the lines of a result are written, or a front of them before a fault

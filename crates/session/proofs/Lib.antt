@@ -1,5 +1,6 @@
 mod Feeding
 mod Numbers
+pub mod Certifying
 pub mod Circuits
 pub mod Telling
 pub mod Deciding
@@ -7,6 +8,7 @@ pub mod Accepting
 pub mod Gates
 pub mod Going
 pub mod Jobs
+pub mod Ordered
 pub mod Outermost
 pub mod Restarting
 pub mod Scripting

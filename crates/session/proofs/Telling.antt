@@ -1,12 +1,13 @@
 -- Replies that are sent.
 use Rattle.std.proofs.Common.{◌≡◌, ◌≤◌, arith, length, ℕ, Bool, true, false, not, List, [], ◌∷◌, ◌++◌, Option, Some, None, Result, Ok, Err, refl, sym, ap, subst, ◌∙◌}
 use Rattle.std.specs.Prelude.{IfSome, MatchOption, if◌then◌else◌, option_map, unwrap_or}
+use Rattle.std.proofs.lemmas.Bool.{false≢true}
 use Rattle.ports.specs.declared.failed.Failed.{Failed}
 use Rattle.prefix.specs.declared.quant.Quant.{Quant}
 use Rattle.prefix.specs.Literal.{Literal}
 use Rattle.prefix.specs.Scopes.{Scope, level_of, quantifier_at, variables_at}
 use Rattle.prefix.specs.Sides.{is_of}
-use Rattle.calculus.specs.Derivations.{Inference}
+use Rattle.calculus.specs.Derivations.{Inference, core_order}
 use Rattle.calculus.specs.Limits.{weight_bound}
 use Rattle.calculus.specs.Plays.{literals_of}
 use Rattle.calculus.specs.Rows.{Assignment, Row}
@@ -16,7 +17,8 @@ use Rattle.frames.specs.State.{OpenFormula}
 use Rattle.aig.specs.Strategies.{values_of as circuit_values}
 use Rattle.aig.specs.declared.strategy.Strategy.{Strategy}
 use Rattle.aiger_out.specs.Aag.{IsAagText}
-use Rattle.qrp_trace.specs.Cores.{IsNumbered, Trace, inferences_of}
+use Rattle.derive.specs.State.{State}
+use Rattle.qrp_trace.specs.Cores.{IsNumbered, Trace, inferences_of, proof_at}
 use Rattle.qrp_trace.specs.Texts.{qrp_text}
 use Rattle.ports.specs.Writing.{Writes}
 use Rattle.engine.specs.declared.refusal.AskRefusal.{AskRefusal}
@@ -31,7 +33,9 @@ use Rattle.session.specs.declared.reply.Reply.TheVariants.{Written}
 use Rattle.session.specs.declared.reply.SessionStop.{SessionStop}
 use Rattle.session.specs.declared.reply.SessionStop.TheVariants.{NoMemory, WriteFault}
 use Rattle.session.proofs.Gates.{weight_grows}
-use Rattle.session.specs.Replies.{gates_after, IsAccepted, IsCertText, IsReply, IsReplyWith, IsTraceText, Tells, Text, last_row, no_first, no_value, no_verdict, relevant_text, says, value_in, value_text}
+use Rattle.session.proofs.Ordered.{proof_ordered}
+use Rattle.session.proofs.Scripting.{some_map}
+use Rattle.session.specs.Replies.{Certifies, gates_after, IsAccepted, IsCertText, IsReply, IsReplyWith, IsTraceText, Tells, Text, last_row, no_first, no_value, no_verdict, relevant_text, says, value_in, value_text}
 use Rattle.engine.proofs.FirstScope.{first_among, level_is, literal_among, value_among}
 use Rattle.session.specs.Standing.{Standing}
 use Rattle.session.specs.State.{Holds, given_of}
@@ -90,18 +94,17 @@ outer_of_none : (a b : Bool) → (if not a then Some NotOutermost else (if b the
 outer_of_none true b e = refl
 outer_of_none false b e = absurd (cc)
 
--- the first scope's outputs have the values of the play
-cert_text : (f : OpenFormula) (v : VerdictState) (strategy : Strategy) (bound : ℕ) (text : Text)
-    → IsAagText text strategy → IsCertificateOf f v strategy → length strategy.aig.gates ≤ bound
-    → IsCertText f (given_of v) (first_values f v) bound text
-cert_text f v strategy bound text denotes is few = record {
-  strategy = strategy;
-  denotes = denotes;
+-- the circuit of a verdict certifies it: the first scope's outputs have the values of the play
+circuit_certifies : (f : OpenFormula) (v : VerdictState) (strategy : Strategy) (bound : ℕ)
+    → IsCertificateOf f v strategy → length strategy.aig.gates ≤ bound
+    → Certifies f (given_of v) (first_values f v) bound strategy
+circuit_certifies f v strategy bound is few = record {
   winner = is.winner;
   inputs = is.inputs;
   outputs = is.outputs;
   wins = is.wins;
   earlier = is.earlier;
+  assumed = is.assumed;
   first_values = λ first l listed inputs.
       let place = literal_among (values_of f v) (variables_at f.scopes 1) l listed in
       ap (circuit_values strategy inputs) (sym (ap (λ (m : Literal). m.variable) place.2))
@@ -174,13 +177,15 @@ module _ (terms : Terms) (e : EngineState) (s : Standing) (holds : Holds terms e
       (relevant_text list) v some
       (ap relevant_text (is ∙ ap (relevant_of v.assumptions) (sym row)))))
 
-  pub tells_trace : (core : Trace) (scopes : List Scope) → scopes ≡ e.formula.scopes
+  pub tells_trace : (core : Trace) (scopes : List Scope) (d : State) → scopes ≡ e.formula.scopes
       → ask_refusal e ≡ None → IfSome e.verdict (λ v. core.winner ≡ winner_of v.truth)
       → IfSome e.verdict (λ v. inferences_of core.lines ≡ v.proof) → IsNumbered core.lines
+      → IfSome e.verdict (λ v. v.proof ≡ proof_at d v.assumptions v.end)
       → IsReply terms s TraceCommand (says (qrp_text scopes core)) s
-  tells_trace core scopes same asked winner list numbered = unless_none e.verdict refl asked (λ v some.
+  tells_trace core scopes d same asked winner list numbered derived = unless_none e.verdict refl asked (λ v some.
       let wins = subst (λ o. IfSome o (λ v. core.winner ≡ winner_of v.truth)) some winner in
       let is = subst (λ o. IfSome o (λ v. inferences_of core.lines ≡ v.proof)) some list in
+      let made = subst (λ o. IfSome o (λ v. v.proof ≡ proof_at d v.assumptions v.end)) some derived in
       answered TraceCommand (qrp_text scopes core) v some
       (told_at (λ given text. IsTraceText s.script.formula.scopes given.truth s.witness.proof text)
       (qrp_text scopes core) v some (record {
@@ -188,8 +193,46 @@ module _ (terms : Terms) (e : EngineState) (s : Standing) (holds : Holds terms e
         winner = wins;
         numbered = numbered;
         proof_steps = is ∙ sym (holds.proof v some);
+        inputs_first = subst (λ steps. core_order steps ≡ steps) (sym (holds.proof v some ∙ made))
+            (proof_ordered d v.assumptions v.end);
         text_of_core = ap (λ f. qrp_text f core) (same ∙ sym (ap (λ (f : OpenFormula). f.scopes) holds.formula));
       })))
+
+  abbrev bound : ℕ
+  bound = gates_after terms s.script
+
+  few_after : (gates : ℕ) → gates ≤ weight_bound e.counts.clauses e.counts.solves e.counts.budget e.counts.restarts
+      e.counts.vars → gates ≤ bound
+  few_after gates few =
+      let solves : e.counts.solves ≤ s.script.solves = let same = holds.solves in omega (arith, same) in
+      let most : e.counts.restarts ≤ terms.greatest = let low = holds.most_restarts in omega (arith, low) in
+      let grown = weight_grows e.counts.clauses s.script.clauses e.counts.solves s.script.solves e.counts.budget
+      terms.budget e.counts.restarts terms.greatest e.counts.vars s.script.greatest holds.clauses solves holds.budgets
+      most holds.variables in
+      omega (arith, few, grown)
+
+  certifies_at : (strategy : Strategy) (v : VerdictState) → e.verdict ≡ Some v → IsCertificateOf e.formula v strategy
+      → length strategy.aig.gates ≤ bound → Certifies s.script.formula (given_of v) s.witness.values bound strategy
+  certifies_at strategy v some is few =
+      subst (λ f. Certifies f (given_of v) s.witness.values bound strategy) (sym holds.formula)
+      (subst (λ l. Certifies e.formula (given_of v) l bound strategy) (sym (holds.values v some))
+      (circuit_certifies e.formula v strategy bound is few))
+
+  -- the engine's circuit of a verdict certifies what the commands came to
+  pub certifies_after : (strategy : Strategy) → IfSome e.verdict (λ v. IsCertificateOf e.formula v strategy)
+      → length strategy.aig.gates ≤ weight_bound e.counts.clauses e.counts.solves e.counts.budget
+      e.counts.restarts e.counts.vars
+      → IfSome s.script.verdict (λ given. Certifies s.script.formula given s.witness.values bound strategy)
+  certifies_after strategy certifies few =
+      subst (λ o. IfSome o (λ given. Certifies s.script.formula given s.witness.values bound strategy))
+      (sym holds.verdict) (by e.verdict refl)
+    where
+      by : (o : Option VerdictState) → e.verdict ≡ o → IfSome (option_map given_of o)
+          (λ given. Certifies s.script.formula given s.witness.values bound strategy)
+      by None none = tt
+      by (Some v) some = certifies_at strategy v some
+          (subst (λ o. IfSome o (λ v. IsCertificateOf e.formula v strategy)) some certifies)
+          (few_after (length strategy.aig.gates) few)
 
   pub tells_circuit : (strategy : Strategy) (text : Text) → IsAagText text strategy
       → ask_refusal e ≡ None → IfSome e.verdict (λ v. IsCertificateOf e.formula v strategy)
@@ -197,19 +240,20 @@ module _ (terms : Terms) (e : EngineState) (s : Standing) (holds : Holds terms e
       e.counts.restarts e.counts.vars
       → IsReply terms s Cert (says text) s
   tells_circuit strategy text denotes asked certifies few = unless_none e.verdict refl asked (λ v some.
-      let solves : e.counts.solves ≤ s.script.solves = let same = holds.solves in omega (arith, same) in
-      let most : e.counts.restarts ≤ terms.greatest = let low = holds.most_restarts in omega (arith, low) in
-      let grown = weight_grows e.counts.clauses s.script.clauses e.counts.solves s.script.solves e.counts.budget
-      terms.budget e.counts.restarts terms.greatest e.counts.vars s.script.greatest holds.clauses solves holds.budgets
-      most holds.variables in
-      let bound : length strategy.aig.gates ≤ gates_after terms s.script = omega (arith, few, grown) in
-      let is = subst (λ o. IfSome o (λ v. IsCertificateOf e.formula v strategy)) some certifies in
-      answered Cert text v some
-      (told_at (λ given text. IsCertText s.script.formula given s.witness.values (gates_after terms s.script) text)
-      text v some
-      (subst (λ f. IsCertText f (given_of v) s.witness.values (gates_after terms s.script) text) (sym holds.formula)
-      (subst (λ l. IsCertText e.formula (given_of v) l (gates_after terms s.script) text) (sym (holds.values v some))
-      (cert_text e.formula v strategy (gates_after terms s.script) text denotes is bound)))))
+      answered Cert text v some (record {
+        text = text;
+        told = some_map s.script.verdict
+            (λ given. Certifies s.script.formula given s.witness.values bound strategy)
+            (λ given. IsCertText s.script.formula given s.witness.values bound text)
+            (λ given is. record {
+              strategy = strategy;
+              denotes = denotes;
+              certifies = is;
+              reached = λ trim. absurd (false≢true trim);
+            }) (certifies_after strategy certifies few);
+        says_text = refl;
+        same = refl;
+      }))
 
   pub tells_value : (x : ℕ) (lit : Literal) → value_refusal e x ≡ None
       → IfSome e.verdict (λ v. lit ≡ record { variable = x; positive = values_of e.formula v x })

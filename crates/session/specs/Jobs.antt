@@ -26,7 +26,7 @@ use Rattle.session.specs.declared.ending.Job.{Job}
 use Rattle.session.specs.declared.file.Header.{Header}
 use Rattle.session.specs.declared.ending.Job.TheVariants.{Solve, Qdo, Trace, Cert}
 use Rattle.session.specs.Feeding.{formula_with}
-use Rattle.session.specs.Replies.{IsCertText, IsTraceText, Text, literal_number, verdict_text}
+use Rattle.session.specs.Replies.{IsCertificate, IsTraceText, Text, literal_number, verdict_text}
 use Rattle.session.specs.Solve.{IsAnswerTo, OfAnswer, answer_line}
 use Rattle.session.specs.Standing.{IsWitness, Standing, Witness}
 use Rattle.session.specs.Stops.{AddsEntry, IsStopAt}
@@ -77,15 +77,15 @@ abbrev pub gates_for : Terms → Formula → ℕ
 gates_for terms f = weight_bound (length f.clauses) 1 terms.budget terms.greatest (size_of f.prefix)
 
 -- The text of a job for a verdict with this witness: its line; the lines of its result, with the values of the first
--- scope; the trace of its proof; or the text of a circuit that wins, where the first scope is the winner's with these
--- values.
+-- scope; the trace of its proof; or its certificate, in one of the two forms and trimmed or not, in which outputs of the
+-- first scope have these values.
 abbrev pub IsVerdictText : Job → Terms → Formula → Bool → Witness → Text → Type 0
 IsVerdictText Solve terms f truth witness text = text ≡ verdict_text truth
 IsVerdictText Qdo terms f truth witness text =
     text ≡ solution_line (answer_with truth) f ++ value_lines f.prefix truth witness.values
 IsVerdictText Trace terms f truth witness text = IsTraceText f.prefix truth witness.proof text
-IsVerdictText Cert terms f truth witness text =
-    IsCertText (opened f) (unassumed truth) witness.values (gates_for terms f) text
+IsVerdictText (Cert binary trim) terms f truth witness text =
+    IsCertificate binary trim (opened f) (unassumed truth) witness.values (gates_for terms f) text
 
 -- the same with some witness
 pub record HasVerdictText (job : Job) (terms : Terms) (f : Formula) (truth : Bool) (text : Text) : Type 0 where
@@ -98,7 +98,7 @@ abbrev pub unknown_text : Job → Formula → Text
 unknown_text Solve f = answer_line Unknown
 unknown_text Qdo f = solution_line Unknown f
 unknown_text Trace f = answer_line Unknown
-unknown_text Cert f = answer_line Unknown
+unknown_text (Cert binary trim) f = answer_line Unknown
 
 -- The text of a job for an answer to a formula.
 abbrev pub IsJobText : Job → Terms → Formula → Answer → Text → Type 0

@@ -1,5 +1,5 @@
 -- The replies that commands may have.
-use Rattle.std.specs.Prelude.{◌≡◌, ◌⊎◌, ℕ, ◌<◌, ◌≤◌, length, not, true, false, Bool, if◌then◌else◌, List, [], ◌∷◌, ◌++◌, filter, codes, Contains, Option, Some, None, IfSome, unwrap_or}
+use Rattle.std.specs.Prelude.{◌≡◌, ◌≢◌, ◌⊎◌, ℕ, ◌<◌, ◌≤◌, length, not, true, false, Bool, if◌then◌else◌, List, [], ◌∷◌, ◌++◌, filter, codes, Contains, Option, Some, None, IfSome, unwrap_or}
 use Rattle.std.specs.Fmt.{decimal}
 use Rattle.std.specs.List.{flat_map}
 use Rattle.std.specs.Option.{option_and_then}
@@ -9,7 +9,7 @@ use Rattle.prefix.specs.Sides.{is_of}
 use Rattle.prefix.specs.Scopes.{Scope, all_variables, quantifier_at, quantifier_of}
 use Rattle.steps.specs.Counter.{step_limit}
 use Rattle.truth.specs.Truth.{assumed_value, truth_under}
-use Rattle.calculus.specs.Derivations.{Inference}
+use Rattle.calculus.specs.Derivations.{Inference, core_order}
 use Rattle.calculus.specs.Limits.{propagation_limit, weight_bound}
 use Rattle.calculus.specs.Plays.{DependsOnEarlier, Wins}
 use Rattle.calculus.specs.Rows.{Assignment, Row}
@@ -22,9 +22,12 @@ use Rattle.frames.specs.Refusal.{number_of}
 use Rattle.frames.specs.State.{OpenFormula, clauses_in}
 use Rattle.qrp_trace.specs.Cores.{IsNumbered, Trace as TraceCore, inferences_of}
 use Rattle.qrp_trace.specs.Texts.{literal_word, qrp_text}
+use Rattle.aig.specs.declared.edge.Node.TheVariants.{Constant}
 use Rattle.aig.specs.declared.strategy.Strategy.{Strategy}
-use Rattle.aig.specs.Strategies.{output_vars, values_of}
+use Rattle.aig.specs.Strategies.{output_of, output_vars, values_of}
 use Rattle.aiger_out.specs.Aag.{IsAagText}
+use Rattle.aiger_out.specs.Binary.{IsAigBytes}
+use Rattle.trim.specs.Trimmed.{IsReached}
 use Rattle.search.specs.Counting.{size_of}
 use Rattle.engine.specs.Refusals.{is_outermost, winner_of}
 use Rattle.engine.specs.Verdicts.{loser_of}
@@ -114,12 +117,13 @@ last_row (s ∷ t ∷ steps) = last_row (t ∷ steps)
 abbrev pub value_in : List Literal → ℕ → Literal
 value_in values v = record { variable = v; positive = unwrap_or (assumed_value values v) false }
 
--- the text is the trace of a proof, whose steps are those of a core, for the winner
+-- the text is the trace of a proof, whose steps are those of a core, the inputs first, for the winner
 pub record IsTraceText (scopes : List Scope) (truth : Bool) (proof : List Inference) (text : Text) : Type 0 where
   pub core : TraceCore
   pub winner : core.winner ≡ winner_of truth
   pub numbered : IsNumbered core.lines
   pub proof_steps : inferences_of core.lines ≡ proof
+  pub inputs_first : core_order proof ≡ proof
   pub text_of_core : text ≡ qrp_text scopes core
 
 -- the variables of a quantifier, in prefix order
@@ -130,22 +134,46 @@ variables_with quant scopes = filter (λ v. is_of (quantifier_of scopes v) quant
 abbrev pub gates_after : Terms → ScriptState → ℕ
 gates_after terms s = weight_bound s.clauses s.solves terms.budget terms.greatest s.greatest
 
--- The text denotes a circuit with all variables of the loser for inputs and all of the winner for outputs, in prefix
+-- A circuit certifies a verdict: its inputs are all variables of the loser and its outputs all of the winner, in prefix
 -- order. It wins against all values of the inputs that the assumptions allow, each output depends on inputs of earlier
--- scopes alone, and where the first scope is the winner's its outputs have these values. It has so many gates at most.
-pub record IsCertText (formula : OpenFormula) (given : Given) (values : List Literal) (bound : ℕ) (text : Text)
+-- scopes alone, an assumed output is the constant of its assumed value, and where the first scope is the winner's its
+-- outputs have these values. It has so many gates at most.
+pub record Certifies (formula : OpenFormula) (given : Given) (values : List Literal) (bound : ℕ) (strategy : Strategy)
     : Type 0 where
-  pub strategy : Strategy
-  pub denotes : IsAagText text strategy
   pub winner : strategy.winner ≡ winner_of given.truth
   pub inputs : strategy.inputs ≡ variables_with (loser_of given.truth) formula.scopes
   pub outputs : output_vars strategy.outputs ≡ variables_with (winner_of given.truth) formula.scopes
   pub wins : Wins (loser_of given.truth) formula.scopes (clauses_in formula.frames) given.assumptions
       (values_of strategy)
   pub earlier : DependsOnEarlier (loser_of given.truth) formula.scopes (values_of strategy)
+  pub assumed : (x : ℕ) (b : Bool) → assumed_value given.assumptions x ≡ Some b
+      → quantifier_of formula.scopes x ≢ Some (loser_of given.truth)
+      → output_of strategy.outputs x ≡ Some (record { node = Constant; negated = b })
   pub first_values : quantifier_at formula.scopes 1 ≡ Some (winner_of given.truth) → (l : Literal) →
       Contains values l → (inputs : Assignment) → values_of strategy inputs l.variable ≡ l.positive
   pub few : length strategy.aig.gates ≤ bound
+
+-- each gate is reached from an output
+abbrev pub AllReached : Strategy → Type 0
+AllReached strategy = (j : ℕ) → j < length strategy.aig.gates → IsReached strategy j
+
+-- a text denotes a circuit by AIGER 1.9, in ASCII or in the binary form
+abbrev pub Denotes : (binary : Bool) → Text → Strategy → Type 0
+Denotes false text strategy = IsAagText text strategy
+Denotes true text strategy = IsAigBytes text strategy
+
+-- A text in one of the two forms is a certificate of a verdict: it denotes a circuit that certifies it, and where it is
+-- to be trimmed, each gate is reached from an output.
+pub record IsCertificate (binary trim : Bool) (formula : OpenFormula) (given : Given) (values : List Literal)
+    (bound : ℕ) (text : Text) : Type 0 where
+  pub strategy : Strategy
+  pub denotes : Denotes binary text strategy
+  pub certifies : Certifies formula given values bound strategy
+  pub reached : trim ≡ true → AllReached strategy
+
+-- the certificate that a script asks for: in ASCII, and not trimmed
+abbrev pub IsCertText : OpenFormula → Given → List Literal → ℕ → Text → Type 0
+IsCertText formula given values bound text = IsCertificate false false formula given values bound text
 
 -- what an accepted command may reply
 

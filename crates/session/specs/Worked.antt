@@ -1,19 +1,22 @@
--- Worked values: answers to two formulas, what is told of searches that stopped, replies to commands, and what jobs
--- write.
-use Rattle.std.specs.Prelude.{◌≡◌, pos, negsuc, true, false, [], ◌∷◌, codes, Some, None}
+-- Worked values: answers to two formulas, what is told of searches that stopped, replies to commands, what jobs write,
+-- and certificates.
+use Rattle.std.specs.Prelude.{◌≡◌, ℕ, List, pos, negsuc, true, false, [], ◌∷◌, ◌++◌, codes, Some, None}
 use Rattle.prefix.specs.declared.quant.Quant.{Quant}
 use Rattle.prefix.specs.declared.quant.Quant.TheVariants.{Exists, Forall}
 use Rattle.truth.specs.declared.formula.Formula.{Formula}
 use Rattle.trail.specs.State.{Account}
-use Rattle.calculus.specs.Derivations.Reason.{Input}
+use Rattle.calculus.specs.Derivations.Reason.{Input, One}
+use Rattle.calculus.specs.Worked.{existential, minus, plus, universal}
 use Rattle.frames.specs.Commands.{AddClause, AddScope, AddVariable, Assume as AssumeLiteral, Solve as Decide, Verdict}
 use Rattle.frames.specs.Fold.{new_script, state_after, state_of}
+use Rattle.frames.specs.State.{OpenFormula}
 use Rattle.qscript.specs.declared.command.Command.TheVariants.{Assume, Clause, Pop, Solve, Trace, Value}
 use Rattle.session.specs.declared.answer.Answer.TheVariants.{Sat, Unsat, Unknown}
 use Rattle.session.specs.declared.ending.Ending.TheVariants.{Done, NoMemory, Refused}
 use Rattle.session.specs.declared.ending.Job.TheVariants.{Solve as SolveJob, Qdo as QdoJob, Trace as TraceJob, Cert as CertJob}
-use Rattle.session.specs.Jobs.{IsJobText, IsReplyTo, LeavesOutput, solution_line, value_lines}
-use Rattle.session.specs.Replies.{AllowedReplies, Decides, GivesUp, Output, refusal_number, refused_text, relevant_text, says, value_in, value_text}
+use Rattle.session.specs.Feeding.{formula_with}
+use Rattle.session.specs.Jobs.{IsJobText, IsReplyTo, LeavesOutput, solution_line, unassumed, value_lines}
+use Rattle.session.specs.Replies.{AllowedReplies, Decides, GivesUp, IsCertificate, IsTraceText, Output, refusal_number, refused_text, relevant_text, says, value_in, value_text}
 use Rattle.session.specs.Scripts.{IsScriptEnding}
 use Rattle.session.specs.Solve.{IsAnswerTo}
 use Rattle.session.specs.Standing.{Standing, start}
@@ -126,9 +129,18 @@ pub record WorkedJobs : Type 0 where
   -- the trace of the empty clause, which no line of an answer is
   pub traced : IsJobText TraceJob (terms_of 0 0) nothing_fits Unsat (codes "p qrp 0 1\n1 0 0\nr UNSAT\n")
   pub not_traced : IsJobText TraceJob (terms_of 0 0) nothing_fits Unsat (codes "UNSAT\n") → ⊥
-  -- a circuit without variables, which is no trace
-  pub certified : IsJobText CertJob (terms_of 0 0) anything_fits Sat (codes "aag 0 0 0 0 0\nc\nskolem\n")
-  pub not_certified : IsJobText CertJob (terms_of 0 0) anything_fits Sat (codes "p qrp 0 1\n1 0 0\nr SAT\n") → ⊥
+  -- no trace has an input behind another step
+  pub input_behind : (text : List ℕ) → IsTraceText [] false
+      (record { row = []; reason = One (plus 4 ∷ []) } ∷ record { row = plus 4 ∷ []; reason = Input } ∷ []) text → ⊥
+  -- a circuit without variables, which is no trace, in ASCII and in the binary form
+  pub certified : IsJobText (CertJob false true) (terms_of 0 0) anything_fits Sat
+      (codes "aag 0 0 0 0 0\nc\nskolem\n")
+  pub not_certified : IsJobText (CertJob false true) (terms_of 0 0) anything_fits Sat
+      (codes "p qrp 0 1\n1 0 0\nr SAT\n") → ⊥
+  pub in_binary : IsJobText (CertJob true false) (terms_of 0 0) anything_fits Sat
+      (codes "aig 0 0 0 0 0\nc\nskolem\n")
+  pub not_in_binary : IsJobText (CertJob true false) (terms_of 0 0) anything_fits Sat
+      (codes "aag 0 0 0 0 0\nc\nskolem\n") → ⊥
   -- a solution line with the header's numbers, for each answer
   pub true_line : solution_line Sat (differs Forall Exists) ≡ codes "s cnf 1 2 2\n"
   pub false_line : solution_line Unsat nothing_fits ≡ codes "s cnf 0 0 1\n"
@@ -140,7 +152,7 @@ pub record WorkedJobs : Type 0 where
   pub values_lost : value_lines (differs Exists Forall).prefix false
       (record { variable = 1; positive = false } ∷ []) ≡ []
   -- another line for each other job where the answer is unknown
-  pub unknown : IsJobText CertJob (terms_of 0 0) nothing_fits Unknown (codes "UNKNOWN\n")
+  pub unknown : IsJobText (CertJob true true) (terms_of 0 0) nothing_fits Unknown (codes "UNKNOWN\n")
   pub not_silent : IsJobText TraceJob (terms_of 0 0) nothing_fits Unknown [] → ⊥
   -- a reply with its entry, and none without
   pub told : IsReplyTo SolveJob (terms_of 19 0) (differs Forall Exists) ([], at_nineteen ∷ []) Unknown
@@ -149,3 +161,51 @@ pub record WorkedJobs : Type 0 where
   -- after an ending without an answer nothing more is written
   pub kept : LeavesOutput SolveJob (terms_of 12 0) None (Some [], Some []) ([], []) NoMemory
   pub not_kept : LeavesOutput SolveJob (terms_of 12 0) None (Some [], Some (codes "SAT\n")) ([], []) NoMemory → ⊥
+
+-- for each value of 2 and 5, 7 is true where neither of them is
+abbrev pub neither : OpenFormula
+neither = formula_with (universal (2 ∷ 5 ∷ []) ∷ existential (7 ∷ []) ∷ [])
+    ((minus 2 ∷ minus 7 ∷ []) ∷ (minus 5 ∷ minus 7 ∷ []) ∷ (plus 2 ∷ plus 5 ∷ plus 7 ∷ []) ∷ [])
+
+-- a circuit for it with two gates, 2 and 5, and neither of them: no output is reached from the first
+abbrev pub whole_text : List ℕ
+whole_text = codes "aag 4 2 0 1 2\n2\n4\n8\n6 4 2\n8 5 3\ni0 2\ni1 5\no0 7\nc\nskolem\n"
+
+abbrev pub whole_bytes : List ℕ
+whole_bytes = codes "aig 4 2 0 1 2\n8\n" ++ (2 ∷ 2 ∷ 3 ∷ 2 ∷ codes "i0 2\ni1 5\no0 7\nc\nskolem\n")
+
+-- the same without that gate
+abbrev pub trimmed_text : List ℕ
+trimmed_text = codes "aag 3 2 0 1 1\n2\n4\n6\n6 5 3\ni0 2\ni1 5\no0 7\nc\nskolem\n"
+
+abbrev pub trimmed_bytes : List ℕ
+trimmed_bytes = codes "aig 3 2 0 1 1\n6\n" ++ (1 ∷ 2 ∷ codes "i0 2\ni1 5\no0 7\nc\nskolem\n")
+
+-- 3 is true, or 4, which is chosen after it, and against it
+abbrev pub either : OpenFormula
+either = formula_with (existential (3 ∷ []) ∷ universal (4 ∷ []) ∷ []) ((plus 3 ∷ plus 4 ∷ []) ∷ [])
+
+-- 3 is always true
+abbrev pub true_text : List ℕ
+true_text = codes "aag 1 1 0 1 0\n2\n1\ni0 4\no0 3\nc\nskolem\n"
+
+pub record WorkedCertificates : Type 0 where
+  -- in ASCII and in the binary form, as the circuit is
+  pub whole : IsCertificate false false neither (unassumed true) [] 2 whole_text
+  pub whole_in_binary : IsCertificate true false neither (unassumed true) [] 2 whole_bytes
+  -- neither form is the other
+  pub not_in_binary : IsCertificate true false neither (unassumed true) [] 2 whole_text → ⊥
+  pub not_in_ascii : IsCertificate false false neither (unassumed true) [] 2 whole_bytes → ⊥
+  -- and trimmed, which a circuit with such a gate isn't
+  pub trimmed : IsCertificate false true neither (unassumed true) [] 1 trimmed_text
+  pub trimmed_in_binary : IsCertificate true true neither (unassumed true) [] 1 trimmed_bytes
+  pub not_trimmed : IsCertificate false true neither (unassumed true) [] 2 whole_text → ⊥
+  pub not_trimmed_in_binary : IsCertificate true true neither (unassumed true) [] 2 whole_bytes → ⊥
+  -- two gates are too many where there may be one
+  pub too_many : IsCertificate false false neither (unassumed true) [] 1 whole_text → ⊥
+  -- an assumed output has its assumed value, and a first output its value
+  pub assumed : IsCertificate false false either (record { truth = true; assumptions = plus 3 ∷ [] }) (plus 3 ∷ []) 0
+      true_text
+  pub otherwise_assumed : IsCertificate false false either (record { truth = true; assumptions = minus 3 ∷ [] })
+      [] 0 true_text → ⊥
+  pub other_value : IsCertificate false false either (unassumed true) (minus 3 ∷ []) 0 true_text → ⊥

@@ -19,8 +19,9 @@ pub enum Job {
     Qdo,
     /// The trace of the verdict's proof, as QRP.
     Trace,
-    /// The circuit by which the verdict's winner wins, as AIGER 1.9 in ASCII.
-    Cert,
+    /// The circuit by which the verdict's winner wins, as AIGER 1.9: in ASCII or in the binary form, and as it is or
+    /// trimmed, without the gates that no output is reached from.
+    Cert { binary: bool, trim: bool },
 }
 
 /// How the work on an input ends.

@@ -1,5 +1,6 @@
 //! One formula, read from the chosen input and decided.
-ghost use Rattle.std.specs.Prelude.{◌≡◌, ◌≢◌, ◌≤◌, ◌++◌, ℕ, Bool, length, flat_map, List, IfOk, IfErr, IfSome, IsErrOf, IsOk, OnOk, [], None, Some};
+ghost use Rattle.std.specs.Prelude.{◌≡◌, ◌≢◌, ◌≤◌, ◌++◌, ℕ, Bool, true, length, flat_map, List, IfOk, IfErr, IfSome, IsErrOf, IsOk, OnOk, [], None, Some};
+ghost use Rattle.aig.specs.Strategies.{IsStrategy};
 ghost use Rattle.ports.specs.Bytes.{AllFlushed};
 ghost use Rattle.ports.specs.Causes.{IsCounted};
 ghost use Rattle.qdimacs.specs.Reads.{Reads};
@@ -14,6 +15,7 @@ ghost use Rattle.prefix.specs.Scopes.{quantifier_at};
 ghost use Rattle.prefix.specs.Sides.{is_of};
 ghost use Rattle.qdimacs.specs.Formed.{IsFormed};
 ghost use Rattle.session.specs.Jobs.{IsAnsweredBy, IsHeaderOf, LeavesOutput, RepliesTo, RoomForJob, WritesJob, answer_with, opened, solution_line, unassumed, value_line as line_of_value, value_lines};
+ghost use Rattle.session.specs.Replies.{AllReached, Certifies, gates_after};
 ghost use Rattle.session.specs.Solve.{HasAnswer, IsAnswerTo, IsDone, IsEnding, Solves};
 ghost use Rattle.session.specs.Standing.{Standing};
 ghost use Rattle.session.specs.State.{Holds};
@@ -23,9 +25,10 @@ ghost use Rattle.truth.specs.declared.formula.Formula.{Formula as AnyFormula};
 use crate::answer::Answer;
 use crate::ending::{Ending, Job};
 use crate::feed::feed;
-use crate::lines::{write_answer, write_outermost, write_solution};
+use crate::lines::{write_answer, write_circuit, write_outermost, write_solution};
 use crate::script::put_told;
-use crate::session::{decide, tell_circuit, tell_trace};
+use crate::session::{decide, tell_trace};
+use aig::Strategy;
 use engine::Engine;
 use ports::{Desk, Failed, Sink};
 use prefix::{Prefix, Quant};
@@ -33,6 +36,7 @@ use qdimacs::read_formula;
 use std::alloc::Global;
 use steps::NoMemory;
 use trail::Stopped;
+use trim::trim;
 use truth::{Formula, no_assumptions};
 
 // The numbers of a formula's header: of its variables and of its clauses.
@@ -45,8 +49,8 @@ pub(crate) struct Header {
 /// Reads the formula that is left of the chosen input, decides it by search with a budget of that many steps, which may
 /// begin anew so often, and writes what the job asks for: the answer's line, `SAT` or `UNSAT`; its solution line with
 /// the values of outermost variables (QDIMACS 1.1, output format); the trace of the verdict's proof (QRP); or the
-/// circuit by which its winner wins (AIGER 1.9, ASCII). Where the budget was spent first, it writes `UNKNOWN`, or the
-/// solution line of that.
+/// circuit by which its winner wins (AIGER 1.9, in ASCII or binary, trimmed or not). Where the budget was spent first,
+/// it writes `UNKNOWN`, or the solution line of that.
 ///
 /// UNKNOWN comes only where the budget is below the step limit of the formula's variables and of so many restarts, and
 /// where propagation alone refutes the clauses only where it is below 2 * n * (n + 3), for n variables. What the search
@@ -187,13 +191,14 @@ fn reply<S: Sink>(
     let reply = decide(engine, budget)?;
     let answer = reply.answer();
     put_told(stops, reply.into_stopped());
-    write_reply(engine, header, job, answer, sink)?;
+    write_reply(*stops.allocator(), engine, header, job, answer, sink)?;
     sink.flush()?;
     Ok(answer)
 }
 
 // Writes what the job asks for, where a formula was decided with this answer.
 fn write_reply<S: Sink>(
+    alloc: Global,
     engine: &Engine,
     header: Header,
     job: Job,
@@ -206,7 +211,7 @@ fn write_reply<S: Sink>(
 {
     match answer {
         Answer::Unknown => write_unknown(header, job, sink),
-        _ => write_verdict(engine, header, job, answer, sink),
+        _ => write_verdict(alloc, engine, header, job, answer, sink),
     }
 }
 
@@ -223,6 +228,7 @@ fn write_unknown<S: Sink>(header: Header, job: Job, sink: &mut S) -> Result<(), 
 
 // The same where it was decided with a verdict.
 fn write_verdict<S: Sink>(
+    alloc: Global,
     engine: &Engine,
     header: Header,
     job: Job,
@@ -241,10 +247,53 @@ fn write_verdict<S: Sink>(
             let _trace = tell_trace(engine, sink)?;
             Ok(())
         }
-        Job::Cert => {
-            let _circuit = tell_circuit(engine, sink)?;
-            Ok(())
-        }
+        Job::Cert {
+            binary,
+            trim: trimmed,
+        } => write_certificate(alloc, engine, binary, trimmed, sink),
+    }
+}
+
+// Writes the certificate of a verdict: its circuit in ASCII or in the binary form, as it is or trimmed.
+fn write_certificate<S: Sink>(
+    alloc: Global,
+    engine: &Engine,
+    binary: bool,
+    trimmed: bool,
+    sink: &mut S,
+) -> Result<(), Ending>
+    ensures { (terms : Terms) (f : AnyFormula) (s : Standing) (truth : Bool) → Holds terms engine.now s
+        → IsAnsweredBy f (answer_with truth) s → WritesJob S.written S.flushed S.faults S.has_room
+        (Job.Cert binary trimmed) terms f (answer_with truth) sink.old sink.new result }
+{
+    let circuit = circuit_of(alloc, engine, trimmed)?;
+    Ok(write_circuit(&circuit, binary, sink)?)
+}
+
+// The circuit of a verdict, as it is or trimmed. Where there is a verdict, it fails for want of memory alone.
+fn circuit_of(alloc: Global, engine: &Engine, trimmed: bool) -> Result<Strategy, NoMemory>
+    ensures strategy { IfOk result IsStrategy }
+    ensures certifies { (terms : Terms) (s : Standing) → Holds terms engine.now s → IfSome s.script.verdict
+        (λ given. IfOk result (Certifies s.script.formula given s.witness.values (gates_after terms s.script))) }
+    ensures reached { trimmed ≡ true → IfOk result AllReached }
+{
+    let whole = whole_circuit(engine)?;
+    if trimmed {
+        trim(alloc, &whole)
+    } else {
+        Ok(whole)
+    }
+}
+
+// The circuit of a verdict as it is.
+fn whole_circuit(engine: &Engine) -> Result<Strategy, NoMemory>
+    ensures strategy { IfOk result IsStrategy }
+    ensures certifies { (terms : Terms) (s : Standing) → Holds terms engine.now s → IfSome s.script.verdict
+        (λ given. IfOk result (Certifies s.script.formula given s.witness.values (gates_after terms s.script))) }
+{
+    match engine.certificate() {
+        Ok(strategy) => Ok(strategy),
+        Err(_) => Err(NoMemory),
     }
 }
 

@@ -21,4 +21,4 @@ pub use file::{decide_formula, run_file};
 pub use reply::{Reply, SessionStop};
 pub use script::run_script;
 pub use session::Session;
-pub use worked::{worked_answers, worked_jobs, worked_replies};
+pub use worked::{worked_answers, worked_certificates, worked_jobs, worked_replies};

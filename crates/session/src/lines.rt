@@ -3,10 +3,11 @@ ghost use Rattle.std.specs.Prelude.{◌≡◌, ◌+◌, ◌≤◌, ◌<◌, ◌+
 ghost use Rattle.std.specs.Fmt.{decimal};
 ghost use Rattle.arrayvec.specs.ArrayString.{array_string_len};
 ghost use Rattle.aiger_out.specs.Aag.{IsAagText};
+ghost use Rattle.aiger_out.specs.Binary.{IsAigBytes};
 ghost use Rattle.aig.specs.Strategies.{IsStrategy};
 ghost use Rattle.qrp_trace.specs.Texts.{literal_word, qrp_text};
 ghost use Rattle.ports.specs.Writing.{Writes};
-ghost use Rattle.session.specs.Replies.{Text, refused_text, relevant_text, value_text};
+ghost use Rattle.session.specs.Replies.{Denotes, Text, refused_text, relevant_text, value_text};
 ghost use Rattle.session.specs.Jobs.{IsHeaderOf, solution_line, value_line as line_of_value};
 ghost use Rattle.session.specs.Solve.{answer_line};
 ghost use Rattle.truth.specs.declared.formula.Formula.{Formula};
@@ -14,7 +15,7 @@ ghost use Rattle.truth.specs.declared.formula.Formula.{Formula};
 use crate::answer::Answer;
 use crate::file::Header;
 use aig::Strategy;
-use aiger_out::{circuits_have_one_text, write_aag};
+use aiger_out::{circuits_have_one_form_of_bytes, circuits_have_one_text, write_aag, write_aig};
 use arrayvec::ArrayString;
 use ports::{Failed, Sink, write_all};
 use prefix::{Lit, Prefix};
@@ -81,14 +82,41 @@ pub(crate) fn write_core<S: Sink>(core: &Core, prefix: &Prefix, sink: &mut S) ->
     write_trace(core, prefix, sink)
 }
 
-// Writes a circuit.
-pub(crate) fn write_circuit<S: Sink>(strategy: &Strategy, sink: &mut S) -> Result<(), Failed>
+// Writes a circuit in ASCII, or in the binary form.
+pub(crate) fn write_circuit<S: Sink>(
+    strategy: &Strategy,
+    binary: bool,
+    sink: &mut S,
+) -> Result<(), Failed>
+    requires { IsStrategy strategy.now }
+    ensures { (text : Text) × Denotes binary text strategy.now
+        × Writes S.written S.flushed S.faults S.has_room sink.old sink.new text result }
+{
+    if binary {
+        write_bytes(strategy, sink)
+    } else {
+        write_text(strategy, sink)
+    }
+}
+
+// Writes a circuit in ASCII.
+fn write_text<S: Sink>(strategy: &Strategy, sink: &mut S) -> Result<(), Failed>
     requires { IsStrategy strategy.now }
     ensures { (text : Text) × IsAagText text strategy.now
         × Writes S.written S.flushed S.faults S.has_room sink.old sink.new text result }
 {
     circuits_have_one_text();
     write_aag(strategy, sink)
+}
+
+// Writes a circuit in the binary form.
+fn write_bytes<S: Sink>(strategy: &Strategy, sink: &mut S) -> Result<(), Failed>
+    requires { IsStrategy strategy.now }
+    ensures { (bytes : Text) × IsAigBytes bytes strategy.now
+        × Writes S.written S.flushed S.faults S.has_room sink.old sink.new bytes result }
+{
+    circuits_have_one_form_of_bytes();
+    write_aig(strategy, sink)
 }
 
 // Writes bytes.

@@ -31,7 +31,7 @@ pub enum SessionStop {
     /// tells.
     WriteFault(Option<Stopped>),
     /// There is no memory. Nothing is written; a solve leaves the formula and the assumptions, and no verdict, and any
-    /// other command all as it was.
+    /// other command leaves what the engine held: formula, assumptions and verdict.
     NoMemory,
 }
 

@@ -73,7 +73,8 @@ impl Session {
     ///
     /// A command is refused as the table `refusal_number` says, and then changes nothing. Where the reply can't be
     /// written, the command is carried out and a front of the reply is written. Where there is no memory nothing is
-    /// written; a solve leaves the formula and the assumptions, and no verdict, and any other command all as it was.
+    /// written; a solve leaves the formula and the assumptions, and no verdict, and any other command leaves what the
+    /// engine held (`Holds`): the formula, the assumptions and the verdict with its proof and values.
     pub fn step<S: Sink>(&mut self, command: &Command, sink: &mut S) -> Result<Reply, SessionStop>
         ensures terms { self.new.terms ≡ self.old.terms }
         ensures steps { (s : Standing) → Holds self.old.terms self.old.engine s → StepsOf S.written S.flushed S.faults
@@ -194,6 +195,7 @@ pub(crate) fn tell_trace<S: Sink>(engine: &Engine, sink: &mut S) -> Result<Reply
         S.has_room terms
         Command.Trace s sink.old sink.new engine.now result }
 {
+    let _proof = engine.derivation();
     match engine.trace_core() {
         Ok(core) => send(write_core(&core, engine.prefix(), sink), Reply::Written),
         Err(refusal) => refuse(refusal.number(), sink),
@@ -201,13 +203,13 @@ pub(crate) fn tell_trace<S: Sink>(engine: &Engine, sink: &mut S) -> Result<Reply
 }
 
 // Tells the verdict's circuit.
-pub(crate) fn tell_circuit<S: Sink>(engine: &Engine, sink: &mut S) -> Result<Reply, SessionStop>
+fn tell_circuit<S: Sink>(engine: &Engine, sink: &mut S) -> Result<Reply, SessionStop>
     ensures { (terms : Terms) (s : Standing) → Holds terms engine.now s → StepsOf S.written S.flushed S.faults
         S.has_room terms
         Command.Cert s sink.old sink.new engine.now result }
 {
     match engine.certificate() {
-        Ok(strategy) => send(write_circuit(&strategy, sink), Reply::Written),
+        Ok(strategy) => send(write_circuit(&strategy, false, sink), Reply::Written),
         Err(refusal) => refuse(refusal.number(), sink),
     }
 }

@@ -1,5 +1,7 @@
 //! Worked values of the definitions, each proved.
-ghost use Rattle.session.specs.Worked.{WorkedAnswers, WorkedJobs, WorkedReplies};
+ghost use Rattle.session.specs.Worked.{WorkedAnswers, WorkedCertificates, WorkedJobs, WorkedReplies};
+
+use aiger_out::{bytes_denote_one_circuit, texts_denote_one_circuit};
 
 /// Answers to formulas of both truths, and what is told of searches that stopped.
 pub fn worked_answers()
@@ -15,3 +17,11 @@ pub fn worked_replies()
 pub fn worked_jobs()
     ensures { WorkedJobs }
 {}
+
+/// Certificates in both forms, whole and trimmed, and texts that are none.
+pub fn worked_certificates()
+    ensures { WorkedCertificates }
+{
+    texts_denote_one_circuit();
+    bytes_denote_one_circuit();
+}

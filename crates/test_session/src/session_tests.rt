@@ -75,6 +75,12 @@ struct Row {
     written: &'static str,
 }
 
+// The certificate in ASCII, as it is.
+const TEXT: Job = Job::Cert {
+    binary: false,
+    trim: false,
+};
+
 #[test]
 fn jobs_write_what_they_ask_for(rt: HostRuntime) -> Result<(), Fail> {
     let alloc = rt.alloc();
@@ -87,14 +93,14 @@ fn jobs_write_what_they_ask_for(rt: HostRuntime) -> Result<(), Fail> {
             written: "p qrp 2 5\ne 2 0\na 1 0\n1 1 2 0 0\n2 -1 -2 0 0\n3 2 0 1 0\n4 -2 0 2 0\n5 0 3 4 0\nr UNSAT\n",
         },
         Row {
-            job: Job::Cert,
+            job: TEXT,
             text: FALSE,
             budget: 192,
             ending: Ending::Done(20),
             written: "aag 1 1 0 1 0\n2\n2\ni0 2\no0 1\nc\nherbrand\n",
         },
         Row {
-            job: Job::Cert,
+            job: TEXT,
             text: DIFFERS,
             budget: 192,
             ending: Ending::Done(10),
@@ -151,7 +157,7 @@ fn jobs_write_what_they_ask_for(rt: HostRuntime) -> Result<(), Fail> {
             written: "UNKNOWN\n",
         },
         Row {
-            job: Job::Cert,
+            job: TEXT,
             text: DIFFERS,
             budget: 0,
             ending: Ending::Done(0),
@@ -167,6 +173,54 @@ fn jobs_write_what_they_ask_for(rt: HostRuntime) -> Result<(), Fail> {
         assert_eq!(rt; ending, row.ending);
         assert_eq!(rt; sink.bytes(), row.written.as_bytes());
         assert_eq!(rt; sink.flushed(), row.written.as_bytes());
+    }
+    Ok(())
+}
+
+// A grant to each of three requests (`examples/arbiter.qdimacs`).
+const ARBITER: &str =
+    "p cnf 6 9\na 1 2 3 0\ne 4 5 6 0\n-4 1 0 -5 2 0 -6 3 0\n-4 -5 0 -4 -6 0 -5 -6 0\n\
+    -1 4 5 6 0 -2 4 5 6 0 -3 4 5 6 0\n";
+
+// The certificate of that formula in each form, the binary ones by `examples/binary.py`. Of its five gates no output is
+// reached from the first two.
+#[test]
+fn certificates_have_four_forms(rt: HostRuntime) -> Result<(), Fail> {
+    let alloc = rt.alloc();
+    for (binary, trim, written) in [
+        (
+            false,
+            false,
+            "aag 8 3 0 3 5\n2\n4\n6\n14\n16\n6\n8 5 3\n10 8 7\n12 5 2\n14 12 7\n16 7 4\n\
+             i0 1\ni1 2\ni2 3\no0 4\no1 5\no2 6\nc\nskolem\n",
+        ),
+        (
+            true,
+            false,
+            "aig 8 3 0 3 5\n14\n16\n6\n\x03\x02\x02\x01\x07\x03\x02\x05\x09\x03\
+             i0 1\ni1 2\ni2 3\no0 4\no1 5\no2 6\nc\nskolem\n",
+        ),
+        (
+            false,
+            true,
+            "aag 6 3 0 3 3\n2\n4\n6\n10\n12\n6\n8 5 2\n10 8 7\n12 7 4\n\
+             i0 1\ni1 2\ni2 3\no0 4\no1 5\no2 6\nc\nskolem\n",
+        ),
+        (
+            true,
+            true,
+            "aig 6 3 0 3 3\n10\n12\n6\n\x03\x03\x02\x01\x05\x03\
+             i0 1\ni1 2\ni2 3\no0 4\no1 5\no2 6\nc\nskolem\n",
+        ),
+    ] {
+        let job = Job::Cert { binary, trim };
+        let mut desk = desk_with(alloc, ARBITER)?;
+        let mut sink = sink_with(alloc, 256, 7)?;
+        let mut stops = Vec::new(alloc);
+        let ending = run_file(alloc, job, 100000, 0, &mut desk, &mut sink, &mut stops);
+        assert_eq!(rt; ending, Ending::Done(10));
+        assert_eq!(rt; sink.bytes(), written.as_bytes());
+        assert_eq!(rt; sink.flushed(), written.as_bytes());
     }
     Ok(())
 }

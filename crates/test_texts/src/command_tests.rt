@@ -29,6 +29,18 @@ fn cert(budget: u64, name: Option<&str>) -> Want<'_> {
     Ok(Command::Cert {
         budget,
         restarts: 0,
+        binary: false,
+        trim: false,
+        name,
+    })
+}
+
+fn cert_in_form(binary: bool, trim: bool, name: Option<&str>) -> Want<'_> {
+    Ok(Command::Cert {
+        budget: GREATEST,
+        restarts: 0,
+        binary,
+        trim,
         name,
     })
 }
@@ -105,6 +117,53 @@ fn commands_with_an_input_are_read(rt: HostRuntime) -> Result<(), Fail> {
     Ok(())
 }
 
+#[test]
+fn forms_of_circuits_are_read(rt: HostRuntime) -> Result<(), Fail> {
+    for (line, want) in [
+        ("qbf cert --binary", cert_in_form(true, false, None)),
+        ("qbf cert --trim f", cert_in_form(false, true, Some("f"))),
+        ("qbf cert --binary --trim", cert_in_form(true, true, None)),
+        (
+            "qbf cert --trim f --binary",
+            cert_in_form(true, true, Some("f")),
+        ),
+        (
+            "qbf cert f --binary --restarts=0 --trim",
+            cert_in_form(true, true, Some("f")),
+        ),
+        ("qbf cert --binary --binary", Err("multiple times")),
+        ("qbf cert --trim f --trim", Err("multiple times")),
+        (
+            "qbf cert --binary=false",
+            Err("unexpected value 'false' for '--binary'"),
+        ),
+        ("qbf cert --bin", Err("unexpected argument '--bin'")),
+        (
+            "qbf solve --binary",
+            Err("unexpected argument '--binary' found"),
+        ),
+        (
+            "qbf trace --trim",
+            Err("unexpected argument '--trim' found"),
+        ),
+        (
+            "qbf script f --binary",
+            Err("unexpected argument '--binary' found"),
+        ),
+        (
+            "qbf cert --help",
+            Err("--binary        Writes the circuit in AIGER's binary form\n"),
+        ),
+        (
+            "qbf cert -h",
+            Err("--trim          Leaves out gates that no output is reached from\n"),
+        ),
+    ] {
+        assert!(rt; comes_to(rt.alloc(), line, want)?, "{line}");
+    }
+    Ok(())
+}
+
 // The same with this many restarts in the place of none.
 fn with_restarts(want: Want<'_>, restarts: u32) -> Want<'_> {
     match want {
@@ -126,9 +185,19 @@ fn with_restarts(want: Want<'_>, restarts: u32) -> Want<'_> {
             restarts,
             name,
         }),
-        Ok(Command::Cert { budget, name, .. }) => Ok(Command::Cert {
+        Ok(
+            Command::Cert {
+                budget,
+                binary,
+                trim,
+                name,
+                ..
+            },
+        ) => Ok(Command::Cert {
             budget,
             restarts,
+            binary,
+            trim,
             name,
         }),
         Ok(Command::Script { budget, name, .. }) => Ok(Command::Script {

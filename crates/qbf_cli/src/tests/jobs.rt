@@ -1,4 +1,4 @@
-//! Runs that write the trace or the circuit of a formula. In the tables `/` stands for a line end.
+//! Runs that write the trace or the circuit of a formula, in its four forms. In the tables `/` stands for a line end.
 
 use super::scripts::{carry_out, lines, written};
 use std::alloc::Global;
@@ -49,6 +49,73 @@ fn traces_and_circuits_are_written(rt: HostRuntime) -> Result<(), Fail> {
         assert_eq!(rt; found.out.as_str(), want.as_str());
         assert_eq!(rt; found.flushed.as_str(), want.as_str());
         assert_eq!(rt; found.stops, 0);
+    }
+    Ok(())
+}
+
+// Whether `qbf` with these words on a formula ends with this status and writes this.
+fn writes(alloc: Global, given: &[&str], text: &str, status: u8, want: &str) -> Result<bool, Fail> {
+    let text = lines(alloc, text)?;
+    let found = carry_out(alloc, given, &text, Vec::new(alloc), Vec::new(alloc))?;
+    let want = written(alloc, want)?;
+    let is_written = found.out.as_str() == want.as_str() && found.flushed.as_str() == want.as_str();
+    Ok(found.status == status && is_written && found.err.is_empty() && found.stops == 0)
+}
+
+#[test]
+fn circuits_are_written_in_the_binary_form(rt: HostRuntime) -> Result<(), Fail> {
+    let alloc = rt.alloc();
+    let binary = ["qbf", "cert", "--binary"];
+    for (text, status, want) in [
+        (DIFFERS, 10, "aig 1 1 0 1 0/3/i0 1/o0 2/c/skolem/"),
+        (FALSE, 20, "aig 1 1 0 1 0/2/i0 2/o0 1/c/herbrand/"),
+        // The gate 6 of 4 and 2: the differences 2 and 2.
+        (
+            "p cnf 3 3/a 1 2 0/e 3 0/-3 1 0/-3 2 0/3 -1 -2 0/",
+            10,
+            "aig 3 2 0 1 1/6/\x02\x02i0 1/i1 2/o0 3/c/skolem/",
+        ),
+    ] {
+        assert!(rt; writes(alloc, &binary, text, status, want)?, "{text:?}");
+    }
+    Ok(())
+}
+
+// A grant to each of three requests (`examples/arbiter.qdimacs`).
+const ARBITER: &str = "p cnf 6 9/a 1 2 3 0/e 4 5 6 0/-4 1 0 -5 2 0 -6 3 0/-4 -5 0 -4 -6 0 -5 -6 0/\
+-1 4 5 6 0 -2 4 5 6 0 -3 4 5 6 0/";
+
+// Of its five gates no output is reached from the first two. The options may stand in any order.
+#[test]
+fn circuits_have_four_forms(rt: HostRuntime) -> Result<(), Fail> {
+    let alloc = rt.alloc();
+    for (given, want) in [
+        (
+            ["qbf", "cert"].as_slice(),
+            "aag 8 3 0 3 5/2/4/6/14/16/6/8 5 3/10 8 7/12 5 2/14 12 7/16 7 4/\
+i0 1/i1 2/i2 3/o0 4/o1 5/o2 6/c/skolem/",
+        ),
+        (
+            &["qbf", "cert", "--binary"],
+            "aig 8 3 0 3 5/14/16/6/\x03\x02\x02\x01\x07\x03\x02\x05\x09\x03\
+i0 1/i1 2/i2 3/o0 4/o1 5/o2 6/c/skolem/",
+        ),
+        (
+            &["qbf", "cert", "--trim"],
+            "aag 6 3 0 3 3/2/4/6/10/12/6/8 5 2/10 8 7/12 7 4/i0 1/i1 2/i2 3/o0 4/o1 5/o2 6/c/skolem/",
+        ),
+        (
+            &["qbf", "cert", "--trim", "--budget", "100000", "--binary"],
+            "aig 6 3 0 3 3/10/12/6/\x03\x03\x02\x01\x05\x03\
+i0 1/i1 2/i2 3/o0 4/o1 5/o2 6/c/skolem/",
+        ),
+        (
+            &["qbf", "cert", "--binary", "--trim"],
+            "aig 6 3 0 3 3/10/12/6/\x03\x03\x02\x01\x05\x03\
+i0 1/i1 2/i2 3/o0 4/o1 5/o2 6/c/skolem/",
+        ),
+    ] {
+        assert!(rt; writes(alloc, given, ARBITER, 10, want)?, "{given:?}");
     }
     Ok(())
 }
@@ -120,19 +187,23 @@ fn the_circuit_of_a_conjunction_computes_it(rt: HostRuntime) -> Result<(), Fail>
 fn each_failing_call_of_an_output_leaves_a_front(rt: HostRuntime) -> Result<(), Fail> {
     let alloc = rt.alloc();
     let text = lines(alloc, FALSE)?;
-    for (command, whole) in [
+    for (given, whole) in [
         (
-            "trace",
+            ["qbf", "trace"].as_slice(),
             "p qrp 2 5/e 2 0/a 1 0/1 1 2 0 0/2 -1 -2 0 0/3 2 0 1 0/4 -2 0 2 0/5 0 3 4 0/r UNSAT/",
         ),
-        ("cert", "aag 1 1 0 1 0/2/2/i0 2/o0 1/c/herbrand/"),
+        (&["qbf", "cert"], "aag 1 1 0 1 0/2/2/i0 2/o0 1/c/herbrand/"),
+        (
+            &["qbf", "cert", "--binary", "--trim"],
+            "aig 1 1 0 1 0/2/i0 2/o0 1/c/herbrand/",
+        ),
     ] {
         // Each byte, one by one, and the flush.
         for failing in 0..whole.len() + 1 {
             let failing = failing as u64 + 1;
             let found = carry_out(
                 alloc,
-                &["qbf", command],
+                given,
                 &text,
                 Vec::new(alloc),
                 vec![in alloc; failing]?,

@@ -58,6 +58,11 @@ fn formulas_and_counts_are_written(rt: HostRuntime) -> Result<(), Fail> {
             0,
             "formulas 1/sat 1/unsat 0/",
         ),
+        (
+            ["qbf", "demo", "0", "20"].as_slice(),
+            0,
+            "formulas 20/sat 13/unsat 7/",
+        ),
         (["qbf", "gen", "0", "2", "1"].as_slice(), 7, ""),
         (["qbf", "gen", "0", "3", "1000001"].as_slice(), 7, ""),
         (["qbf", "demo", "0", "10001"].as_slice(), 7, ""),

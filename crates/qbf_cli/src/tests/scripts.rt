@@ -3,7 +3,7 @@ ghost use Rattle.std.specs.Prelude.{◌<◌};
 
 use super::super::run::run;
 use super::{desk, words};
-use ports::MemorySink;
+use ports::{Desk, MemoryDesk, MemorySink};
 use std::alloc::Global;
 use std::test::Fail;
 
@@ -203,6 +203,7 @@ fn malformed_scripts_are_refused_behind_their_replies(rt: HostRuntime) -> Result
             written(alloc, out)?.as_str(),
             "{script:?}"
         );
+        assert_eq!(rt; found.flushed.as_str(), "", "{script:?}");
     }
     Ok(())
 }
@@ -296,6 +297,95 @@ fn a_failing_input_leaves_a_front_of_the_replies(rt: HostRuntime) -> Result<(), 
         let replies = if failing > 52 { "SAT\n" } else { "" };
         assert_eq!(rt; found.out.as_str(), replies, "{failing}");
     }
+    Ok(())
+}
+
+// How many bytes of a script are still to be read where the first call of the output fails.
+fn left_at_the_first_reply(alloc: Global, script: &[u8]) -> Result<Option<usize>, Fail> {
+    let mut desk = desk(alloc, script, 1, Vec::new(alloc))?;
+    let mut out = MemorySink::new(alloc, 64, 1, vec![in alloc; 1]?)?;
+    let mut err = MemorySink::new(alloc, 64, 64, Vec::new(alloc))?;
+    let mut stops = Vec::new(alloc);
+    let given = words(alloc, &["qbf", "script"])?;
+    if run(alloc, &given, &mut desk, &mut out, &mut err, &mut stops) != 4 {
+        return Ok(None);
+    }
+    Ok(bytes_left(&mut desk, script.len()))
+}
+
+// How many bytes of its chosen input a desk still gives, of this many at most.
+fn bytes_left(desk: &mut MemoryDesk, most: usize) -> Option<usize> {
+    let mut byte = [0; 1];
+    for count in 0..most {
+        if desk.read(&mut byte) == Ok(0) {
+            return Some(count);
+        }
+    }
+    None
+}
+
+// The reader has looked at the word behind `solve`, `value`, up to the blank that ends it: at 51 bytes of 53.
+#[test]
+fn a_reply_is_written_before_the_script_is_read_on(rt: HostRuntime) -> Result<(), Fail> {
+    let alloc = rt.alloc();
+    let script = lines(alloc, TWO_REPLIES)?;
+    assert_eq!(rt; left_at_the_first_reply(alloc, &script)?, Some(2));
+    Ok(())
+}
+
+#[test]
+fn twenty_solves_without_a_step_are_unknown(rt: HostRuntime) -> Result<(), Fail> {
+    let alloc = rt.alloc();
+    let mut script = String::from_str(alloc, "p qscript 1/scope e/var 1 1/clause 1 0/")?;
+    let mut want = String::new(alloc);
+    for _ in 0..20 {
+        script.push_str("solve/")?;
+        want.push_str("UNKNOWN/")?;
+    }
+    let spent = ["qbf", "script", "--budget", "0"];
+    assert!(rt; replies(alloc, &spent, script.as_str(), want.as_str(), 20)?);
+    Ok(())
+}
+
+// A clause that some of a thousand variables is false, of which the first is assumed to be true.
+fn thousand_literals(alloc: Global) -> Result<String, Fail> {
+    let mut script = String::from_str(alloc, "p qscript 1/scope e/")?;
+    for v in 1..1001 {
+        write!(script, "var {v} 1/")?;
+    }
+    script.push_str("clause")?;
+    for v in 1..1001 {
+        write!(script, " -{v}")?;
+    }
+    script.push_str(" 0/assume 1/solve/value 1/")?;
+    Ok(script)
+}
+
+#[test]
+fn a_clause_may_have_a_thousand_literals(rt: HostRuntime) -> Result<(), Fail> {
+    let alloc = rt.alloc();
+    let script = thousand_literals(alloc)?;
+    assert!(rt;
+        replies(
+            alloc,
+            &["qbf", "script"],
+            script.as_str(),
+            "SAT/value 1/",
+            0
+        )?
+    );
+    Ok(())
+}
+
+#[test]
+fn a_script_may_have_ten_thousand_commands(rt: HostRuntime) -> Result<(), Fail> {
+    let alloc = rt.alloc();
+    let mut script = String::from_str(alloc, "p qscript 1/scope e/var 1 1/")?;
+    for _ in 0..10_000 {
+        script.push_str("clause 1 0/")?;
+    }
+    script.push_str("solve/")?;
+    assert!(rt; replies(alloc, &["qbf", "script"], script.as_str(), "SAT/", 0)?);
     Ok(())
 }
 

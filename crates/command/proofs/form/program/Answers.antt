@@ -15,10 +15,10 @@ returns c =
     ∙ ap₂ with_subcommand bare_is (ap (λ (a : App). a.top) c.in_ok-solve.ensures.app) in
     let trace_is = c.in_ok-subcommand-2.ensures.shape c.in_ok-command.ensures.local
     ∙ ap₂ with_subcommand solve_is (ap (λ (a : App). a.top) c.in_ok-command.ensures.app) in
-    let cert_is = c.in_ok-subcommand-3.ensures.shape c.in_ok-command-2.ensures.local
-    ∙ ap₂ with_subcommand trace_is (ap (λ (a : App). a.top) c.in_ok-command-2.ensures.app) in
-    let script_is = c.in_ok-subcommand-4.ensures.shape c.in_ok-command-3.ensures.local
-    ∙ ap₂ with_subcommand cert_is (ap (λ (a : App). a.top) c.in_ok-command-3.ensures.app) in
+    let cert_is = c.in_ok-subcommand-3.ensures.shape c.in_ok-certifier.ensures.local
+    ∙ ap₂ with_subcommand trace_is (ap (λ (a : App). a.top) c.in_ok-certifier.ensures.app) in
+    let script_is = c.in_ok-subcommand-4.ensures.shape c.in_ok-command-2.ensures.local
+    ∙ ap₂ with_subcommand cert_is (ap (λ (a : App). a.top) c.in_ok-command-2.ensures.app) in
     let generator_is = c.in_ok-subcommand-5.ensures.shape c.in_ok-generator.ensures.local
     ∙ ap₂ with_subcommand script_is (ap (λ (a : App). a.top) c.in_ok-generator.ensures.app) in
     IfOk-weaker c.subcommand-6.result _ _ (λ r h. h.shape c.in_ok-demonstration.ensures.local

@@ -3,7 +3,7 @@ use Rattle.command.proofs.ValueLemmas.{set_is}
 use Rattle.command.proofs.values.is_set.Goals as goal
 
 pub returns-in-Some : goal.returns-in-Some
-returns-in-Some c = c.eq.ensures ∙ set_is c.args.found.now (Some c.in-Some.text.now) c.in-Some.ensures
+returns-in-Some c = c.eq.ensures ∙ set_is c.args.found.now c.args.name.now (Some c.in-Some.text.now) c.in-Some.ensures
 
 pub returns-in-None : goal.returns-in-None
-returns-in-None c = set_is c.args.found.now None c.in-None.ensures
+returns-in-None c = set_is c.args.found.now c.args.name.now None c.in-None.ensures

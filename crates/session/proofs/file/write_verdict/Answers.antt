@@ -1,9 +1,9 @@
 use Rattle.std.proofs.Common.{◌∙◌, Err, Ok, ap, subst, sym}
 use Rattle.std.proofs.lemmas.Result.{err_from_is_err_and}
-use Rattle.qscript.specs.declared.command.Command.TheVariants.{Cert as CertCommand, Trace as TraceCommand}
+use Rattle.qscript.specs.declared.command.Command.TheVariants.{Trace as TraceCommand}
 use Rattle.session.specs.declared.ending.Job.TheVariants.{Cert, Qdo, Trace}
-use Rattle.session.specs.Jobs.{WritesJob}
-use Rattle.session.proofs.Jobs.{certified, is_verdict, job_failed, job_sent, result_sent, traced}
+use Rattle.session.specs.Jobs.{IsAnsweredBy, WritesJob}
+use Rattle.session.proofs.Jobs.{is_verdict, job_failed, job_sent, result_sent, traced, with_truth}
 use Rattle.session.proofs.file.write_verdict.Goals as goal
 
 pub returns-in_err-_trace-in-Trace : goal.returns-in_err-_trace-in-Trace
@@ -27,28 +27,14 @@ returns-in_ok-_trace-in-Trace g c terms f s holds header is =
     TraceCommand s c.args.sink.now c.tell_trace.new.sink c.args.engine.now c.in_ok-_trace-in-Trace._trace
     (λ out after. traced terms f s after out c.args.answer there is) (c.in_ok-_trace-in-Trace.ensures terms s holds))
 
-pub returns-in_err-_circuit-in-Cert : goal.returns-in_err-_circuit-in-Cert
-returns-in_err-_circuit-in-Cert g c terms f s holds header is =
-    let p = err_from_is_err_and c.from_residual-in_err-_circuit-in-Cert.result c.from_residual-in_err-_circuit-in-Cert.ensures.1 in
-    let there = is_verdict c.args.answer c.requires in
+pub returns-in-Cert : goal.returns-in-Cert
+returns-in-Cert g c terms f s holds header is =
     subst (λ j. WritesJob g.S.Sink.written g.S.Sink.flushed g.S.Sink.faults g.S.Sink.has_room j terms f c.args.answer
-    c.args.sink.now c.tell_circuit.new.sink c.from_residual-in_err-_circuit-in-Cert.result) (sym c.in-Cert.is)
-    (subst (WritesJob g.S.Sink.written g.S.Sink.flushed g.S.Sink.faults g.S.Sink.has_room Cert terms f c.args.answer
-    c.args.sink.now c.tell_circuit.new.sink) (sym (p.1 ∙ ap Err p.2))
-    (job_failed g.S.Sink.written g.S.Sink.flushed g.S.Sink.faults g.S.Sink.has_room Cert terms f c.args.answer
-    CertCommand s c.args.sink.now c.tell_circuit.new.sink c.args.engine.now c.in_err-_circuit-in-Cert.field-0.0 there
-    (λ out after. certified terms f s after out c.args.answer there is)
-    (c.in_err-_circuit-in-Cert.ensures terms s holds)))
-
-pub returns-in_ok-_circuit-in-Cert : goal.returns-in_ok-_circuit-in-Cert
-returns-in_ok-_circuit-in-Cert g c terms f s holds header is =
-    let there = is_verdict c.args.answer c.requires in
-    subst (λ j. WritesJob g.S.Sink.written g.S.Sink.flushed g.S.Sink.faults g.S.Sink.has_room j terms f c.args.answer
-    c.args.sink.now c.tell_circuit.new.sink (Ok tt)) (sym c.in-Cert.is)
-    (job_sent g.S.Sink.written g.S.Sink.flushed g.S.Sink.faults g.S.Sink.has_room Cert terms f c.args.answer
-    CertCommand s c.args.sink.now c.tell_circuit.new.sink c.args.engine.now c.in_ok-_circuit-in-Cert._circuit
-    (λ out after. certified terms f s after out c.args.answer there is)
-    (c.in_ok-_circuit-in-Cert.ensures terms s holds))
+    c.args.sink.now c.write_certificate.new.sink c.write_certificate.result) (sym c.in-Cert.is)
+    (with_truth (λ a. IsAnsweredBy f a s → WritesJob g.S.Sink.written g.S.Sink.flushed g.S.Sink.faults
+    g.S.Sink.has_room (Cert c.in-Cert.binary c.in-Cert.trimmed) terms f a c.args.sink.now c.write_certificate.new.sink
+    c.write_certificate.result) (λ t same. c.write_certificate.ensures terms f s t holds same) c.args.answer
+    (is_verdict c.args.answer c.requires) is)
 
 pub returns-in_ok-write_result-in-Qdo : goal.returns-in_ok-write_result-in-Qdo
 returns-in_ok-write_result-in-Qdo g c terms f s holds header is =

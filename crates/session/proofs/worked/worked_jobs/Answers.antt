@@ -1,7 +1,9 @@
-use Rattle.std.proofs.Common.{◌≡◌, ◌<◌, ℕ, List, [], ◌∷◌, codes, Some, None, refl, ap, subst, arith, lit<}
+use Rattle.std.proofs.Common.{◌≡◌, ◌<◌, ℕ, Bool, true, false, List, [], ◌∷◌, codes, Some, None, refl, ap, subst, arith, lit<}
+use Rattle.std.proofs.lemmas.Bool.{false≢true, true≢false}
 use Rattle.std.specs.Prelude.{slice_index_or}
 use Rattle.std.specs.Fmt.{digits}
 use Rattle.prefix.specs.declared.quant.Quant.TheVariants.{Exists, Forall}
+use Rattle.calculus.specs.Derivations.{Inference, is_input}
 use Rattle.calculus.specs.Derivations.Reason.{Input as ByInput}
 use Rattle.calculus.proofs.Lists.{contains_nil}
 use Rattle.qrp_trace.specs.declared.listing.Line.{Line}
@@ -10,8 +12,9 @@ use Rattle.qrp_trace.specs.Cores.{IsNumbered, RestsOnNumber, step_numbered}
 use Rattle.aig.specs.Circuits.{AreDistinct}
 use Rattle.aig.specs.declared.strategy.Strategy.{Strategy}
 use Rattle.calculus.specs.Verdicts.{IsProof}
-use Rattle.session.specs.Jobs.{IsJobText}
-use Rattle.session.specs.Worked.{at_nineteen, nothing_fits}
+use Rattle.session.specs.Jobs.{IsJobText, gates_for, opened, unassumed}
+use Rattle.session.specs.Replies.{Certifies}
+use Rattle.session.specs.Worked.{anything_fits, at_nineteen, nothing_fits}
 use Rattle.session.specs.declared.answer.Answer.TheVariants.{Unsat}
 use Rattle.session.specs.declared.ending.Job.TheVariants.{Solve, Trace}
 use Rattle.session.specs.Terms.{terms_of}
@@ -45,6 +48,7 @@ trace = record {
     winner = refl;
     numbered = numbered;
     proof_steps = refl;
+    inputs_first = refl;
     text_of_core = refl;
   };
 }
@@ -69,16 +73,38 @@ no_gates = record { aig = record { inputs = 0; gates = [] }; winner = Exists; in
 none : AreDistinct []
 none i j d before within e = absurd (let no : ⊥ = omega arith in no)
 
+no_gates_certify : Certifies (opened anything_fits) (unassumed true) [] (gates_for (terms_of 0 0) anything_fits)
+    no_gates
+unfolding no_gates
+no_gates_certify = record {
+  winner = refl;
+  inputs = refl;
+  outputs = refl;
+  wins = λ inputs allowed. (refl, λ x b e. absurd (let f : None ≡ Some b = e in cc));
+  earlier = λ x i. absurd (contains_nil x i);
+  assumed = λ x b e. absurd (let f : None ≡ Some b = e in cc);
+  first_values = λ e. absurd (let f : None ≡ Some Exists = e in cc);
+  few = omega arith;
+}
+
 first_byte : List ℕ → ℕ
 first_byte text = slice_index_or text 0 0
 
+second_byte : List ℕ → ℕ
+second_byte text = slice_index_or text 1 0
+
+begins_with_input : List Inference → Bool
+begins_with_input [] = false
+begins_with_input (s ∷ steps) = is_input s.reason
+
 pub returns : goal.returns
-unfolding no_gates first_byte digits
+unfolding no_gates first_byte second_byte begins_with_input digits
 returns c = record {
   solved = unsat (codes "UNSAT\n") refl;
   not_solved = λ h. absurd (let f : 83 ≡ 85 = ap first_byte h.says in omega (arith, f));
   traced = trace;
   not_traced = λ h. absurd (let f : 85 ≡ 112 = ap first_byte h.says.text_of_core in omega (arith, f));
+  input_behind = λ text h. absurd (true≢false (ap begins_with_input h.inputs_first));
   certified = record {
     witness = record { proof = record { row = []; reason = ByInput } ∷ []; values = [] };
     is_witness = record { proof = empty_cube; values = λ e. absurd (let f : None ≡ Some Exists = e in cc) };
@@ -99,16 +125,34 @@ returns c = record {
         output_names = tt;
         distinct = none;
       };
-      winner = refl;
-      inputs = refl;
-      outputs = refl;
-      wins = λ inputs allowed. (refl, λ x b e. absurd (let f : None ≡ Some b = e in cc));
-      earlier = λ x i. absurd (contains_nil x i);
-      first_values = λ e. absurd (let f : None ≡ Some Exists = e in cc);
-      few = omega arith;
+      certifies = no_gates_certify;
+      reached = λ trim j within. absurd (let no : j < 0 = within in omega (arith, no));
     };
   };
   not_certified = λ h. absurd (let f : 112 ≡ 97 = ap first_byte h.says.denotes.lines in omega (arith, f));
+  in_binary = record {
+    witness = record { proof = record { row = []; reason = ByInput } ∷ []; values = [] };
+    is_witness = record { proof = empty_cube; values = λ e. absurd (let f : None ≡ Some Exists = e in cc) };
+    says = record {
+      strategy = no_gates;
+      denotes = record {
+        output_lines = [];
+        gate_bytes = [];
+        input_symbols = [];
+        output_symbols = [];
+        whole = refl;
+        named = refl;
+        outputs = tt;
+        gates = tt;
+        distinct = none;
+        input_names = tt;
+        output_names = tt;
+      };
+      certifies = no_gates_certify;
+      reached = λ trim. absurd (false≢true trim);
+    };
+  };
+  not_in_binary = λ h. absurd (let f : 97 ≡ 105 = ap second_byte h.says.denotes.whole in omega (arith, f));
   true_line = refl;
   false_line = refl;
   unknown_line = refl;
