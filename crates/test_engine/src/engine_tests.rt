@@ -4,6 +4,7 @@ mod limits;
 mod play;
 mod saves;
 
+use asks::falls_silent;
 use engine::Engine;
 use play::{are_frames_right, is_budget_kept, put, put_scope, truth_within};
 use prefix::Quant;
@@ -46,8 +47,8 @@ fn put_forty_universal(engine: &mut Engine) -> Result<(), Fail> {
 }
 
 // One of the two formulas above.
-#[derive(Debug, Clone, Copy)]
-enum Large {
+#[derive(Clone, Copy)]
+pub(crate) enum Large {
     ContradictionBehind,
     FortyUniversal,
 }
@@ -59,26 +60,55 @@ fn put_large(engine: &mut Engine, alloc: Global, formula: Large) -> Result<(), F
     }
 }
 
-fn decide(engine: &mut Engine, alloc: Global, formula: Large) -> Result<bool, Fail> {
-    put_large(engine, alloc, formula)?;
-    truth_within(engine, 1000)
+// What a test does with a new engine. An engine that a function owns makes its proof long, so one function owns them
+// all.
+#[derive(Clone, Copy)]
+pub(crate) enum Job {
+    // A formula has this truth, and is decided in at most a thousand steps.
+    Large(Large, bool),
+    // The verdicts of the formula that is drawn from a seed are right where a frame comes and goes.
+    Frames(u32),
+    // A solve of that formula with so many steps is right or spends them, where so many are enough.
+    Budget(u32, u64, u64),
+    // A verdict answers until a change comes.
+    Silence,
 }
 
-// The truth that an engine finds in at most a thousand steps.
-fn truth_of(alloc: Global, formula: Large) -> Result<bool, Fail> {
+fn has_truth(
+    engine: &mut Engine,
+    alloc: Global,
+    formula: Large,
+    truth: bool,
+) -> Result<bool, Fail> {
+    put_large(engine, alloc, formula)?;
+    Ok(truth_within(engine, 1000)? == truth)
+}
+
+// Whether it is so.
+fn is_done(engine: &mut Engine, alloc: Global, job: Job) -> Result<bool, Fail> {
+    match job {
+        Job::Large(formula, truth) => has_truth(engine, alloc, formula, truth),
+        Job::Frames(seed) => are_frames_right(engine, alloc, seed),
+        Job::Budget(seed, budget, enough) => is_budget_kept(engine, alloc, seed, budget, enough),
+        Job::Silence => falls_silent(engine),
+    }
+}
+
+// The same with a new engine.
+pub(crate) fn holds(alloc: Global, job: Job) -> Result<bool, Fail> {
     let mut engine = Engine::new(alloc)?;
-    decide(&mut engine, alloc, formula)
+    is_done(&mut engine, alloc, job)
 }
 
 #[test]
 fn what_comes_first_is_not_tried_again(rt: HostRuntime) -> Result<(), Fail> {
-    assert!(rt; !truth_of(rt.alloc(), Large::ContradictionBehind)?);
+    assert!(rt; holds(rt.alloc(), Job::Large(Large::ContradictionBehind, false))?);
     Ok(())
 }
 
 #[test]
 fn cubes_spare_the_values_of_universal_variables(rt: HostRuntime) -> Result<(), Fail> {
-    assert!(rt; truth_of(rt.alloc(), Large::FortyUniversal)?);
+    assert!(rt; holds(rt.alloc(), Job::Large(Large::FortyUniversal, true))?);
     Ok(())
 }
 
@@ -86,7 +116,7 @@ fn cubes_spare_the_values_of_universal_variables(rt: HostRuntime) -> Result<(), 
 #[test]
 fn verdicts_are_those_of_the_plain_recursion(rt: HostRuntime) -> Result<(), Fail> {
     for seed in 0..1000 {
-        assert!(rt; are_frames_right(rt.alloc(), seed)?, "seed {seed}");
+        assert!(rt; holds(rt.alloc(), Job::Frames(seed))?, "seed {seed}");
     }
     Ok(())
 }
@@ -97,7 +127,7 @@ fn budgets_are_kept(rt: HostRuntime) -> Result<(), Fail> {
     let enough = 3 * (8 * 6 + 8) * 128;
     for seed in 0..300 {
         for budget in [0, 1, 20, enough - 1, enough] {
-            let is_kept = is_budget_kept(rt.alloc(), seed, budget, enough)?;
+            let is_kept = holds(rt.alloc(), Job::Budget(seed, budget, enough))?;
             assert!(rt; is_kept, "seed {seed}, {budget} steps");
         }
     }

@@ -14,7 +14,6 @@ use fixtures::{Workshop, ascends, is_usable, prefix_of, row, rows};
 use prefix::{Clauses, Cubes, Lit, LitList, Prefix, Quant, Var};
 use qrp_trace::{core, finishes_end_proofs};
 use std::alloc::Global;
-use std::process::Abort;
 use std::test::Fail;
 
 // Whether a literal is over a variable.
@@ -138,11 +137,18 @@ struct Derived<'a> {
     moves: &'a [Move],
 }
 
-fn put_rows(shop: &mut Workshop, clauses: &[LitList], cubes: &[LitList]) -> Result<(), Fail> {
-    for clause in clauses {
+// Puts in clauses, each with a 0 behind it; or cubes.
+fn put_clauses(shop: &mut Workshop, alloc: Global, numbers: &[i32]) -> Result<(), Fail> {
+    let clauses = rows(alloc, numbers)?;
+    for clause in &clauses {
         shop.clause(clause.lits(), 0)?;
     }
-    for cube in cubes {
+    Ok(())
+}
+
+fn put_cubes(shop: &mut Workshop, alloc: Global, numbers: &[i32]) -> Result<(), Fail> {
+    let cubes = rows(alloc, numbers)?;
+    for cube in &cubes {
         shop.cube(cube.lits())?;
     }
     Ok(())
@@ -158,36 +164,52 @@ fn play(shop: &mut Workshop, moves: &[Move]) -> Result<(), Fail> {
     Ok(())
 }
 
+fn put_derived(shop: &mut Workshop, alloc: Global, derived: Derived) -> Result<(), Fail> {
+    put_clauses(shop, alloc, derived.clauses)?;
+    put_cubes(shop, alloc, derived.cubes)?;
+    play(shop, derived.moves)
+}
+
+// The formula's derivation.
+fn shop_of(alloc: Global, derived: Derived) -> Result<Workshop, Fail> {
+    let prefix = prefix_of(alloc, derived.quants, derived.scopes)?;
+    let mut shop = Workshop::new(alloc, prefix);
+    put_derived(&mut shop, alloc, derived)?;
+    Ok(shop)
+}
+
 // The circuit of the finish of the last step, which is an end row.
-fn circuit(alloc: Global, shop: Workshop, assumptions: &[Lit]) -> Result<Strategy, Fail>
+fn last_circuit(
+    alloc: Global,
+    prefix: &Prefix,
+    derivation: &mut Derivation,
+    assumptions: &[Lit],
+) -> Result<Strategy, Fail>
+    requires rows { IsTrue (has_rows derivation.old) }
+    requires legal { IsLegalFor prefix.now derivation.old }
     ensures { IfOk result IsStrategy }
 {
-    let (prefix, mut derivation) = shop.into_parts();
     let end = derivation.next_id().saturating_sub(1);
-    if !is_usable(&derivation, end) {
+    if !is_usable(derivation, end) {
         return Err("no end")?;
     }
-    if !ascends(assumptions) || !are_outer(&prefix, assumptions) {
+    if !ascends(assumptions) || !are_outer(prefix, assumptions) {
         return Err("no assumptions")?;
     }
     let side = derivation.side(end);
-    if !is_end_row(side, &prefix, assumptions, derivation.lits(end)) {
+    if !is_end_row(side, prefix, assumptions, derivation.lits(end)) {
         return Err("no end row")?;
     }
-    finished_circuit(alloc, &prefix, &mut derivation, end, assumptions)
+    finished_circuit(alloc, prefix, derivation, end, assumptions)
 }
 
 // The circuit of a derivation whose last step is an end row, under assumptions.
 fn circuit_of(alloc: Global, derived: Derived, assumptions: &[Lit]) -> Result<Strategy, Fail>
     ensures { IfOk result IsStrategy }
 {
-    let clauses = rows(alloc, derived.clauses)?;
-    let cubes = rows(alloc, derived.cubes)?;
-    let prefix = prefix_of(alloc, derived.quants, derived.scopes)?;
-    let mut shop = Workshop::new(alloc, prefix);
-    put_rows(&mut shop, &clauses, &cubes)?;
-    play(&mut shop, derived.moves)?;
-    circuit(alloc, shop, assumptions)
+    let shop = shop_of(alloc, derived)?;
+    let (prefix, mut derivation) = shop.into_parts();
+    last_circuit(alloc, &prefix, &mut derivation, assumptions)
 }
 
 // The value of a variable, whose number is its place.
@@ -223,25 +245,20 @@ fn all_true(values: &[bool], rows: &[LitList]) -> bool {
     rows.iter().all(|row| has_true(values, row.lits()))
 }
 
-// The values with those of the outputs put in.
-fn played(alloc: Global, strategy: &Strategy, values: &[bool]) -> Result<Vec<bool>, Fail>
-    requires { IsStrategy strategy.now }
-{
+// The values of the inputs.
+fn inputs_of(alloc: Global, strategy: &Strategy, values: &[bool]) -> Result<Vec<bool>, Fail> {
     let mut inputs = Vec::new(alloc);
     for v in strategy.inputs.vars() {
         inputs.push(value(values, *v))?;
     }
+    Ok(inputs)
+}
+
+// A place for the value of each gate.
+fn scratch_for(alloc: Global, strategy: &Strategy) -> Result<Vec<bool>, Fail> {
     let mut scratch = Vec::new(alloc);
     scratch.resize(strategy.aig.gates(), false)?;
-    if inputs.len() < strategy.aig.inputs() as usize || scratch.len() < strategy.aig.gates() {
-        return Err("no room")?;
-    }
-    let mut all = Vec::from_slice(alloc, values)?;
-    for output in strategy.outputs.outputs() {
-        let value = strategy.aig.value(output.edge, &inputs, &mut scratch);
-        put(&mut all, output.var, value);
-    }
-    Ok(all)
+    Ok(scratch)
 }
 
 fn put(values: &mut Vec<bool>, v: Var, value: bool) {
@@ -251,10 +268,58 @@ fn put(values: &mut Vec<bool>, v: Var, value: bool) {
     }
 }
 
-// Against all inputs that keep to the assumptions the matrix is decided for the winner, and its own variables keep to
-// them.
-fn check_wins(
-    rt: &impl Abort,
+// Puts the values of the outputs in, where there are values of the inputs and places for those of the gates.
+fn put_outputs(
+    strategy: &Strategy,
+    inputs: &[bool],
+    scratch: &mut [bool],
+    values: &mut Vec<bool>,
+) -> Result<(), Fail>
+    requires { IsStrategy strategy.now }
+{
+    if inputs.len() < strategy.aig.inputs() as usize || scratch.len() < strategy.aig.gates() {
+        return Err("no room")?;
+    }
+    for output in strategy.outputs.outputs() {
+        let value = strategy.aig.value(output.edge, inputs, scratch);
+        put(values, output.var, value);
+    }
+    Ok(())
+}
+
+// The values with those of the outputs put in.
+fn played(alloc: Global, strategy: &Strategy, values: &[bool]) -> Result<Vec<bool>, Fail>
+    requires { IsStrategy strategy.now }
+{
+    let inputs = inputs_of(alloc, strategy, values)?;
+    let mut scratch = scratch_for(alloc, strategy)?;
+    let mut all = Vec::from_slice(alloc, values)?;
+    put_outputs(strategy, &inputs, &mut scratch, &mut all)?;
+    Ok(all)
+}
+
+// Whether, with these values of the inputs, the matrix is decided for the winner and its own variables keep to the
+// assumptions, where those values do.
+fn wins_at(
+    alloc: Global,
+    strategy: &Strategy,
+    clauses: &[LitList],
+    assumptions: &[Lit],
+    bits: u32,
+) -> Result<bool, Fail>
+    requires { IsStrategy strategy.now }
+{
+    let given = values_of(alloc, bits)?;
+    if !are_true(&given, assumptions) {
+        return Ok(true);
+    }
+    let all = played(alloc, strategy, &given)?;
+    let is_true = strategy.winner == Quant::Exists;
+    Ok(all_true(&all, clauses) == is_true && are_true(&all, assumptions))
+}
+
+// The same for all values. Fails with the first that don't.
+fn wins(
     alloc: Global,
     strategy: &Strategy,
     clauses: &[LitList],
@@ -263,15 +328,8 @@ fn check_wins(
     requires { IsStrategy strategy.now }
 {
     for bits in 0..512 {
-        let given = values_of(alloc, bits)?;
-        if are_true(&given, assumptions) {
-            let all = played(alloc, strategy, &given)?;
-            assert_eq!(rt;
-                all_true(&all, clauses),
-                strategy.winner == Quant::Exists,
-                "{bits}"
-            );
-            assert!(rt; are_true(&all, assumptions));
+        if !wins_at(alloc, strategy, clauses, assumptions, bits)? {
+            return Err(("values", bits))?;
         }
     }
     Ok(())
@@ -288,21 +346,79 @@ fn has_edges(strategy: &Strategy, numbers: &[u128]) -> bool {
             .all(|(output, number)| output.edge.number(inputs) == *number)
 }
 
-// A formula with a derivation, what is assumed, and the numbers of its circuit's edges.
+// Whether 3 is true exactly where 1 is and 2 isn't, and 6 where 4 is and 5 isn't.
+fn is_first_at(alloc: Global, strategy: &Strategy, bits: u32) -> Result<bool, Fail>
+    requires { IsStrategy strategy.now }
+{
+    let given = values_of(alloc, bits)?;
+    let all = played(alloc, strategy, &given)?;
+    Ok(
+        all.get(3).copied() == Some(bits / 2 % 2 == 1 && bits / 4 % 2 == 0)
+            && all.get(6).copied() == Some(bits / 16 % 2 == 1 && bits / 32 % 2 == 0),
+    )
+}
+
+// The same for all values of the inputs.
+fn are_first(alloc: Global, strategy: &Strategy) -> Result<bool, Fail>
+    requires { IsStrategy strategy.now }
+{
+    for bits in 0..512 {
+        if !is_first_at(alloc, strategy, bits)? {
+            return Ok(false);
+        }
+    }
+    Ok(true)
+}
+
+// What a circuit is, beside that it wins: it has no gate and such edges; anything; or the values of 3 and of 6 are
+// those that `is_first_at` looks for.
+#[derive(Clone, Copy)]
+enum Form {
+    Edges,
+    Any,
+    First,
+}
+
+// A formula with a derivation, what is assumed, the form of its circuit, and the numbers of its edges for `Edges`.
 #[derive(Clone, Copy)]
 struct Case<'a> {
     derived: Derived<'a>,
     assumptions: &'a [i32],
+    form: Form,
     edges: &'a [u128],
 }
 
-fn check(rt: &impl Abort, alloc: Global, case: Case) -> Result<(), Fail> {
+fn has_form(alloc: Global, strategy: &Strategy, case: Case) -> Result<bool, Fail>
+    requires { IsStrategy strategy.now }
+{
+    match case.form {
+        Form::Edges => Ok(strategy.aig.gates() == 0 && has_edges(strategy, case.edges)),
+        Form::Any => Ok(true),
+        Form::First => are_first(alloc, strategy),
+    }
+}
+
+fn check_circuit(
+    alloc: Global,
+    strategy: &Strategy,
+    case: Case,
+    assumptions: &[Lit],
+) -> Result<(), Fail>
+    requires { IsStrategy strategy.now }
+{
+    if !has_form(alloc, strategy, case)? {
+        return Err("another circuit")?;
+    }
+    let clauses = rows(alloc, case.derived.clauses)?;
+    wins(alloc, strategy, &clauses, assumptions)
+}
+
+// Against all inputs that keep to the assumptions the matrix is decided for the winner, and its own variables keep to
+// them; and the circuit has its form.
+fn check(alloc: Global, case: Case) -> Result<(), Fail> {
     let assumptions = row(alloc, case.assumptions)?;
     let strategy = circuit_of(alloc, case.derived, &assumptions)?;
-    assert_eq!(rt; strategy.aig.gates(), 0);
-    assert!(rt; has_edges(&strategy, case.edges));
-    let clauses = rows(alloc, case.derived.clauses)?;
-    check_wins(rt, alloc, &strategy, &clauses, &assumptions)
+    check_circuit(alloc, &strategy, case, &assumptions)
 }
 
 // Formulas whose circuits have no gate: one false, one true, one true by a single cube, and three under assumptions.
@@ -320,6 +436,7 @@ fn small_circuits(rt: HostRuntime) -> Result<(), Fail> {
                 moves: &[Resolve(1, 3, 2)],
             },
             assumptions: &[],
+            form: Form::Edges,
             edges: &[2],
         },
         Case {
@@ -331,6 +448,7 @@ fn small_circuits(rt: HostRuntime) -> Result<(), Fail> {
                 moves: &[Reduce(2), Reduce(3), Resolve(5, 4, 1)],
             },
             assumptions: &[],
+            form: Form::Edges,
             edges: &[3],
         },
         Case {
@@ -342,6 +460,7 @@ fn small_circuits(rt: HostRuntime) -> Result<(), Fail> {
                 moves: &[],
             },
             assumptions: &[],
+            form: Form::Edges,
             edges: &[1],
         },
         Case {
@@ -353,6 +472,7 @@ fn small_circuits(rt: HostRuntime) -> Result<(), Fail> {
                 moves: &[Resolve(0, 1, 2)],
             },
             assumptions: &[-1],
+            form: Form::Edges,
             edges: &[0],
         },
         Case {
@@ -364,6 +484,7 @@ fn small_circuits(rt: HostRuntime) -> Result<(), Fail> {
                 moves: &[Resolve(0, 1, 2)],
             },
             assumptions: &[-1],
+            form: Form::Edges,
             edges: &[0, 1],
         },
         Case {
@@ -375,10 +496,11 @@ fn small_circuits(rt: HostRuntime) -> Result<(), Fail> {
                 moves: &[],
             },
             assumptions: &[-1, 2],
+            form: Form::Edges,
             edges: &[],
         },
     ] {
-        check(&rt, rt.alloc(), case)?;
+        check(rt.alloc(), case)?;
     }
     Ok(())
 }
@@ -388,7 +510,6 @@ fn small_circuits(rt: HostRuntime) -> Result<(), Fail> {
 fn a_conjunction(rt: HostRuntime) -> Result<(), Fail> {
     use Move::{Reduce, Resolve};
     use Quant::{Exists, Forall};
-    let alloc = rt.alloc();
     let derived = Derived {
         quants: &[Forall, Exists],
         scopes: &[1, 1, 2],
@@ -402,8 +523,13 @@ fn a_conjunction(rt: HostRuntime) -> Result<(), Fail> {
             Resolve(9, 8, 2),
         ],
     };
-    let strategy = circuit_of(alloc, derived, &[])?;
-    check_wins(&rt, alloc, &strategy, &rows(alloc, derived.clauses)?, &[])
+    let case = Case {
+        derived,
+        assumptions: &[],
+        form: Form::Any,
+        edges: &[],
+    };
+    check(rt.alloc(), case)
 }
 
 // The formula of Kleine Büning, Karpinski and Flögel over two universal variables, 3 and 6. Where 1 and 2 are false,
@@ -413,7 +539,6 @@ fn a_conjunction(rt: HostRuntime) -> Result<(), Fail> {
 fn the_first_falsified_reduction_rules(rt: HostRuntime) -> Result<(), Fail> {
     use Move::{Reduce, Resolve};
     use Quant::{Exists, Forall};
-    let alloc = rt.alloc();
     let derived = Derived {
         quants: &[Exists, Forall, Exists, Forall, Exists],
         scopes: &[1, 1, 2, 3, 3, 4, 5, 5],
@@ -443,18 +568,11 @@ fn the_first_falsified_reduction_rules(rt: HostRuntime) -> Result<(), Fail> {
             Resolve(24, 25, 2),
         ],
     };
-    let strategy = circuit_of(alloc, derived, &[])?;
-    check_wins(&rt, alloc, &strategy, &rows(alloc, derived.clauses)?, &[])?;
-    for bits in 0..512 {
-        let all = played(alloc, &strategy, &values_of(alloc, bits)?)?;
-        assert_eq!(rt;
-            all.get(3).copied(),
-            Some(bits / 2 % 2 == 1 && bits / 4 % 2 == 0)
-        );
-        assert_eq!(rt;
-            all.get(6).copied(),
-            Some(bits / 16 % 2 == 1 && bits / 32 % 2 == 0)
-        );
-    }
-    Ok(())
+    let case = Case {
+        derived,
+        assumptions: &[],
+        form: Form::First,
+        edges: &[],
+    };
+    check(rt.alloc(), case)
 }

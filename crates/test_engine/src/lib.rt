@@ -1,10 +1,8 @@
-//! Tests of the crates `qrp_trace`, `extract`, `engine` and `example_engine`.
+//! Tests of the crates `qrp_trace`, `extract` and `engine`.
 #![tactic(auto)]
 
 #[cfg(test)]
 mod engine_tests;
-#[cfg(test)]
-mod example_tests;
 #[cfg(test)]
 mod extract_tests;
 #[cfg(test)]

@@ -1,16 +1,84 @@
 //! Tests of `qrp_trace`.
 use derive::StepId;
-use fixtures::{Workshop, literal, prefix_of};
+use fixtures::{Workshop, literal, other, prefix_of};
 use ports::{Failed, MemorySink};
-use prefix::Quant;
+use prefix::{Prefix, Quant};
 use qrp_trace::{Core, core, write_trace};
 use std::alloc::Global;
 use std::test::Fail;
 
-// No steps, over variable 2 under exists, then 1 under forall.
-fn shop_of(alloc: Global) -> Result<Workshop, Fail> {
-    let prefix = prefix_of(alloc, &[Quant::Exists, Quant::Forall], &[2, 1])?;
-    Ok(Workshop::new(alloc, prefix))
+const REFUTATION: &str =
+    "p qrp 2 5\ne 2 0\na 1 0\n1 1 2 0 0\n2 -1 -2 0 0\n3 2 0 1 0\n4 -2 0 2 0\n5 0 3 4 0\nr UNSAT\n";
+
+const CONFIRMATION: &str = "p qrp 2 2\ne 2 0\na 1 0\n1 2 0 0\n2 0 1 0\nr SAT\n";
+
+// Whether a core is written as this text.
+fn is_text(core: &Core, prefix: &Prefix, sink: &mut MemorySink, want: &str) -> Result<bool, Fail> {
+    write_trace(core, prefix, sink)?;
+    Ok(sink.bytes() == want.as_bytes())
+}
+
+fn has_text(alloc: Global, core: &Core, prefix: &Prefix, want: &str) -> Result<bool, Fail> {
+    let mut sink = MemorySink::new(alloc, 200, 7, Vec::new(alloc))?;
+    is_text(core, prefix, &mut sink, want)
+}
+
+// Whether a core's winner is this one, and the other side loses.
+fn is_won_by(core: &Core, winner: Quant) -> bool {
+    core.winner() == winner && core.loser() == other(winner)
+}
+
+// Whether a fault of the sink leaves so many bytes of the front of the refutation.
+fn leaves(core: &Core, prefix: &Prefix, sink: &mut MemorySink, written: usize) -> bool {
+    if write_trace(core, prefix, sink) != Err(Failed) {
+        return false;
+    }
+    REFUTATION.as_bytes().starts_with(sink.bytes()) && sink.bytes().len() == written
+}
+
+// The room of a sink, the call of it that fails, and how much of the text is written then.
+type Fault = (usize, u64, usize);
+
+fn is_fault(alloc: Global, core: &Core, prefix: &Prefix, fault: Fault) -> Result<bool, Fail> {
+    let (room, failing, written) = fault;
+    let failing = vec![in alloc; failing]?;
+    let mut sink = MemorySink::new(alloc, room, 64, failing)?;
+    Ok(leaves(core, prefix, &mut sink, written))
+}
+
+fn are_faults(alloc: Global, core: &Core, prefix: &Prefix, faults: &[Fault]) -> Result<bool, Fail> {
+    for fault in faults {
+        if !is_fault(alloc, core, prefix, *fault)? {
+            return Ok(false);
+        }
+    }
+    Ok(true)
+}
+
+// What a test looks for.
+#[derive(Clone, Copy)]
+enum Look {
+    // The text of the refutation, which the universal side wins.
+    Refutation,
+    // The text of the confirmation, which the existential side wins.
+    Confirmation,
+    // What faults leave of the refutation.
+    Faults,
+}
+
+fn is_so(alloc: Global, core: &Core, prefix: &Prefix, look: Look) -> Result<bool, Fail> {
+    match look {
+        Look::Refutation => {
+            Ok(has_text(alloc, core, prefix, REFUTATION)? && is_won_by(core, Quant::Forall))
+        }
+        Look::Confirmation => {
+            Ok(has_text(alloc, core, prefix, CONFIRMATION)? && is_won_by(core, Quant::Exists))
+        }
+        Look::Faults => {
+            let faults = [(200, 1, 0), (200, 3, 12), (200, 11, 28), (20, 99, 20)];
+            are_faults(alloc, core, prefix, &faults)
+        }
+    }
 }
 
 // The core of a live step.
@@ -22,66 +90,60 @@ fn core_of(alloc: Global, shop: &Workshop, end: StepId) -> Result<Core, Fail> {
     Ok(core(alloc, derivation, end)?)
 }
 
-// Whether the core of a live step has this text.
-fn traces(alloc: Global, shop: &Workshop, end: StepId, want: &str) -> Result<bool, Fail> {
-    let mut sink = MemorySink::new(alloc, 200, 7, Vec::new(alloc))?;
-    write_trace(&core_of(alloc, shop, end)?, shop.prefix(), &mut sink)?;
-    Ok(sink.bytes() == want.as_bytes())
+// Whether it is so of that core.
+fn is_so_of(alloc: Global, shop: &Workshop, end: StepId, look: Look) -> Result<bool, Fail> {
+    let core = core_of(alloc, shop, end)?;
+    is_so(alloc, &core, shop.prefix(), look)
 }
 
-const REFUTATION: &str =
-    "p qrp 2 5\ne 2 0\na 1 0\n1 1 2 0 0\n2 -1 -2 0 0\n3 2 0 1 0\n4 -2 0 2 0\n5 0 3 4 0\nr UNSAT\n";
-
 // The clauses 1 2 and -1 -2 with their reductions, and the empty resolvent of these.
-fn refuted(alloc: Global) -> Result<(Workshop, StepId), Fail> {
-    let mut shop = shop_of(alloc)?;
+fn refute(shop: &mut Workshop) -> Result<StepId, Fail> {
     shop.clause(&[literal(1)?, literal(2)?], 0)?;
     shop.clause(&[literal(-1)?, literal(-2)?], 0)?;
-    let end = shop.resolve(1, 3, 2)?;
-    Ok((shop, end))
+    shop.resolve(1, 3, 2)
+}
+
+// An initial cube, and its finish.
+fn confirm(shop: &mut Workshop) -> Result<StepId, Fail> {
+    let cube = shop.cube(&[literal(2)?])?;
+    shop.finish(cube, &[])
+}
+
+// The last step of what a test looks at.
+fn end_of(shop: &mut Workshop, look: Look) -> Result<StepId, Fail> {
+    match look {
+        Look::Confirmation => confirm(shop),
+        _ => refute(shop),
+    }
+}
+
+fn is_shown(alloc: Global, shop: &mut Workshop, look: Look) -> Result<bool, Fail> {
+    let end = end_of(shop, look)?;
+    is_so_of(alloc, shop, end, look)
+}
+
+// The same of a new derivation, over variable 2 under exists, then 1 under forall.
+fn holds(alloc: Global, look: Look) -> Result<bool, Fail> {
+    let prefix = prefix_of(alloc, &[Quant::Exists, Quant::Forall], &[2, 1])?;
+    let mut shop = Workshop::new(alloc, prefix);
+    is_shown(alloc, &mut shop, look)
 }
 
 #[test]
 fn a_false_formula_has_this_trace(rt: HostRuntime) -> Result<(), Fail> {
-    let (shop, end) = refuted(rt.alloc())?;
-    assert!(rt; traces(rt.alloc(), &shop, end, REFUTATION)?);
-    let core = core_of(rt.alloc(), &shop, end)?;
-    assert_eq!(rt;
-        (core.winner(), core.loser()),
-        (Quant::Forall, Quant::Exists)
-    );
+    assert!(rt; holds(rt.alloc(), Look::Refutation)?);
     Ok(())
 }
 
-// An initial cube, and its finish.
 #[test]
 fn a_true_formula_has_this_trace(rt: HostRuntime) -> Result<(), Fail> {
-    let mut shop = shop_of(rt.alloc())?;
-    let cube = shop.cube(&[literal(2)?])?;
-    let end = shop.finish(cube, &[])?;
-    assert!(rt;
-        traces(
-            rt.alloc(),
-            &shop,
-            end,
-            "p qrp 2 2\ne 2 0\na 1 0\n1 2 0 0\n2 0 1 0\nr SAT\n"
-        )?
-    );
+    assert!(rt; holds(rt.alloc(), Look::Confirmation)?);
     Ok(())
 }
 
 // The call of the sink that fails, or its want of room, and how much of the text is written then.
 #[test]
 fn a_fault_leaves_a_front(rt: HostRuntime) -> Result<(), Fail> {
-    let (shop, end) = refuted(rt.alloc())?;
-    let core = core_of(rt.alloc(), &shop, end)?;
-    let whole = REFUTATION.as_bytes();
-    for (room, failing, written) in [(200, 1, 0), (200, 3, 12), (200, 11, 28), (20, 99, 20)] {
-        let failing = vec![in rt.alloc(); failing]?;
-        let mut sink = MemorySink::new(rt.alloc(), room, 64, failing)?;
-        assert_eq!(rt; write_trace(&core, shop.prefix(), &mut sink), Err(Failed));
-        assert!(rt; whole.starts_with(sink.bytes()));
-        assert_eq!(rt; sink.bytes().len(), written);
-    }
+    assert!(rt; holds(rt.alloc(), Look::Faults)?);
     Ok(())
 }

@@ -1,101 +1,375 @@
 //! Tests of `derive`.
-ghost use Rattle.std.specs.Prelude.{IsTrue};
-ghost use Rattle.derive.specs.State.{has_rows, is_step};
+ghost use Rattle.std.specs.Prelude.{◌≡◌, ℕ, IsTrue};
+ghost use Rattle.rows.specs.Arena.{is_live, next_id};
+ghost use Rattle.derive.specs.State.{has_rows};
 
-use derive::{Derivation, Step};
-use fixtures::{Workshop, by_turns, literal, row, variable};
-use prefix::{Prefix, Quant};
+use super::rows_tests::{has_link, has_lits};
+use derive::{Derivation, Step, StepId};
+use fixtures::{Workshop, by_turns, other, row, variable};
+use prefix::Quant;
+use rows::Rows;
 use std::alloc::Global;
-use std::process::Abort;
 use std::test::Fail;
 
-// No steps, over variable 1 under this quantifier and then 2 under the other one.
-fn shop_of(alloc: Global, outer: Quant) -> Result<Workshop, Fail> {
-    Ok(Workshop::new(alloc, by_turns(alloc, outer, &[1, 1])?))
+// What a step is.
+#[derive(Clone, Copy)]
+enum Kind {
+    Clause,
+    Cube,
+    Reduced(StepId),
+    Finished(StepId),
+    // Of two steps, on the variable with a number.
+    Resolved(StepId, StepId, u32),
+}
+
+// What a test does to a derivation, or what it looks whether it is so. Literals are given by their numbers, filled up
+// with 0.
+#[derive(Clone, Copy)]
+enum Turn {
+    // Puts in a clause of a frame; its id, and that of its reduction.
+    Clause([i32; 2], usize, (StepId, StepId)),
+    // Puts in a cube, the reduction of a step, a resolvent on the variable with a number, or the finish of a row under
+    // assumptions; the id.
+    Cube([i32; 2], StepId),
+    Reduce(StepId, StepId),
+    Resolve(StepId, StepId, u32, StepId),
+    Finish(StepId, [i32; 2], StepId),
+    DropFrame(usize),
+    CutTo(StepId),
+    // Looks whether a step is live, isn't, or comes next.
+    Live(StepId),
+    Gone(StepId),
+    Next(StepId),
+    // Looks whether a live step has these literals; and whether it is this, with this tag, too.
+    HasRow(StepId, [i32; 2]),
+    Has(StepId, Kind, usize, [i32; 2]),
+}
+
+fn put_clause(
+    shop: &mut Workshop,
+    alloc: Global,
+    numbers: &[i32],
+    frame: usize,
+    ids: (StepId, StepId),
+) -> Result<bool, Fail> {
+    let lits = row(alloc, numbers)?;
+    Ok(shop.clause(&lits, frame)? == ids)
+}
+
+fn put_cube(shop: &mut Workshop, alloc: Global, numbers: &[i32], id: StepId) -> Result<bool, Fail> {
+    let lits = row(alloc, numbers)?;
+    Ok(shop.cube(&lits)? == id)
+}
+
+fn finish(
+    shop: &mut Workshop,
+    alloc: Global,
+    end: StepId,
+    numbers: &[i32],
+    id: StepId,
+) -> Result<bool, Fail> {
+    let assumptions = row(alloc, numbers)?;
+    Ok(shop.finish(end, &assumptions)? == id)
+}
+
+fn step_of(kind: Kind) -> Result<Step, Fail> {
+    match kind {
+        Kind::Clause => Ok(Step::InputClause),
+        Kind::Cube => Ok(Step::InputCube),
+        Kind::Reduced(a) => Ok(Step::Reduced(a)),
+        Kind::Finished(a) => Ok(Step::Finished(a)),
+        Kind::Resolved(a, b, number) => {
+            let pivot = variable(number)?;
+            Ok(Step::Resolved { a, b, pivot })
+        }
+    }
+}
+
+fn has(shop: &Workshop, id: StepId, kind: Kind, tag: usize, numbers: &[i32]) -> Result<bool, Fail> {
+    let step = step_of(kind)?;
+    shop.has(id, step, tag, numbers)
+}
+
+// Whether what a turn looks for is so.
+fn is_so(shop: &Workshop, turn: Turn) -> Result<bool, Fail> {
+    match turn {
+        Turn::Live(id) => Ok(shop.derivation().is_live(id)),
+        Turn::Gone(id) => Ok(!shop.derivation().is_live(id)),
+        Turn::Next(id) => Ok(shop.derivation().next_id() == id),
+        Turn::HasRow(id, numbers) => shop.has_row(id, &numbers),
+        Turn::Has(id, kind, tag, numbers) => has(shop, id, kind, tag, &numbers),
+        _ => Ok(false),
+    }
+}
+
+// Drops a frame, or what was put in from a step on; any other turn isn't made.
+fn drop_some(shop: &mut Workshop, turn: Turn) -> bool {
+    match turn {
+        Turn::DropFrame(frame) => {
+            shop.drop_frame(frame);
+            true
+        }
+        Turn::CutTo(first) => {
+            shop.cut_to(first);
+            true
+        }
+        _ => false,
+    }
+}
+
+// Makes a turn; whether it gave what it says.
+fn make(shop: &mut Workshop, alloc: Global, turn: Turn) -> Result<bool, Fail> {
+    match turn {
+        Turn::Clause(numbers, frame, ids) => put_clause(shop, alloc, &numbers, frame, ids),
+        Turn::Cube(numbers, id) => put_cube(shop, alloc, &numbers, id),
+        Turn::Reduce(a, id) => Ok(shop.reduce(a)? == id),
+        Turn::Resolve(a, b, pivot, id) => Ok(shop.resolve(a, b, pivot)? == id),
+        Turn::Finish(end, numbers, id) => finish(shop, alloc, end, &numbers, id),
+        Turn::DropFrame(_) | Turn::CutTo(_) => Ok(drop_some(shop, turn)),
+        _ => is_so(shop, turn),
+    }
+}
+
+// Makes turns. Fails with the place of the first one that isn't as it says, from 0.
+fn make_all(shop: &mut Workshop, alloc: Global, turns: &[Turn]) -> Result<(), Fail> {
+    for (place, turn) in turns.iter().enumerate() {
+        if !make(shop, alloc, *turn)? {
+            return Err(("turn", place))?;
+        }
+    }
+    Ok(())
+}
+
+// A derivation after these turns, over scopes of so many variables each by turns, from this quantifier on.
+fn shop_after(
+    alloc: Global,
+    outer: Quant,
+    sizes: &[u64],
+    turns: &[Turn],
+) -> Result<Workshop, Fail> {
+    let mut shop = Workshop::new(alloc, by_turns(alloc, outer, sizes)?);
+    make_all(&mut shop, alloc, turns)?;
+    Ok(shop)
+}
+
+// What is done to a derivation after its turns: nothing, or finishes are dropped, or the steps that name a variable, or
+// the rows are taken and put back.
+#[derive(Clone, Copy)]
+enum End {
+    Plain,
+    Unfinished,
+    Named,
+    Taken,
+}
+
+// Whether it does what it should.
+fn is_right(alloc: Global, derivation: &mut Derivation, end: End) -> Result<bool, Fail>
+    requires { IsTrue (has_rows derivation.old) }
+{
+    match end {
+        End::Plain => Ok(true),
+        End::Unfinished => Ok(is_unfinished(derivation)),
+        End::Named => go_with_variables(derivation),
+        End::Taken => links_stay(alloc, derivation),
+    }
+}
+
+// The same. Fails where it doesn't.
+fn come_to(alloc: Global, derivation: &mut Derivation, end: End) -> Result<(), Fail>
+    requires { IsTrue (has_rows derivation.old) }
+{
+    if !is_right(alloc, derivation, end)? {
+        return Err("another end")?;
+    }
+    Ok(())
+}
+
+// Makes turns and comes to an end, over scopes of so many variables each by turns, from this quantifier on.
+fn play_to(
+    alloc: Global,
+    outer: Quant,
+    sizes: &[u64],
+    turns: &[Turn],
+    end: End,
+) -> Result<(), Fail> {
+    let shop = shop_after(alloc, outer, sizes, turns)?;
+    let (_prefix, mut derivation) = shop.into_parts();
+    come_to(alloc, &mut derivation, end)
+}
+
+// Makes turns over variable 1 under this quantifier and then 2 under the other one.
+fn play(alloc: Global, outer: Quant, turns: &[Turn]) -> Result<(), Fail> {
+    play_to(alloc, outer, &[1, 1], turns, End::Plain)
+}
+
+// Whether step 0 is live and step 1 isn't, once finishes are dropped.
+fn is_unfinished(derivation: &mut Derivation) -> bool
+    requires { IsTrue (has_rows derivation.old) }
+{
+    derivation.drop_finish();
+    derivation.is_live(0) && !derivation.is_live(1)
+}
+
+// Which of the steps 0 and 1 are live.
+fn are_live(derivation: &Derivation) -> (bool, bool) {
+    (derivation.is_live(0), derivation.is_live(1))
+}
+
+// Whether of the steps 0 and 1 the first goes with variable 1, and the second with variable 3.
+fn go_with_variables(derivation: &mut Derivation) -> Result<bool, Fail>
+    requires { IsTrue (has_rows derivation.old) }
+{
+    let (one, three) = (variable(1)?, variable(3)?);
+    derivation.drop_var(one);
+    let first = are_live(derivation);
+    derivation.drop_var(three);
+    Ok(first == (false, true) && are_live(derivation) == (false, false))
+}
+
+// Whether step 1, while the rows are taken, is the clause of frame 1 that it was, and the last step.
+fn is_last_clause(derivation: &Derivation) -> bool {
+    derivation.is_live(1)
+        && derivation.step(1) == Step::InputClause
+        && derivation.tag(1) == 1
+        && derivation.next_id() == 2
+}
+
+// Whether two rows are there, of which both are live.
+fn are_two(rows: &Rows) -> bool {
+    rows.next_id() == 2 && rows.is_live(0) && rows.is_live(1)
+}
+
+// Writes link field 5 of row 0, if that is live.
+fn link_first(rows: &mut Rows)
+    ensures next { next_id rows.new ≡ next_id rows.old }
+    ensures live { (id : ℕ) → is_live rows.new id ≡ is_live rows.old id }
+{
+    if !rows.is_live(0) {
+        return;
+    }
+    rows.set_link(0, 5, Some(9));
+}
+
+// Takes the rows, writes a link field of the first, and puts them back; whether all looked right in between.
+fn link_taken(derivation: &mut Derivation) -> bool
+    requires { IsTrue (has_rows derivation.old) }
+    ensures { IsTrue (has_rows derivation.new) }
+{
+    let mut rows = derivation.take_rows();
+    let is_right = is_last_clause(derivation) && are_two(&rows);
+    link_first(&mut rows);
+    derivation.put_rows(rows);
+    is_right
+}
+
+// Whether the first row has its literal and its link, and the second goes with frame 1.
+fn is_linked(alloc: Global, derivation: &mut Derivation) -> Result<bool, Fail>
+    requires { IsTrue (has_rows derivation.old) }
+{
+    derivation.drop_frame(1);
+    let rows = derivation.take_rows();
+    let is_as_it_was = !rows.is_live(1) && has_link(&rows, 0, 5, Some(9));
+    Ok(has_lits(&rows, alloc, 0, &[1])? && is_as_it_was)
+}
+
+// Whether links and steps are right while the rows are taken, and after they are put back.
+fn links_stay(alloc: Global, derivation: &mut Derivation) -> Result<bool, Fail>
+    requires { IsTrue (has_rows derivation.old) }
+{
+    let is_right = link_taken(derivation);
+    Ok(is_linked(alloc, derivation)? && is_right)
 }
 
 #[test]
 fn a_frame_takes_what_rests_on_it(rt: HostRuntime) -> Result<(), Fail> {
-    let mut shop = shop_of(rt.alloc(), Quant::Exists)?;
-    assert_eq!(rt; shop.clause(&[literal(1)?], 0)?, (0, 0));
-    assert_eq!(rt; shop.clause(&[literal(-1)?], 1)?, (1, 1));
-    let pivot = variable(1)?;
-    assert_eq!(rt; shop.resolve(0, 1, 1)?, 2);
-    assert!(rt; shop.has(0, Step::InputClause, 0, &[1])?);
-    assert!(rt; shop.has(2, Step::Resolved { a: 0, b: 1, pivot }, 1, &[])?);
-    shop.drop_frame(1);
-    assert!(rt; shop.lives(&[true, false, false]));
-    Ok(())
+    let turns = [
+        Turn::Clause([1, 0], 0, (0, 0)),
+        Turn::Clause([-1, 0], 1, (1, 1)),
+        Turn::Resolve(0, 1, 1, 2),
+        Turn::Has(0, Kind::Clause, 0, [1, 0]),
+        Turn::Has(2, Kind::Resolved(0, 1, 1), 1, [0, 0]),
+        Turn::DropFrame(1),
+        Turn::Live(0),
+        Turn::Gone(1),
+        Turn::Gone(2),
+        Turn::Next(3),
+    ];
+    play(rt.alloc(), Quant::Exists, &turns)
 }
 
 // Frames may be opened in any order, dropped and opened again.
 #[test]
 fn frames_begin_at_their_first_clause(rt: HostRuntime) -> Result<(), Fail> {
-    let mut shop = shop_of(rt.alloc(), Quant::Exists)?;
-    let lits = row(rt.alloc(), &[1])?;
-    for frame in [0, 3, 1] {
-        shop.clause(&lits, frame)?;
-    }
-    shop.drop_frame(3);
-    assert_eq!(rt; shop.clause(&lits, 3)?, (3, 3));
-    shop.drop_frame(1);
-    shop.drop_frame(9);
-    assert!(rt; shop.lives(&[true, false, false, true]));
-    Ok(())
+    let turns = [
+        Turn::Clause([1, 0], 0, (0, 0)),
+        Turn::Clause([1, 0], 3, (1, 1)),
+        Turn::Clause([1, 0], 1, (2, 2)),
+        Turn::DropFrame(3),
+        Turn::Clause([1, 0], 3, (3, 3)),
+        Turn::DropFrame(1),
+        Turn::DropFrame(9),
+        Turn::Live(0),
+        Turn::Gone(1),
+        Turn::Gone(2),
+        Turn::Live(3),
+        Turn::Next(4),
+    ];
+    play(rt.alloc(), Quant::Exists, &turns)
 }
 
 #[test]
 fn a_clause_comes_with_its_reduction(rt: HostRuntime) -> Result<(), Fail> {
-    let mut shop = shop_of(rt.alloc(), Quant::Exists)?;
-    assert_eq!(rt; shop.clause(&[literal(1)?, literal(2)?], 3)?, (0, 1));
-    assert!(rt; shop.has(0, Step::InputClause, 3, &[1, 2])?);
-    assert!(rt; shop.has(1, Step::Reduced(0), 3, &[1])?);
-    assert_eq!(rt; (shop.reduce(0)?, shop.reduce(1)?), (2, 1));
-    shop.cut_to(1);
-    assert!(rt; shop.lives(&[true, false, false]));
-    Ok(())
+    let turns = [
+        Turn::Clause([1, 2], 3, (0, 1)),
+        Turn::Has(0, Kind::Clause, 3, [1, 2]),
+        Turn::Has(1, Kind::Reduced(0), 3, [1, 0]),
+        Turn::Reduce(0, 2),
+        Turn::Reduce(1, 1),
+        Turn::CutTo(1),
+        Turn::Live(0),
+        Turn::Gone(1),
+        Turn::Gone(2),
+        Turn::Next(3),
+    ];
+    play(rt.alloc(), Quant::Exists, &turns)
 }
 
-// The literals that are left of a clause and of a cube, where 1 stands before 2 and is of the side's pivot quantifier
-// or not.
-fn reductions(
+// What is left of a clause and of a cube, and the id of that step, where 1 stands before 2 and is of the side's pivot
+// quantifier or not.
+fn reduce_both(
     alloc: Global,
     pivot_first: bool,
-    numbers: &[i32],
-    want: &[i32],
-) -> Result<bool, Fail> {
-    let (outer, inner) = if pivot_first {
-        (Quant::Exists, Quant::Forall)
+    numbers: [i32; 2],
+    want: [i32; 2],
+    id: StepId,
+) -> Result<(), Fail> {
+    let outer = if pivot_first {
+        Quant::Exists
     } else {
-        (Quant::Forall, Quant::Exists)
+        Quant::Forall
     };
-    let lits = row(alloc, numbers)?;
-    let mut clauses = shop_of(alloc, outer)?;
-    let (input, clause) = clauses.clause(&lits, 0)?;
-    let mut cubes = shop_of(alloc, inner)?;
-    let cube = cubes.cube(&lits)?;
-    let reduced = cubes.reduce(cube)?;
-    let same = numbers.len() == want.len();
-    Ok(
-        (input == clause) == same
-            && (cube == reduced) == same
-            && clauses.has_row(clause, want)?
-            && cubes.has_row(reduced, want)?,
-    )
+    let clause = [Turn::Clause(numbers, 0, (0, id)), Turn::HasRow(id, want)];
+    let cube = [
+        Turn::Cube(numbers, 0),
+        Turn::Reduce(0, id),
+        Turn::HasRow(id, want),
+    ];
+    play(alloc, outer, &clause)?;
+    play(alloc, other(outer), &cube)
 }
 
 // What nothing blocks goes, and else the step itself is the answer.
 #[test]
 fn reductions_on_both_sides(rt: HostRuntime) -> Result<(), Fail> {
-    for (pivot_first, numbers, want) in [
-        (true, [1, 2].as_slice(), [1].as_slice()),
-        (true, [-1, -2].as_slice(), [-1].as_slice()),
-        (true, [2].as_slice(), [2].as_slice()),
-        (false, [1, 2].as_slice(), [1, 2].as_slice()),
-        (false, [1].as_slice(), [1].as_slice()),
-        (false, [].as_slice(), [].as_slice()),
+    for (pivot_first, numbers, want, id) in [
+        (true, [1, 2], [1, 0], 1),
+        (true, [-1, -2], [-1, 0], 1),
+        (true, [2, 0], [2, 0], 0),
+        (false, [1, 2], [1, 2], 0),
+        (false, [1, 0], [1, 0], 0),
+        (false, [0, 0], [0, 0], 0),
     ] {
-        assert!(rt; reductions(rt.alloc(), pivot_first, numbers, want)?);
+        reduce_both(rt.alloc(), pivot_first, numbers, want, id)?;
     }
     Ok(())
 }
@@ -104,111 +378,78 @@ fn reductions_on_both_sides(rt: HostRuntime) -> Result<(), Fail> {
 // takes it with what rests on it, and the empty one takes all.
 #[test]
 fn a_clause_takes_the_cubes_that_miss_it(rt: HostRuntime) -> Result<(), Fail> {
-    let mut shop = shop_of(rt.alloc(), Quant::Forall)?;
-    assert_eq!(rt; shop.cube(&[literal(1)?, literal(2)?])?, 0);
-    assert_eq!(rt; shop.cube(&[literal(-1)?, literal(2)?])?, 1);
-    assert_eq!(rt; (shop.reduce(0)?, shop.resolve(2, 1, 1)?), (2, 3));
-    assert!(rt; shop.has(1, Step::InputCube, 0, &[-1, 2])?);
-    assert!(rt; shop.has(2, Step::Reduced(0), 0, &[1])?);
-    let pivot = variable(1)?;
-    assert!(rt; shop.has(3, Step::Resolved { a: 2, b: 1, pivot }, 0, &[2])?);
-    assert_eq!(rt; shop.clause(&[literal(-1)?, literal(2)?], 5)?, (4, 4));
-    assert!(rt; shop.lives(&[true, true, true, true, true]));
-    assert_eq!(rt; shop.clause(&[literal(1)?, literal(-2)?], 5)?, (5, 5));
-    assert!(rt; shop.lives(&[true, false, true, false, true, true]));
-    assert!(rt; shop.has(0, Step::InputCube, 0, &[1, 2])?);
-    assert_eq!(rt; shop.cube(&[literal(1)?, literal(2)?])?, 6);
-    assert_eq!(rt; shop.clause(&[], 5)?, (7, 7));
-    assert!(rt; shop.lives(&[false, false, false, false, true, true, false, true]));
-    Ok(())
+    let turns = [
+        Turn::Cube([1, 2], 0),
+        Turn::Cube([-1, 2], 1),
+        Turn::Reduce(0, 2),
+        Turn::Resolve(2, 1, 1, 3),
+        Turn::Has(1, Kind::Cube, 0, [-1, 2]),
+        Turn::Has(2, Kind::Reduced(0), 0, [1, 0]),
+        Turn::Has(3, Kind::Resolved(2, 1, 1), 0, [2, 0]),
+        Turn::Clause([-1, 2], 5, (4, 4)),
+        Turn::Live(0),
+        Turn::Live(1),
+        Turn::Live(2),
+        Turn::Live(3),
+        Turn::Live(4),
+        Turn::Next(5),
+        Turn::Clause([1, -2], 5, (5, 5)),
+        Turn::Live(0),
+        Turn::Gone(1),
+        Turn::Live(2),
+        Turn::Gone(3),
+        Turn::Live(4),
+        Turn::Live(5),
+        Turn::Next(6),
+        Turn::Has(0, Kind::Cube, 0, [1, 2]),
+        Turn::Cube([1, 2], 6),
+        Turn::Clause([0, 0], 5, (7, 7)),
+        Turn::Gone(0),
+        Turn::Gone(1),
+        Turn::Gone(2),
+        Turn::Gone(3),
+        Turn::Live(4),
+        Turn::Live(5),
+        Turn::Gone(6),
+        Turn::Live(7),
+        Turn::Next(8),
+    ];
+    play(rt.alloc(), Quant::Forall, &turns)
 }
 
-// The finish of an end row under assumptions over its first variable, on either side.
-fn finished(
-    rt: &impl Abort,
-    alloc: Global,
-    derivation: &mut Derivation,
-    prefix: &Prefix,
-    end: usize,
-) -> Result<(), Fail>
-    requires rows { IsTrue (has_rows derivation.old) }
-    requires step { IsTrue (is_step derivation.old end) }
-{
-    let one = literal(-1)?;
-    let two = literal(-2)?;
-    let seven = literal(7)?;
-    if one.var() >= two.var() || one.var() >= seven.var() {
-        return Err("not ascending")?;
-    }
-    assert_eq!(rt; derivation.finish(prefix, end, &[one, two])?, end);
-    let finish = derivation.finish(prefix, end, &[one, seven])?;
-    assert_eq!(rt; derivation.step(finish), Step::Finished(end));
-    assert_eq!(rt; derivation.lits(finish), row(alloc, &[1])?.as_slice());
-    derivation.drop_finish();
-    assert_eq!(rt;
-        (derivation.is_live(end), derivation.is_live(finish)),
-        (true, false)
-    );
-    Ok(())
-}
-
+// Of an end row under assumptions over its first variable, on either side.
 #[test]
 fn a_finish_keeps_what_is_assumed(rt: HostRuntime) -> Result<(), Fail> {
-    let clauses = by_turns(rt.alloc(), Quant::Forall, &[1, 1])?;
-    let mut derivation = Derivation::new(rt.alloc());
-    let (end, _) = derivation.input_clause(&clauses, &row(rt.alloc(), &[1, 2])?, 0)?;
-    finished(&rt, rt.alloc(), &mut derivation, &clauses, end)?;
-    let cubes = by_turns(rt.alloc(), Quant::Exists, &[1, 1])?;
-    let mut derivation = Derivation::new(rt.alloc());
-    let end = derivation.input_cube(&row(rt.alloc(), &[1, 2])?)?;
-    finished(&rt, rt.alloc(), &mut derivation, &cubes, end)
+    let clause = [
+        Turn::Clause([1, 2], 0, (0, 0)),
+        Turn::Finish(0, [-1, -2], 0),
+        Turn::Finish(0, [-1, 7], 1),
+        Turn::Has(1, Kind::Finished(0), 0, [1, 0]),
+    ];
+    let cube = [
+        Turn::Cube([1, 2], 0),
+        Turn::Finish(0, [-1, -2], 0),
+        Turn::Finish(0, [-1, 7], 1),
+        Turn::Has(1, Kind::Finished(0), 0, [1, 0]),
+    ];
+    play_to(rt.alloc(), Quant::Forall, &[1, 1], &clause, End::Unfinished)?;
+    play_to(rt.alloc(), Quant::Exists, &[1, 1], &cube, End::Unfinished)
 }
 
 #[test]
 fn steps_that_name_a_variable_go(rt: HostRuntime) -> Result<(), Fail> {
-    let prefix = by_turns(rt.alloc(), Quant::Exists, &[3])?;
-    let mut derivation = Derivation::new(rt.alloc());
-    derivation.input_clause(&prefix, &row(rt.alloc(), &[1, 2])?, 0)?;
-    derivation.input_clause(&prefix, &row(rt.alloc(), &[-2, 3])?, 0)?;
-    derivation.drop_var(variable(1)?);
-    assert_eq!(rt;
-        (derivation.is_live(0), derivation.is_live(1)),
-        (false, true)
-    );
-    derivation.drop_var(variable(3)?);
-    assert_eq!(rt;
-        (derivation.is_live(0), derivation.is_live(1)),
-        (false, false)
-    );
-    Ok(())
+    let turns = [
+        Turn::Clause([1, 2], 0, (0, 0)),
+        Turn::Clause([-2, 3], 0, (1, 1)),
+    ];
+    play_to(rt.alloc(), Quant::Exists, &[3], &turns, End::Named)
 }
 
 #[test]
 fn links_stay_with_rows_that_are_taken_and_put_back(rt: HostRuntime) -> Result<(), Fail> {
-    let prefix = by_turns(rt.alloc(), Quant::Exists, &[1, 1])?;
-    let mut derivation = Derivation::new(rt.alloc());
-    derivation.input_clause(&prefix, &row(rt.alloc(), &[1])?, 0)?;
-    derivation.input_clause(&prefix, &row(rt.alloc(), &[-1])?, 1)?;
-    let mut rows = derivation.take_rows();
-    assert!(rt; derivation.is_live(1));
-    assert_eq!(rt; derivation.step(1), Step::InputClause);
-    assert_eq!(rt;
-        (
-            derivation.is_live(1),
-            derivation.tag(1),
-            derivation.next_id()
-        ),
-        (true, 1, 2)
-    );
-    assert_eq!(rt; rows.next_id(), 2);
-    assert!(rt; rows.is_live(0) && rows.is_live(1));
-    rows.set_link(0, 5, Some(9));
-    derivation.put_rows(rows);
-    derivation.drop_frame(1);
-    let rows = derivation.take_rows();
-    assert!(rt; !rows.is_live(1));
-    assert!(rt; rows.is_live(0));
-    assert_eq!(rt; rows.link(0, 5), Some(9));
-    assert_eq!(rt; rows.lits(0), row(rt.alloc(), &[1])?.as_slice());
-    Ok(())
+    let turns = [
+        Turn::Clause([1, 0], 0, (0, 0)),
+        Turn::Clause([-1, 0], 1, (1, 1)),
+    ];
+    play_to(rt.alloc(), Quant::Exists, &[1, 1], &turns, End::Taken)
 }

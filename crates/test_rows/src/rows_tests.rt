@@ -1,103 +1,242 @@
 //! Tests of `rows`.
-use fixtures::literal;
-use rows::Rows;
+use fixtures::row;
+use rows::{RowId, Rows, ThreeLinks};
+use std::alloc::Global;
 use std::test::Fail;
+
+// What a test does to an arena, or what it looks whether it is so. Rows are named by their ids, and literals given by
+// their numbers, filled up with 0.
+#[derive(Clone, Copy)]
+enum Turn {
+    // Puts in a row, which gets this id; or two rows, which get these.
+    Add([i32; 2], RowId),
+    AddPair([i32; 2], [i32; 2], (RowId, RowId)),
+    Free(RowId),
+    Compact,
+    // Writes a link field; or three, from that of a number on.
+    Link(RowId, usize, Option<usize>),
+    Links(RowId, usize, ThreeLinks),
+    // Looks whether this id comes next, and whether a row is live.
+    Next(RowId),
+    Live(RowId),
+    Dead(RowId),
+    // Looks whether a live row has these literals; this link field; these three; or these eight and no other.
+    HasLits(RowId, [i32; 2]),
+    HasLink(RowId, usize, Option<usize>),
+    HasLinks(RowId, usize, ThreeLinks),
+    HasFields(RowId, [Option<usize>; 8]),
+}
+
+fn add(rows: &mut Rows, alloc: Global, numbers: &[i32], id: RowId) -> Result<bool, Fail> {
+    let lits = row(alloc, numbers)?;
+    Ok(rows.add(&lits)? == id)
+}
+
+fn add_pair(
+    rows: &mut Rows,
+    alloc: Global,
+    first: &[i32],
+    second: &[i32],
+    ids: (RowId, RowId),
+) -> Result<bool, Fail> {
+    let (first, second) = (row(alloc, first)?, row(alloc, second)?);
+    Ok(rows.add_pair(&first, &second)? == ids)
+}
+
+fn free(rows: &mut Rows, id: RowId) -> bool {
+    if !rows.is_live(id) {
+        return false;
+    }
+    rows.free(id);
+    true
+}
+
+fn set_link(rows: &mut Rows, id: RowId, k: usize, value: Option<usize>) -> bool {
+    if k >= 8 || !rows.is_live(id) {
+        return false;
+    }
+    rows.set_link(id, k, value);
+    true
+}
+
+fn set_links(rows: &mut Rows, id: RowId, base: usize, values: ThreeLinks) -> bool {
+    if base > 5 || !rows.is_live(id) {
+        return false;
+    }
+    rows.set_links(id, base, values);
+    true
+}
+
+pub(crate) fn has_lits(
+    rows: &Rows,
+    alloc: Global,
+    id: RowId,
+    numbers: &[i32],
+) -> Result<bool, Fail> {
+    let lits = row(alloc, numbers)?;
+    Ok(rows.is_live(id) && rows.lits(id) == lits.as_slice())
+}
+
+pub(crate) fn has_link(rows: &Rows, id: RowId, k: usize, value: Option<usize>) -> bool {
+    k < 8 && rows.is_live(id) && rows.link(id, k) == value
+}
+
+fn has_links(rows: &Rows, id: RowId, base: usize, values: ThreeLinks) -> bool {
+    base <= 5 && rows.is_live(id) && rows.links_from(id, base) == values
+}
+
+// Whether the link fields of a live row, from the first on, are these.
+fn has_fields(rows: &Rows, id: RowId, fields: &[Option<usize>]) -> bool {
+    for (k, value) in fields.iter().enumerate() {
+        if !has_link(rows, id, k, *value) {
+            return false;
+        }
+    }
+    true
+}
+
+// Whether what a turn looks for is so.
+fn is_so(rows: &Rows, alloc: Global, turn: Turn) -> Result<bool, Fail> {
+    match turn {
+        Turn::Next(id) => Ok(rows.next_id() == id),
+        Turn::Live(id) => Ok(rows.is_live(id)),
+        Turn::Dead(id) => Ok(!rows.is_live(id)),
+        Turn::HasLits(id, numbers) => has_lits(rows, alloc, id, &numbers),
+        Turn::HasLink(id, k, value) => Ok(has_link(rows, id, k, value)),
+        Turn::HasLinks(id, base, values) => Ok(has_links(rows, id, base, values)),
+        Turn::HasFields(id, fields) => Ok(has_fields(rows, id, &fields)),
+        _ => Ok(false),
+    }
+}
+
+// Makes a turn; whether it could be made, and gave what it says.
+fn make(rows: &mut Rows, alloc: Global, turn: Turn) -> Result<bool, Fail> {
+    match turn {
+        Turn::Add(numbers, id) => add(rows, alloc, &numbers, id),
+        Turn::AddPair(first, second, ids) => add_pair(rows, alloc, &first, &second, ids),
+        Turn::Free(id) => Ok(free(rows, id)),
+        Turn::Compact => {
+            rows.compact();
+            Ok(true)
+        }
+        Turn::Link(id, k, value) => Ok(set_link(rows, id, k, value)),
+        Turn::Links(id, base, values) => Ok(set_links(rows, id, base, values)),
+        _ => is_so(rows, alloc, turn),
+    }
+}
+
+// Makes turns. Fails with the place of the first one that isn't as it says, from 0.
+fn make_all(rows: &mut Rows, alloc: Global, turns: &[Turn]) -> Result<(), Fail> {
+    for (place, turn) in turns.iter().enumerate() {
+        if !make(rows, alloc, *turn)? {
+            return Err(("turn", place))?;
+        }
+    }
+    Ok(())
+}
+
+// The same on an arena of no rows.
+fn play(alloc: Global, turns: &[Turn]) -> Result<(), Fail> {
+    let mut rows = Rows::new(alloc);
+    make_all(&mut rows, alloc, turns)
+}
 
 #[test]
 fn ids_grow_and_none_comes_again(rt: HostRuntime) -> Result<(), Fail> {
-    let mut rows = Rows::new(rt.alloc());
-    assert_eq!(rt; rows.next_id(), 0);
-    assert_eq!(rt; rows.add(&[literal(1)?])?, 0);
-    assert_eq!(rt; rows.add(&[])?, 1);
-    rows.free(1);
-    rows.free(0);
-    assert_eq!(rt; rows.next_id(), 2);
-    assert_eq!(rt; rows.add(&[literal(2)?])?, 2);
-    rows.compact();
-    for (id, live) in [(0, false), (1, false), (2, true), (3, false)] {
-        assert_eq!(rt; rows.is_live(id), live, "id {id}");
-    }
-    Ok(())
+    let turns = [
+        Turn::Next(0),
+        Turn::Add([1, 0], 0),
+        Turn::Add([0, 0], 1),
+        Turn::Free(1),
+        Turn::Free(0),
+        Turn::Next(2),
+        Turn::Add([2, 0], 2),
+        Turn::Compact,
+        Turn::Dead(0),
+        Turn::Dead(1),
+        Turn::Live(2),
+        Turn::Dead(3),
+    ];
+    play(rt.alloc(), &turns)
 }
 
 #[test]
 fn a_pair_of_rows_comes_with_two_ids(rt: HostRuntime) -> Result<(), Fail> {
-    let mut rows = Rows::new(rt.alloc());
-    rows.add(&[literal(4)?])?;
-    assert_eq!(rt;
-        rows.add_pair(&[literal(1)?, literal(2)?], &[literal(1)?])?,
-        (1, 2)
-    );
-    assert_eq!(rt; rows.lits(1), [literal(1)?, literal(2)?].as_slice());
-    assert_eq!(rt; rows.lits(2), [literal(1)?].as_slice());
-    assert_eq!(rt; (rows.link(1, 0), rows.link(2, 7)), (None, None));
-    assert_eq!(rt; rows.next_id(), 3);
-    Ok(())
+    let turns = [
+        Turn::Add([4, 0], 0),
+        Turn::AddPair([1, 2], [1, 0], (1, 2)),
+        Turn::HasLits(1, [1, 2]),
+        Turn::HasLits(2, [1, 0]),
+        Turn::HasLink(1, 0, None),
+        Turn::HasLink(2, 7, None),
+        Turn::Next(3),
+    ];
+    play(rt.alloc(), &turns)
 }
 
 #[test]
 fn literals_and_links_stay_while_others_come_and_go(rt: HostRuntime) -> Result<(), Fail> {
-    let mut rows = Rows::new(rt.alloc());
-    let before = rows.add(&[literal(9)?])?;
-    let row = rows.add(&[literal(1)?, literal(3)?.negate()])?;
-    rows.set_link(row, 7, Some(40));
-    rows.free(before);
-    let empty = rows.add(&[])?;
-    rows.set_link(empty, 7, Some(0));
-    rows.compact();
-    assert_eq!(rt;
-        rows.lits(row),
-        [literal(1)?, literal(3)?.negate()].as_slice()
-    );
-    assert_eq!(rt; rows.lits(empty).len(), 0);
-    assert_eq!(rt; rows.link(row, 7), Some(40));
-    Ok(())
+    let turns = [
+        Turn::Add([9, 0], 0),
+        Turn::Add([1, -3], 1),
+        Turn::Link(1, 7, Some(40)),
+        Turn::Free(0),
+        Turn::Add([0, 0], 2),
+        Turn::Link(2, 7, Some(0)),
+        Turn::Compact,
+        Turn::HasLits(1, [1, -3]),
+        Turn::HasLits(2, [0, 0]),
+        Turn::HasLink(1, 7, Some(40)),
+    ];
+    play(rt.alloc(), &turns)
 }
 
 #[test]
 fn a_write_changes_one_link_field(rt: HostRuntime) -> Result<(), Fail> {
-    let mut rows = Rows::new(rt.alloc());
-    let row = rows.add(&[literal(5)?])?;
-    let other = rows.add(&[literal(6)?])?;
-    rows.set_link(row, 3, Some(usize::MAX));
-    for k in 0..8 {
-        let wanted = if k == 3 { Some(usize::MAX) } else { None };
-        assert_eq!(rt; rows.link(row, k), wanted, "field {k}");
-        assert_eq!(rt; rows.link(other, k), None, "field {k}");
-    }
-    rows.set_link(row, 3, None);
-    assert_eq!(rt; rows.link(row, 3), None);
-    Ok(())
+    let one = [None, None, None, Some(usize::MAX), None, None, None, None];
+    let turns = [
+        Turn::Add([5, 0], 0),
+        Turn::Add([6, 0], 1),
+        Turn::Link(0, 3, Some(usize::MAX)),
+        Turn::HasFields(0, one),
+        Turn::HasFields(1, [None; 8]),
+        Turn::Link(0, 3, None),
+        Turn::HasLink(0, 3, None),
+    ];
+    play(rt.alloc(), &turns)
 }
 
 #[test]
 fn rows_stay_where_one_between_them_goes(rt: HostRuntime) -> Result<(), Fail> {
-    let mut rows = Rows::new(rt.alloc());
-    let first = rows.add(&[literal(1)?])?;
-    let second = rows.add(&[literal(2)?, literal(3)?])?;
-    let third = rows.add(&[literal(4)?])?;
-    rows.set_link(second, 1, Some(7));
-    rows.set_link(third, 2, Some(9));
-    rows.free(second);
-    rows.compact();
-    assert_eq!(rt; rows.lits(first), [literal(1)?].as_slice());
-    assert_eq!(rt; rows.lits(third), [literal(4)?].as_slice());
-    assert_eq!(rt; (rows.link(third, 2), rows.link(third, 1)), (Some(9), None));
-    assert!(rt; !rows.is_live(second));
-    Ok(())
+    let turns = [
+        Turn::Add([1, 0], 0),
+        Turn::Add([2, 3], 1),
+        Turn::Add([4, 0], 2),
+        Turn::Link(1, 1, Some(7)),
+        Turn::Link(2, 2, Some(9)),
+        Turn::Free(1),
+        Turn::Compact,
+        Turn::HasLits(0, [1, 0]),
+        Turn::HasLits(2, [4, 0]),
+        Turn::HasLink(2, 2, Some(9)),
+        Turn::HasLink(2, 1, None),
+        Turn::Dead(1),
+    ];
+    play(rt.alloc(), &turns)
 }
 
 #[test]
 fn three_link_fields_are_read_and_written_at_once(rt: HostRuntime) -> Result<(), Fail> {
-    let mut rows = Rows::new(rt.alloc());
-    let row = rows.add(&[literal(5)?])?;
-    let other = rows.add(&[literal(6)?])?;
-    assert_eq!(rt; rows.links_from(row, 5), (None, None, None));
-    rows.set_link(row, 2, Some(8));
-    rows.set_links(row, 3, (Some(1), None, Some(usize::MAX)));
-    assert_eq!(rt; rows.links_from(row, 1), (None, Some(8), Some(1)));
-    assert_eq!(rt; rows.links_from(row, 4), (None, Some(usize::MAX), None));
-    assert_eq!(rt; rows.link(row, 3), Some(1));
-    assert_eq!(rt; rows.links_from(other, 3), (None, None, None));
-    Ok(())
+    let turns = [
+        Turn::Add([5, 0], 0),
+        Turn::Add([6, 0], 1),
+        Turn::HasLinks(0, 5, (None, None, None)),
+        Turn::Link(0, 2, Some(8)),
+        Turn::Links(0, 3, (Some(1), None, Some(usize::MAX))),
+        Turn::HasLinks(0, 1, (None, Some(8), Some(1))),
+        Turn::HasLinks(0, 4, (None, Some(usize::MAX), None)),
+        Turn::HasLink(0, 3, Some(1)),
+        Turn::HasLinks(1, 3, (None, None, None)),
+    ];
+    play(rt.alloc(), &turns)
 }

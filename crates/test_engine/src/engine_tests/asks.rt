@@ -2,6 +2,7 @@
 ghost use Rattle.aig.specs.Strategies.{IsStrategy};
 
 use super::play::{assume, put, put_scope, truth_within};
+use super::{Job, holds};
 use aig::Strategy;
 use engine::{AskRefusal, Engine};
 use fixtures::other;
@@ -225,8 +226,8 @@ fn is_silent(engine: &Engine) -> bool {
         && refusal(engine.certificate()) == Some(50)
 }
 
-// Whether a verdict answers until a change comes.
-fn falls_silent(engine: &mut Engine) -> Result<bool, Fail> {
+// Whether a new engine's verdict answers until a change comes.
+pub(crate) fn falls_silent(engine: &mut Engine) -> Result<bool, Fail> {
     put_scope(engine, Quant::Exists, 1, 2)?;
     let is_new = is_silent(engine);
     let truth = truth_within(engine, 10)?;
@@ -235,14 +236,8 @@ fn falls_silent(engine: &mut Engine) -> Result<bool, Fail> {
     Ok(is_new && truth && is_told && is_silent(engine) && engine.relevant().is_err())
 }
 
-// The same of a new engine.
-fn is_silenced(alloc: Global) -> Result<bool, Fail> {
-    let mut engine = Engine::new(alloc)?;
-    falls_silent(&mut engine)
-}
-
 #[test]
 fn changes_make_verdicts_silent(rt: HostRuntime) -> Result<(), Fail> {
-    assert!(rt; is_silenced(rt.alloc())?);
+    assert!(rt; holds(rt.alloc(), Job::Silence)?);
     Ok(())
 }

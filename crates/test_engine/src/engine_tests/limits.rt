@@ -35,7 +35,7 @@ fn quant_of(bits: u32, scope: u32) -> Quant {
 
 // A formula: quantifiers of its scopes, each of which has the variable of its number, and clauses, each with a 0 behind
 // it.
-#[derive(Debug, Drop)]
+#[derive(Drop)]
 struct Shape {
     alloc: Global,
     quants: Vec<Quant>,
@@ -52,6 +52,26 @@ fn draw_clause(draws: &mut Draws, clauses: &mut Vec<i32>, vars: u16) -> Result<(
         }
     }
     Ok(clauses.push(0)?)
+}
+
+// Puts in a scope with the variable of its number.
+fn put_next(engine: &mut Engine, quant: Quant) -> Result<(), Fail> {
+    engine.scope(quant, None)?;
+    let last = engine.prefix().scopes() as u64;
+    engine.var(last, last)?;
+    Ok(())
+}
+
+// The truth that a solve finds, unless it spends its budget, and the steps that it takes.
+type Solved = (Option<bool>, u64);
+
+fn solve(engine: &mut Engine, budget: u64) -> Result<Solved, Fail> {
+    let mut steps = Steps::new(budget);
+    match engine.solve(&mut steps) {
+        Ok(verdict) => Ok((Some(verdict.truth), steps.spent())),
+        Err(SolveStop::Spent(_)) => Ok((None, steps.spent())),
+        Err(SolveStop::NoMemory) => Err("no memory")?,
+    }
 }
 
 impl Shape {
@@ -74,16 +94,12 @@ impl Shape {
         })
     }
 
-    // An engine with the formula.
-    fn engine(&self) -> Result<Engine, Fail> {
-        let mut engine = Engine::new(self.alloc)?;
+    // Puts the formula into a new engine.
+    fn put_into(&self, engine: &mut Engine) -> Result<(), Fail> {
         for quant in &self.quants {
-            engine.scope(*quant, None)?;
-            let last = engine.prefix().scopes() as u64;
-            engine.var(last, last)?;
+            put_next(engine, *quant)?;
         }
-        put(self.alloc, &mut engine, &self.clauses)?;
-        Ok(engine)
+        put(self.alloc, engine, &self.clauses)
     }
 
     // The verdict of the plain recursion.
@@ -101,16 +117,17 @@ impl Shape {
         )
     }
 
-    // The truth that a solve finds, unless it spends its budget, and the steps that it takes.
-    fn solve(&self, restarts: u32, budget: u64) -> Result<(Option<bool>, u64), Fail> {
-        let mut engine = self.engine()?;
+    // The truth that a solve in a new engine finds, unless it spends its budget, and the steps that it takes.
+    fn solve_in(&self, engine: &mut Engine, restarts: u32, budget: u64) -> Result<Solved, Fail> {
+        self.put_into(engine)?;
         engine.set_restarts(restarts);
-        let mut steps = Steps::new(budget);
-        match engine.solve(&mut steps) {
-            Ok(verdict) => Ok((Some(verdict.truth), steps.spent())),
-            Err(SolveStop::Spent(_)) => Ok((None, steps.spent())),
-            Err(SolveStop::NoMemory) => Err("no memory")?,
-        }
+        solve(engine, budget)
+    }
+
+    // The same.
+    fn solve(&self, restarts: u32, budget: u64) -> Result<Solved, Fail> {
+        let mut engine = Engine::new(self.alloc)?;
+        self.solve_in(&mut engine, restarts, budget)
     }
 
     // Whether a solve finds this truth, or spends its budget, where it is below the limit.

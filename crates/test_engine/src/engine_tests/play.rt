@@ -94,7 +94,7 @@ fn quant_of(quants: u32, scope: u64) -> Quant {
 
 // A formula over six variables in three scopes, whose quantifiers are the bits of a number: the clauses of frame 0,
 // those of a frame to be pushed, and literals of the first scope to assume.
-#[derive(Debug, Drop)]
+#[derive(Drop)]
 struct Drawn {
     alloc: Global,
     quants: u32,
@@ -198,24 +198,27 @@ fn keeps_budget(engine: &mut Engine, truth: bool, budget: u64, enough: u64) -> b
     }
 }
 
-// Whether the verdicts of a drawn formula are right where a frame comes and goes.
-pub(crate) fn are_frames_right(alloc: Global, seed: u32) -> Result<bool, Fail> {
+// Whether a new engine's verdicts of a drawn formula are right where a frame comes and goes.
+pub(crate) fn are_frames_right(
+    engine: &mut Engine,
+    alloc: Global,
+    seed: u32,
+) -> Result<bool, Fail> {
     let drawn = Drawn::new(alloc, seed)?;
-    let mut engine = Engine::new(alloc)?;
-    drawn.goes_through_frames(&mut engine)
+    drawn.goes_through_frames(engine)
 }
 
-// Whether a solve of a drawn formula keeps its budget.
+// Whether a solve of a drawn formula in a new engine keeps its budget.
 pub(crate) fn is_budget_kept(
+    engine: &mut Engine,
     alloc: Global,
     seed: u32,
     budget: u64,
     enough: u64,
 ) -> Result<bool, Fail> {
-    let drawn = Drawn::new(alloc, seed)?;
-    let mut engine = Engine::new(alloc)?;
     engine.set_restarts(2);
-    drawn.stops_at(&mut engine, budget, enough)
+    let drawn = Drawn::new(alloc, seed)?;
+    drawn.stops_at(engine, budget, enough)
 }
 
 // Puts clauses, each with a 0 behind it, at the end of a list.

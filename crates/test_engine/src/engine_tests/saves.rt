@@ -83,16 +83,15 @@ fn put_pigeon(engine: &mut Engine, alloc: Global, holes: u16, pigeon: u16) -> Re
     Ok(())
 }
 
-// An engine with one pigeon more than there are holes.
-fn pigeons(alloc: Global, holes: u16) -> Result<Engine, Fail>
+// Puts in that there is one pigeon more than there are holes, and each sits in a hole of its own.
+fn put_pigeons(engine: &mut Engine, alloc: Global, holes: u16) -> Result<(), Fail>
     requires { holes < 8 }
 {
-    let mut engine = Engine::new(alloc)?;
-    put_scope(&mut engine, Quant::Exists, 1, 64)?;
+    put_scope(engine, Quant::Exists, 1, 64)?;
     for pigeon in 0..=holes {
-        put_pigeon(&mut engine, alloc, holes, pigeon)?;
+        put_pigeon(engine, alloc, holes, pigeon)?;
     }
-    Ok(engine)
+    Ok(())
 }
 
 // A literal of one of so many variables, with either sign.
@@ -104,54 +103,122 @@ fn draw_literal(random: &mut Random, vars: u32) -> i32
     if random.below(2) == 0 { var } else { -var }
 }
 
-// An engine with so many clauses of three literals each, which are drawn.
-fn drawn(alloc: Global, seed: u32, vars: u32, clauses: u32) -> Result<Engine, Fail>
+// A clause of three literals that are drawn.
+fn put_drawn(engine: &mut Engine, alloc: Global, random: &mut Random, vars: u32) -> Result<(), Fail>
+    requires some { 0 < vars }
+    requires most { vars < 1000 }
+{
+    let clause = [
+        draw_literal(random, vars),
+        draw_literal(random, vars),
+        draw_literal(random, vars),
+        0,
+    ];
+    put(alloc, engine, &clause)
+}
+
+// Puts in so many of them.
+fn put_many(
+    engine: &mut Engine,
+    alloc: Global,
+    seed: u32,
+    vars: u32,
+    clauses: u32,
+) -> Result<(), Fail>
     requires some { 0 < vars }
     requires most { vars < 1000 }
 {
     let mut random = Random::new(seed);
-    let mut engine = Engine::new(alloc)?;
-    put_scope(&mut engine, Quant::Exists, 1, u64::from(vars))?;
+    put_scope(engine, Quant::Exists, 1, u64::from(vars))?;
     for _ in 0..clauses {
-        let clause = [
-            draw_literal(&mut random, vars),
-            draw_literal(&mut random, vars),
-            draw_literal(&mut random, vars),
-            0,
-        ];
-        put(alloc, &mut engine, &clause)?;
+        put_drawn(engine, alloc, &mut random, vars)?;
     }
-    Ok(engine)
+    Ok(())
 }
 
-// Where lessons aren't kept, the first solve takes 4,281 steps and the second 6,813.
+#[derive(Clone, Copy)]
+enum Formula {
+    // One pigeon more than there are holes, at most seven of these.
+    Pigeons(u16),
+    // So many clauses that are drawn from a seed, over so many variables, at least one and fewer than a thousand: the
+    // seed, the variables and the clauses.
+    Many(u32, u32, u32),
+}
+
+fn put_formula(engine: &mut Engine, alloc: Global, formula: Formula) -> Result<(), Fail> {
+    match formula {
+        Formula::Pigeons(holes) => put_pigeons(engine, alloc, holes.min(7)),
+        Formula::Many(seed, vars, clauses) => {
+            if vars == 0 || vars >= 1000 {
+                return Err("too few variables, or too many")?;
+            }
+            put_many(engine, alloc, seed, vars, clauses)
+        }
+    }
+}
+
+// Solves within each of these numbers of steps in turn. Fails with the first number that doesn't end so.
+fn solve_each(engine: &mut Engine, budgets: &[u64], want: Ended) -> Result<(), Fail> {
+    for budget in budgets {
+        let ended = solve(engine, *budget)?;
+        if ended != want {
+            return Err((*budget, ended))?;
+        }
+    }
+    Ok(())
+}
+
+fn put_and_solve(
+    engine: &mut Engine,
+    alloc: Global,
+    formula: Formula,
+    restarts: u32,
+    budgets: &[u64],
+    want: Ended,
+) -> Result<(), Fail> {
+    put_formula(engine, alloc, formula)?;
+    engine.set_restarts(restarts);
+    solve_each(engine, budgets, want)
+}
+
+// Solves a formula in a new engine, where a search may begin anew so often. Fails where a solve doesn't end so.
+fn ends(
+    alloc: Global,
+    formula: Formula,
+    restarts: u32,
+    budgets: &[u64],
+    want: Ended,
+) -> Result<(), Fail> {
+    let mut engine = Engine::new(alloc)?;
+    put_and_solve(&mut engine, alloc, formula, restarts, budgets, want)
+}
+
+// At first, and again: where lessons aren't kept, the first solve takes 4,281 steps and the second 6,813.
 #[test]
 fn lessons_are_kept_for_the_next_solve(rt: HostRuntime) -> Result<(), Fail> {
-    let mut engine = pigeons(rt.alloc(), 5)?;
-    assert_eq!(rt;
-        solve(&mut engine, 4_000)?,
+    let budgets = [4_000, 100];
+    ends(
+        rt.alloc(),
+        Formula::Pigeons(5),
+        0,
+        &budgets,
         Ended::Answered(false),
-        "at first"
-    );
-    assert_eq!(rt; solve(&mut engine, 100)?, Ended::Answered(false), "again");
-    Ok(())
+    )
 }
 
 // Where rows that wait are looked at last come, first served, this takes 13,541 steps; without priorities 12,473, and
 // 10,323 without those of the rows that lessons were resolved with.
 #[test]
 fn rows_wait_in_a_queue_and_priorities_count(rt: HostRuntime) -> Result<(), Fail> {
-    let mut engine = drawn(rt.alloc(), 2, 80, 344)?;
-    assert_eq!(rt; solve(&mut engine, 8_000)?, Ended::Answered(true));
-    Ok(())
+    let formula = Formula::Many(2, 80, 344);
+    ends(rt.alloc(), formula, 0, &[8_000], Ended::Answered(true))
 }
 
 // Where each existential variable is false at first, this takes 11,359 steps.
 #[test]
 fn first_signs_are_those_of_most_clauses(rt: HostRuntime) -> Result<(), Fail> {
-    let mut engine = drawn(rt.alloc(), 0, 800, 2_400)?;
-    assert_eq!(rt; solve(&mut engine, 2_000)?, Ended::Answered(true));
-    Ok(())
+    let formula = Formula::Many(0, 800, 2_400);
+    ends(rt.alloc(), formula, 0, &[2_000], Ended::Answered(true))
 }
 
 // The search begins anew with the 64th lesson, and where that is allowed with the 128th.
@@ -164,14 +231,14 @@ fn a_search_begins_anew_no_more_often_than_it_may(rt: HostRuntime) -> Result<(),
         (6, 1, 9_000, 1),
         (6, 2, 9_000, 2),
     ] {
-        let mut engine = pigeons(rt.alloc(), holes.min(7))?;
-        engine.set_restarts(restarts);
-        let ended = solve(&mut engine, budget)?;
-        assert_eq!(rt;
-            ended,
+        let formula = Formula::Pigeons(holes);
+        ends(
+            rt.alloc(),
+            formula,
+            restarts,
+            &[budget],
             Ended::Stopped(made),
-            "{holes} holes, {restarts}, {budget}"
-        );
+        )?;
     }
     Ok(())
 }

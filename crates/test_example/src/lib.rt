@@ -1,0 +1,5 @@
+//! Tests of the crate `example_engine`.
+#![tactic(auto)]
+
+#[cfg(test)]
+mod example_tests;

@@ -1,0 +1,273 @@
+//! Tests of `decide`.
+use decide::Decider;
+use fixtures::{by_turns, variable};
+use prefix::{Lit, Prefix, Quant};
+use std::alloc::Global;
+use std::marker::Model;
+use std::test::Fail;
+use steps::Steps;
+use trail::{Trail, Why};
+
+// What a test does to a decider.
+#[derive(Clone, Copy)]
+enum Turn {
+    // Makes room for so many variables.
+    Reserve(usize),
+    Bump(u32),
+    // Counts a clause of one literal.
+    Count(u32, bool),
+    // So many times.
+    Decay(u32),
+    // Undoes all: who was assigned waits then.
+    Undo,
+    // Empties the trail, and doesn't tell.
+    Clear,
+    // Decides four times.
+    Fill,
+    // The same, the second time with the other sign where that is so, and looks which literals these are, by their
+    // numbers, with 0 where none is left; or which the last two are.
+    Decide(bool, [i32; 4]),
+    DecideLast(bool, [i32; 2]),
+}
+
+// Decays so many times.
+fn decay(decider: &mut Decider, times: u32) {
+    for _ in 0..times {
+        decider.decay();
+    }
+}
+
+// A decider with the trail that it decides on, which may take a decision.
+#[derive(Drop)]
+struct Game {
+    prefix: Prefix,
+    trail: Trail,
+    decider: Decider,
+    steps: Steps,
+}
+
+impl Model for Game {
+    ghost use Rattle.std.specs.Prelude.{◌≡◌};
+    ghost use Rattle.trail.specs.declared.allowed.Allowed.TheVariants.{Anything};
+    ghost use Rattle.trail.specs.State.{IsTrailFor, TrailState};
+
+    ghost Value = { TrailState };
+
+    ghost view = { λ g. g.trail };
+
+    ghost invariant = { λ g. IsTrailFor g.prefix g.trail × (g.trail.allowed ≡ Anything) };
+}
+
+impl Game {
+    // An empty trail over the existential variables 1 and 2 and then the universal 3, and a decider with room for so
+    // many variables.
+    fn new(alloc: Global, room: usize) -> Result<Self, Fail> {
+        let mut decider = Decider::new(alloc);
+        decider.reserve(room)?;
+        Ok(Self {
+            prefix: by_turns(alloc, Quant::Exists, &[2, 1])?,
+            trail: Trail::new(alloc),
+            decider,
+            steps: Steps::new(100),
+        })
+    }
+
+    // Decides what comes next, with its sign or with the other one; answers the signed number, or 0.
+    fn decide(&mut self, turned: bool) -> Result<i32, Fail> {
+        match self.decider.next_decision(&self.trail, &self.prefix) {
+            None => Ok(0),
+            Some(next) => {
+                let lit = Lit::new(next.var(), next.is_positive() != turned);
+                self.trail.reserve(lit.var().number() as usize)?;
+                self.trail
+                    .assign(&self.prefix, lit, Why::Decided, &mut self.steps)?;
+                Ok(lit.number())
+            }
+        }
+    }
+
+    // Decides four times, the second time with the other sign where `turned` is so.
+    fn decide_four(&mut self, turned: bool) -> Result<[i32; 4], Fail> {
+        let first = self.decide(false)?;
+        let second = self.decide(turned)?;
+        let third = self.decide(false)?;
+        let fourth = self.decide(false)?;
+        Ok([first, second, third, fourth])
+    }
+
+    // Decides four times; whether it decided these.
+    fn decides(&mut self, turned: bool, want: [i32; 4]) -> Result<bool, Fail> {
+        Ok(self.decide_four(turned)? == want)
+    }
+
+    // Decides four times; whether it decided these at last.
+    fn decides_last(&mut self, turned: bool, want: [i32; 2]) -> Result<bool, Fail> {
+        let [_, _, third, fourth] = self.decide_four(turned)?;
+        Ok([third, fourth] == want)
+    }
+
+    fn reserve(&mut self, room: usize) -> Result<(), Fail> {
+        self.decider.reserve(room)?;
+        Ok(())
+    }
+
+    fn bump(&mut self, number: u32) -> Result<(), Fail> {
+        self.decider.bump(variable(number)?);
+        Ok(())
+    }
+
+    fn count(&mut self, number: u32, positive: bool) -> Result<(), Fail> {
+        let v = variable(number)?;
+        self.decider.count(&[Lit::new(v, positive)]);
+        Ok(())
+    }
+
+    fn decay(&mut self, times: u32) {
+        decay(&mut self.decider, times);
+    }
+
+    fn undo(&mut self) {
+        self.decider.undoing(&self.trail, &self.prefix, 0);
+        self.trail.clear();
+    }
+
+    fn clear(&mut self) {
+        self.trail.clear();
+    }
+
+    // Makes a turn that looks for nothing.
+    fn change(&mut self, turn: Turn) -> Result<(), Fail> {
+        match turn {
+            Turn::Reserve(room) => self.reserve(room),
+            Turn::Bump(number) => self.bump(number),
+            Turn::Count(number, positive) => self.count(number, positive),
+            Turn::Decay(times) => {
+                self.decay(times);
+                Ok(())
+            }
+            Turn::Undo => {
+                self.undo();
+                Ok(())
+            }
+            Turn::Clear => {
+                self.clear();
+                Ok(())
+            }
+            _ => {
+                self.decide_four(false)?;
+                Ok(())
+            }
+        }
+    }
+
+    // Makes a turn; whether it gave what it says.
+    fn make(&mut self, turn: Turn) -> Result<bool, Fail> {
+        match turn {
+            Turn::Decide(turned, want) => self.decides(turned, want),
+            Turn::DecideLast(turned, want) => self.decides_last(turned, want),
+            _ => {
+                self.change(turn)?;
+                Ok(true)
+            }
+        }
+    }
+
+    // Makes turns. Fails with the place of the first one that isn't as it says, from 0.
+    fn make_all(&mut self, turns: &[Turn]) -> Result<(), Fail> {
+        for (place, turn) in turns.iter().enumerate() {
+            if !self.make(*turn)? {
+                return Err(("turn", place))?;
+            }
+        }
+        Ok(())
+    }
+}
+
+// The same with a new decider, which has room for so many variables.
+fn play(alloc: Global, room: usize, turns: &[Turn]) -> Result<(), Fail> {
+    let mut game = Game::new(alloc, room)?;
+    game.make_all(turns)
+}
+
+// Without a bump variable 2 comes first here; so each test of a bump bumps variable 1. The second time it decides with
+// the saved signs.
+#[test]
+fn decisions_go_from_scope_to_scope(rt: HostRuntime) -> Result<(), Fail> {
+    let turns = [
+        Turn::Decide(true, [-2, 1, 3, 0]),
+        Turn::Undo,
+        Turn::Decide(false, [-2, 1, 3, 0]),
+    ];
+    play(rt.alloc(), 3, &turns)
+}
+
+// The second time it decides with the saved signs.
+#[test]
+fn the_first_signs_are_by_what_was_counted(rt: HostRuntime) -> Result<(), Fail> {
+    let turns = [
+        Turn::Count(1, true),
+        Turn::Count(2, true),
+        Turn::Count(2, false),
+        Turn::Count(3, true),
+        Turn::Decide(false, [-2, 1, -3, 0]),
+        Turn::Undo,
+        Turn::Decide(false, [-2, 1, -3, 0]),
+    ];
+    play(rt.alloc(), 3, &turns)
+}
+
+// Of a variable that nobody put in before: it comes in with its scope.
+#[test]
+fn a_bump_counts_for_who_comes_in_with_the_scope(rt: HostRuntime) -> Result<(), Fail> {
+    let turns = [Turn::Bump(1), Turn::Decide(false, [-1, -2, 3, 0])];
+    play(rt.alloc(), 3, &turns)
+}
+
+#[test]
+fn a_bump_counts_for_who_is_undone_later(rt: HostRuntime) -> Result<(), Fail> {
+    let turns = [
+        Turn::Fill,
+        Turn::Bump(1),
+        Turn::Undo,
+        Turn::Decide(false, [-1, -2, 3, 0]),
+    ];
+    play(rt.alloc(), 3, &turns)
+}
+
+#[test]
+fn a_bump_counts_for_who_waits_already(rt: HostRuntime) -> Result<(), Fail> {
+    let turns = [
+        Turn::Fill,
+        Turn::Undo,
+        Turn::Bump(1),
+        Turn::Decide(false, [-1, -2, 3, 0]),
+    ];
+    play(rt.alloc(), 3, &turns)
+}
+
+#[test]
+fn later_bumps_count_more(rt: HostRuntime) -> Result<(), Fail> {
+    let turns = [
+        Turn::Fill,
+        Turn::Undo,
+        Turn::Bump(2),
+        Turn::Bump(2),
+        Turn::Bump(2),
+        Turn::Decay(1000),
+        Turn::Bump(1),
+        Turn::Decide(false, [-1, -2, 3, 0]),
+    ];
+    play(rt.alloc(), 3, &turns)
+}
+
+// At first without room, and then with room.
+#[test]
+fn what_was_not_told_is_found_all_the_same(rt: HostRuntime) -> Result<(), Fail> {
+    let turns = [
+        Turn::DecideLast(true, [3, 0]),
+        Turn::Clear,
+        Turn::Reserve(3),
+        Turn::DecideLast(false, [3, 0]),
+    ];
+    play(rt.alloc(), 0, &turns)
+}
