@@ -13,6 +13,11 @@ matrix is true behind a Skolem circuit and false behind a Herbrand circuit. Then
 it reads the circuit as binary AIGER and writes it as BLIF, and the network of that and the clauses is compared with a
 constant. A circuit without outputs is nothing that abc can hold, so for these there is the simulation alone.
 
+Of 300 more formulas that are drawn the circuit is asked for in its four forms, in ASCII and binary, whole and trimmed.
+The binary forms are read byte by byte, by AIGER 1.9, and are to be those of the same circuits as the texts. A trimmed
+circuit has the same names and the same outputs for all inputs, no more gates, and each of these is reached from an
+output. For every tenth formula abc reads the trimmed one in its binary form.
+
 A trace is checked step by step, by docs/CIRCUITS.md and docs/CALCULUS.md: inputs, reductions, resolvents, the empty
 last step, inputs first, and each step used. Then DepQBF is to find the same verdict.
 
@@ -21,7 +26,7 @@ refusals, the truth of each verdict, by the whole table of the open formula unde
 it; traces and circuits by the same rules, over that formula and under these assumptions.
 
 This needs Python 3 alone. abc and DepQBF are the commands berkeley-abc and depqbf of Debian's packages of these names;
-without one of them all else is checked, and a line says so. It takes some thirty seconds. Prints a line a case and one
+without one of them all else is checked, and a line says so. It takes some forty seconds. Prints a line a case and one
 that counts them, and ends with status 1 if a case failed.
 """
 
@@ -37,7 +42,7 @@ sys.dont_write_bytecode = True
 sys.path.insert(0, str(Path(__file__).resolve().parent.parent / "bench"))
 import families
 from rules import ABC, DEPQBF, FALSE, TRUE, Circuit, Fault, Formula, Trace
-from rules import ask_abc, ask_depqbf, check_circuit, check_trace, require, run, text_of, whole
+from rules import ask_abc, ask_depqbf, check_circuit, check_trace, in_ascii, require, run, run_bytes, text_of, whole
 from sessions import check_script, scripts
 
 
@@ -192,6 +197,27 @@ def cert(program, tools, text, wanted, *options):
         ask_abc(formula, circuit)
 
 
+def forms(program, tools, text):
+    """The four forms of one circuit. `tools` has abc where it is to read the last."""
+    whole_status, plain = run(program, "cert", text)
+    trim_status, trimmed = run(program, "cert", text, "--trim")
+    binary_status, plain_bytes = run_bytes(program, "cert", text, "--binary")
+    both_status, trimmed_bytes = run_bytes(program, "cert", text, "--binary", "--trim")
+    statuses = {whole_status, trim_status, binary_status, both_status}
+    require(len(statuses) == 1 and statuses <= {TRUE, FALSE}, f"statuses {statuses}")
+    require(in_ascii(plain_bytes) == plain, "the binary form is of another circuit")
+    require(in_ascii(trimmed_bytes) == trimmed, "the trimmed binary form is of another circuit")
+    formula, one, other = Formula.read(text), whole(Circuit, plain), whole(Circuit, trimmed)
+    require(one.kind == other.kind == ("skolem" if whole_status == TRUE else "herbrand"), f"{one.kind}, {other.kind}")
+    check_circuit(formula, other)
+    require((one.inputs, one.names) == (other.inputs, other.names), "trimming changes a name")
+    require(one.tables() == other.tables(), "trimming changes an output")
+    require(len(other.gates) <= len(one.gates), f"{len(other.gates)} gates trimmed from {len(one.gates)}")
+    require(not other.unreached(), f"gates that no output comes from: {other.unreached()}")
+    if ABC in tools and other.outputs:
+        ask_abc(formula, other, trimmed_bytes)
+
+
 def trace(program, tools, text, wanted, *options):
     status, out = run(program, "trace", text, *options)
     require(status == wanted if wanted else status in (TRUE, FALSE), f"status {status}")
@@ -217,11 +243,19 @@ def long_cases(program, tools):
         yield f"equality_7_{name}.cert", partial(cert, program, tools, equality, FALSE, *options)
 
 
+def form_cases(program, tools):
+    """The forms of the circuits of drawn formulas, of a hundred seeds each."""
+    for kind, seed in itertools.product((at_random, with_gates, with_guesses), range(1000, 1100)):
+        asked = tools if seed % 10 == 0 else []
+        yield f"{kind.__name__}_{seed}.forms", partial(forms, program, asked, kind(seed))
+
+
 def cases(program, tools):
     """Each case with its name."""
     for name, wanted, text in formulas():
         yield f"{name}.cert", partial(cert, program, tools, text, wanted)
         yield f"{name}.trace", partial(trace, program, tools, text, wanted)
+    yield from form_cases(program, tools)
     yield from long_cases(program, tools)
     differs = text_of([("a", [1]), ("e", [2])], [[1, 2], [-1, -2]])
     for command in ("cert", "trace"):

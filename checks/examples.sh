@@ -198,6 +198,8 @@ fi
 python3 "$examples/binary.py" "$examples/arbiter.aag" > "$folder/arbiter.aig"
 report binary $? 0 "$(head -1 "$folder/arbiter.aig")" 'aig 8 3 0 3 5' \
     "$(tail -n +5 "$folder/arbiter.aig" | head -c 10 | od -An -tu1 | tr -s ' ')" ' 3 2 2 1 7 3 2 5 9 3'
+"$program" cert --binary "$examples/arbiter.qdimacs" > "$folder/written.aig"
+report binary_form $? 10 "$(od -An -tx1 "$folder/written.aig")" "$(od -An -tx1 "$folder/arbiter.aig")"
 # equivalent TEXT MODULE: what abc says of a circuit in binary form and a module.
 equivalent() {
     (cd "$folder" && berkeley-abc -q "cec -n $1 $2" | grep -o 'Networks are [NOT ]*[Ee][A-Za-z]*')

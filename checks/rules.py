@@ -203,6 +203,14 @@ class Circuit:
         tail += [f"o{place} {name}" for place, name in enumerate(self.names)]
         return lines_of(head).encode() + bytes(body) + lines_of([*tail, "c", self.kind]).encode()
 
+    def unreached(self):
+        """The gates that no output comes from, neither through other gates."""
+        reached = {literal // 2 for literal in self.outputs}
+        for gate, first, second in reversed(self.gates):
+            if gate // 2 in reached:
+                reached |= {first // 2, second // 2}
+        return [gate for gate, _, _ in self.gates if gate // 2 not in reached]
+
     def tables(self):
         """For each variable of the formula its truth table over the inputs: bit i is its value where those are i."""
         size = 1 << len(self.inputs)
@@ -218,6 +226,36 @@ class Circuit:
         found = dict(zip(self.inputs, nodes[1:]))
         found.update((name, value(literal)) for name, literal in zip(self.names, self.outputs))
         return found, ones
+
+
+def number_at(data, place):
+    """The number that the binary form has at a place, in groups of 7 bits, and the place behind it."""
+    number = shift = 0
+    for at in range(place, len(data)):
+        number += data[at] % 128 << shift
+        if data[at] < 128:
+            require(data[at] or at == place, "a number with a needless group")
+            return number, at + 1
+        shift += 7
+    raise Fault("a number without an end")
+
+
+def in_ascii(data):
+    """The text in ASCII of a circuit whose binary form this is, as AIGER 1.9 has both."""
+    head, *rest = data.split(b"\n", 1)
+    words = head.decode("ascii").split(" ")
+    require(len(words) == 6 and words[0] == "aig" and rest, f"no header of the binary form: {head!r}")
+    _, inputs, _, outputs, gates = map(int, words[1:])
+    lines = [" ".join(["aag", *words[1:]]), *(str(2 * place + 2) for place in range(inputs))]
+    *found, rest = rest[0].split(b"\n", outputs)
+    require(len(found) == outputs, "too few outputs")
+    lines += [line.decode("ascii") for line in found]
+    place = 0
+    for gate in range(2 * inputs + 2, 2 * (inputs + gates) + 2, 2):
+        first, place = number_at(rest, place)
+        second, place = number_at(rest, place)
+        lines.append(f"{gate} {gate - first} {gate - first - second}")
+    return lines_of(lines) + rest[place:].decode("ascii")
 
 
 class Trace:
@@ -280,12 +318,12 @@ def head_of_network(circuit):
     return [".model check", " ".join([".inputs", *map(str, circuit.inputs)]), ".outputs matrix"]
 
 
-def ask_abc(formula, circuit):
-    """Has abc read the circuit, and show that the matrix behind it is constant."""
+def ask_abc(formula, circuit, data=None):
+    """Has abc read the circuit, or these bytes of it, and show that the matrix behind it is constant."""
     value = int(circuit.kind == "skolem")
     with tempfile.TemporaryDirectory() as name:
         folder = Path(name)
-        (folder / "circuit.aig").write_bytes(circuit.binary())
+        (folder / "circuit.aig").write_bytes(data or circuit.binary())
         said = abc(folder, "read_aiger circuit.aig; write_blif circuit.blif")
         require((folder / "circuit.blif").exists(), f"abc doesn't read the circuit: {said}")
         written = (folder / "circuit.blif").read_text()
@@ -385,11 +423,17 @@ def check_trace(formula, trace, assumed=()):
 # Running programs.
 
 
-def run(program, command, text, *options):
+def run_bytes(program, command, text, *options):
     """The status and the output of the program, which is to say nothing else."""
     done = subprocess.run([program, command, *options], input=text.encode(), capture_output=True, timeout=SECONDS)
     require(not done.stderr, f"error output {done.stderr!r}")
-    return done.returncode, done.stdout.decode("ascii")
+    return done.returncode, done.stdout
+
+
+def run(program, command, text, *options):
+    """The same where the output is a text."""
+    status, out = run_bytes(program, command, text, *options)
+    return status, out.decode("ascii")
 
 
 def ask_depqbf(formula, status):

@@ -169,20 +169,28 @@ def line_of(word, rest):
     return " ".join(map(str, [word, *rest, *([0] if word == "clause" else [])]))
 
 
-def check_script(program, commands, budget):
-    """Has the program reply to commands, and checks each reply."""
-    text = lines_of(["p qscript 1", *(line_of(word, rest) for word, rest in commands)])
-    options = [] if budget is None else ["--budget", str(budget)]
-    status, out = run(program, "script", text, *options)
-    require(status == 0, f"status {status}")
+def check_replies(commands, budget, out):
+    """Checks the replies to commands, each solve having had this budget."""
     model = Model(budget)
     lines = Lines(out) if out else Lines("\n")
-    for number, (word, rest) in enumerate(commands, 2):
+    for number, (word, rest) in enumerate(commands, 1):
         try:
             model.reply(lines, word, rest)
         except Exception as why:
-            raise type(why)(f"line {number} of the script, {line_of(word, rest)!r}: {why}") from None
+            raise type(why)(f"command {number} of the script, {line_of(word, rest)!r}: {why}") from None
     require(not out or lines.at_end(), "replies behind the last one")
+
+
+def script_of(commands):
+    return lines_of(["p qscript 1", *(line_of(word, rest) for word, rest in commands)])
+
+
+def check_script(program, commands, budget):
+    """Has the program reply to commands, and checks each reply."""
+    options = [] if budget is None else ["--budget", str(budget)]
+    status, out = run(program, "script", script_of(commands), *options)
+    require(status == 0, f"status {status}")
+    check_replies(commands, budget, out)
 
 
 def some_literals(draw, variables, count):
