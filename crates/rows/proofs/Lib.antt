@@ -1,4 +1,5 @@
 pub mod Arenas
 pub mod Blocking
+pub mod Linking
 pub mod Parts
 pub mod Storing

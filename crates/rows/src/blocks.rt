@@ -4,21 +4,16 @@ ghost use Rattle.rows.specs.Arena.{set_three};
 ghost use Rattle.rows.specs.Places.{AreSpread, Reblocks, blocks_of, most_blocks, place_at};
 ghost use Rattle.rows.specs.Blocks.{AreBlocks, LosesBlock, block_at, block_in, has_block, links_in};
 
+use super::links::{Links, ThreeLinks};
 use super::places::{place_of, set_block};
 use super::rows::RowId;
 use super::slots::Slot;
 
-// How many link fields a row has.
-const LINKS: usize = 8;
-
-/// The values of three link fields, that of a number and the two behind it.
-pub type ThreeLinks = (Option<usize>, Option<usize>, Option<usize>);
-
 // The link fields of a row.
-#[derive(Clone, Copy, Debug)]
+#[derive(Debug, Drop)]
 pub(crate) struct Block {
     owner: RowId,
-    links: [Option<usize>; LINKS],
+    links: Links,
 }
 
 impl Block {
@@ -28,7 +23,7 @@ impl Block {
         ensures links { self.new ≡ record { owner = self.old.owner; links = slice_set self.old.links k value } }
         ensures eight { length self.old.links ≡ 8 }
     {
-        self.links[k] = value;
+        self.links.set(k, value);
     }
 
     // Writes three link fields.
@@ -37,9 +32,7 @@ impl Block {
         ensures links { self.new ≡ record { owner = self.old.owner; links = set_three base values self.old.links } }
         ensures eight { length self.old.links ≡ 8 }
     {
-        self.links[base] = values.0;
-        self.links[base + 1] = values.1;
-        self.links[base + 2] = values.2;
+        self.links.set_three(base, values);
     }
 }
 
@@ -52,7 +45,7 @@ pub(crate) fn read(blocks: &Vec<Block>, block: Option<usize>, k: usize) -> Optio
 {
     match block {
         None => None,
-        Some(block) => blocks[block].links[k],
+        Some(block) => blocks[block].links.get(k),
     }
 }
 
@@ -67,10 +60,7 @@ pub(crate) fn read_three(blocks: &Vec<Block>, block: Option<usize>, base: usize)
 {
     match block {
         None => (None, None, None),
-        Some(block) => {
-            let links = &blocks[block].links;
-            (links[base], links[base + 1], links[base + 2])
-        }
+        Some(block) => blocks[block].links.get_three(base),
     }
 }
 
@@ -142,7 +132,7 @@ fn give_block(places: &mut Vec<Slot>, blocks: &mut Vec<Block>, id: RowId) -> usi
     // There is room for it.
     let _ = blocks.push(Block {
         owner: id,
-        links: [None; LINKS],
+        links: Links::new(),
     });
     set_block(places, id, Some(block));
     block

@@ -2,9 +2,10 @@
 #![tactic(auto)]
 
 mod blocks;
+mod links;
 mod places;
 mod rows;
 mod slots;
 
-pub use blocks::ThreeLinks;
+pub use links::ThreeLinks;
 pub use rows::{RowId, Rows};

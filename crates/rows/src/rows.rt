@@ -2,7 +2,8 @@
 ghost use Rattle.std.specs.Prelude.{◌≡◌, ◌↔◌, ◌<◌, ◌+◌, [], ◌∷◌, IsTrue, Some, None, IfOk, OnOk, OnErr, length, slice_set};
 ghost use Rattle.rows.specs.Arena.{ChangesAt, ChangesLink, ChangesLinks, next_id, row_at, is_live, literals_at, link_at, new_row, with_row, without_row, with_link, with_links};
 
-use super::blocks::{Block, ThreeLinks, block_for, forget, read, read_three, write, write_three};
+use super::blocks::{Block, block_for, forget, read, read_three, write, write_three};
+use super::links::ThreeLinks;
 use super::places::{place_of, put, slide};
 use super::slots::{Slot, short, within};
 use prefix::Lit;

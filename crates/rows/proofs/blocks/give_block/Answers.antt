@@ -1,6 +1,7 @@
-use Rattle.std.proofs.Common.{◌<◌, arith, ◌∙◌}
+use Rattle.std.proofs.Common.{ℕ, ◌<◌, List, [], ◌∷◌, ◌++◌, Option, ap, arith, ◌∙◌}
 use Rattle.std.specs.Prelude.{vec_len, vec_capacity}
 use Rattle.std.proofs.lemmas.Bool.{cond-true}
+use Rattle.rows.specs.declared.blocks.Block.{Block}
 use Rattle.rows.specs.Places.{blocks_of}
 use Rattle.rows.proofs.Blocking.{count_less}
 use Rattle.rows.proofs.blocks.give_block.Goals as goal
@@ -12,7 +13,8 @@ returns-clause-blocks c =
     let room = c.requires.room in
     let len = c.args.blocks.now.ok.0 in
     let has : vec_len c.args.blocks.now < vec_capacity c.args.blocks.now = omega arith in
-    c.push.ensures.items ∙ cond-true _ _ _ (c.push.ensures.succeeds has)
+    let with_links : List (Option ℕ) → List Block = λ links. c.args.blocks.now.items ++ record { owner = c.args.id; links = links } ∷ [] in
+    c.push.ensures.items ∙ cond-true _ _ _ (c.push.ensures.succeeds has) ∙ ap with_links c.new.ensures
 
 pub set_block-requires-clause-fits : goal.set_block-requires-clause-fits
 set_block-requires-clause-fits c =
