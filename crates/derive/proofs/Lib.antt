@@ -10,5 +10,6 @@ pub mod Listing
 pub mod Missed
 pub mod Removals
 pub mod Sweeps
+pub mod Tagging
 pub mod Tags
 pub mod Working

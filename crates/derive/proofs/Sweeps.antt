@@ -12,7 +12,7 @@ use Rattle.rows.specs.Arena.{Arena}
 use Rattle.calculus.specs.Derivations.{Why, RestsOn, rests_on}
 use Rattle.derive.specs.declared.step.Step.{Step}
 use Rattle.derive.specs.declared.step.Step.TheVariants.{Reduced, Finished, Resolved}
-use Rattle.derive.specs.Told.{why_of}
+use Rattle.derive.specs.Told.{told, why_of}
 use Rattle.calculus.specs.Derivations.Why.{Given, ReducedFrom, ResolvedFrom, FinishedFrom}
 use Rattle.derive.specs.State.{Note, Notes, State, SameStep, note_in, note_at, is_live, clauses_of, IsLegalFor}
 use Rattle.derive.specs.Antecedents.{AreSupported}
@@ -318,3 +318,14 @@ finished_rests step why a is at =
     let e : why ≡ FinishedFrom a = sym is ∙ ap why_of at in
     let P : Why → Type 0 = λ w. RestsOn w a in
     subst P (sym e) refl
+
+-- why a step stands is told of it
+pub why_told : (side : Quant) (why : Why) → why_of (told side why) ≡ why
+why_told Exists Given = refl
+why_told Forall Given = refl
+why_told Exists (ReducedFrom a) = refl
+why_told Forall (ReducedFrom a) = refl
+why_told Exists (ResolvedFrom a b pivot) = refl
+why_told Forall (ResolvedFrom a b pivot) = refl
+why_told Exists (FinishedFrom a) = refl
+why_told Forall (FinishedFrom a) = refl

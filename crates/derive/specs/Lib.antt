@@ -5,6 +5,7 @@ pub mod Antecedents
 pub mod Growing
 pub mod Kept
 pub mod Missing
+pub mod Packed
 pub mod State
 pub mod Sweeping
 pub mod Theorems

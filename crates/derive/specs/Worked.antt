@@ -1,13 +1,14 @@
--- Worked values: which initial cubes miss a clause, and what goes with them.
-use Rattle.std.specs.Prelude.{◌≡◌, Bool, true, false, if◌then◌else◌, [], ◌∷◌, Option, Some, None}
+-- Worked values: which initial cubes miss a clause, and what goes with them; and the tags of steps.
+use Rattle.std.specs.Prelude.{◌≡◌, ℕ, Bool, true, false, if◌then◌else◌, [], ◌∷◌, Option, Some, None}
 use Rattle.prefix.specs.declared.quant.Quant.{Quant}
 use Rattle.prefix.specs.declared.quant.Quant.TheVariants.{Exists, Forall}
 use Rattle.rows.specs.Arena.{StoredRow, new_row}
 use Rattle.calculus.specs.Derivations.{Why}
-use Rattle.calculus.specs.Derivations.Why.{Given, ReducedFrom, ResolvedFrom}
+use Rattle.calculus.specs.Derivations.Why.{Given, ReducedFrom, ResolvedFrom, FinishedFrom}
 use Rattle.calculus.specs.Rows.{Row}
 use Rattle.calculus.specs.Worked.{minus, plus}
-use Rattle.derive.specs.State.{Note, State, arena_of}
+use Rattle.derive.specs.Antecedents.{AreSupported, HasTag, IsAntecedentIn, IsGreatestFrame, Supports}
+use Rattle.derive.specs.State.{Note, Notes, State, arena_of}
 use Rattle.derive.specs.Dropping.{Drops}
 use Rattle.derive.specs.Cubes.{hits_clause, misses}
 
@@ -70,3 +71,52 @@ pub record WorkedCubes : Type 0 where
   pub not_both : LeavesAt2 (with_cubes false true false true true) → ⊥
   pub not_none : LeavesAt2 (with_cubes false false false false false) → ⊥
   pub not_over_second : LeavesAt2 (with_cubes false true false false false) → ⊥
+
+abbrev pub tagged : Quant → Why → ℕ → Option Note
+tagged side why tag = Some (record { side = side; why = why; tag = tag })
+
+-- clauses of the frames 0, 2 and 5, a resolvent of the first two and its reduction; an initial cube and its finish; and
+-- one that was dropped
+abbrev pub three_frames : Notes
+three_frames =
+    tagged Exists Given 0
+    ∷ tagged Exists Given 2
+    ∷ tagged Exists Given 5
+    ∷ tagged Exists (ResolvedFrom 1 0 3) 2
+    ∷ tagged Exists (ReducedFrom 3) 2
+    ∷ tagged Forall Given 0
+    ∷ tagged Forall (FinishedFrom 5) 0
+    ∷ None
+    ∷ []
+
+pub record WorkedTags : Type 0 where
+  -- an input clause has any frame, an initial cube 0; other steps the greatest frame of what they rest on
+  pub clause_of_any : HasTag three_frames Exists 7 Given
+  pub cube_of_none : HasTag three_frames Forall 0 Given
+  pub cube_of_one : HasTag three_frames Forall 1 Given → ⊥
+  pub greater_first : HasTag three_frames Exists 2 (ResolvedFrom 1 0 3)
+  pub greater_last : HasTag three_frames Exists 5 (ResolvedFrom 0 2 3)
+  pub not_the_less : HasTag three_frames Exists 0 (ResolvedFrom 1 0 3) → ⊥
+  pub not_the_sum : HasTag three_frames Exists 7 (ResolvedFrom 1 2 3) → ⊥
+  pub reduction : HasTag three_frames Exists 2 (ReducedFrom 3)
+  pub not_its_own : HasTag three_frames Exists 4 (ReducedFrom 3) → ⊥
+  pub finish : HasTag three_frames Exists 5 (FinishedFrom 2)
+  pub not_another : HasTag three_frames Exists 2 (FinishedFrom 2) → ⊥
+  -- an antecedent is live, earlier, of the same side and no finish
+  pub antecedent : IsAntecedentIn three_frames 4 Exists 3
+  pub later : IsAntecedentIn three_frames 3 Exists 3 → ⊥
+  pub other_side : IsAntecedentIn three_frames 6 Exists 5 → ⊥
+  pub no_finish : IsAntecedentIn three_frames 8 Forall 6 → ⊥
+  pub dropped : IsAntecedentIn three_frames 8 Exists 7 → ⊥
+  -- so it is with all of these
+  pub supported : AreSupported three_frames
+  pub not_supported : AreSupported (tagged Exists Given 2 ∷ tagged Exists (ReducedFrom 0) 0 ∷ []) → ⊥
+  -- the reduction rests on the clauses of the frames 0 and 2, and not on that of frame 5
+  pub over_first : Supports three_frames 4 0
+  pub over_second : Supports three_frames 4 1
+  pub not_over_third : Supports three_frames 4 2 → ⊥
+  pub not_a_resolvent : Supports three_frames 4 3 → ⊥
+  -- so the greatest frame is 2, neither less nor more
+  pub greatest : IsGreatestFrame three_frames 4 2
+  pub not_less : IsGreatestFrame three_frames 4 0 → ⊥
+  pub not_more : IsGreatestFrame three_frames 4 5 → ⊥

@@ -11,7 +11,7 @@ ghost use Rattle.calculus.specs.Derivations.Why.{ReducedFrom, ResolvedFrom, Fini
 ghost use Rattle.calculus.specs.Verdicts.{finished, IsEndRow, IsFinish};
 ghost use Rattle.derive.specs.State.{State, arena_of, IsStepOf, SameStep, OpenClause, next_id, is_live, is_step, has_rows, row_of, side_at, why_at, tag_at, note_at, steps_of, clauses_of, open_clauses, IsLegalFor, Note as Kept};
 ghost use Rattle.derive.specs.Antecedents.{Fits, IsAntecedentIn, AreSupported, IsSupportedAt, IsGreatestFrame};
-ghost use Rattle.derive.specs.Adding.{Adds, AddsBoth, AddsClause, AreResolvable, CountsRemoval, InputsClause, IsOver, IsReductionOf, Removes, cube_note, finish_at, reduction_at, resolvent_at, resolvent_note};
+ghost use Rattle.derive.specs.Adding.{clause_note, Adds, AddsBoth, AddsClause, AreResolvable, CountsRemoval, InputsClause, IsOver, IsReductionOf, Removes, cube_note, finish_at, reduction_at, resolvent_at, resolvent_note};
 ghost use Rattle.derive.specs.Growing.{AreUnlinked, GainsSteps};
 ghost use Rattle.derive.specs.Dropping.{Drops, StepTest, is_that, mentions, names, has_tag, finishes, is_from, is_root, unless_finish};
 ghost use Rattle.derive.specs.Cubes.{is_cube_in, misses};
@@ -20,6 +20,7 @@ ghost use Rattle.derive.specs.Told.{told, why_of};
 
 use super::cubes::{drop_missing, list_cube, retain_cubes};
 use super::dropping::{Roots, drop_roots};
+use super::new_step::NewStep;
 use super::note::Note;
 use super::removal::{push_assumed, reduce_of};
 use super::sweeping::{sweep_all, widen_marks};
@@ -38,6 +39,8 @@ use steps::{NoMemory, Steps, Stop};
 /// A step has a tag: the greatest frame among the input clauses that it rests on, through other steps or at once, and
 /// 0 for cubes. No step rests on a finish. The rows can be taken and put back; between the two only `step`, `is_live`,
 /// `tag` and `next_id` are called.
+///
+/// There is no memory for a step that rests on one with an id of 2^40 or more, nor for a tag of 2^32 or more.
 #[derive(Debug, Drop)]
 pub struct Derivation {
     // What is kept of the step of each id, if it is live.
@@ -177,7 +180,7 @@ impl Derivation {
             Hits lits.now (open_clauses self.old) → IsLegalFor scopes self.old → IsLegalFor scopes self.new) }
         ensures err { OnErr result (self.new ≡ self.old) }
     {
-        let note = Note::new(Quant::Forall, Step::InputCube, 0);
+        let note = NewStep::new(Quant::Forall, Step::InputCube, 0);
         self.add(note, lits)
     }
 
@@ -207,7 +210,7 @@ impl Derivation {
         let mut row = Row::new(*self.notes.allocator());
         resolve(self.lits(a), self.lits(b), pivot, &mut row)?;
         let tag = self.tag(a).max(self.tag(b));
-        let note = Note::new(self.side(a), Step::Resolved { a, b, pivot }, tag);
+        let note = NewStep::new(self.side(a), Step::Resolved { a, b, pivot }, tag);
         self.add(note, row.as_slice())
     }
 
@@ -431,13 +434,14 @@ impl Derivation {
     }
 
     // Adds a step with its row.
-    fn add(&mut self, note: Note, lits: &[Lit]) -> Result<StepId, NoMemory>
+    fn add(&mut self, step: NewStep, lits: &[Lit]) -> Result<StepId, NoMemory>
         requires rows { IsTrue (has_rows self.old) }
-        requires support { IsSupportedAt self.old.notes (next_id self.old) note }
-        ensures ok { IfOk result (λ id. Adds self.old self.new id note lits.now) }
+        requires support { IsSupportedAt self.old.notes (next_id self.old) step }
+        ensures ok { IfOk result (λ id. Adds self.old self.new id step lits.now) }
         ensures unlinked { OnOk result (AreUnlinked self.old self.new) }
         ensures err { OnErr result (self.new ≡ self.old) }
     {
+        let note = step.kept()?;
         self.notes.reserve(1)?;
         widen_marks(&mut self.marks, self.notes.len() + 1)?;
         widen(&mut self.frames_from, note.tag(), self.notes.len())?;
@@ -472,7 +476,7 @@ impl Derivation {
         if row.len() == self.rows().lits(on).len() {
             return Ok(on);
         }
-        let note = Note::new(self.side(on), step, self.tag(on));
+        let note = NewStep::new(self.side(on), step, self.tag(on));
         self.add(note, row)
     }
 
@@ -491,7 +495,7 @@ impl Derivation {
         let mut row = Row::new(*self.notes.allocator());
         reduce_of(Quant::Exists, prefix, lits, &mut row)?;
         if row.len() == lits.len() {
-            let input = Note::new(Quant::Exists, Step::InputClause, frame);
+            let input = NewStep::new(Quant::Exists, Step::InputClause, frame);
             let id = self.add(input, lits)?;
             return Ok((id, id));
         }
@@ -510,12 +514,11 @@ impl Derivation {
         ensures unlinked { OnOk result (AreUnlinked self.old self.new) }
         ensures err { OnErr result (self.new ≡ self.old) }
     {
+        let (input, reduction) = clause_and_reduction(frame, self.notes.len())?;
         self.notes.reserve(2)?;
         widen_marks(&mut self.marks, self.notes.len() + 2)?;
         widen(&mut self.frames_from, frame, self.notes.len())?;
         let (first, second) = self.rows.as_mut().unwrap().add_pair(lits, row)?;
-        let input = Note::new(Quant::Exists, Step::InputClause, frame);
-        let reduction = Note::new(Quant::Exists, Step::Reduced(first), frame);
         let _ = self.notes.push(Some(input));
         let _ = self.notes.push(Some(reduction));
         Ok((first, second))
@@ -531,6 +534,16 @@ impl Derivation {
     {
         drop_roots(&mut self.notes, self.rows.as_mut().unwrap(), from, &roots);
     }
+}
+
+// A clause of a frame and a reduction of it, where the clause is to have this id.
+fn clause_and_reduction(frame: usize, clause: StepId) -> Result<(Note, Note), NoMemory>
+    ensures { IfOk result (λ notes. (notes.0 ≡ clause_note frame)
+        × (notes.1 ≡ record { side = exists; why = ReducedFrom clause; tag = frame })) }
+{
+    let input = NewStep::new(Quant::Exists, Step::InputClause, frame).kept()?;
+    let reduction = NewStep::new(Quant::Exists, Step::Reduced(clause), frame).kept()?;
+    Ok((input, reduction))
 }
 
 // Puts in the id from which on steps of a frame can stand, where the frame has a place.

@@ -6,6 +6,7 @@ mod cubes;
 mod derivation;
 mod dropping;
 mod laws;
+mod new_step;
 mod note;
 mod removal;
 mod step;
@@ -18,4 +19,4 @@ pub use laws::{
     steps_are_listed,
 };
 pub use step::{Step, StepId};
-pub use worked::worked_cubes;
+pub use worked::{worked_cubes, worked_tags};

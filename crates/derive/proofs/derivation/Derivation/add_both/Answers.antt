@@ -32,18 +32,21 @@ here c = sym c.as_mut.ensures.value ∙ ap option_copied_mut c.unwrap.ensures
 -- a frame without a place has one now
 wide : (c : goal.After-push-2) → BelongTogether c.self.inside.notes.items c.self.inside.rows c.widen.new.frames_from.items c.self.inside.cubes.items c.self.inside.finishes_from
 wide c =
-    let len : c.len-2.result ≡ length c.self.inside.notes.items = c.len-2.ensures ∙ c.reserve.new.self.ok.0 ∙ ap (λ (ns : Notes). length ns) c.reserve.ensures.items in
+    let len : c.len-3.result ≡ length c.self.inside.notes.items = c.len-3.ensures ∙ c.reserve.new.self.ok.0 ∙ ap (λ (ns : Notes). length ns) c.reserve.ensures.items in
     kept_widened _ _ _ _ _ _ _ (λ f. subst (λ n. get_or c.widen.new.frames_from.items f n ≡ get_or c.self.inside.frames_from.items f n) len (c.widen.ensures.same f)) (λ id at. at) c.self.invariant.0
 
 first_is : (c : goal.After-push-2) → c.in_ok-first.first ≡ length c.self.inside.notes.items
 first_is c = c.in_ok-first.ensures.ids.0 ∙ (c.self.invariant.0.fits c.unwrap.result.now (here c)).same_next
 
+on_is : (c : goal.After-push-2) → c.len.result ≡ length c.self.inside.notes.items
+on_is c = c.len.ensures ∙ c.self.inside.notes.ok.0
+
 pushed : (c : goal.After-push-2) → c.push-2.new.self.items ≡ (c.self.inside.notes.items ++ Some (clause_note c.args.frame) ∷ []) ++ Some (record { side = Exists; why = ReducedFrom (length c.self.inside.notes.items); tag = c.args.frame }) ∷ []
 pushed c =
     c.push-2.ensures.items ∙ cond-true _ _ _ (second_fits c)
     ∙ ap₂ (λ (notes : Notes) (note : Note). notes ++ Some note ∷ [])
-    (c.push.ensures.items ∙ cond-true _ _ _ (first_fits c) ∙ ap₂ (λ (notes : Notes) (note : Note). notes ++ Some note ∷ []) c.reserve.ensures.items c.new-input.ensures)
-    (c.new-reduction.ensures ∙ ap (λ k. record { side = Exists; why = ReducedFrom k; tag = c.args.frame }) (first_is c))
+    (c.push.ensures.items ∙ cond-true _ _ _ (first_fits c) ∙ ap₂ (λ (notes : Notes) (note : Note). notes ++ Some note ∷ []) c.reserve.ensures.items c.in_ok-input.ensures.0)
+    (c.in_ok-input.ensures.1 ∙ ap (λ k. record { side = Exists; why = ReducedFrom k; tag = c.args.frame }) (on_is c))
 
 marked : (c : goal.After-push-2) → length c.push-2.new.self.items ≤ length c.widen_marks.new.marks.items
 marked c =
@@ -51,7 +54,7 @@ marked c =
     let l = length_push c.self.inside.notes.items (Some (clause_note c.args.frame)) in
     let l2 = length_push (c.self.inside.notes.items ++ Some (clause_note c.args.frame) ∷ []) (Some (record { side = Exists; why = ReducedFrom (length c.self.inside.notes.items); tag = c.args.frame })) in
     let h = c.in_ok-widen_marks.ensures.ok in
-    let e = c.len.ensures in
+    let e = c.len-2.ensures in
     let k = c.reserve.new.self.ok.0 in
     let s = ap length c.reserve.ensures.items in
     omega arith
@@ -64,3 +67,15 @@ returns-clause-ok c = adds_both _ _ _ _ _ _ c.args.frame c.args.lits.now c.args.
 
 pub returns-clause-unlinked : goal.returns-clause-unlinked
 returns-clause-unlinked c = pair_unlinked _ c.self.inside.notes.items c.push-2.new.self.items c.self.inside.rows _ _ c.args.lits.now c.args.row.now c.self.view_is (here c) c.in_ok-first.ensures.arena (c.self.invariant.0.fits c.unwrap.result.now (here c))
+
+pub invariant_of-self-in_err-widen : goal.invariant_of-self-in_err-widen
+invariant_of-self-in_err-widen c =
+    let inside = c.self.inside in
+    let len : c.len-3.result ≡ length inside.notes.items = c.len-3.ensures ∙ c.reserve.new.self.ok.0 ∙ ap (λ (ns : Notes). length ns) c.reserve.ensures.items in
+    let frames : BelongTogether inside.notes.items inside.rows c.widen.new.frames_from.items inside.cubes.items inside.finishes_from =
+    kept_widened _ _ _ _ _ _ _ (λ f. subst (λ n. get_or c.widen.new.frames_from.items f n ≡ get_or inside.frames_from.items f n) len (c.widen.ensures.same f)) (λ id at. at) c.self.invariant.0 in
+    let P : Notes → Type 0 = λ notes. BelongTogether notes inside.rows c.widen.new.frames_from.items inside.cubes.items inside.finishes_from in
+    let h = c.in_ok-widen_marks.ensures.ok in
+    let e = c.len-2.ensures in
+    let k = c.reserve.new.self.ok.0 in
+    (subst P (sym c.reserve.ensures.items) frames, omega arith)
