@@ -1,8 +1,14 @@
 -- Which refusal of a clause comes.
-use Rattle.std.proofs.Common.{◌≡◌, ℕ, Bool, true, false, not, ◌&&◌, refl, ap}
-use Rattle.std.specs.Prelude.{◌==◌, eqb, if◌then◌else◌, Option, Some, None, Result, Err, MatchOption, IsOkUnless}
+use Rattle.std.proofs.Common.{◌≡◌, ℕ, ◌+◌, ◌≤◌, ℤ, nat_abs, Bool, true, false, not, ◌&&◌, ◌||◌, List, [], ◌∷◌, length, map, suc, refl, ap, arith}
+use Rattle.std.specs.Prelude.{◌==◌, eqb, if◌then◌else◌, nat_lt, nat_le, Option, Some, None, Result, Err, MatchOption, IsOkUnless}
 use Rattle.std.specs.Option.{option_eq}
 use Rattle.std.proofs.lemmas.Bool.{eqb-true}
+use Rattle.std.proofs.lemmas.Bool.Decides.{nat_tests}
+use Rattle.std.proofs.lemmas.List.{length-map}
+use Rattle.calculus.specs.Rows.{Row}
+use Rattle.clauses.specs.Clause.{ascending, put, variables_of}
+use Rattle.frames.specs.Commands.{is_beyond, max_clauses, max_literals}
+use Rattle.frames.specs.State.{literals_in}
 use Rattle.frames.specs.declared.refusal.FrameRefusal.{FrameRefusal}
 use Rattle.frames.specs.declared.refusal.FrameRefusal.TheVariants.{UnknownVar, Limit, NoMemory}
 
@@ -36,3 +42,46 @@ is_one (Some n) e = by (n == 1) refl e
     by : (b : Bool) → (n == 1) ≡ b → not b ≡ false → Some n ≡ Some 1
     by true f g = ap Some (eqb-true n 1 f)
     by false f g = absurd (let h : true ≡ false = g in cc)
+
+put_length : (n : ℕ) (ms : List ℕ) → length (put n ms) ≤ suc (length ms)
+put_length n [] = omega arith
+put_length n (m ∷ ms) = by (nat_lt n m) (n == m) (put_length n ms)
+  where
+    by : (b c : Bool) → length (put n ms) ≤ suc (length ms) → length (if b then n ∷ m ∷ ms else if c then m ∷ ms else m ∷ put n ms) ≤ suc (suc (length ms))
+    by true c h = omega arith
+    by false true h = omega arith
+    by false false h = omega (arith, h)
+
+ascending_length : (ns : List ℕ) → length (ascending ns) ≤ length ns
+ascending_length [] = omega arith
+ascending_length (n ∷ ns) =
+    let later : length (ascending ns) ≤ length ns = ascending_length ns in
+    let more : length (put n (ascending ns)) ≤ suc (length (ascending ns)) = put_length n (ascending ns) in
+    omega (arith, later, more)
+
+-- a clause has at most as many variables as literals
+pub variables_length : (clause : List ℤ) → length (variables_of clause) ≤ length clause
+variables_length clause =
+    let few : length (ascending (map nat_abs clause)) ≤ length (map nat_abs clause) = ascending_length (map nat_abs clause) in
+    let same : length (map nat_abs clause) ≡ length clause = length-map clause nat_abs in
+    omega (arith, few, same)
+
+less_within : (m n a b : ℕ) → a ≤ b → nat_lt m (n + b) ≡ false → nat_lt m (n + a) ≡ false
+less_within m n a b less e = grind (arith, nat_tests, less, e)
+
+-- where a row of more literals goes beyond no limit, one of fewer doesn't
+fewer_within : (rows : List Row) (a b : ℕ) → a ≤ b → is_beyond rows b ≡ false → is_beyond rows a ≡ false
+fewer_within rows a b less e = by (nat_le max_clauses (length rows)) e
+  where
+    by : (full : Bool) → (full || nat_lt max_literals (literals_in rows + b)) ≡ false → (full || nat_lt max_literals (literals_in rows + a)) ≡ false
+    by true f = f
+    by false f = less_within max_literals (literals_in rows) a b less f
+
+unless_beyond : (tautology beyond : Bool) → beyond ≡ false → NoMemory ≡ (if not tautology && beyond then Limit else NoMemory)
+unless_beyond tautology true e = absurd (let f : true ≡ false = e in cc)
+unless_beyond true false e = refl
+unless_beyond false false e = refl
+
+-- a clause that goes beyond no limit with all its literals is refused for want of memory
+pub within_all : (rows : List Row) (clause : List ℤ) (tautology : Bool) → is_beyond rows (length clause) ≡ false → NoMemory ≡ (if not tautology && is_beyond rows (length (variables_of clause)) then Limit else NoMemory)
+within_all rows clause tautology e = unless_beyond tautology (is_beyond rows (length (variables_of clause))) (fewer_within rows (length (variables_of clause)) (length clause) (variables_length clause) e)

@@ -1,12 +1,13 @@
 -- Worked values: what commands come to.
-use Rattle.std.specs.Prelude.{◌≡◌, ℕ, pos, negsuc, true, false, List, [], ◌∷◌, ◌++◌, Option, Some, None}
+use Rattle.std.specs.Prelude.{◌≡◌, ℕ, pos, negsuc, true, false, List, [], ◌∷◌, ◌++◌, length, Option, Some, None}
 use Rattle.prefix.specs.declared.quant.Quant.TheVariants.{Exists, Forall}
 use Rattle.prefix.specs.declared.refusal.PrefixRefusal.TheVariants.{VarTwice, VarRange, ScopeRange}
 use Rattle.prefix.specs.Literal.{Literal}
 use Rattle.frames.specs.declared.refusal.FrameRefusal.{FrameRefusal}
 use Rattle.frames.specs.declared.refusal.FrameRefusal.TheVariants.{Prefix, NoFrame, UnknownVar, AssumeScope, AssumeClash, AssumptionsHeld}
+use Rattle.calculus.specs.Rows.{Row}
 use Rattle.frames.specs.State.{clauses_in, depth, literals_in}
-use Rattle.frames.specs.Commands.{Command, AddScope, AddVariable, AddClause, Push, Pop, Assume, Solve, Verdict, Stop, refusal_of}
+use Rattle.frames.specs.Commands.{Command, AddScope, AddVariable, AddClause, Push, Pop, Assume, Solve, Verdict, Stop, is_beyond, max_clauses, max_literals, max_pushed, refusal_of}
 use Rattle.frames.specs.Fold.{state_of}
 
 -- a variable as a literal
@@ -79,3 +80,16 @@ pub record WorkedCommands : Type 0 where
   pub greatest : (state_of solved).greatest ≡ 1
   -- a refused pop is no change, a push is
   pub removed : (state_of changed).verdict ≡ None
+
+-- the limits, and rows that meet them exactly: the last one of a number of literals, and one literal more; beside a row
+-- of two literals; the last one by the number of rows, and one row more
+pub record WorkedLimits : Type 0 where
+  pub pushed : max_pushed ≡ 65536
+  pub clauses : max_clauses ≡ 16777216
+  pub literals : max_literals ≡ 268435456
+  pub last_literal : is_beyond [] 268435456 ≡ false
+  pub one_literal_more : is_beyond [] 268435457 ≡ true
+  pub last_beside_two : is_beyond ((plus 1 ∷ plus 2 ∷ []) ∷ []) 268435454 ≡ false
+  pub more_beside_two : is_beyond ((plus 1 ∷ plus 2 ∷ []) ∷ []) 268435455 ≡ true
+  pub last_row : (rows : List Row) → length rows ≡ 16777215 → literals_in rows ≡ 268435450 → is_beyond rows 6 ≡ false
+  pub one_row_more : (rows : List Row) → length rows ≡ 16777216 → is_beyond rows 0 ≡ true

@@ -14,4 +14,4 @@ mod worked;
 pub use frames::{Frames, OpenParts};
 pub use laws::refused_commands_change_nothing;
 pub use refusal::FrameRefusal;
-pub use worked::worked_commands;
+pub use worked::{worked_commands, worked_limits};

@@ -59,8 +59,8 @@ pub(crate) fn is_beyond(rows: &[LitList], literals: usize, added: usize) -> bool
     rows.len() >= Frames::MAX_CLAUSES || added > Frames::MAX_LITERALS - literals
 }
 
-// Why a clause for which there is no memory is refused: what refuses it otherwise is tried first, by looking at each
-// pair of its literals.
+// Why a clause for which there is no memory is refused: what refuses it otherwise is tried first. It has at most as
+// many variables as literals; so only where a row of all of them would go beyond a limit each pair is looked at.
 pub(crate) fn refusal_without_row(rows: &[LitList], literals: usize, lits: &[i64]) -> FrameRefusal
     requires counted { literals ≡ literals_in rows.now }
     requires few { literals ≤ max_literals }
@@ -68,6 +68,9 @@ pub(crate) fn refusal_without_row(rows: &[LitList], literals: usize, lits: &[i64
     ensures { result ≡ (if not (is_taut lits.now) && goes_beyond rows.now (length (variables_of lits.now))
         then FrameRefusal.Limit else FrameRefusal.NoMemory) }
 {
+    if !is_beyond(rows, literals, lits.len()) {
+        return FrameRefusal::NoMemory;
+    }
     if is_tautology(lits) {
         return FrameRefusal::NoMemory;
     }
