@@ -1,7 +1,7 @@
 -- Worked values: small circuits whose values are known.
 use Rattle.std.specs.Prelude.{◌≡◌, ℕ, ◌==◌, true, false, not, [], ◌∷◌}
 use Rattle.prefix.specs.declared.quant.Quant.TheVariants.{Exists}
-use Rattle.aig.specs.Circuits.{Circuit, zero, one, opposite, value_of, edge_number, gate_of, AreDistinct, AreGates, IsGate, Makes}
+use Rattle.aig.specs.Circuits.{Circuit, zero, one, opposite, value_of, edge_number, gate_of, AreDistinct, AreGates, AreProper, Folds, IsGate, Makes}
 use Rattle.aig.specs.Strategies.{IsStrategy, values_of}
 use Rattle.aig.specs.declared.edge.And.{And}
 use Rattle.aig.specs.declared.edge.Edge.{Edge}
@@ -75,6 +75,32 @@ pub record WorkedGates : Type 0 where
   pub of_itself : IsGate 2 0 (record { left = gate 0; right = input 0 }) → ⊥
   pub with_itself : IsGate 2 0 (record { left = input 0; right = gate 0 }) → ⊥
   pub of_no_input : IsGate 2 0 (record { left = input 2; right = input 0 }) → ⊥
+
+-- an edge is that one
+abbrev pub Is : Edge → Edge → Type 0
+Is e f = f ≡ e
+
+-- what a conjunction gives without a gate, and no other edge: with a constant on either side, of equal edges and of
+-- opposite ones; of two different inputs it gives none, and these alone want a gate
+pub record WorkedFolds : Type 0 where
+  pub with_zero : Folds (input 0) zero (Is zero)
+  pub zero_with : Folds zero (input 0) (Is zero)
+  pub with_one : Folds (input 0) one (Is (input 0))
+  pub one_with : Folds one (input 0) (Is (input 0))
+  pub of_equals : Folds (opposite (input 0)) (opposite (input 0)) (Is (opposite (input 0)))
+  pub of_opposites : Folds (input 0) (opposite (input 0)) (Is zero)
+  pub of_different : Folds (input 0) (opposite (input 1)) (λ e. ⊥)
+  pub not_other_with_zero : Folds (input 0) zero (Is (input 0)) → ⊥
+  pub not_other_zero_with : Folds zero (input 0) (Is (input 0)) → ⊥
+  pub not_one_with_one : Folds (input 0) one (Is one) → ⊥
+  pub not_one_one_with : Folds one (input 0) (Is one) → ⊥
+  pub not_zero_of_equals : Folds (input 0) (input 0) (Is zero) → ⊥
+  pub not_either_of_opposites : Folds (input 0) (opposite (input 0)) (Is (input 0)) → ⊥
+  pub different_are_proper : AreProper (input 0) (opposite (input 1))
+  pub equals_are_not : AreProper (input 0) (input 0) → ⊥
+  pub opposites_are_not : AreProper (input 0) (opposite (input 0)) → ⊥
+  pub constant_is_not : AreProper one (input 0) → ⊥
+  pub nor_at_right : AreProper (input 0) zero → ⊥
 
 -- The gates of a circuit have the greater literal left, and no two have the same edges, in whichever order. So of two
 -- edges there is one gate: it is found again where it stands, and put behind the others where it doesn't.

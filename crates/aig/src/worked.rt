@@ -1,5 +1,5 @@
 //! Worked values of the definitions, each proved.
-ghost use Rattle.aig.specs.Worked.{WorkedCircuits, WorkedGates, WorkedNumbers, WorkedSharing, WorkedStrategies};
+ghost use Rattle.aig.specs.Worked.{WorkedCircuits, WorkedFolds, WorkedGates, WorkedNumbers, WorkedSharing, WorkedStrategies};
 
 /// The numbers of edges.
 pub fn worked_numbers()
@@ -9,6 +9,11 @@ pub fn worked_numbers()
 /// What is a gate and what is none.
 pub fn worked_gates()
     ensures { WorkedGates }
+{}
+
+/// What a conjunction gives without a gate, and which edges want one.
+pub fn worked_folds()
+    ensures { WorkedFolds }
 {}
 
 /// Which gates a circuit may have together, and what is found again.

@@ -1,11 +1,12 @@
 -- Worked values: the row 1 2 3 of either side, as a reason and as a row to be cleaned.
-use Rattle.std.specs.Prelude.{◌≡◌, [], ◌∷◌, Some, None}
+use Rattle.std.specs.Prelude.{◌≡◌, ℕ, [], ◌∷◌, Some, None}
 use Rattle.prefix.specs.declared.quant.Quant.{Quant}
 use Rattle.prefix.specs.Sides.{opposite}
 use Rattle.calculus.specs.Derivations.{Why}
 use Rattle.calculus.specs.Derivations.Why.{Given, ReducedFrom, ResolvedFrom, FinishedFrom}
 use Rattle.calculus.specs.Rows.{Row}
 use Rattle.calculus.specs.Search.{Trail}
+use Rattle.steps.specs.Counter.{Counter}
 use Rattle.calculus.specs.Search.Cause.{Propagated}
 use Rattle.calculus.specs.Worked.{plus}
 use Rattle.calculus.specs.WorkedSearch.{alternating, bad, good, three, with_last}
@@ -13,7 +14,8 @@ use Rattle.rows.specs.Arena.{new_row}
 use Rattle.derive.specs.State.{State, with_step}
 use Rattle.trail.specs.State.{TrailState, new_trail, with_clean, with_literal}
 use Rattle.clean.specs.Blockers.{IsBlocked}
-use Rattle.clean.specs.Cleaning.{IsCleaned, MayBeCleaned}
+use Rattle.clean.specs.Cleaning.{IsCleaned, IsUntouched, MayBeCleaned}
+use Rattle.clean.specs.Marks.{IsReasonBlocked}
 use Rattle.clean.specs.Reasons.{IsReason, IsReducedStep}
 use Rattle.clean.specs.Turns.{AreInferred, Resolves, reductions_in, resolvents_in}
 
@@ -82,3 +84,31 @@ pub record WorkedCleaning (pivot : Quant) : Type 0 where
   pub cleaned : IsCleaned pivot (alternating pivot) (with_last pivot (bad pivot 3)) None three
   pub kept : IsCleaned pivot (alternating pivot) (with_last pivot (good pivot 3)) (Some (plus 3)) three
   pub one_open : IsCleaned pivot (alternating pivot) (two_open pivot) None three → ⊥
+
+-- 2 and 3 are bad, and then 1 was propagated good from the step 0
+abbrev pub all_assigned : Quant → TrailState
+all_assigned pivot = with_literal (alternating pivot)
+    (with_literal (alternating pivot)
+    (with_literal (alternating pivot) new_trail (bad pivot 3) (Propagated 7)) (bad pivot 2) (Propagated 8))
+    (good pivot 1) (Propagated 0)
+
+-- a counter of nine steps, of which so many were taken
+abbrev pub taken : ℕ → Counter
+taken n = record { spent = n; budget = 9 }
+
+pub record WorkedReasonsLeft (pivot : Quant) : Type 0 where
+  -- the reason of 1 is blocked where 2 is open; not where it is marked, nor where 2 is bad
+  pub reason_blocked : IsReasonBlocked pivot (alternating pivot) (stored pivot) (propagated pivot) 1
+  pub marked : IsReasonBlocked pivot (alternating pivot) (stored pivot) (with_clean (propagated pivot) 1 0) 1 → ⊥
+  pub none_open : IsReasonBlocked pivot (alternating pivot) (stored pivot) (all_assigned pivot) 1 → ⊥
+  -- nothing was done: not so where a step was counted, another row is the answer, a row came in, or a reason was marked
+  pub untouched : IsUntouched (stored pivot) (stored pivot) (propagated pivot) (propagated pivot)
+      (taken 4) (taken 4) 0 0
+  pub counted : IsUntouched (stored pivot) (stored pivot) (propagated pivot) (propagated pivot)
+      (taken 4) (taken 5) 0 0 → ⊥
+  pub other_row : IsUntouched (stored pivot) (stored pivot) (propagated pivot) (propagated pivot)
+      (taken 4) (taken 4) 0 1 → ⊥
+  pub more_rows : IsUntouched (stored pivot) (with_two pivot (ReducedFrom 3)) (propagated pivot) (propagated pivot)
+      (taken 4) (taken 4) 0 0 → ⊥
+  pub one_marked : IsUntouched (stored pivot) (stored pivot) (propagated pivot) (with_clean (propagated pivot) 1 0)
+      (taken 4) (taken 4) 0 0 → ⊥

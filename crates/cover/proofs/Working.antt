@@ -1,14 +1,16 @@
 -- The worked values, literal by literal.
-use Rattle.std.proofs.Common.{◌≡◌, ◌≤◌, false, [], ◌∷◌, Contains, refl, subst, ⊎_elim, arith}
+use Rattle.std.proofs.Common.{◌≡◌, ◌<◌, ◌≤◌, false, true, [], ◌∷◌, Contains, refl, subst, sym, ⊎_elim, arith}
 use Rattle.std.specs.Prelude.{IsTrue}
 use Rattle.std.proofs.lemmas.Bool.{true≢false, false≢true}
 use Rattle.prefix.specs.declared.quant.Quant.TheVariants.{Exists, Forall}
 use Rattle.prefix.specs.Literal.{Literal}
 use Rattle.calculus.specs.Rows.{Row, depth_of}
+use Rattle.calculus.specs.Search.{is_bad_now}
 use Rattle.calculus.specs.Worked.{minus, plus}
 use Rattle.calculus.proofs.Lists.{contains_cons, contains_nil}
-use Rattle.cover.specs.Choices.{is_true_one}
-use Rattle.cover.specs.Worked.{WorkedChoices, WorkedCovers, lone, mixed, three_scopes, values}
+use Rattle.prefix.specs.Scopes.{all_variables}
+use Rattle.cover.specs.Choices.{MayCover, is_true_one}
+use Rattle.cover.specs.Worked.{WorkedChoices, WorkedCovers, WorkedRows, lone, mixed, three_scopes, values}
 
 -- the literals of the two rows
 each : (P : Literal → Type 0) → P (minus 1) → P (plus 2) → P (plus 3) → (l : Literal) → Contains mixed l → P l
@@ -87,4 +89,76 @@ covers = record {
     latest = λ p. absurd (false≢true p);
     alone = λ p. both (λ l. is_true_one Exists three_scopes values l ≡ false) refl refl;
   };
+}
+
+-- the literals of rows of one and of two
+sole : (P : Literal → Type 0) (m : Literal) → P m → (l : Literal) → Contains (m ∷ []) l → P l
+sole P m a l i = ⊎_elim (λ e. subst P e a) (λ n. absurd (contains_nil l n)) (contains_cons m [] l i)
+
+pair : (P : Literal → Type 0) (m n : Literal) → P m → P n → (l : Literal) → Contains (m ∷ n ∷ []) l → P l
+pair P m n a b l i = ⊎_elim (λ e. subst P e a) (λ j. sole P n b l j) (contains_cons m (n ∷ []) l i)
+
+abbrev HasVariable : Literal → Type 0
+HasVariable l = Contains (all_variables three_scopes) l.variable
+
+first_known : HasVariable (minus 1)
+first_known = (0, omega arith, refl)
+
+third_known : HasVariable (plus 3)
+third_known = (2, omega arith, refl)
+
+-- 3 may stand in a cover of both clauses
+third_of_both : MayCover three_scopes values (mixed ∷ lone ∷ []) (plus 3)
+third_of_both = record {
+  is_true = refl;
+  clause = mixed;
+  stands = (0, omega arith, refl);
+  holds = third;
+  latest = λ p. no_later;
+  alone = λ p. absurd (false≢true p);
+}
+
+-- a row shares a literal with a clause
+abbrev Shares : Row → Row → Type 0
+Shares row clause = (l : Literal) × Contains clause l × Contains row l
+
+two_clauses : (P : Row → Type 0) → P mixed → P lone → (clause : Row) → Contains (mixed ∷ lone ∷ []) clause → P clause
+two_clauses P a b clause i =
+    ⊎_elim (λ e. subst P e a)
+    (λ j. ⊎_elim (λ e. subst P e b) (λ n. absurd (contains_nil clause n)) (contains_cons lone [] clause j))
+    (contains_cons mixed (lone ∷ []) clause i)
+
+fourth_differs : (l : Literal) → Contains mixed l → l.variable ≡ 4 → ⊥
+fourth_differs =
+    each (λ l. l.variable ≡ 4 → ⊥) (λ e. omega (arith, e)) (λ e. omega (arith, e)) (λ e. omega (arith, e))
+
+third_differs : (l : Literal) → Contains lone l → l.variable ≡ 3 → ⊥
+third_differs = both (λ l. l.variable ≡ 3 → ⊥) (λ e. omega (arith, e)) (λ e. omega (arith, e))
+
+pub cover_rows : WorkedRows
+cover_rows = record {
+  cover = record {
+    is_row = record { ascending = (tt, tt); over_prefix = sole HasVariable (plus 3) third_known };
+    literals = sole (MayCover three_scopes values (mixed ∷ [])) (plus 3) covers.latest;
+    bad = λ l i. sole (λ m. is_bad_now Forall values m ≡ true) (plus 3) refl l i;
+    hits = λ clause i. subst (Shares (plus 3 ∷ [])) (alone clause i) (plus 3, third, (0, omega arith, refl));
+  };
+  of_both = record {
+    is_row = record {
+      ascending = (((let h : 1 < 3 = omega arith in h), tt), (tt, tt));
+      over_prefix = pair HasVariable (minus 1) (plus 3) first_known third_known;
+    };
+    literals = pair (MayCover three_scopes values (mixed ∷ lone ∷ [])) (minus 1) (plus 3) covers.needed third_of_both;
+    bad = λ l i. pair (λ m. is_bad_now Forall values m ≡ true) (minus 1) (plus 3) refl refl l i;
+    hits = two_clauses (Shares (minus 1 ∷ plus 3 ∷ [])) (plus 3, third, (1, omega arith, refl))
+        (minus 1, (0, omega arith, refl), (0, omega arith, refl));
+  };
+  not_latest_row = λ h. covers.not_latest (h.literals (plus 2) (0, omega arith, refl));
+  needless_row = λ h. covers.needless (h.literals (minus 1) (0, omega arith, refl));
+  of_no_clause = λ h. let may = h.literals (plus 4) (1, omega arith, refl) in
+      fourth_differs (plus 4)
+      (subst (λ (c : Row). Contains c (plus 4)) (sym (alone may.clause may.stands)) may.holds) refl;
+  misses_one = λ h. let hit = h.hits lone (1, omega arith, refl) in
+      sole (λ l. Contains lone l → ⊥) (plus 3) (λ i. third_differs (plus 3) i refl) hit.0 hit.2 hit.1;
+  not_ascending = λ h. let e : 3 < 1 = h.is_row.ascending.0.0 in omega (arith, e);
 }

@@ -6,7 +6,10 @@ use Rattle.truth.specs.Matrix.{Values}
 use Rattle.truth.specs.Truth.{assumed_value}
 use Rattle.calculus.specs.Rows.{Row}
 use Rattle.calculus.specs.Worked.{existential, minus, plus, universal}
+use Rattle.calculus.specs.Search.{Trail}
+use Rattle.calculus.specs.Search.Cause.{Propagated}
 use Rattle.cover.specs.Choices.{Choices, IsInnermost, MayCover, is_better}
+use Rattle.cover.specs.Covers.{IsCover}
 
 -- a 1, e 2, e 3 4
 abbrev pub three_scopes : List Scope
@@ -44,3 +47,24 @@ pub record WorkedCovers : Type 0 where
   pub not_latest : MayCover three_scopes values (mixed ∷ []) (plus 2) → ⊥
   pub needless : MayCover three_scopes values (mixed ∷ []) (minus 1) → ⊥
   pub needed : MayCover three_scopes values (mixed ∷ lone ∷ []) (minus 1)
+
+-- the trail with these values
+abbrev pub all_placed : Trail
+all_placed =
+    record { literal = minus 1; cause = Propagated 0 }
+    ∷ record { literal = plus 2; cause = Propagated 1 }
+    ∷ record { literal = plus 3; cause = Propagated 2 }
+    ∷ record { literal = plus 4; cause = Propagated 3 }
+    ∷ []
+
+pub record WorkedRows : Type 0 where
+  -- 3 alone is a cover of -1 2 3, and with -1 one of both clauses
+  pub cover : IsCover three_scopes all_placed (mixed ∷ []) (plus 3 ∷ [])
+  pub of_both : IsCover three_scopes all_placed (mixed ∷ lone ∷ []) (minus 1 ∷ plus 3 ∷ [])
+  -- 2 is none, though it is true and hits the clause; nor is 3 with 4, which stands in no clause, nor -1 with 3
+  pub not_latest_row : IsCover three_scopes all_placed (mixed ∷ []) (plus 2 ∷ []) → ⊥
+  pub needless_row : IsCover three_scopes all_placed (mixed ∷ []) (minus 1 ∷ plus 3 ∷ []) → ⊥
+  pub of_no_clause : IsCover three_scopes all_placed (mixed ∷ []) (plus 3 ∷ plus 4 ∷ []) → ⊥
+  -- nor is 3 one of both, nor the row 3 -1, which doesn't ascend
+  pub misses_one : IsCover three_scopes all_placed (mixed ∷ lone ∷ []) (plus 3 ∷ []) → ⊥
+  pub not_ascending : IsCover three_scopes all_placed (mixed ∷ lone ∷ []) (plus 3 ∷ minus 1 ∷ []) → ⊥

@@ -1,5 +1,5 @@
 //! Worked values of the definitions, each proved.
-ghost use Rattle.cover.specs.Worked.{WorkedChoices, WorkedCovers};
+ghost use Rattle.cover.specs.Worked.{WorkedChoices, WorkedCovers, WorkedRows};
 
 /// Literals that are better than others, and innermost ones.
 pub fn worked_choices()
@@ -9,4 +9,9 @@ pub fn worked_choices()
 /// Literals that may stand in a cover.
 pub fn worked_covers()
     ensures { WorkedCovers }
+{}
+
+/// Rows that are covers, and that are none.
+pub fn worked_rows()
+    ensures { WorkedRows }
 {}

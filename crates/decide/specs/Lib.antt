@@ -1,2 +1,3 @@
 pub mod Decision
 pub mod Memory
+pub mod Worked

@@ -72,6 +72,13 @@ impl Decider {
         Ok(())
     }
 
+    /// The number up to which variables have room.
+    pub fn room(&self) -> usize
+        ensures { result ≡ length self.now }
+    {
+        self.phases.len()
+    }
+
     /// Counts the literals of a clause, for the signs that variables have at first; one of a variable without room
     /// isn't counted. This takes no memory.
     pub fn count(&mut self, lits: &[Lit])
@@ -235,11 +242,6 @@ impl Decider {
         if let Some(scope) = prefix.level(lit.var()) {
             self.put(lit.var(), scope);
         }
-    }
-
-    // How many variables there is room for.
-    fn room(&self) -> usize {
-        self.phases.len()
     }
 
     // What comes first of all that wait.

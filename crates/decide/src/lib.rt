@@ -3,5 +3,7 @@
 
 mod decider;
 mod waiting;
+mod worked;
 
 pub use decider::Decider;
+pub use worked::{worked_decisions, worked_memories};

@@ -8,7 +8,9 @@ use Rattle.std.proofs.lemmas.Bool.{cases_Bool, false≢true}
 use Rattle.std.proofs.lemmas.List.Filters.{sum_by-filter_both}
 use Rattle.std.proofs.lemmas.List.FromFn.{length-range_with_len}
 use Rattle.std.proofs.lemmas.List.Sums.{count_by-le-length, sum_by-cons}
+use Rattle.prefix.specs.declared.quant.Quant.TheVariants.{Exists, Forall}
 use Rattle.prefix.specs.Literal.{Literal}
+use Rattle.prefix.specs.Scopes.{Scope, all_variables}
 use Rattle.steps.specs.Counter.{Counter, step_limit}
 use Rattle.calculus.specs.Derivations.{Inference, Step, Why, core_order, inference_of, inferences_of, is_input, needed, of_side, reason_of, side_core}
 use Rattle.calculus.specs.Derivations.Why.{Given, ReducedFrom, ResolvedFrom, FinishedFrom}
@@ -22,12 +24,23 @@ use Rattle.clean.specs.Turns.{is_reduction, reductions_in}
 use Rattle.qrp_trace.specs.Cores.{end_row_in, proof_at, step_under}
 use Rattle.frames.specs.State.{OpenFormula}
 use Rattle.search.specs.Finishes.{HasNoFinish, finishes_in}
-use Rattle.search.specs.State.{SearchState}
+use Rattle.search.specs.Changing.{room_of}
+use Rattle.search.specs.State.{IsIntact, SearchState}
 use Rattle.search.proofs.Reducing.{count_left}
 use Rattle.engine.specs.declared.counts.Counts.{Counts}
 use Rattle.engine.specs.declared.verdict.Held.{Held}
 use Rattle.engine.specs.Counting.{one_more, with_clause, with_solve}
 use Rattle.engine.specs.Kept.{AreTied, HasFinishesOf, IsEngine}
+
+-- each variable of the prefix has room
+pub within_room : (scopes : List Scope) (s : SearchState) → IsIntact scopes s → (x : ℕ)
+    → Contains (all_variables scopes) x → x ≤ room_of s
+within_room scopes s intact x known =
+    let t : x ≤ s.trail.room = intact.room.trail x known in
+    let g : x ≤ length s.signs = intact.room.signs x known in
+    let a : s.trail.room ≤ s.clauses.room = intact.watching.room Exists in
+    let b : s.trail.room ≤ s.cubes.room = intact.watching.room Forall in
+    omega (arith, t, g, a, b)
 
 -- the counts
 

@@ -6,3 +6,4 @@ pub mod State
 pub mod Verdicts
 pub mod Worked
 pub mod WorkedAsks
+pub mod WorkedVerdicts

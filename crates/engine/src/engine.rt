@@ -1,6 +1,6 @@
 //! The engine.
-ghost use Rattle.std.specs.Prelude.{◌≡◌, ◌≤◌, [], Ok, None, IfOk, IfErr, OnOk, OnErr};
-ghost use Rattle.prefix.specs.Scopes.{IsPrefix};
+ghost use Rattle.std.specs.Prelude.{◌≡◌, ◌≤◌, ℕ, [], Ok, None, Contains, IfOk, IfErr, OnOk, OnErr};
+ghost use Rattle.prefix.specs.Scopes.{IsPrefix, all_variables};
 ghost use Rattle.truth.specs.Truth.{truth_under};
 ghost use Rattle.calculus.specs.Search.{IsRefuted};
 ghost use Rattle.frames.specs.State.{clauses_in};
@@ -77,6 +77,14 @@ impl Engine {
         ensures valid { IsPrefix self.now.formula.scopes }
     {
         self.frames.prefix()
+    }
+
+    /// The number up to which variables have room in a solve: on the trail, for their signs, and in both watches. It is
+    /// never below that of a variable of the prefix, so that a solve finds room for each of them.
+    pub fn room(&self) -> usize
+        ensures { (x : ℕ) → Contains (all_variables self.now.formula.scopes) x → x ≤ result }
+    {
+        self.search.room()
     }
 
     /// How often a solve may begin anew, after each 64th of its lessons; before the first call never. This is no

@@ -26,4 +26,7 @@ pub use engine::Engine;
 pub use refusal::AskRefusal;
 pub use search::SolveStop;
 pub use verdict::Verdict;
-pub use worked::{worked_asks, worked_engines, worked_refusals};
+pub use worked::{
+    worked_asks, worked_certificates, worked_engines, worked_first, worked_proofs, worked_refusals,
+    worked_stops,
+};

@@ -1,6 +1,7 @@
 //! Worked values of the definitions, each proved.
 ghost use Rattle.engine.specs.Worked.{WorkedEngines};
 ghost use Rattle.engine.specs.WorkedAsks.{WorkedAsks, WorkedRefusals};
+ghost use Rattle.engine.specs.WorkedVerdicts.{WorkedCertificates, WorkedFirst, WorkedProofs, WorkedStops};
 
 use calculus::worked_refutation;
 
@@ -20,3 +21,25 @@ pub fn worked_asks()
 {
     worked_refutation();
 }
+
+/// Verdicts that are kept with their proofs.
+pub fn worked_proofs()
+    ensures { WorkedProofs }
+{
+    worked_refutation();
+}
+
+/// What stops a solve.
+pub fn worked_stops()
+    ensures { WorkedStops }
+{}
+
+/// Values of the first scope.
+pub fn worked_first()
+    ensures { WorkedFirst }
+{}
+
+/// What is no certificate.
+pub fn worked_certificates()
+    ensures { WorkedCertificates }
+{}

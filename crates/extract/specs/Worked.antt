@@ -3,6 +3,7 @@ use Rattle.std.specs.Prelude.{◌≡◌, ℕ, ◌==◌, true, false, List, [], �
 use Rattle.prefix.specs.declared.quant.Quant.TheVariants.{Exists, Forall}
 use Rattle.prefix.specs.Literal.{Literal}
 use Rattle.calculus.specs.Rows.{Row, Assignment}
+use Rattle.calculus.specs.Limits.{gate_weight}
 use Rattle.calculus.specs.Worked.{existential_first, universal_first}
 use Rattle.calculus.specs.Derivations.{Inference}
 use Rattle.calculus.specs.Derivations.Reason.{Input as ByInput, One as ByOne, Two as ByTwo}
@@ -87,11 +88,30 @@ pub record WorkedRules : Type 0 where
   pub cube_half_bad : first_bad Forall (only 4) three_last ≡ None
   pub none : first_bad Exists (only 2) [] ≡ None
 
--- a removal costs a gate for each literal of its row and one more
+-- the clause 1 2 3 of which a step leaves 2
+abbrev pub two_go : List Inference
+two_go =
+    record { row = plus 1 ∷ plus 2 ∷ plus 3 ∷ []; reason = ByInput }
+    ∷ record { row = plus 2 ∷ []; reason = ByOne (plus 1 ∷ plus 2 ∷ plus 3 ∷ []) }
+    ∷ []
+
+-- the cube -1 2 3 of which a step leaves 2 3, and the resolvent 2, which removes nothing
+abbrev pub one_goes : List Inference
+one_goes =
+    record { row = minus 1 ∷ plus 2 ∷ plus 3 ∷ []; reason = ByInput }
+    ∷ record { row = plus 2 ∷ plus 3 ∷ []; reason = ByOne (minus 1 ∷ plus 2 ∷ plus 3 ∷ []) }
+    ∷ record { row = plus 2 ∷ []; reason = ByTwo (plus 2 ∷ plus 3 ∷ []) (plus 2 ∷ minus 3 ∷ []) 3 }
+    ∷ []
+
+-- a removal costs a gate for each literal of its row and one more: the row that is left, for each literal that goes
 pub record WorkedWeights : Type 0 where
   pub nothing : weight_of [] ≡ 0
   pub both : weight_of three_first ≡ 5
   pub of_each : weights_of (λ x. removals Exists x clause_core) (2 ∷ 1 ∷ []) ≡ 4
+  pub two_removed : weights_of (λ x. removals Exists x two_go) (1 ∷ 2 ∷ 3 ∷ []) ≡ 4
+  pub two_removed_gates : gate_weight two_go ≡ 4
+  pub one_removed : weights_of (λ x. removals Forall x one_goes) (3 ∷ 2 ∷ 1 ∷ []) ≡ 3
+  pub one_removed_gates : gate_weight one_goes ≡ 3
 
 -- the rows of the first core
 abbrev pub clause_rows : List Row

@@ -260,6 +260,10 @@ counts = record {
   other_frame = λ a. one_not_zero (frame_of a.id a.clauses);
   no_signs = λ r. no_signs_of 2 (r.signs 3 (omega arith));
   no_room = record { trail = λ x l. omega arith; signs = λ x l. l };
+  least_of_signs = refl;
+  least_of_clauses = refl;
+  least_of_cubes = refl;
+  least_of_trail = refl;
   not_at_rest = λ r. not_empty r.empty;
 }
 

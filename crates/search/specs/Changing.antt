@@ -1,5 +1,5 @@
 -- What a search keeps where the formula changes.
-use Rattle.std.specs.Prelude.{◌≡◌, ℕ, ◌≤◌, List, [], ◌∷◌, ◌++◌, length}
+use Rattle.std.specs.Prelude.{◌≡◌, ℕ, ◌≤◌, List, [], ◌∷◌, ◌++◌, length, min}
 use Rattle.prefix.specs.Scopes.{Scope}
 use Rattle.calculus.specs.Derivations.{Extends}
 use Rattle.calculus.specs.Rows.{Row}
@@ -11,10 +11,18 @@ pub record AddsClause (frame : ℕ) (row : Row) (old new : List OpenClause) : Ty
   pub id : ℕ
   pub clauses : new ≡ old ++ (record { id = id; frame = frame; row = row }) ∷ []
 
+-- one more row to watch, behind the others
+abbrev pub WatchesMore : List ℕ → List ℕ → Type 0
+WatchesMore old new = (id : ℕ) × (new ≡ old ++ id ∷ [])
+
 -- there is room for the variables up to a number, on the trail and for their signs
 pub record IsRoomy (vars : ℕ) (s : SearchState) : Type 0 where
   pub trail : (x : ℕ) → x ≤ vars → x ≤ s.trail.room
   pub signs : (x : ℕ) → x ≤ vars → x ≤ length s.signs
+
+-- the number up to which variables have room on the trail, for their signs, and in both watches
+abbrev pub room_of : SearchState → ℕ
+room_of s = min (min s.trail.room (length s.signs)) (min s.clauses.room s.cubes.room)
 
 -- at rest before, at rest after
 abbrev pub StaysResting : SearchState → SearchState → Type 0

@@ -13,6 +13,7 @@ use Rattle.calculus.specs.Worked.{existential, minus, plus}
 use Rattle.calculus.specs.WorkedSearch.{alternating, bad, three}
 use Rattle.trail.specs.State.{Account, TrailState}
 use Rattle.trail.specs.declared.allowed.Allowed.TheVariants.{Anything, NoDecision}
+use Rattle.decide.specs.Memory.{Memory}
 use Rattle.cover.specs.Worked.{lone, mixed, three_scopes}
 use Rattle.derive.specs.State.{Note, State, with_step}
 use Rattle.clean.specs.Turns.{reductions_in}
@@ -20,7 +21,7 @@ use Rattle.watch.specs.Links.{mark_of}
 use Rattle.watch.specs.State.{new_watch}
 use Rattle.search.specs.declared.outcome.Found.TheVariants.{Unit as IsUnit, Bad, Quiet}
 use Rattle.search.specs.declared.outcome.SolveStop.TheVariants.{Spent}
-use Rattle.search.specs.Changing.{AddsClause, IsRoomy}
+use Rattle.search.specs.Changing.{AddsClause, IsRoomy, room_of}
 use Rattle.search.specs.Counting.{IsBounded, IsCounted, ReducesFew, size_of}
 use Rattle.search.specs.Finishes.{GainsNoFinish, HasNoFinish, IsFinishId, finishes_in}
 use Rattle.search.specs.Forcing.{HasNoCubes, IsForced}
@@ -81,6 +82,14 @@ search_of d trail = record {
 -- a search over the row 1 2 3, with this trail
 abbrev pub search_over : Quant → List (Option ℕ) → Trail → SearchState
 search_over pivot links placed = search_of (three_of pivot links) (trail_of placed)
+
+-- a search whose trail has room for three variables, with room for so many in the watches, and with these signs
+abbrev pub with_rooms : ℕ → ℕ → Memory → SearchState
+with_rooms clauses cubes signs = record (search_over Exists detached []) {
+  clauses = record new_watch { room = clauses };
+  cubes = record new_watch { room = cubes };
+  signs = signs;
+}
 
 -- 1 and 2 are bad, for which 3 is unit
 abbrev pub two_bad : Quant → Trail
@@ -192,6 +201,11 @@ pub record WorkedCounts : Type 0 where
   -- room for three variables, and none for a sign
   pub no_signs : IsRoomy 3 (search_over Exists detached []) → ⊥
   pub no_room : IsRoomy 0 (search_over Exists detached [])
+  -- variables have room up to the least of the four numbers
+  pub least_of_signs : room_of (with_rooms 5 4 (None ∷ Some true ∷ [])) ≡ 2
+  pub least_of_clauses : room_of (with_rooms 2 4 (None ∷ Some true ∷ None ∷ [])) ≡ 2
+  pub least_of_cubes : room_of (with_rooms 5 1 (None ∷ Some true ∷ None ∷ [])) ≡ 1
+  pub least_of_trail : room_of (with_rooms 5 4 (None ∷ Some true ∷ None ∷ None ∷ [])) ≡ 3
   -- rest is an empty trail on which nothing was counted
   pub not_at_rest : IsAtRest (trail_of (once Exists)) → ⊥
 

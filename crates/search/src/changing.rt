@@ -8,7 +8,7 @@ ghost use Rattle.search.specs.State.{IsResting};
 ghost use Rattle.search.specs.Finishes.{GainsNoFinish, HasNoFinish};
 ghost use Rattle.search.specs.Forcing.{HasNoCubes};
 ghost use Rattle.search.specs.Moves.{SameSteps};
-ghost use Rattle.search.specs.Changing.{AddsClause, IsRoomy, RestingGrows, StaysResting};
+ghost use Rattle.search.specs.Changing.{AddsClause, IsRoomy, RestingGrows, StaysResting, WatchesMore, room_of};
 
 use crate::search::Search;
 use calculus::reductions_stay;
@@ -42,8 +42,17 @@ impl Search {
         Ok(())
     }
 
+    /// The number up to which variables have room: on the trail, for their signs, and in both watches.
+    pub fn room(&self) -> usize
+        ensures { result ≡ room_of self.now }
+    {
+        let kept = self.trail.room().min(self.decider.room());
+        kept.min(self.clauses.room().min(self.cubes.room()))
+    }
+
     /// Puts in a clause of a frame, with its reduction where something goes; the initial cubes that hold no literal of
-    /// it go, with all that rests on them, and the other cubes stay. With no memory the steps are as they were.
+    /// it go, with all that rests on them, and the other cubes stay. With no memory the steps are as they were. What
+    /// was to be watched is so still, and its reduction comes behind.
     pub fn add_clause(
         &mut self,
         prefix: &Prefix,
@@ -55,6 +64,8 @@ impl Search {
         ensures ok { OnOk result (AddsClause frame lits.now (clauses_of self.old.derivation)
             (clauses_of self.new.derivation)) }
         ensures err { OnErr result (SameSteps self.old.derivation self.new.derivation) }
+        ensures more { OnOk result (WatchesMore self.old.watched self.new.watched) }
+        ensures watched { OnErr result (self.new.watched ≡ self.old.watched) }
         ensures fewer { OnErr result (self.new.long ≤ self.old.long) }
         ensures resting { IsResting prefix.now self.new }
         ensures cubes { HasNoCubes self.old → HasNoCubes self.new }
@@ -73,6 +84,8 @@ impl Search {
         ensures ok { OnOk result (AddsClause frame lits.now (clauses_of self.old.derivation)
             (clauses_of self.new.derivation)) }
         ensures err { OnErr result (SameSteps self.old.derivation self.new.derivation) }
+        ensures more { OnOk result (WatchesMore self.old.watched self.new.watched) }
+        ensures watched { OnErr result (self.new.watched ≡ self.old.watched) }
         ensures fewer { OnErr result (self.new.long ≤ self.old.long) }
         ensures resting { IsResting prefix.now self.new }
         ensures cubes { HasNoCubes self.old → HasNoCubes self.new }
@@ -94,6 +107,7 @@ impl Search {
         requires { IsResting prefix.now self.old }
         ensures clauses { clauses_of self.new.derivation ≡ filter (λ (c : OpenClause). not (c.frame == frame))
             (clauses_of self.old.derivation) }
+        ensures watched { self.new.watched ≡ self.old.watched }
         ensures resting { IsResting prefix.now self.new }
         ensures cubes { HasNoCubes self.old → HasNoCubes self.new }
         ensures finishes { GainsNoFinish self.old.derivation self.new.derivation }
@@ -115,6 +129,7 @@ impl Search {
         ensures finishes { HasNoFinish self.new.derivation }
         ensures reductions { reductions_in self.new.derivation ≡ reductions_in self.old.derivation }
         ensures long { self.new.long ≡ self.old.long }
+        ensures watched { self.new.watched ≡ self.old.watched }
         ensures resting { IsResting prefix.now self.new }
         ensures clauses { clauses_of self.new.derivation ≡ clauses_of self.old.derivation }
         ensures cubes { HasNoCubes self.old → HasNoCubes self.new }

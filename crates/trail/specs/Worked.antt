@@ -7,7 +7,7 @@ use Rattle.calculus.specs.Search.{cause_on, decision_level_on, decisions_on, pla
 use Rattle.calculus.specs.Search.Cause.{Decided, Propagated}
 use Rattle.calculus.specs.Weights.{trail_weight}
 use Rattle.trail.specs.declared.allowed.Allowed.TheVariants.{Anything, NoDecision, Nothing}
-use Rattle.trail.specs.State.{TrailState, cleared, given_up, is_marked, new_trail, restarted, undone_to, with_assumed, with_clean, with_literal, with_room}
+use Rattle.trail.specs.State.{Outweighs, OutweighsWithOne, TrailState, cleared, given_up, is_marked, new_trail, restarted, undone_to, with_assumed, with_clean, with_literal, with_room}
 
 -- a variable as a literal
 abbrev pub plus : ℕ → Literal
@@ -101,3 +101,19 @@ pub record WorkedTrails : Type 0 where
   pub decision_after_a_restart : (restarted decided_first).allowed ≡ Anything
   pub nothing_after_giving_up : (restarted (given_up new_trail 1)).allowed ≡ Nothing
   pub cleared_begins_anew : (cleared (restarted decided_first)).restarts ≡ 0
+
+-- 1 is decided, and nothing else
+abbrev pub decided_alone : TrailState
+decided_alone = with_literal three_variables new_trail (plus 1) Decided
+
+pub record WorkedOutweighs : Type 0 where
+  -- a trail outweighs its front; the front doesn't outweigh it, nor does it outweigh itself
+  pub outweighs_front : Outweighs decided_first.placed decided_alone.placed
+  pub front_is_lighter : Outweighs decided_alone.placed decided_first.placed → ⊥
+  pub not_itself : Outweighs decided_first.placed decided_first.placed → ⊥
+  -- an assignment in the place of a decision outweighs it with all behind it, where these fit into the variables, but
+  -- not whatever their number
+  pub in_the_place : OutweighsWithOne [] decided_first.placed
+  pub not_whatever_number : Outweighs turned.placed decided_first.placed → ⊥
+  -- not so a decision with an assignment behind it and one more
+  pub not_behind_a_decision : OutweighsWithOne decided_first.placed turned.placed → ⊥

@@ -13,4 +13,4 @@ mod worked;
 pub use stopped::Stopped;
 pub use trail::Trail;
 pub use why::Why;
-pub use worked::worked_trails;
+pub use worked::{worked_outweighs, worked_trails};

@@ -1,6 +1,5 @@
-use Rattle.std.proofs.Common.{◌∙◌, sym, ap, Err, length, ◌*◌}
+use Rattle.std.proofs.Common.{ap, Err, length, ◌*◌}
 use Rattle.std.proofs.lemmas.Result.{err_from_is_err_and}
-use Rattle.steps.specs.Counter.{Counter}
 use Rattle.steps.specs.declared.stop.Stop.TheVariants.{Spent as spent}
 use Rattle.clean.specs.Marks.{marks_left}
 use Rattle.clean.proofs.Circling.{spent_under, starts_under_way, stops_clean, turns_once, under_square, was_due}

@@ -1,4 +1,4 @@
-use Rattle.std.proofs.Common.{◌≡◌, ◌+◌, ◌∙◌, ap, sym, arith}
+use Rattle.std.proofs.Common.{◌≡◌, ◌+◌, ap, arith}
 use Rattle.steps.specs.Counter.{Counter}
 use Rattle.clean.proofs.Rounds.{on_err}
 use Rattle.clean.proofs.Turning.{turned, tried_none, tried_only, tried_reduction, joined_both, grows_on, on_err_two, paired}

@@ -6,4 +6,8 @@ returns c = record {
   nothing = refl;
   both = refl;
   of_each = refl;
+  two_removed = refl;
+  two_removed_gates = refl;
+  one_removed = refl;
+  one_removed_gates = refl;
 }

@@ -1,7 +1,6 @@
-use Rattle.std.proofs.Common.{◌≡◌, ◌^◌, ◌<◌, ◌∙◌, ap, subst, sym, length}
-use Rattle.trail.specs.State.{TrailState, IsTrailFor, allowed_anew, counted, restarted, undone_to}
-use Rattle.trail.specs.Table.{depths_of, marks_of, trail_of}
-use Rattle.trail.proofs.Keeping.{kept_anew, kept_cut, restart_allows, undone_placed}
+use Rattle.std.proofs.Common.{◌≡◌, ◌^◌, ◌<◌, ◌∙◌, ap, subst, sym}
+use Rattle.trail.specs.State.{TrailState, IsTrailFor, allowed_anew, counted, undone_to}
+use Rattle.trail.proofs.Keeping.{kept_anew, kept_cut, undone_placed}
 use Rattle.trail.proofs.trail.Trail.restart.Goals as goal
 
 pub returns-clause-value : goal.returns-clause-value
