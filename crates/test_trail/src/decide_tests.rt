@@ -59,13 +59,13 @@ impl Model for Game {
 }
 
 impl Game {
-    // An empty trail over the existential variables 1 and 2 and then the universal 3, and a decider with room for so
-    // many variables.
-    fn new(alloc: Global, room: usize) -> Result<Self, Fail> {
+    // An empty trail over so many existential variables and then a universal one, and a decider with room for so many
+    // variables.
+    fn new(alloc: Global, first: u64, room: usize) -> Result<Self, Fail> {
         let mut decider = Decider::new(alloc);
         decider.reserve(room)?;
         Ok(Self {
-            prefix: by_turns(alloc, Quant::Exists, &[2, 1])?,
+            prefix: by_turns(alloc, Quant::Exists, &[first, 1])?,
             trail: Trail::new(alloc),
             decider,
             steps: Steps::new(100),
@@ -183,10 +183,15 @@ impl Game {
     }
 }
 
-// The same with a new decider, which has room for so many variables.
-fn play(alloc: Global, room: usize, turns: &[Turn]) -> Result<(), Fail> {
-    let mut game = Game::new(alloc, room)?;
+// The same with a new decider, which has room for so many variables, over so many existential ones.
+fn play_over(alloc: Global, first: u64, room: usize, turns: &[Turn]) -> Result<(), Fail> {
+    let mut game = Game::new(alloc, first, room)?;
     game.make_all(turns)
+}
+
+// The same over the existential variables 1 and 2 and the universal 3.
+fn play(alloc: Global, room: usize, turns: &[Turn]) -> Result<(), Fail> {
+    play_over(alloc, 2, room, turns)
 }
 
 // Without a bump variable 2 comes first here; so each test of a bump bumps variable 1. The second time it decides with
@@ -258,6 +263,75 @@ fn later_bumps_count_more(rt: HostRuntime) -> Result<(), Fail> {
         Turn::Decide(false, [-1, -2, 3, 0]),
     ];
     play(rt.alloc(), 3, &turns)
+}
+
+// Of three variables the middle one comes first once it was bumped, then the others in their order; and after another
+// one was bumped twice, that one.
+#[test]
+fn the_one_that_was_bumped_comes_first_of_three(rt: HostRuntime) -> Result<(), Fail> {
+    let turns = [
+        Turn::Decide(false, [-1, -2, -3, 4]),
+        Turn::Undo,
+        Turn::Bump(2),
+        Turn::Decide(false, [-2, -1, -3, 4]),
+        Turn::Bump(3),
+        Turn::Bump(3),
+        Turn::Undo,
+        Turn::Decide(false, [-3, -2, -1, 4]),
+    ];
+    play_over(rt.alloc(), 3, 4, &turns)
+}
+
+// A bump just before all priorities are divided counts less than one just behind that, whether the variables wait all
+// the while or come back later.
+#[test]
+fn priorities_are_divided_for_who_waits_and_who_does_not(rt: HostRuntime) -> Result<(), Fail> {
+    let waiting = [
+        Turn::Fill,
+        Turn::Undo,
+        Turn::Decay(430),
+        Turn::Bump(2),
+        Turn::Decay(10),
+        Turn::Bump(1),
+        Turn::Decide(false, [-1, -2, 3, 0]),
+    ];
+    let assigned = [
+        Turn::Fill,
+        Turn::Decay(430),
+        Turn::Bump(2),
+        Turn::Decay(10),
+        Turn::Bump(1),
+        Turn::Undo,
+        Turn::Decide(false, [-1, -2, 3, 0]),
+    ];
+    play(rt.alloc(), 3, &waiting)?;
+    play(rt.alloc(), 3, &assigned)
+}
+
+// Over a thousand decays an early bump comes to nothing, and behind them two bumps still count more than the next one.
+#[test]
+fn priorities_stay_in_order_over_a_thousand_decays(rt: HostRuntime) -> Result<(), Fail> {
+    let early = [
+        Turn::Fill,
+        Turn::Undo,
+        Turn::Decay(420),
+        Turn::Bump(2),
+        Turn::Decay(1000),
+        Turn::Bump(1),
+        Turn::Decide(false, [-1, -2, 3, 0]),
+    ];
+    let late = [
+        Turn::Fill,
+        Turn::Undo,
+        Turn::Decay(1000),
+        Turn::Bump(1),
+        Turn::Bump(1),
+        Turn::Decay(1),
+        Turn::Bump(2),
+        Turn::Decide(false, [-1, -2, 3, 0]),
+    ];
+    play(rt.alloc(), 3, &early)?;
+    play(rt.alloc(), 3, &late)
 }
 
 // At first without room, and then with room.

@@ -40,6 +40,8 @@ enum Move {
     Unit(RowId, i32),
     Bad(RowId),
     Quiet,
+    // Looks whether the row is in the lists of these names.
+    Lists(RowId, usize, usize),
     // Makes many moves that are drawn, from a seed.
     Drawn(u32),
 }
@@ -90,6 +92,7 @@ fn make<S: Side>(desk: &mut Desk<S>, alloc: Global, step: Move) -> Result<bool, 
         }
         Move::Bad(id) => Ok(comes_next(desk, Event::Bad(id))),
         Move::Quiet => Ok(comes_next(desk, Event::Quiet)),
+        Move::Lists(id, first, second) => Ok(desk.is_in(id, first, second)),
         Move::Drawn(seed) => are_right(desk, alloc, seed),
         _ => {
             assign(desk, step)?;
@@ -190,6 +193,37 @@ fn undoing<S: Side>(alloc: Global) -> Result<(), Fail> {
     play::<S>(alloc, S::PIVOT, &[4], 4, &script)
 }
 
+// The names of the lists of rows that watch the positive literals over the variables 1 to 3.
+const FIRST: usize = 6;
+
+const SECOND: usize = 10;
+
+const THIRD: usize = 14;
+
+// A row whose other watched literal is good by then stays in its lists when one of them becomes bad, whichever it is;
+// where the other one is open the row watches another literal.
+fn good_partner<S: Side>(alloc: Global) -> Result<(), Fail> {
+    let script = [
+        Move::Add([1, 2, 3]),
+        Move::Quiet,
+        Move::Lists(0, FIRST, SECOND),
+        Move::Please(2),
+        Move::Spoil(1),
+        Move::Quiet,
+        Move::Lists(0, FIRST, SECOND),
+        Move::Clear,
+        Move::Please(1),
+        Move::Spoil(2),
+        Move::Quiet,
+        Move::Lists(0, FIRST, SECOND),
+        Move::Clear,
+        Move::Spoil(1),
+        Move::Quiet,
+        Move::Lists(0, SECOND, THIRD),
+    ];
+    play::<S>(alloc, S::PIVOT, &[3], 4, &script)
+}
+
 // Empty rows, rows of one literal and rows without a pivot-type literal, attached and detached. Of the rows that may be
 // told the one that came first is.
 fn small_rows<S: Side>(alloc: Global) -> Result<(), Fail> {
@@ -217,6 +251,7 @@ fn all<S: Side>(alloc: Global) -> Result<(), Fail> {
     earlier_scope::<S>(alloc)?;
     later_scope::<S>(alloc)?;
     undoing::<S>(alloc)?;
+    good_partner::<S>(alloc)?;
     small_rows::<S>(alloc)
 }
 

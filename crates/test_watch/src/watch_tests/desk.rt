@@ -166,6 +166,14 @@ impl<S: Side> Desk<S> {
         Some(self.watch.next(&mut self.rows, &self.trail, &self.prefix))
     }
 
+    // Whether a row is in the lists of these names.
+    pub(crate) fn is_in(&self, id: RowId, first: usize, second: usize) -> bool {
+        if !self.rows.is_live(id) {
+            return false;
+        }
+        self.rows.link(id, 0) == Some(first) && self.rows.link(id, 3) == Some(second)
+    }
+
     // Whether a variable is assigned.
     pub(crate) fn is_assigned(&self, v: Var) -> bool {
         self.trail.value(v).is_some()
