@@ -2,21 +2,22 @@
 use Rattle.std.proofs.Common.{◌≡◌, ℕ, zero, suc, ◌+◌, ◌-◌, ◌<◌, Bool, true, false, Option, None, Some, List, [], ◌∷◌, ◌++◌, drop, slice_get, refl, sym, ap, subst, ◌∙◌, arith}
 use Rattle.std.specs.Prelude.{option_map, map, ◌&&◌, if◌then◌else◌, ◌==◌, IfNone, IfSome, Err}
 use Rattle.std.proofs.Math.Numerals.{sub-one}
-use Rattle.std.proofs.lemmas.Bool.{ne_eqb}
+use Rattle.std.proofs.lemmas.Bool.{ne_eqb, eqb-true}
 use Rattle.std.specs.Io.KnownBytes.{Keeps, IsAtEnd}
 use Rattle.lexer.specs.declared.token.Comments.{Comments}
+use Rattle.lexer.specs.declared.token.Comments.TheVariants.{Dimacs, Script, Hash}
 use Rattle.lexer.specs.declared.token.Token.{Token}
 use Rattle.lexer.specs.declared.scan.Scan.{Scan}
-use Rattle.lexer.specs.Words.{Item, word, byte, beyond, begins_comment, bad_byte, number_range, too_long, the_end, is_blank, is_line_end, items_from}
+use Rattle.lexer.specs.Words.{Item, word, byte, beyond, begins_comment, bad_byte, number_range, too_long, the_end, is_blank, is_line_end, ends_word, is_lone, opens_comment, items_from}
 use Rattle.lexer.specs.State.{State, bytes_ahead, upcoming, past, Stays}
 use Rattle.lexer.specs.Machine.{comment_items, word_items, word_end, cut_items, if_room, upcoming_in_word, upcoming_in_comment, upcoming_behind_word}
 use Rattle.lexer.specs.Answers.{Begins, Gives, Ends, Refuses, IsScanned}
 use Rattle.lexer.specs.Scan.{scan_after, no_scan, scanned}
 use Rattle.lexer.specs.declared.token.LexRefusal.{LexRefusal}
 use Rattle.lexer.specs.declared.token.LexRefusal.TheVariants.{ReadFault, TooLong, BadByte, NumberRange}
-use Rattle.lexer.proofs.WordEnds.{no_blank}
-use Rattle.lexer.proofs.InWord.{word_begins}
-use Rattle.lexer.proofs.Bytewise.{blank_step, blank_at_limit, at_end, comment_step, comment_line_end, comment_at_limit, comment_at_end}
+use Rattle.lexer.proofs.WordEnds.{no_blank, goes_on, mark_no_line_end, mark_ends}
+use Rattle.lexer.proofs.InWord.{word_begins, mark_word, hash_begins}
+use Rattle.lexer.proofs.Bytewise.{blank_step, blank_at_limit, end_at_limit, at_end, comment_step, comment_line_end, comment_at_limit, comment_at_end}
 
 pub stays_on : {A : Type 0} (x y z : Option A) → Stays x y → Stays y z → Stays x z
 stays_on None y z h k = tt
@@ -135,7 +136,7 @@ when_none (Some x) P e h = cc
 
 -- in a word
 
-word_taken : (c : Comments) (fresh : Bool) (n r : ℕ) (s : Scan) (ahead rest : List ℕ) (b : ℕ) → slice_get ahead 0 ≡ Some b → 0 < r → is_blank b ≡ false
+word_taken : (c : Comments) (fresh : Bool) (n r : ℕ) (s : Scan) (ahead rest : List ℕ) (b : ℕ) → slice_get ahead 0 ≡ Some b → 0 < r → ends_word c b ≡ false
     → word_items c fresh n (r - 1) (scan_after s b) (drop 1 ahead ++ rest) ≡ word_items c fresh n r s (ahead ++ rest)
 word_taken c fresh n r s [] rest b e lt h = cc
 word_taken c fresh n zero s (a ∷ ahead) rest b e lt h = absurd (omega arith)
@@ -144,22 +145,22 @@ word_taken c fresh n (suc r) s (a ∷ ahead) rest b e lt h =
     ap (λ t. if t then word_end c fresh n (suc r) s (b ∷ ahead ++ rest) else word_items c fresh n (suc r - 1) (scan_after s b) (ahead ++ rest)) (sym h)
     ∙ ap (λ x. word_items c fresh n (suc r) s (x ∷ ahead ++ rest)) (sym same)
 
-not_line_end : (b : ℕ) → is_blank b ≡ false → (b == 10) ≡ false
-not_line_end b h = ne_eqb b 10 (λ e. let blank : is_blank b ≡ true = no_blank b e in cc)
+not_line_end : (c : Comments) (b : ℕ) → ends_word c b ≡ false → (b == 10) ≡ false
+not_line_end c b h = ne_eqb b 10 (λ e. let blank : is_blank b ≡ true = no_blank b e in let other : is_blank b ≡ false = goes_on c b h in cc)
 
-pub past_in_word : (s : State) (scan : Scan) (b : ℕ) (l : Option (List ℕ)) → slice_get s.ahead 0 ≡ Some b → 0 < s.room → is_blank b ≡ false → Stays (upcoming_in_word s scan l) (upcoming_in_word (past b s) (scan_after scan b) l)
+pub past_in_word : (s : State) (scan : Scan) (b : ℕ) (l : Option (List ℕ)) → slice_get s.ahead 0 ≡ Some b → 0 < s.room → ends_word s.comments b ≡ false → Stays (upcoming_in_word s scan l) (upcoming_in_word (past b s) (scan_after scan b) l)
 past_in_word s scan b None e lt h = tt
 past_in_word s scan b (Some rest) e lt h =
-    ap Some (ap (λ t. word_items s.comments (if t then true else s.fresh) (if t then s.line + 1 else s.line) (s.room - 1) (scan_after scan b) (drop 1 s.ahead ++ rest)) (not_line_end b h)
+    ap Some (ap (λ t. word_items s.comments (if t then true else s.fresh) (if t then s.line + 1 else s.line) (s.room - 1) (scan_after scan b) (drop 1 s.ahead ++ rest)) (not_line_end s.comments b h)
     ∙ word_taken s.comments s.fresh s.line s.room scan s.ahead rest b e lt h)
 
-pub past_whole : (s : State) (b : ℕ) → is_blank b ≡ false → (past b s).fresh ≡ s.fresh
-past_whole s b h = ap (λ t. if t then true else s.fresh) (not_line_end b h)
+pub past_whole : (s : State) (b : ℕ) → ends_word s.comments b ≡ false → (past b s).fresh ≡ s.fresh
+past_whole s b h = ap (λ t. if t then true else s.fresh) (not_line_end s.comments b h)
 
-pub past_line_number : (s : State) (b : ℕ) → is_blank b ≡ false → (past b s).line ≡ s.line
-past_line_number s b h = ap (λ t. if t then s.line + 1 else s.line) (not_line_end b h)
+pub past_line_number : (s : State) (b : ℕ) → ends_word s.comments b ≡ false → (past b s).line ≡ s.line
+past_line_number s b h = ap (λ t. if t then s.line + 1 else s.line) (not_line_end s.comments b h)
 
-cut_word : (c : Comments) (fresh : Bool) (n : ℕ) (s : Scan) (ahead rest : List ℕ) (b : ℕ) → slice_get ahead 0 ≡ Some b → is_blank b ≡ false → word_items c fresh n 0 s (ahead ++ rest) ≡ cut_items c fresh n s
+cut_word : (c : Comments) (fresh : Bool) (n : ℕ) (s : Scan) (ahead rest : List ℕ) (b : ℕ) → slice_get ahead 0 ≡ Some b → ends_word c b ≡ false → word_items c fresh n 0 s (ahead ++ rest) ≡ cut_items c fresh n s
 cut_word c fresh n s [] rest b e h = cc
 cut_word c fresh n s (a ∷ ahead) rest b e h =
     let same : a ≡ b = cc in
@@ -169,7 +170,7 @@ cut_word c fresh n s (a ∷ ahead) rest b e h =
 refuses_at : (e : LexRefusal) (x y : List Item) → x ≡ y → Refuses e (Some y) → Refuses e (Some x)
 refuses_at e x y h r = subst (λ z. Refuses e (Some z)) (sym h) r
 
-pub word_beyond : (s : State) (scan : Scan) (b : ℕ) (l : Option (List ℕ)) (e : LexRefusal) → slice_get s.ahead 0 ≡ Some b → s.room ≡ 0 → is_blank b ≡ false → Refuses e (Some (cut_items s.comments s.fresh s.line scan)) → Refuses e (upcoming_in_word s scan l)
+pub word_beyond : (s : State) (scan : Scan) (b : ℕ) (l : Option (List ℕ)) (e : LexRefusal) → slice_get s.ahead 0 ≡ Some b → s.room ≡ 0 → ends_word s.comments b ≡ false → Refuses e (Some (cut_items s.comments s.fresh s.line scan)) → Refuses e (upcoming_in_word s scan l)
 word_beyond s scan b None ReadFault f z h r = tt
 word_beyond s scan b None (TooLong line) f z h r = tt
 word_beyond s scan b None (BadByte line) f z h r = tt
@@ -191,13 +192,13 @@ pub word_at_end : (s : State) (scan : Scan) (l : Option (List ℕ)) → slice_ge
 word_at_end s scan None e h = tt
 word_at_end s scan (Some rest) e h = ap Some (word_ended s.comments s.fresh s.line s.room scan s.ahead rest e h)
 
-word_parted : (c : Comments) (fresh : Bool) (n r : ℕ) (s : Scan) (ahead rest : List ℕ) (b : ℕ) → slice_get ahead 0 ≡ Some b → is_blank b ≡ true → word_end c fresh n r s (ahead ++ rest) ≡ word_items c fresh n r s (ahead ++ rest)
+word_parted : (c : Comments) (fresh : Bool) (n r : ℕ) (s : Scan) (ahead rest : List ℕ) (b : ℕ) → slice_get ahead 0 ≡ Some b → ends_word c b ≡ true → word_end c fresh n r s (ahead ++ rest) ≡ word_items c fresh n r s (ahead ++ rest)
 word_parted c fresh n r s [] rest b e h = cc
 word_parted c fresh n r s (a ∷ ahead) rest b e h =
-    let blank : is_blank a ≡ true = (let same : b ≡ a = cc in subst (λ x. is_blank x ≡ true) same h) in
+    let blank : ends_word c a ≡ true = (let same : b ≡ a = cc in subst (λ x. ends_word c x ≡ true) same h) in
     ap (λ t. if t then word_end c fresh n r s (a ∷ ahead ++ rest) else if_room r (cut_items c fresh n s) (word_items c fresh n (r - 1) (scan_after s a) (ahead ++ rest))) (sym blank)
 
-pub word_at_blank : (s : State) (scan : Scan) (b : ℕ) (l : Option (List ℕ)) → slice_get s.ahead 0 ≡ Some b → is_blank b ≡ true → Stays (upcoming_in_word s scan l) (upcoming_behind_word s scan l)
+pub word_at_blank : (s : State) (scan : Scan) (b : ℕ) (l : Option (List ℕ)) → slice_get s.ahead 0 ≡ Some b → ends_word s.comments b ≡ true → Stays (upcoming_in_word s scan l) (upcoming_behind_word s scan l)
 word_at_blank s scan b None e h = tt
 word_at_blank s scan b (Some rest) e h = ap Some (word_parted s.comments s.fresh s.line s.room scan s.ahead rest b e h)
 
@@ -207,13 +208,13 @@ peeked_in_word s t scan l m e h = bytes_stay (word_items s.comments s.fresh s.li
 
 -- in front of a word, and behind it
 
-word_in_front : (c : Comments) (fresh : Bool) (n r : ℕ) (ahead rest : List ℕ) (b : ℕ) → slice_get ahead 0 ≡ Some b → is_blank b ≡ false → word_items c fresh n r no_scan (ahead ++ rest) ≡ items_from c fresh n r (ahead ++ rest)
+word_in_front : (c : Comments) (fresh : Bool) (n r : ℕ) (ahead rest : List ℕ) (b : ℕ) → slice_get ahead 0 ≡ Some b → ends_word c b ≡ false → word_items c fresh n r no_scan (ahead ++ rest) ≡ items_from c fresh n r (ahead ++ rest)
 word_in_front c fresh n r [] rest b e h = cc
 word_in_front c fresh n r (a ∷ ahead) rest b e h =
-    let other : is_blank a ≡ false = (let same : b ≡ a = cc in subst (λ x. is_blank x ≡ false) same h) in
+    let other : ends_word c a ≡ false = (let same : b ≡ a = cc in subst (λ x. ends_word c x ≡ false) same h) in
     sym (word_begins c fresh n r a (ahead ++ rest) other)
 
-pub before_word : (s : State) (b : ℕ) (l : Option (List ℕ)) → slice_get s.ahead 0 ≡ Some b → is_blank b ≡ false → Stays (upcoming s l) (upcoming_in_word s no_scan l)
+pub before_word : (s : State) (b : ℕ) (l : Option (List ℕ)) → slice_get s.ahead 0 ≡ Some b → ends_word s.comments b ≡ false → Stays (upcoming s l) (upcoming_in_word s no_scan l)
 before_word s b None e h = tt
 before_word s b (Some rest) e h = ap Some (word_in_front s.comments s.fresh s.line s.room s.ahead rest b e h)
 
@@ -273,3 +274,81 @@ ends_here (Some items) s (Some rest) e f h =
 pub when_some : (o : Option ℕ) (P : ℕ → Type 0) (x : ℕ) → o ≡ Some x → IfSome o P → P x
 when_some None P x e h = cc
 when_some (Some y) P x e h = let same : y ≡ x = cc in subst P same h
+
+-- a word of one byte
+
+mark_taken : (c : Comments) (fresh : Bool) (n r : ℕ) (ahead rest : List ℕ) (b : ℕ) → slice_get ahead 0 ≡ Some b → 0 < r → is_lone c b ≡ true
+    → word_end c (if b == 10 then true else fresh) (if b == 10 then n + 1 else n) (r - 1) (scan_after no_scan b) (drop 1 ahead ++ rest) ≡ items_from c fresh n r (ahead ++ rest)
+mark_taken Dimacs fresh n r ahead rest b e lt h = cc
+mark_taken Script fresh n r ahead rest b e lt h = cc
+mark_taken Hash fresh n r [] rest b e lt h = cc
+mark_taken Hash fresh n zero (a ∷ ahead) rest b e lt h = absurd (omega arith)
+mark_taken Hash fresh n (suc r) (a ∷ ahead) rest b e lt h =
+    let same : a ≡ b = cc in
+    ap (λ t. word_end Hash (if t then true else fresh) (if t then n + 1 else n) (suc r - 1) (scan_after no_scan b) (ahead ++ rest)) (mark_no_line_end b h)
+    ∙ ap (λ x. word_end Hash fresh n x (scan_after no_scan b) (ahead ++ rest)) (sub-one (suc r))
+    ∙ sym (mark_word fresh n r b (ahead ++ rest) h)
+    ∙ ap (λ x. items_from Hash fresh n (suc r) (x ∷ ahead ++ rest)) (sym same)
+
+pub past_lone : (s : State) (b : ℕ) (l : Option (List ℕ)) → slice_get s.ahead 0 ≡ Some b → 0 < s.room → is_lone s.comments b ≡ true → Stays (upcoming s l) (upcoming_behind_word (past b s) (scan_after no_scan b) l)
+past_lone s b None e lt h = tt
+past_lone s b (Some rest) e lt h = ap Some (mark_taken s.comments s.fresh s.line s.room s.ahead rest b e lt h)
+
+lone_ends : (c : Comments) (b : ℕ) → is_lone c b ≡ true → ends_word c b ≡ true
+lone_ends Dimacs b h = cc
+lone_ends Script b h = cc
+lone_ends Hash b h = mark_ends b h
+
+end_beyond : (c : Comments) (fresh : Bool) (n : ℕ) (ahead rest : List ℕ) (b : ℕ) → slice_get ahead 0 ≡ Some b → ends_word c b ≡ true → items_from c fresh n 0 (ahead ++ rest) ≡ too_long n ∷ []
+end_beyond c fresh n [] rest b e h = cc
+end_beyond c fresh n (a ∷ ahead) rest b e h = let same : a ≡ b = cc in ap (λ x. items_from c fresh n 0 (x ∷ ahead ++ rest)) same ∙ end_at_limit c fresh n b (ahead ++ rest) h
+
+pub lone_beyond : (s : State) (b : ℕ) (l : Option (List ℕ)) → slice_get s.ahead 0 ≡ Some b → s.room ≡ 0 → is_lone s.comments b ≡ true → Begins (upcoming s l) (too_long s.line)
+lone_beyond s b None e z h = tt
+lone_beyond s b (Some rest) e z h = ([], ap (λ r. items_from s.comments s.fresh s.line r (s.ahead ++ rest)) z ∙ end_beyond s.comments s.fresh s.line s.ahead rest b e (lone_ends s.comments b h))
+
+pub lone_line : (s : State) (b : ℕ) → is_lone s.comments b ≡ true → (past b s).line ≡ s.line
+lone_line s b h = ap (λ t. if t then s.line + 1 else s.line) (no_end s.comments h)
+  where
+    no_end : (c : Comments) → is_lone c b ≡ true → (b == 10) ≡ false
+    no_end Dimacs h = cc
+    no_end Script h = cc
+    no_end Hash h = mark_no_line_end b h
+
+-- a comment behind #
+
+hash_in_front : (c : Comments) (fresh : Bool) (n r : ℕ) (ahead rest : List ℕ) (b : ℕ) → slice_get ahead 0 ≡ Some b → opens_comment c b ≡ true → comment_items c n r (ahead ++ rest) ≡ items_from c fresh n r (ahead ++ rest)
+hash_in_front Dimacs fresh n r ahead rest b e h = cc
+hash_in_front Script fresh n r ahead rest b e h = cc
+hash_in_front Hash fresh n r [] rest b e h = cc
+hash_in_front Hash fresh n r (a ∷ ahead) rest b e h =
+    let is : a ≡ 35 = (let same : a ≡ b = cc in same ∙ eqb-true b 35 h) in
+    ap (λ x. comment_items Hash n r (x ∷ ahead ++ rest)) is ∙ sym (hash_begins fresh n r (ahead ++ rest)) ∙ ap (λ x. items_from Hash fresh n r (x ∷ ahead ++ rest)) (sym is)
+
+pub before_comment : (s : State) (b : ℕ) (l : Option (List ℕ)) → slice_get s.ahead 0 ≡ Some b → opens_comment s.comments b ≡ true → Stays (upcoming s l) (upcoming_in_comment s l)
+before_comment s b None e h = tt
+before_comment s b (Some rest) e h = ap Some (hash_in_front s.comments s.fresh s.line s.room s.ahead rest b e h)
+
+opens_ends : (c : Comments) (b : ℕ) → opens_comment c b ≡ true → ends_word c b ≡ true
+opens_ends Dimacs b h = cc
+opens_ends Script b h = cc
+opens_ends Hash b h = ap (λ x. ends_word Hash x) (eqb-true b 35 h)
+
+pub hash_beyond : (s : State) (b : ℕ) (l : Option (List ℕ)) → slice_get s.ahead 0 ≡ Some b → s.room ≡ 0 → opens_comment s.comments b ≡ true → Begins (upcoming s l) (too_long s.line)
+hash_beyond s b None e z h = tt
+hash_beyond s b (Some rest) e z h = ([], ap (λ r. items_from s.comments s.fresh s.line r (s.ahead ++ rest)) z ∙ end_beyond s.comments s.fresh s.line s.ahead rest b e (opens_ends s.comments b h))
+
+opens_no_end : (c : Comments) (b : ℕ) → opens_comment c b ≡ true → b ≡ 10 → ⊥
+opens_no_end Dimacs b h e = cc
+opens_no_end Script b h e = cc
+opens_no_end Hash b h e = let is : b ≡ 35 = eqb-true b 35 h in omega (arith, is, e)
+
+-- behind #
+pub past_hash : (s : State) (b : ℕ) (l : Option (List ℕ)) → slice_get s.ahead 0 ≡ Some b → 0 < s.room → opens_comment s.comments b ≡ true → Stays (upcoming s l) (upcoming_in_comment (past b s) l)
+past_hash s b l e lt h = stays_on (upcoming s l) (upcoming_in_comment s l) (upcoming_in_comment (past b s) l) (before_comment s b l e h) (past_in_comment s b l e lt (opens_no_end s.comments b h))
+
+-- what is white space, a lone byte or the beginning of a comment ends a word, and nothing else does
+pub in_word_else : (c : Comments) (b : ℕ) → is_blank b ≡ false → opens_comment c b ≡ false → is_lone c b ≡ false → ends_word c b ≡ false
+in_word_else Dimacs b h o l = h
+in_word_else Script b h o l = h
+in_word_else Hash b h o l = rw (h, l, o) refl

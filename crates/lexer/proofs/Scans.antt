@@ -10,7 +10,7 @@ use Rattle.std.proofs.lemmas.Bool.Decides.{nat_tests}
 use Rattle.std.proofs.lemmas.Int.Digits.{digits_value_push}
 use Rattle.std.proofs.lemmas.Str.{digit_value_digit}
 use Rattle.lexer.specs.declared.token.Comments.{Comments}
-use Rattle.lexer.specs.declared.token.Comments.TheVariants.{Dimacs, Script}
+use Rattle.lexer.specs.declared.token.Comments.TheVariants.{Dimacs, Script, Hash}
 use Rattle.lexer.specs.declared.token.Word.TheVariants.{Num, Text, Other}
 use Rattle.lexer.specs.declared.scan.Shape.{Shape}
 use Rattle.lexer.specs.declared.scan.Shape.TheVariants.{Empty, Minus, Digits, NoNumber}
@@ -242,6 +242,8 @@ begins_kept Dimacs (b ∷ w) = refl
 begins_kept Script [] = refl
 begins_kept Script (b ∷ []) = refl
 begins_kept Script (b ∷ d ∷ w) = refl
+begins_kept Hash [] = refl
+begins_kept Hash (b ∷ w) = refl
 
 pub begins_cut_kept : (c : Comments) (w : List ℕ) → begins_comment c (map byte w ++ beyond ∷ []) ≡ begins_comment c (map byte (take 16 w) ++ beyond ∷ [])
 begins_cut_kept Dimacs [] = refl
@@ -249,3 +251,5 @@ begins_cut_kept Dimacs (b ∷ w) = refl
 begins_cut_kept Script [] = refl
 begins_cut_kept Script (b ∷ []) = refl
 begins_cut_kept Script (b ∷ d ∷ w) = refl
+begins_cut_kept Hash [] = refl
+begins_cut_kept Hash (b ∷ w) = refl

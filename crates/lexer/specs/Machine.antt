@@ -2,14 +2,14 @@
 use Rattle.std.specs.Prelude.{ℕ, zero, suc, ◌+◌, ◌-◌, Bool, true, false, ◌&&◌, if◌then◌else◌, List, [], ◌∷◌, ◌++◌, drop, map, Option, option_map}
 use Rattle.lexer.specs.declared.token.Comments.{Comments}
 use Rattle.lexer.specs.declared.scan.Scan.{Scan}
-use Rattle.lexer.specs.Words.{Item, too_long, bad_byte, begins_comment, byte, beyond, is_blank, items_from, items_of_lines, lines_of, seen, ending}
+use Rattle.lexer.specs.Words.{Item, too_long, bad_byte, begins_comment, byte, beyond, ends_word, items_from, items_of_lines, lines_of, seen, ending}
 use Rattle.lexer.specs.Scan.{scan_after, scanned}
 use Rattle.lexer.specs.State.{State, bytes_ahead}
 
 -- In a comment: the rest of the line is left out.
 abbrev pub comment_items : Comments → ℕ → ℕ → List ℕ → List Item
 comment_items comments n room bytes =
-    items_of_lines comments true (n + 1) (drop 1 (lines_of (seen room bytes))) ++ ending n room bytes ∷ []
+    items_of_lines comments true (n + 1) (drop 1 (lines_of (seen comments room bytes))) ++ ending n room bytes ∷ []
 
 -- Behind a word that was scanned so.
 abbrev pub word_end : Comments → Bool → ℕ → ℕ → Scan → List ℕ → List Item
@@ -32,7 +32,7 @@ if_room (suc r) cut rest = rest
 abbrev pub word_items : Comments → Bool → ℕ → ℕ → Scan → List ℕ → List Item
 word_items comments fresh n room s [] = word_end comments fresh n room s []
 word_items comments fresh n room s (b ∷ bytes) =
-    if is_blank b then word_end comments fresh n room s (b ∷ bytes)
+    if ends_word comments b then word_end comments fresh n room s (b ∷ bytes)
     else if_room room (cut_items comments fresh n s) (word_items comments fresh n (room - 1) (scan_after s b) bytes)
 
 -- The same, where the desk tells what it has left.

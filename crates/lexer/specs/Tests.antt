@@ -1,6 +1,6 @@
 -- Worked texts, of which the items are computed.
 use Rattle.std.specs.Prelude.{◌≡◌, ℕ, pos, negsuc, ◌==◌, true, if◌then◌else◌, List, [], ◌∷◌, ◌++◌, map, codes, refl}
-use Rattle.lexer.specs.declared.token.Comments.TheVariants.{Dimacs, Script}
+use Rattle.lexer.specs.declared.token.Comments.TheVariants.{Dimacs, Script, Hash}
 use Rattle.lexer.specs.declared.token.Word.{Word}
 use Rattle.lexer.specs.declared.token.Word.TheVariants.{Num, Text, Other}
 use Rattle.lexer.specs.Words.{Item, word, bad_byte, number_range, too_long, the_end, items, items_from}
@@ -77,3 +77,37 @@ bad_before = refl
 bad_beyond : items_from Dimacs true 1 6 (49 ∷ 10 ∷ 50 ∷ 50 ∷ 51 ∷ 52 ∷ 128 ∷ 54 ∷ [])
     ≡ at 1 (Num (pos 1)) ∷ too_long 2 ∷ too_long 2 ∷ []
 bad_beyond = refl
+
+-- a comment from # to its line's end, the next line after it; marks are words wherever they stand
+hash : items Hash (text (codes "#Q 1/3=and(1,-2)#x/ #/4 = or ( )"))
+    ≡ at 2 (Num (pos 3)) ∷ at 2 (Text (codes "=")) ∷ at 2 (Text (codes "and")) ∷ at 2 (Text (codes "("))
+    ∷ at 2 (Num (pos 1)) ∷ at 2 (Text (codes ",")) ∷ at 2 (Num (negsuc 1)) ∷ at 2 (Text (codes ")"))
+    ∷ at 4 (Num (pos 4)) ∷ at 4 (Text (codes "=")) ∷ at 4 (Text (codes "or")) ∷ at 4 (Text (codes "("))
+    ∷ at 4 (Text (codes ")")) ∷ the_end 4 ∷ []
+hash = refl
+
+-- a # ends a word, and its comment may hold any bytes
+hash_in_word : items Hash (120 ∷ 121 ∷ 35 ∷ 139 ∷ 0 ∷ 10 ∷ 49 ∷ [])
+    ≡ at 1 (Text (codes "xy")) ∷ at 2 (Num (pos 1)) ∷ the_end 2 ∷ []
+hash_in_word = refl
+
+-- c begins no comment here, and a bad byte is refused
+hash_bad : items Hash (99 ∷ 32 ∷ 40 ∷ 139 ∷ 41 ∷ []) ≡ at 1 (Text (codes "c")) ∷ at 1 (Text (codes "(")) ∷ bad_byte 1
+    ∷ at 1 (Text (codes ")")) ∷ the_end 1 ∷ []
+hash_bad = refl
+
+-- room for six bytes: a word at the limit in front of a mark or a comment is whole, in front of another byte not
+mark_beyond : items_from Hash true 1 6 (text (codes "12/345(1"))
+    ≡ at 1 (Num (pos 12)) ∷ at 2 (Num (pos 345)) ∷ too_long 2 ∷ []
+mark_beyond = refl
+
+hash_beyond : items_from Hash true 1 6 (text (codes "12/345#/"))
+    ≡ at 1 (Num (pos 12)) ∷ at 2 (Num (pos 345)) ∷ too_long 2 ∷ []
+hash_beyond = refl
+
+word_beyond : items_from Hash true 1 6 (text (codes "12/=455(")) ≡ at 1 (Num (pos 12)) ∷ at 2 (Text (codes "="))
+    ∷ too_long 2 ∷ too_long 2 ∷ []
+word_beyond = refl
+
+in_hash_comment : items_from Hash true 1 6 (text (codes "12/#45678")) ≡ at 1 (Num (pos 12)) ∷ too_long 2 ∷ []
+in_hash_comment = refl

@@ -1,10 +1,11 @@
 -- The words of a whole text, each with the number of its line, and how the text ends. Words, numbers and comment
--- lines that begin with c are those of QDIMACS 1.1, input format; the rest is this project's own.
+-- lines that begin with c are those of QDIMACS 1.1, input format; comments behind # and the marks that are words by
+-- themselves those of QCIR-14; the rest is this project's own.
 use Rattle.std.specs.Prelude.{ℕ, ◌+◌, ◌-◌, ◌^◌, ℤ, pos, neg_ℤ, Bool, true, false, not, ◌&&◌, ◌||◌, ◌==◌, nat_lt, nat_le, if◌then◌else◌, List, [], ◌∷◌, ◌++◌, length, map, filter, take, drop, count_by, Option, Some, None, unwrap_or}
 use Rattle.std.specs.List.{list_all}
 use Rattle.std.specs.Str.Parse.{digits_value}
 use Rattle.lexer.specs.declared.token.Comments.{Comments}
-use Rattle.lexer.specs.declared.token.Comments.TheVariants.{Dimacs, Script}
+use Rattle.lexer.specs.declared.token.Comments.TheVariants.{Dimacs, Script, Hash}
 use Rattle.lexer.specs.declared.token.Word.{Word}
 use Rattle.lexer.specs.declared.token.Word.TheVariants.{Num, Text, Other}
 use Rattle.lexer.specs.declared.token.Token.{Token}
@@ -68,11 +69,51 @@ is_some_word (b ∷ bs) = true
 abbrev pub words_of : List Seen → List (List Seen)
 words_of line = filter is_some_word (pieces parts_words line)
 
+-- Brackets, the comma and the equals sign (QCIR-14, qcir-file).
+abbrev pub is_mark : ℕ → Bool
+is_mark b = (b == 40) || (b == 41) || (b == 44) || (b == 61)
+
+-- A place in front of a line: behind # all is comment, and a mark stands between blanks.
+abbrev pub spaced_place : Seen → List Seen → List Seen
+spaced_place (byte b) rest =
+    if b == 35 then [] else if is_mark b then byte 32 ∷ byte b ∷ byte 32 ∷ rest else byte b ∷ rest
+spaced_place beyond rest = beyond ∷ rest
+
+-- A line up to its first #, with each mark between blanks.
+abbrev pub spaced : List Seen → List Seen
+spaced [] = []
+spaced (s ∷ line) = spaced_place s (spaced line)
+
+-- A line as its words are read off it. With comments behind # a mark is a word by itself.
+abbrev pub laid_out : Comments → List Seen → List Seen
+laid_out Hash line = spaced line
+laid_out Dimacs line = line
+laid_out Script line = line
+
+-- A byte that is a word by itself.
+abbrev pub is_lone : Comments → ℕ → Bool
+is_lone Hash b = is_mark b
+is_lone Dimacs b = false
+is_lone Script b = false
+
+-- A byte behind which the rest of its line is comment, wherever it stands.
+abbrev pub opens_comment : Comments → ℕ → Bool
+opens_comment Hash b = b == 35
+opens_comment Dimacs b = false
+opens_comment Script b = false
+
+-- Bytes that end a word in front of them.
+abbrev pub ends_word : Comments → ℕ → Bool
+ends_word Hash b = is_blank b || (is_mark b || (b == 35))
+ends_word Dimacs b = is_blank b
+ends_word Script b = is_blank b
+
 -- A line is a comment where its first word begins with c (QDIMACS 1.1, input format: comment lines), in a script where
--- its first word is c alone.
+-- its first word is c alone; with comments behind # no word tells it.
 abbrev pub begins_comment : Comments → List Seen → Bool
 begins_comment Dimacs (byte b ∷ bs) = b == 99
 begins_comment Script (byte b ∷ bs) = (b == 99) && not (is_some_word bs)
+begins_comment Hash (byte b ∷ bs) = false
 begins_comment comments (beyond ∷ bs) = false
 begins_comment comments [] = false
 
@@ -134,15 +175,16 @@ item_of line w = unwrap_or (fault_of line w) (classified line (bytes_of w) (numb
 abbrev pub items_of_lines : Comments → Bool → ℕ → List (List Seen) → List Item
 items_of_lines comments fresh n [] = []
 items_of_lines comments fresh n (line ∷ lines) =
-    map (item_of n) (outside_comment comments fresh (words_of line)) ++ items_of_lines comments true (n + 1) lines
+    map (item_of n) (outside_comment comments fresh (words_of (laid_out comments line)))
+    ++ items_of_lines comments true (n + 1) lines
 
 -- Of the first byte beyond the limit only this is seen, whether it ends a word.
-abbrev pub as_seen : ℕ → Seen
-as_seen b = if is_blank b then byte 32 else beyond
+abbrev pub as_seen : Comments → ℕ → Seen
+as_seen comments b = if ends_word comments b then byte 32 else beyond
 
 -- What is seen of a text of which only the first room bytes may be read.
-abbrev pub seen : ℕ → List ℕ → List Seen
-seen room text = map byte (take room text) ++ map as_seen (take 1 (drop room text))
+abbrev pub seen : Comments → ℕ → List ℕ → List Seen
+seen comments room text = map byte (take room text) ++ map (as_seen comments) (take 1 (drop room text))
 
 -- The number of the line in which a text ends, where its first one has the number n.
 abbrev pub last_line : ℕ → List ℕ → ℕ
@@ -158,7 +200,7 @@ ending n room text =
 -- word before, and room is how many bytes may be read.
 abbrev pub items_from : Comments → Bool → ℕ → ℕ → List ℕ → List Item
 items_from comments fresh n room text =
-    items_of_lines comments fresh n (lines_of (seen room text)) ++ ending n room text ∷ []
+    items_of_lines comments fresh n (lines_of (seen comments room text)) ++ ending n room text ∷ []
 
 -- Only the first 2^30 bytes of a text are read.
 abbrev pub max_bytes : ℕ

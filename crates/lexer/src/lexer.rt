@@ -3,13 +3,13 @@ ghost use Rattle.std.specs.Prelude.{◌≡◌, ℕ, ◌+◌, ◌-◌, ◌^◌, �
 ghost use Rattle.std.specs.Io.KnownBytes.{Keeps, IsAtEnd};
 ghost use Rattle.ports.specs.Causes.{HasCause, IsCounted};
 ghost use Rattle.lexer.specs.State.{State, bytes_ahead, upcoming, past, Stays};
-ghost use Rattle.lexer.specs.Words.{is_blank, begins_comment, byte, beyond, items};
+ghost use Rattle.lexer.specs.Words.{is_blank as is_blank_byte, begins_comment, byte, beyond, ends_word, is_lone, items, opens_comment};
 ghost use Rattle.lexer.specs.Scan.{no_scan};
 ghost use Rattle.lexer.specs.Machine.{cut_items, upcoming_in_word, upcoming_behind_word, upcoming_in_comment};
 ghost use Rattle.lexer.specs.Answers.{Answers, Refuses, IsReadFault};
 
 use crate::scan::Scan;
-use crate::token::{Comments, LexRefusal, Token, Word};
+use crate::token::{Comments, LexRefusal, Token, Word, is_blank};
 use ports::{Desk, Failed};
 use std::alloc::{AllocError, Global};
 use std::marker::Model;
@@ -173,7 +173,7 @@ impl Lexer {
         ensures items { OnOk result (Stays (upcoming self.old (D.left desk.old))
             (upcoming self.new (D.left desk.new))) }
         ensures next { IfOk result (λ b. b ≡ slice_get self.new.ahead 0) }
-        ensures word { IfOk result (λ b. IfSome b (λ b. is_blank b ≡ false)) }
+        ensures word { IfOk result (λ b. IfSome b (λ b. is_blank_byte b ≡ false)) }
         ensures end { IfOk result (λ b. IfNone b (IsAtEnd (D.left desk.new))) }
         ensures refusal { IfErr result (λ e. Refuses e (upcoming self.old (D.left desk.old))) }
         ensures cause { IsCounted (IsErrAnd result IsReadFault) (IsOk result) (D.faults desk.old) (D.faults desk.new) }
@@ -262,10 +262,99 @@ impl Lexer {
         self.fresh = false;
     }
 
-    // Takes a word, of which the next byte is the first.
+    // Whether the next byte opens a comment.
+    fn opens_comment(&self, b: u8) -> bool
+        ensures { result ≡ opens_comment self.now.comments b }
+    {
+        self.comments.opens(b)
+    }
+
+    // Takes a comment, which the next byte opens, with its line end.
+    fn skip_hash<D: Desk>(&mut self, desk: &mut D, b: u8) -> Result<(), LexRefusal>
+        requires byte { slice_get self.old.ahead 0 ≡ Some b }
+        requires opens { opens_comment self.old.comments b ≡ true }
+        ensures items { OnOk result (Stays (upcoming self.old (D.left desk.old))
+            (upcoming self.new (D.left desk.new))) }
+        ensures refusal { IfErr result (λ e. Refuses e (upcoming self.old (D.left desk.old))) }
+        ensures cause { IsCounted (IsErrAnd result IsReadFault) (IsOk result) (D.faults desk.old) (D.faults desk.new) }
+        ensures flows { D.flows desk.old → ¬ IsErrAnd result IsReadFault × D.flows desk.new }
+        ensures content { (n : List ℕ) → D.content desk.new n ≡ D.content desk.old n }
+        ensures stays { (n : List ℕ) → D.steady desk.old n → D.steady desk.new n }
+        ensures room { OnOk result (self.new.room < self.old.room) }
+        ensures comments { self.new.comments ≡ self.old.comments }
+        ensures failed { self.new.failed ≡ self.old.failed }
+    {
+        if self.room() == 0 {
+            return Err(LexRefusal::TooLong { line: self.line() });
+        }
+        self.advance(b);
+        self.skip_line(desk)
+    }
+
+    // Whether the next byte is a word by itself.
+    fn is_lone(&self, b: u8) -> bool
+        ensures { result ≡ is_lone self.now.comments b }
+    {
+        self.comments.is_lone(b)
+    }
+
+    // Whether a word ends in front of this byte.
+    fn ends_word(&self, b: u8) -> bool
+        ensures { result ≡ ends_word self.now.comments b }
+    {
+        self.comments.ends_word(b)
+    }
+
+    // Takes the next byte, which is a word by itself.
+    fn lone(&mut self, b: u8) -> Result<Scan, LexRefusal>
+        requires byte { slice_get self.old.ahead 0 ≡ Some b }
+        requires lone { is_lone self.old.comments b ≡ true }
+        ensures items { IfOk result (λ scan. (left : Option (List ℕ)) → Stays (upcoming self.old left)
+            (upcoming_behind_word self.new scan left)) }
+        ensures refusal { IfErr result (λ e. (left : Option (List ℕ)) → Refuses e (upcoming self.old left)) }
+        ensures no_fault { IfErr result (λ e. IsReadFault e → ⊥) }
+        ensures room { OnOk result (self.new.room < self.old.room) }
+        ensures less { self.new.room ≤ self.old.room }
+        ensures comments { self.new.comments ≡ self.old.comments }
+        ensures failed { self.new.failed ≡ self.old.failed }
+        ensures line { self.new.line ≡ self.old.line }
+    {
+        if self.room() == 0 {
+            return Err(LexRefusal::TooLong { line: self.line() });
+        }
+        self.advance(b);
+        let mut scan = Scan::new();
+        scan.push(b);
+        Ok(scan)
+    }
+
+    // Takes the next word, of which the next byte is the first.
+    fn take_word<D: Desk>(&mut self, desk: &mut D, b: u8) -> Result<Scan, LexRefusal>
+        requires byte { slice_get self.old.ahead 0 ≡ Some b }
+        requires blank { is_blank_byte b ≡ false }
+        requires comment { opens_comment self.old.comments b ≡ false }
+        ensures items { IfOk result (λ scan. Stays (upcoming self.old (D.left desk.old))
+            (upcoming_behind_word self.new scan (D.left desk.new))) }
+        ensures refusal { IfErr result (λ e. Refuses e (upcoming self.old (D.left desk.old))) }
+        ensures cause { IsCounted (IsErrAnd result IsReadFault) (IsOk result) (D.faults desk.old) (D.faults desk.new) }
+        ensures flows { D.flows desk.old → ¬ IsErrAnd result IsReadFault × D.flows desk.new }
+        ensures content { (n : List ℕ) → D.content desk.new n ≡ D.content desk.old n }
+        ensures stays { (n : List ℕ) → D.steady desk.old n → D.steady desk.new n }
+        ensures room { OnOk result (self.new.room < self.old.room) }
+        ensures comments { self.new.comments ≡ self.old.comments }
+        ensures failed { self.new.failed ≡ self.old.failed }
+        ensures line { self.new.line ≡ self.old.line }
+    {
+        if self.is_lone(b) {
+            return self.lone(b);
+        }
+        self.word(desk, b)
+    }
+
+    // Takes a word that isn't one byte by itself, of which the next byte is the first.
     fn word<D: Desk>(&mut self, desk: &mut D, first: u8) -> Result<Scan, LexRefusal>
         requires byte { slice_get self.old.ahead 0 ≡ Some first }
-        requires word { is_blank first ≡ false }
+        requires word { ends_word self.old.comments first ≡ false }
         ensures items { IfOk result (λ scan. Stays (upcoming_in_word self.old no_scan (D.left desk.old))
             (upcoming_behind_word self.new scan (D.left desk.new))) }
         ensures refusal { IfErr result (λ e. Refuses e (upcoming_in_word self.old no_scan (D.left desk.old))) }
@@ -289,7 +378,7 @@ impl Lexer {
             let Some(b) = self.peek(desk)? else {
                 return Ok(scan);
             };
-            if is_blank(b) {
+            if self.ends_word(b) {
                 return Ok(scan);
             }
             if self.room() == 0 {
@@ -316,8 +405,12 @@ impl Lexer {
             let Some(b) = self.skip_blanks(desk)? else {
                 return Ok(None);
             };
+            if self.opens_comment(b) {
+                self.skip_hash(desk, b)?;
+                continue;
+            }
             let line = self.line();
-            let scan = self.word(desk, b)?;
+            let scan = self.take_word(desk, b)?;
             if self.is_comment(&scan) {
                 self.skip_line(desk)?;
             } else {
@@ -356,11 +449,4 @@ impl Lexer {
         }
         answer
     }
-}
-
-// White space parts words.
-fn is_blank(b: u8) -> bool
-    ensures { result ≡ is_blank b }
-{
-    matches!(b, 9..=13 | b' ')
 }

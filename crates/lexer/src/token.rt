@@ -1,17 +1,20 @@
 //! Words with their lines, and why none is given.
 ghost use Rattle.std.specs.Prelude.{◌≡◌, ◌∷◌, ◌++◌, [], map};
-ghost use Rattle.lexer.specs.Words.{begins_comment, byte, beyond};
+ghost use Rattle.lexer.specs.Words.{begins_comment, byte, beyond, ends_word, is_blank as is_blank_byte, is_lone, is_mark as is_mark_byte, opens_comment};
 
 use crate::text::ShortText;
 use thiserror::Error;
 
-/// Which lines are comments, by their first word. A comment is the rest of its line, and may hold any bytes.
+/// What is comment. A comment is the rest of its line, and may hold any bytes.
 #[derive(Clone, Copy, Debug, PartialEq, Eq)]
 pub enum Comments {
-    /// Those whose first word begins with `c` (QDIMACS 1.1, input format).
+    /// A line whose first word begins with `c` (QDIMACS 1.1, input format).
     Dimacs,
-    /// Those whose first word is `c`.
+    /// A line whose first word is `c`.
     Script,
+    /// A `#`, wherever it stands, with the rest of its line. Each bracket, comma and `=` is a word by itself (QCIR-14,
+    /// qcir-file).
+    Hash,
 }
 
 impl Comments {
@@ -22,6 +25,7 @@ impl Comments {
         match self {
             Comments::Dimacs => word.first() == Some(&b'c'),
             Comments::Script => matches!(word, [b'c']),
+            Comments::Hash => false,
         }
     }
 
@@ -31,12 +35,57 @@ impl Comments {
     {
         match self {
             Comments::Dimacs => word.first() == Some(&b'c'),
-            Comments::Script => false,
+            Comments::Script | Comments::Hash => false,
+        }
+    }
+
+    // Whether the rest of a line is comment from this byte on.
+    pub(crate) fn opens(self, b: u8) -> bool
+        ensures { result ≡ opens_comment self b }
+    {
+        match self {
+            Comments::Dimacs | Comments::Script => false,
+            Comments::Hash => b == b'#',
+        }
+    }
+
+    // Whether this byte is a word by itself.
+    pub(crate) fn is_lone(self, b: u8) -> bool
+        ensures { result ≡ is_lone self b }
+    {
+        match self {
+            Comments::Dimacs | Comments::Script => false,
+            Comments::Hash => is_mark(b),
+        }
+    }
+
+    // Whether this byte ends a word in front of it.
+    pub(crate) fn ends_word(self, b: u8) -> bool
+        ensures { result ≡ ends_word self b }
+    {
+        match self {
+            Comments::Dimacs | Comments::Script => is_blank(b),
+            Comments::Hash => is_blank(b) || is_mark(b) || b == b'#',
         }
     }
 }
 
-/// A word: a longest run of bytes that are no white space.
+// White space parts words.
+pub(crate) fn is_blank(b: u8) -> bool
+    ensures { result ≡ is_blank_byte b }
+{
+    matches!(b, 9..=13 | b' ')
+}
+
+// Brackets, the comma and the equals sign.
+fn is_mark(b: u8) -> bool
+    ensures { result ≡ is_mark_byte b }
+{
+    matches!(b, b'(' | b')' | b',' | b'=')
+}
+
+/// A word: a longest run of bytes that are no white space, and, with `Comments::Hash`, no `#` and no words by
+/// themselves.
 #[derive(Debug, Drop)]
 pub enum Word {
     /// An optional `-` and decimal digits, from -(2^63 - 1) to 2^63 - 1. A `-` before the value 0 makes no number.

@@ -75,4 +75,4 @@ ending_decides false line cut front e = cc
 
 -- Each text has an outcome.
 pub has_outcome : (text : List ℕ) → (o : Outcome) × (outcome_of text ≡ Some o)
-has_outcome text = last_decides (items_of_lines Dimacs true 1 (lines_of (seen max_bytes text))) (ending 1 max_bytes text) nothing (ending_decides (nat_le (length text) max_bytes) (last_line 1 text) (last_line 1 (take max_bytes text)))
+has_outcome text = last_decides (items_of_lines Dimacs true 1 (lines_of (seen Dimacs max_bytes text))) (ending 1 max_bytes text) nothing (ending_decides (nat_le (length text) max_bytes) (last_line 1 text) (last_line 1 (take max_bytes text)))

@@ -98,7 +98,7 @@ pub text_items : (room : ℕ) (ls : List Line) (xss : List (List Word)) → AllZ
     → items_from Dimacs true 1 room (text_of ls) ≡ map word (tokens 1 xss) ++ the_end (1 + length ls) ∷ []
 text_items room ls xss h short =
     let plain = plain_rows ls xss h in
-    let parted : items_of_lines Dimacs true 1 (lines_of (seen room (text_of ls))) ≡ map word (tokens 1 xss) =
+    let parted : items_of_lines Dimacs true 1 (lines_of (seen Dimacs room (text_of ls))) ≡ map word (tokens 1 xss) =
     ap (λ s. items_of_lines Dimacs true 1 (lines_of s)) (all_seen room (text_of ls) short)
     ∙ ap (items_of_lines Dimacs true 1) (text_rows ls plain) ∙ lines_items 1 ls xss h in
     let end : ending 1 room (text_of ls) ≡ the_end (1 + length ls) =

@@ -4,6 +4,7 @@ use Rattle.std.specs.Prelude.{filter}
 use Rattle.std.specs.List.{AllByRecursion, join_with_byte}
 use Rattle.std.proofs.lemmas.Bool.Decides.{nat_tests}
 use Rattle.std.proofs.lemmas.List.{append-nil, append_assoc, drop_all, map-append, take_all}
+use Rattle.lexer.specs.declared.token.Comments.TheVariants.{Dimacs}
 use Rattle.lexer.specs.Words.{Seen, as_seen, byte, is_plain, is_some_word, lines_of, parts_lines, parts_words, pieces, seen, with_front, words_of}
 use Rattle.qdimacs_out.specs.Texts.{Line, text_of}
 
@@ -80,7 +81,7 @@ text_rows (l ∷ ls) h =
     ∙ ap (λ rest. row l ∷ rest) (text_rows ls h.1)
 
 -- all of a text that is short enough is seen
-pub all_seen : (room : ℕ) (text : List ℕ) → length text ≤ room → seen room text ≡ map byte text
+pub all_seen : (room : ℕ) (text : List ℕ) → length text ≤ room → seen Dimacs room text ≡ map byte text
 all_seen room text h =
-    ap₂ (λ front rest. map byte front ++ map as_seen (take 1 rest)) (take_all room text h) (drop_all room text h)
+    ap₂ (λ front rest. map byte front ++ map (as_seen Dimacs) (take 1 rest)) (take_all room text h) (drop_all room text h)
     ∙ append-nil (map byte text)

@@ -253,7 +253,7 @@ ending_stops false line cut = tt
 
 pub computed_reading : (text : List ℕ) → ReadsScript text (script_of text).0 (script_of text).1
 computed_reading text = between_is false (items ScriptComments text)
-    (has_stop (items_of_lines ScriptComments true 1 (lines_of (seen max_bytes text))) (ending 1 max_bytes text) (ending_stops (nat_le (length text) max_bytes) (last_line 1 text) (last_line 1 (take max_bytes text))))
+    (has_stop (items_of_lines ScriptComments true 1 (lines_of (seen ScriptComments max_bytes text))) (ending 1 max_bytes text) (ending_stops (nat_le (length text) max_bytes) (last_line 1 text) (last_line 1 (take max_bytes text))))
 
 pub one_reading : (text : List ℕ) (cs ds : List Command) (e f : Ending) → ReadsScript text cs e → ReadsScript text ds f → (cs ≡ ds) × (e ≡ f)
 one_reading text cs ds e f r s = let same : (cs, e) ≡ (ds, f) = sym (reading_computed text cs e r) ∙ reading_computed text ds f s in (ap (λ p. p.0) same, ap (λ p. p.1) same)

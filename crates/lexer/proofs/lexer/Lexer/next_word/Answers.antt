@@ -1,12 +1,12 @@
-use Rattle.std.proofs.Common.{refl, ◌≡◌, ◌<◌, ◌≤◌, Err, false, Option, List, sym, ap, ◌∙◌, arith, subst}
+use Rattle.std.proofs.Common.{refl, ◌≡◌, ◌<◌, ◌≤◌, Err, Option, List, sym, ap, ◌∙◌, arith, subst}
 use Rattle.std.specs.Io.KnownBytes.{IsAtEnd}
 use Rattle.std.proofs.lemmas.Result.{err_from_is_err_and}
 use Rattle.lexer.specs.State.{upcoming, Stays}
-use Rattle.lexer.specs.Words.{Item, is_blank}
-use Rattle.lexer.specs.Scan.{no_scan, scanned}
-use Rattle.lexer.specs.Machine.{upcoming_in_word, upcoming_behind_word, upcoming_in_comment}
+use Rattle.lexer.specs.Words.{Item}
+use Rattle.lexer.specs.Scan.{scanned}
+use Rattle.lexer.specs.Machine.{upcoming_behind_word, upcoming_in_comment}
 use Rattle.lexer.specs.Answers.{IsScanned}
-use Rattle.lexer.proofs.Known.{stays_on, refuses_on, before_word, comment_behind, item_behind, refused_behind, ends_here, when_none, when_some}
+use Rattle.lexer.proofs.Known.{stays_on, refuses_on, comment_behind, item_behind, refused_behind, ends_here, when_none}
 use Rattle.lexer.proofs.lexer.Lexer.next_word.Goals as goal
 
 pub returns-in_default-clause-items : goal.returns-in_default-clause-items
@@ -25,12 +25,36 @@ returns-in_err-scan-clause-items g c =
     let before : Option (List Item) = upcoming c.args.self.now (left c.args.desk.now) in
     let turn : Option (List Item) = upcoming c.loop-b.self (left c.loop-b.desk) in
     let after : Option (List Item) = upcoming c.skip_blanks.new.self (left c.skip_blanks.new.desk) in
-    let in_word : Option (List Item) = upcoming_in_word c.skip_blanks.new.self no_scan (left c.skip_blanks.new.desk) in
-    let other : is_blank c.in-Some.b ≡ false = when_some c.in_ok-b.field-0 (λ b. is_blank b ≡ false) c.in-Some.b c.in-Some.is c.in_ok-b.ensures.word in
-    let word_comes : Stays before in_word = stays_on before after in_word (stays_on before turn after c.loop-b.invariant.items c.in_ok-b.ensures.items)
-    (before_word c.skip_blanks.new.self c.in-Some.b (left c.skip_blanks.new.desk) (sym c.in_ok-b.ensures.next ∙ c.in-Some.is) other) in
+    let word_comes : Stays before after = stays_on before turn after c.loop-b.invariant.items c.in_ok-b.ensures.items in
     let p = err_from_is_err_and c.from_residual-in_err-scan.result c.from_residual-in_err-scan.ensures.1 in
-    rw (p.1, p.2) (refuses_on before in_word c.in_err-scan.field-0.0 word_comes c.in_err-scan.ensures.refusal)
+    rw (p.1, p.2) (refuses_on before after c.in_err-scan.field-0.0 word_comes c.in_err-scan.ensures.refusal)
+
+pub loop-b-preserved-then-opens_comment : goal.loop-b-preserved-then-opens_comment
+loop-b-preserved-then-opens_comment g c =
+    let left = g.D.Desk.left in
+    let before : Option (List Item) = upcoming c.args.self.now (left c.args.desk.now) in
+    let turn : Option (List Item) = upcoming c.loop-b.self (left c.loop-b.desk) in
+    let after : Option (List Item) = upcoming c.skip_blanks.new.self (left c.skip_blanks.new.desk) in
+    let word_comes : Stays before after = stays_on before turn after c.loop-b.invariant.items c.in_ok-b.ensures.items in
+    record {
+      items = stays_on before after (upcoming c.skip_hash.new.self (left c.skip_hash.new.desk)) word_comes c.in_ok-skip_hash.ensures.items;
+      kept = c.in_ok-skip_hash.ensures.cause.kept refl ∙ c.in_ok-b.ensures.cause.kept refl ∙ c.loop-b.invariant.kept;
+      flows = λ h. (c.skip_hash.ensures.flows (c.skip_blanks.ensures.flows (c.loop-b.invariant.flows h)).1).1;
+      content = λ n. c.skip_hash.ensures.content n ∙ c.skip_blanks.ensures.content n ∙ c.loop-b.invariant.content n;
+      stays = λ n h. c.skip_hash.ensures.stays n (c.skip_blanks.ensures.stays n (c.loop-b.invariant.stays n h));
+      room = (let one : c.skip_hash.new.self.room < c.skip_blanks.new.self.room = c.in_ok-skip_hash.ensures.room in let two : c.skip_blanks.new.self.room ≤ c.loop-b.self.room = c.in_ok-b.ensures.room in omega arith);
+      failed = c.in_ok-skip_hash.ensures.failed ∙ c.in_ok-b.ensures.failed ∙ c.loop-b.invariant.failed;
+    }
+
+pub returns-in_err-skip_hash-clause-items : goal.returns-in_err-skip_hash-clause-items
+returns-in_err-skip_hash-clause-items g c =
+    let left = g.D.Desk.left in
+    let before : Option (List Item) = upcoming c.args.self.now (left c.args.desk.now) in
+    let turn : Option (List Item) = upcoming c.loop-b.self (left c.loop-b.desk) in
+    let after : Option (List Item) = upcoming c.skip_blanks.new.self (left c.skip_blanks.new.desk) in
+    let word_comes : Stays before after = stays_on before turn after c.loop-b.invariant.items c.in_ok-b.ensures.items in
+    let p = err_from_is_err_and c.from_residual-in_err-skip_hash.result c.from_residual-in_err-skip_hash.ensures.1 in
+    rw (p.1, p.2) (refuses_on before after c.in_err-skip_hash.field-0.0 word_comes c.in_err-skip_hash.ensures.refusal)
 
 pub loop-b-preserved : goal.loop-b-preserved
 loop-b-preserved g c =
@@ -38,21 +62,18 @@ loop-b-preserved g c =
     let before : Option (List Item) = upcoming c.args.self.now (left c.args.desk.now) in
     let turn : Option (List Item) = upcoming c.loop-b.self (left c.loop-b.desk) in
     let after : Option (List Item) = upcoming c.skip_blanks.new.self (left c.skip_blanks.new.desk) in
-    let in_word : Option (List Item) = upcoming_in_word c.skip_blanks.new.self no_scan (left c.skip_blanks.new.desk) in
-    let other : is_blank c.in-Some.b ≡ false = when_some c.in_ok-b.field-0 (λ b. is_blank b ≡ false) c.in-Some.b c.in-Some.is c.in_ok-b.ensures.word in
-    let word_comes : Stays before in_word = stays_on before after in_word (stays_on before turn after c.loop-b.invariant.items c.in_ok-b.ensures.items)
-    (before_word c.skip_blanks.new.self c.in-Some.b (left c.skip_blanks.new.desk) (sym c.in_ok-b.ensures.next ∙ c.in-Some.is) other) in
-    let behind : Option (List Item) = upcoming_behind_word c.word.new.self c.in_ok-scan.scan (left c.word.new.desk) in
-    let word_goes : Stays before behind = stays_on before in_word behind word_comes c.in_ok-scan.ensures.items in
-    let in_comment : Option (List Item) = upcoming_in_comment c.word.new.self (left c.word.new.desk) in
-    let comment_comes : Stays before in_comment = stays_on before behind in_comment word_goes (comment_behind c.word.new.self c.in_ok-scan.scan (left c.word.new.desk) (sym c.if-is_comment.ensures)) in
+    let word_comes : Stays before after = stays_on before turn after c.loop-b.invariant.items c.in_ok-b.ensures.items in
+    let behind : Option (List Item) = upcoming_behind_word c.take_word.new.self c.in_ok-scan.scan (left c.take_word.new.desk) in
+    let word_goes : Stays before behind = stays_on before after behind word_comes c.in_ok-scan.ensures.items in
+    let in_comment : Option (List Item) = upcoming_in_comment c.take_word.new.self (left c.take_word.new.desk) in
+    let comment_comes : Stays before in_comment = stays_on before behind in_comment word_goes (comment_behind c.take_word.new.self c.in_ok-scan.scan (left c.take_word.new.desk) (sym c.if-is_comment.ensures)) in
     record {
       items = stays_on before in_comment (upcoming c.skip_line.new.self (left c.skip_line.new.desk)) comment_comes c.in_ok-skip_line.ensures.items;
       kept = c.in_ok-skip_line.ensures.cause.kept refl ∙ c.in_ok-scan.ensures.cause.kept refl ∙ c.in_ok-b.ensures.cause.kept refl ∙ c.loop-b.invariant.kept;
-      flows = λ h. (c.skip_line.ensures.flows (c.word.ensures.flows (c.skip_blanks.ensures.flows (c.loop-b.invariant.flows h)).1).1).1;
-      content = λ n. c.skip_line.ensures.content n ∙ c.word.ensures.content n ∙ c.skip_blanks.ensures.content n ∙ c.loop-b.invariant.content n;
-      stays = λ n h. c.skip_line.ensures.stays n (c.word.ensures.stays n (c.skip_blanks.ensures.stays n (c.loop-b.invariant.stays n h)));
-      room = (let one : c.skip_line.new.self.room ≤ c.word.new.self.room = c.in_ok-skip_line.ensures.room in let two : c.word.new.self.room < c.skip_blanks.new.self.room = c.in_ok-scan.ensures.room in let three : c.skip_blanks.new.self.room ≤ c.loop-b.self.room = c.in_ok-b.ensures.room in omega arith);
+      flows = λ h. (c.skip_line.ensures.flows (c.take_word.ensures.flows (c.skip_blanks.ensures.flows (c.loop-b.invariant.flows h)).1).1).1;
+      content = λ n. c.skip_line.ensures.content n ∙ c.take_word.ensures.content n ∙ c.skip_blanks.ensures.content n ∙ c.loop-b.invariant.content n;
+      stays = λ n h. c.skip_line.ensures.stays n (c.take_word.ensures.stays n (c.skip_blanks.ensures.stays n (c.loop-b.invariant.stays n h)));
+      room = (let one : c.skip_line.new.self.room ≤ c.take_word.new.self.room = c.in_ok-skip_line.ensures.room in let two : c.take_word.new.self.room < c.skip_blanks.new.self.room = c.in_ok-scan.ensures.room in let three : c.skip_blanks.new.self.room ≤ c.loop-b.self.room = c.in_ok-b.ensures.room in omega arith);
       failed = c.in_ok-skip_line.ensures.failed ∙ c.in_ok-scan.ensures.failed ∙ c.in_ok-b.ensures.failed ∙ c.loop-b.invariant.failed;
     }
 
@@ -62,14 +83,11 @@ returns-in_err-skip_line-clause-items g c =
     let before : Option (List Item) = upcoming c.args.self.now (left c.args.desk.now) in
     let turn : Option (List Item) = upcoming c.loop-b.self (left c.loop-b.desk) in
     let after : Option (List Item) = upcoming c.skip_blanks.new.self (left c.skip_blanks.new.desk) in
-    let in_word : Option (List Item) = upcoming_in_word c.skip_blanks.new.self no_scan (left c.skip_blanks.new.desk) in
-    let other : is_blank c.in-Some.b ≡ false = when_some c.in_ok-b.field-0 (λ b. is_blank b ≡ false) c.in-Some.b c.in-Some.is c.in_ok-b.ensures.word in
-    let word_comes : Stays before in_word = stays_on before after in_word (stays_on before turn after c.loop-b.invariant.items c.in_ok-b.ensures.items)
-    (before_word c.skip_blanks.new.self c.in-Some.b (left c.skip_blanks.new.desk) (sym c.in_ok-b.ensures.next ∙ c.in-Some.is) other) in
-    let behind : Option (List Item) = upcoming_behind_word c.word.new.self c.in_ok-scan.scan (left c.word.new.desk) in
-    let word_goes : Stays before behind = stays_on before in_word behind word_comes c.in_ok-scan.ensures.items in
-    let in_comment : Option (List Item) = upcoming_in_comment c.word.new.self (left c.word.new.desk) in
-    let comment_comes : Stays before in_comment = stays_on before behind in_comment word_goes (comment_behind c.word.new.self c.in_ok-scan.scan (left c.word.new.desk) (sym c.if-is_comment.ensures)) in
+    let word_comes : Stays before after = stays_on before turn after c.loop-b.invariant.items c.in_ok-b.ensures.items in
+    let behind : Option (List Item) = upcoming_behind_word c.take_word.new.self c.in_ok-scan.scan (left c.take_word.new.desk) in
+    let word_goes : Stays before behind = stays_on before after behind word_comes c.in_ok-scan.ensures.items in
+    let in_comment : Option (List Item) = upcoming_in_comment c.take_word.new.self (left c.take_word.new.desk) in
+    let comment_comes : Stays before in_comment = stays_on before behind in_comment word_goes (comment_behind c.take_word.new.self c.in_ok-scan.scan (left c.take_word.new.desk) (sym c.if-is_comment.ensures)) in
     let p = err_from_is_err_and c.from_residual-in_err-skip_line.result c.from_residual-in_err-skip_line.ensures.1 in
     rw (p.1, p.2) (refuses_on before in_comment c.in_err-skip_line.field-0.0 comment_comes c.in_err-skip_line.ensures.refusal)
 
@@ -79,15 +97,12 @@ returns-in_err-token-clause-items g c =
     let before : Option (List Item) = upcoming c.args.self.now (left c.args.desk.now) in
     let turn : Option (List Item) = upcoming c.loop-b.self (left c.loop-b.desk) in
     let after : Option (List Item) = upcoming c.skip_blanks.new.self (left c.skip_blanks.new.desk) in
-    let in_word : Option (List Item) = upcoming_in_word c.skip_blanks.new.self no_scan (left c.skip_blanks.new.desk) in
-    let other : is_blank c.in-Some.b ≡ false = when_some c.in_ok-b.field-0 (λ b. is_blank b ≡ false) c.in-Some.b c.in-Some.is c.in_ok-b.ensures.word in
-    let word_comes : Stays before in_word = stays_on before after in_word (stays_on before turn after c.loop-b.invariant.items c.in_ok-b.ensures.items)
-    (before_word c.skip_blanks.new.self c.in-Some.b (left c.skip_blanks.new.desk) (sym c.in_ok-b.ensures.next ∙ c.in-Some.is) other) in
-    let behind : Option (List Item) = upcoming_behind_word c.word.new.self c.in_ok-scan.scan (left c.word.new.desk) in
-    let word_goes : Stays before behind = stays_on before in_word behind word_comes c.in_ok-scan.ensures.items in
-    let line : c.line-line.result ≡ c.word.new.self.line = c.line-line.ensures ∙ sym c.in_ok-scan.ensures.line in
+    let word_comes : Stays before after = stays_on before turn after c.loop-b.invariant.items c.in_ok-b.ensures.items in
+    let behind : Option (List Item) = upcoming_behind_word c.take_word.new.self c.in_ok-scan.scan (left c.take_word.new.desk) in
+    let word_goes : Stays before behind = stays_on before after behind word_comes c.in_ok-scan.ensures.items in
+    let line : c.line-line.result ≡ c.take_word.new.self.line = c.line-line.ensures ∙ sym c.in_ok-scan.ensures.line in
     let p = err_from_is_err_and c.from_residual-in_err-token.result c.from_residual-in_err-token.ensures.1 in
-    rw (p.1, p.2) (refused_behind before c.word.new.self c.in_ok-scan.scan (left c.word.new.desk) c.in_err-token.field-0.0 (sym c.if-is_comment.ensures)
+    rw (p.1, p.2) (refused_behind before c.take_word.new.self c.in_ok-scan.scan (left c.take_word.new.desk) c.in_err-token.field-0.0 (sym c.if-is_comment.ensures)
     (subst (λ n. IsScanned (Err c.in_err-token.field-0.0) (scanned n c.in_ok-scan.scan)) line c.in_err-token.ensures) word_goes)
 
 pub returns-else-is_comment-clause-items : goal.returns-else-is_comment-clause-items
@@ -96,12 +111,9 @@ returns-else-is_comment-clause-items g c =
     let before : Option (List Item) = upcoming c.args.self.now (left c.args.desk.now) in
     let turn : Option (List Item) = upcoming c.loop-b.self (left c.loop-b.desk) in
     let after : Option (List Item) = upcoming c.skip_blanks.new.self (left c.skip_blanks.new.desk) in
-    let in_word : Option (List Item) = upcoming_in_word c.skip_blanks.new.self no_scan (left c.skip_blanks.new.desk) in
-    let other : is_blank c.in-Some.b ≡ false = when_some c.in_ok-b.field-0 (λ b. is_blank b ≡ false) c.in-Some.b c.in-Some.is c.in_ok-b.ensures.word in
-    let word_comes : Stays before in_word = stays_on before after in_word (stays_on before turn after c.loop-b.invariant.items c.in_ok-b.ensures.items)
-    (before_word c.skip_blanks.new.self c.in-Some.b (left c.skip_blanks.new.desk) (sym c.in_ok-b.ensures.next ∙ c.in-Some.is) other) in
-    let behind : Option (List Item) = upcoming_behind_word c.word.new.self c.in_ok-scan.scan (left c.word.new.desk) in
-    let word_goes : Stays before behind = stays_on before in_word behind word_comes c.in_ok-scan.ensures.items in
-    let line : c.line-line.result ≡ c.word.new.self.line = c.line-line.ensures ∙ sym c.in_ok-scan.ensures.line in
-    rw c.set_word.ensures (item_behind before c.word.new.self c.in_ok-scan.scan (left c.word.new.desk) c.in_ok-token.token (sym c.if-is_comment.ensures)
+    let word_comes : Stays before after = stays_on before turn after c.loop-b.invariant.items c.in_ok-b.ensures.items in
+    let behind : Option (List Item) = upcoming_behind_word c.take_word.new.self c.in_ok-scan.scan (left c.take_word.new.desk) in
+    let word_goes : Stays before behind = stays_on before after behind word_comes c.in_ok-scan.ensures.items in
+    let line : c.line-line.result ≡ c.take_word.new.self.line = c.line-line.ensures ∙ sym c.in_ok-scan.ensures.line in
+    rw c.set_word.ensures (item_behind before c.take_word.new.self c.in_ok-scan.scan (left c.take_word.new.desk) c.in_ok-token.token (sym c.if-is_comment.ensures)
     (ap (λ n. scanned n c.in_ok-scan.scan) (sym line) ∙ c.in_ok-token.ensures) word_goes)
