@@ -18,7 +18,7 @@ use Rattle.qdimacs.proofs.Fitting.{ascending_short, or_right}
 use Rattle.qdimacs.proofs.Merged.{merged_declared}
 
 -- the variables of scopes in order are those that the sets declare
-ordered_among : (v : ℕ) (sets : List QuantSet) → is_among v (all_variables (map in_order sets)) ≡ is_among v (declared sets)
+pub ordered_among : (v : ℕ) (sets : List QuantSet) → is_among v (all_variables (map in_order sets)) ≡ is_among v (declared sets)
 ordered_among v [] = refl
 ordered_among v (x ∷ xs) =
     is_among-append v (ascending x.1) (all_variables (map in_order xs))

@@ -8,24 +8,28 @@ use crate::refusal::{Quantity, ReadRefusal, VARIABLE_RANGE, VARIABLE_TWICE, beyo
 use prefix::{Prefix, PrefixRefusal, Quant};
 use std::alloc::{AllocError, Global};
 
-// A scope: its variables in the order of the text.
+/// A scope: its variables in the order of the text.
 #[derive(Drop)]
-pub(crate) struct Row {
-    pub(crate) quant: Quant,
-    pub(crate) vars: Vec<u32>,
+pub struct Row {
+    /// Its quantifier.
+    pub quant: Quant,
+    /// The numbers of its variables.
+    pub vars: Vec<u32>,
 }
 
-// The scopes of the sets so far, neighbours merged and empty sets left out, and whether each declared number stands in
-// one.
+/// The scopes of the sets so far, neighbours of one quantifier merged and empty sets left out, and a mark for each
+/// number that is known.
 #[derive(Drop)]
-pub(crate) struct Sets {
-    pub(crate) rows: Vec<Row>,
-    pub(crate) marks: Vec<bool>,
+pub struct Sets {
+    /// The scopes, the outermost first.
+    pub rows: Vec<Row>,
+    /// Whether each number is known.
+    pub marks: Vec<bool>,
 }
 
 impl Sets {
-    // No set yet, and no mark.
-    pub(crate) fn new(alloc: Global) -> Self
+    /// No set yet, and no mark. This takes no memory.
+    pub fn new(alloc: Global) -> Self
         ensures rows { result.rows.items ≡ [] }
         ensures marks { result.marks.items ≡ [] }
     {
@@ -35,8 +39,8 @@ impl Sets {
         }
     }
 
-    // Whether a variable of this quantifier begins a scope.
-    fn begins_scope(&self, quant: Quant) -> bool
+    /// Whether a variable of this quantifier begins a scope.
+    pub fn begins_scope(&self, quant: Quant) -> bool
         ensures { result ≡ last_differs quant (sets_of self.now.rows.items) }
     {
         let n = self.rows.len();
@@ -68,8 +72,8 @@ impl Sets {
         Ok(())
     }
 
-    // Puts a variable behind the last.
-    pub(crate) fn push(&mut self, quant: Quant, v: u32) -> Result<(), AllocError>
+    /// Puts a variable behind the last, and marks it.
+    pub fn push(&mut self, quant: Quant, v: u32) -> Result<(), AllocError>
         requires { v < length self.old.marks.items }
         ensures rows { OnOk result (sets_of self.new.rows.items ≡ put_last quant v (sets_of self.old.rows.items)) }
         ensures marks { OnOk result (self.new.marks.items ≡ set self.old.marks.items v true) }
@@ -103,8 +107,8 @@ impl Sets {
         Ok(())
     }
 
-    // The prefix of the scopes. It sorts the variables of each.
-    pub(crate) fn prefix(&mut self) -> Result<Prefix, PrefixRefusal>
+    /// The prefix of the scopes. It sorts the variables of each. Fails for want of memory alone.
+    pub fn prefix(&mut self) -> Result<Prefix, PrefixRefusal>
         requires { AreScopes (sets_of self.old.rows.items) }
         ensures scopes { IfOk result (λ p. p ≡ map in_order (sets_of self.old.rows.items)) }
         ensures memory { IsOkUnless result PrefixRefusal.NoMemory }

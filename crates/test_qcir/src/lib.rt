@@ -6,4 +6,8 @@
 #[cfg(test)]
 mod circuits;
 #[cfg(test)]
+mod drawn;
+#[cfg(test)]
 mod qcir_tests;
+#[cfg(test)]
+mod reading_tests;

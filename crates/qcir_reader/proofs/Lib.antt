@@ -1,0 +1,14 @@
+pub mod Tests
+pub mod Gates
+pub mod Allowed
+pub mod Spelled
+pub mod Outcomes
+pub mod Keeping
+pub mod Ending
+pub mod Steps
+pub mod Taking
+pub mod Runs
+pub mod RunSets
+pub mod RunGates
+pub mod Alike
+pub mod Complete
