@@ -3,15 +3,16 @@ _qbf() {
     local word=${COMP_WORDS[COMP_CWORD]} previous=${COMP_WORDS[COMP_CWORD - 1]} options='--budget --restarts --help'
     COMPREPLY=()
     if [ "$COMP_CWORD" -eq 1 ]; then
-        mapfile -t COMPREPLY < <(compgen -W 'solve trace cert script gen demo help --help' -- "$word")
+        mapfile -t COMPREPLY < <(compgen -W 'solve trace cert check script gen demo help --help' -- "$word")
         return
     fi
     case ${COMP_WORDS[1]} in
         solve) options="$options --qdo" ;;
         cert) options="$options --binary --trim" ;;
+        check) options="$options --decide" ;;
         trace | script) ;;
         help)
-            mapfile -t COMPREPLY < <(compgen -W 'solve trace cert script gen demo' -- "$word")
+            mapfile -t COMPREPLY < <(compgen -W 'solve trace cert check script gen demo' -- "$word")
             return
             ;;
         *)

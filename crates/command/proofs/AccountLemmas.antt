@@ -11,11 +11,11 @@ use Rattle.clap.specs.declared.error.ErrorKind.TheVariants.{OutOfMemory}
 use Rattle.clap.specs.Walk.{rows_after}
 use Rattle.clap.proofs.OnLiterals.{clap_on_literals}
 use Rattle.command.specs.Account.{AreInput, AreValues, IsFoundAs, IsSet, has_dashes, is_set, qbf_app}
-use Rattle.command.specs.Forms.{AreAlike, Asks, AsksInput, Explains, Flag, GivesInput, Setting, budget_of, cert_flags, flag_name, flags_of, name_of, numbers_of, restarts_of, solve_flags, word_of}
-use Rattle.command.specs.Forms.Flag.{the_qdo, the_binary, the_trim}
+use Rattle.command.specs.Forms.{AreAlike, Asks, AsksInput, Explains, Flag, GivesInput, Setting, budget_of, cert_flags, check_flags, flag_name, flags_of, name_of, numbers_of, restarts_of, solve_flags, word_of}
+use Rattle.command.specs.Forms.Flag.{the_qdo, the_binary, the_trim, the_decide}
 use Rattle.command.specs.Forms.Setting.{the_budget, the_restarts}
 use Rattle.command.specs.declared.command.Command.{Command}
-use Rattle.command.specs.declared.command.Command.TheVariants.{Cert, Demo, Gen, Script, Solve, Trace}
+use Rattle.command.specs.declared.command.Command.TheVariants.{Cert, Check, Demo, Gen, Script, Solve, Trace}
 use Rattle.command.specs.declared.refused.Refused.{Refused}
 use Rattle.command.specs.declared.refused.Refused.TheVariants.{Usage, NoMemory}
 use Rattle.command.proofs.InputForms.{setting_small}
@@ -80,6 +80,7 @@ abbrev takes : Text → Flag → Bool
 takes w the_qdo = bytes_eq w (codes "solve")
 takes w the_binary = bytes_eq w (codes "cert")
 takes w the_trim = bytes_eq w (codes "cert")
+takes w the_decide = bytes_eq w (codes "check")
 
 -- the values of a command, by its word alone
 record AreOfInput (rows : List Row) (c : Command) : Type 0 where
@@ -96,31 +97,42 @@ record AreOfNumbers (rows : List Row) (c : Command) : Type 0 where
   pub numbers : map (λ n. Some (decimal n)) (numbers_of c) ≡ map (λ id. first_of id rows) (names_of_numbers (word_of c))
 
 module _ (rows : List Row) where
-  plain_flags : (w : Text) → bytes_eq w (codes "solve") ≡ false → bytes_eq w (codes "cert") ≡ false → (f : Flag)
-      → false ≡ cond (takes w f) (is_set (flag_name f) rows) false
-  plain_flags w s c the_qdo = rw s refl
-  plain_flags w s c the_binary = rw c refl
-  plain_flags w s c the_trim = rw c refl
+  plain_flags : (w : Text) → bytes_eq w (codes "solve") ≡ false → bytes_eq w (codes "cert") ≡ false
+      → bytes_eq w (codes "check") ≡ false → (f : Flag) → false ≡ cond (takes w f) (is_set (flag_name f) rows) false
+  plain_flags w s c k the_qdo = rw s refl
+  plain_flags w s c k the_binary = rw c refl
+  plain_flags w s c k the_trim = rw c refl
+  plain_flags w s c k the_decide = rw k refl
 
   solve_taken : (q : Bool) → q ≡ is_set (codes "qdo") rows → (f : Flag)
       → solve_flags q f ≡ cond (takes (codes "solve") f) (is_set (flag_name f) rows) false
   solve_taken q is the_qdo = is
   solve_taken q is the_binary = refl
   solve_taken q is the_trim = refl
+  solve_taken q is the_decide = refl
 
   cert_taken : (b t : Bool) → b ≡ is_set (codes "binary") rows → t ≡ is_set (codes "trim") rows → (f : Flag)
       → cert_flags b t f ≡ cond (takes (codes "cert") f) (is_set (flag_name f) rows) false
   cert_taken b t binary trim the_qdo = refl
   cert_taken b t binary trim the_binary = binary
   cert_taken b t binary trim the_trim = trim
+  cert_taken b t binary trim the_decide = refl
+
+  check_taken : (d : Bool) → d ≡ is_set (codes "decide") rows → (f : Flag)
+      → check_flags d f ≡ cond (takes (codes "check") f) (is_set (flag_name f) rows) false
+  check_taken d is the_qdo = refl
+  check_taken d is the_binary = refl
+  check_taken d is the_trim = refl
+  check_taken d is the_decide = is
 
 of_input : (rows : List Row) (c : Command) → takes_numbers (word_of c) ≡ false → AreValues rows c → AreOfInput rows c
 of_input rows (Solve n k q g) e v = record { input = v.0; flags = solve_taken rows q v.1; numbers = refl }
 of_input rows (Trace n k g) e v =
-    record { input = v; flags = plain_flags rows (codes "trace") refl refl; numbers = refl }
+    record { input = v; flags = plain_flags rows (codes "trace") refl refl refl; numbers = refl }
 of_input rows (Cert n k b t g) e v = record { input = v.0; flags = cert_taken rows b t v.1 v.2; numbers = refl }
+of_input rows (Check n k d g) e v = record { input = v.0; flags = check_taken rows d v.1; numbers = refl }
 of_input rows (Script n k g) e v =
-    record { input = v; flags = plain_flags rows (codes "script") refl refl; numbers = refl }
+    record { input = v; flags = plain_flags rows (codes "script") refl refl refl; numbers = refl }
 of_input rows (Gen s v k) e r = absurd cc
 of_input rows (Demo s k) e r = absurd cc
 
@@ -128,6 +140,7 @@ of_numbers : (rows : List Row) (c : Command) → takes_numbers (word_of c) ≡ t
 of_numbers rows (Solve n k q g) e v = absurd cc
 of_numbers rows (Trace n k g) e v = absurd cc
 of_numbers rows (Cert n k b t g) e v = absurd cc
+of_numbers rows (Check n k d g) e v = absurd cc
 of_numbers rows (Script n k g) e v = absurd cc
 of_numbers rows (Gen s v k) e r = record {
   budget = refl;

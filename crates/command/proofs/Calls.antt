@@ -7,16 +7,16 @@ use Rattle.clap.specs.Words.{Row, Rule, Text, fault_of, subcommand_of}
 use Rattle.clap.specs.Walk.{nothing_held, rows_after, with_default}
 use Rattle.clap.specs.Faults.{level_fault}
 use Rattle.command.specs.Account.{AreInput, AreValues, IsFoundAs, command_apps, has_dashes, is_set, qbf_app}
-use Rattle.command.specs.Forms.{Asks, AsksInput, Flag, GivesInput, GivesSetting, Part, Setting, all_flags, cert_flags, default_of, flag_name, greatest_of, no_flags, solve_flags, word_of}
-use Rattle.command.specs.Forms.Flag.{the_qdo, the_binary, the_trim}
+use Rattle.command.specs.Forms.{Asks, AsksInput, Flag, GivesInput, GivesSetting, Part, Setting, all_flags, cert_flags, check_flags, default_of, flag_name, greatest_of, no_flags, solve_flags, word_of}
+use Rattle.command.specs.Forms.Flag.{the_qdo, the_binary, the_trim, the_decide}
 use Rattle.command.specs.Forms.Setting.{the_budget, the_restarts}
 use Rattle.command.specs.declared.command.Command.{Command}
-use Rattle.command.specs.declared.command.Command.TheVariants.{Cert, Demo, Gen, Script, Solve, Trace}
+use Rattle.command.specs.declared.command.Command.TheVariants.{Cert, Check, Demo, Gen, Script, Solve, Trace}
 use Rattle.command.proofs.Turns.{leaf, rules_of}
 use Rattle.command.proofs.WordKinds.{IsNotDashes, KnowsFlag}
 use Rattle.command.proofs.PartWalk.{LacksDashes}
 use Rattle.command.proofs.PartUses.{AreOnce, either_false, name, new_row, part_at}
-use Rattle.command.proofs.InputWords.{AreInputRules, AreRead, are_read, cert_are, cert_rules, full_are, full_rules, input_are, input_rules, solve_are, solve_rules}
+use Rattle.command.proofs.InputWords.{AreInputRules, AreRead, are_read, cert_are, cert_rules, check_are, check_rules, full_are, full_rules, input_are, input_rules, solve_are, solve_rules}
 use Rattle.command.proofs.InputForms.{are_told, flag_set, in_form, no_flag, two}
 use Rattle.command.proofs.NumberWords.{demo_found, demo_in_form, gen_found, gen_in_form}
 use Rattle.command.proofs.TopWalk.{app_for, command_account, command_fault, is_command, known_or_other, name_alone, no_words, other_word, word_is, IsCommandWord, IsNoneOf}
@@ -137,6 +137,7 @@ input_refuses : (f : Flag) → KnowsFlag f input_rules → ⊥
 input_refuses the_qdo bad = absurd cc
 input_refuses the_binary bad = absurd cc
 input_refuses the_trim bad = absurd cc
+input_refuses the_decide bad = absurd cc
 
 input_flags : (args : List Text) (a : AreRead input_rules args) (f : Flag)
     → no_flags f ≡ is_some (part_at (flag_name f) a.parts)
@@ -149,6 +150,8 @@ solve_given args q is a the_binary =
     one_refused solve_rules (the_qdo ∷ []) solve_are args a the_binary (λ bad. absurd cc)
 solve_given args q is a the_trim =
     one_refused solve_rules (the_qdo ∷ []) solve_are args a the_trim (λ bad. absurd cc)
+solve_given args q is a the_decide =
+    one_refused solve_rules (the_qdo ∷ []) solve_are args a the_decide (λ bad. absurd cc)
 
 cert_given : (args : List Text) (b t : Bool) → b ≡ is_set (codes "binary") (rows_after cert_rules [] args)
     → t ≡ is_set (codes "trim") (rows_after cert_rules [] args)
@@ -159,6 +162,18 @@ cert_given args b t binary trim a the_binary =
     one_taken cert_rules (the_binary ∷ the_trim ∷ []) cert_are args a the_binary b binary
 cert_given args b t binary trim a the_trim =
     one_taken cert_rules (the_binary ∷ the_trim ∷ []) cert_are args a the_trim t trim
+cert_given args b t binary trim a the_decide =
+    one_refused cert_rules (the_binary ∷ the_trim ∷ []) cert_are args a the_decide (λ bad. absurd cc)
+
+check_given : (args : List Text) (d : Bool) → d ≡ is_set (codes "decide") (rows_after check_rules [] args)
+    → (a : AreRead check_rules args) (f : Flag) → check_flags d f ≡ is_some (part_at (flag_name f) a.parts)
+check_given args d is a the_qdo =
+    one_refused check_rules (the_decide ∷ []) check_are args a the_qdo (λ bad. absurd cc)
+check_given args d is a the_binary =
+    one_refused check_rules (the_decide ∷ []) check_are args a the_binary (λ bad. absurd cc)
+check_given args d is a the_trim =
+    one_refused check_rules (the_decide ∷ []) check_are args a the_trim (λ bad. absurd cc)
+check_given args d is a the_decide = one_taken check_rules (the_decide ∷ []) check_are args a the_decide d is
 
 default_most : (s : Setting) → default_of s ≤ greatest_of s
 default_most the_budget = omega arith
@@ -209,6 +224,7 @@ solve_known : (q : Bool) (f : Flag) → solve_flags q f ≡ true → KnowsFlag f
 solve_known q the_qdo e = refl
 solve_known q the_binary e = absurd cc
 solve_known q the_trim e = absurd cc
+solve_known q the_decide e = absurd cc
 
 is_solve_input : (args : List Text) (n k : ℕ) (q : Bool) (given : Option Text)
     → GivesInput args n k (solve_flags q) given → IsInput solve_rules args n k (solve_flags q) given
@@ -219,16 +235,29 @@ cert_known : (b t : Bool) (f : Flag) → cert_flags b t f ≡ true → KnowsFlag
 cert_known b t the_qdo e = absurd cc
 cert_known b t the_binary e = refl
 cert_known b t the_trim e = refl
+cert_known b t the_decide e = absurd cc
 
 is_cert_input : (args : List Text) (n k : ℕ) (b t : Bool) (given : Option Text)
     → GivesInput args n k (cert_flags b t) given → IsInput cert_rules args n k (cert_flags b t) given
 is_cert_input args n k b t given =
     is_input cert_rules (the_binary ∷ the_trim ∷ []) cert_are args n k (cert_flags b t) given (cert_known b t)
 
+check_known : (d : Bool) (f : Flag) → check_flags d f ≡ true → KnowsFlag f check_rules
+check_known d the_qdo e = absurd cc
+check_known d the_binary e = absurd cc
+check_known d the_trim e = absurd cc
+check_known d the_decide e = refl
+
+is_check_input : (args : List Text) (n k : ℕ) (d : Bool) (given : Option Text)
+    → GivesInput args n k (check_flags d) given → IsInput check_rules args n k (check_flags d) given
+is_check_input args n k d given =
+    is_input check_rules (the_decide ∷ []) check_are args n k (check_flags d) given (check_known d)
+
 full_known : (f : Flag) → KnowsFlag f full_rules
 full_known the_qdo = refl
 full_known the_binary = refl
 full_known the_trim = refl
+full_known the_decide = refl
 
 -- the same with any flags, to a command that takes all
 pub is_any_input : (args : List Text) (n k : ℕ) (q : Flag → Bool) (given : Option Text) → GivesInput args n k q given
@@ -252,6 +281,9 @@ asked words (Cert n k b t g) h =
     input_asks cert_rules (the_binary ∷ the_trim ∷ []) cert_are (codes "cert") words h.program h.args h.words_are
     h.lacks h.passes n k (option_map (λ s. s.now) g) h.values.0 (cert_flags b t)
     (cert_given h.args b t h.values.1 h.values.2)
+asked words (Check n k d g) h =
+    input_asks check_rules (the_decide ∷ []) check_are (codes "check") words h.program h.args h.words_are h.lacks
+    h.passes n k (option_map (λ s. s.now) g) h.values.0 (check_flags d) (check_given h.args d h.values.1)
 asked words (Script n k g) h =
     input_asks input_rules [] input_are (codes "script") words h.program h.args h.words_are h.lacks h.passes n k
     (option_map (λ s. s.now) g) h.values no_flags (input_flags h.args)
@@ -292,6 +324,20 @@ calls words (Cert n k b t g) (program, args, is, form) =
       lacks = i.lacks;
       passes = i.passes;
       values = (i.values, flags the_binary, flags the_trim);
+    }
+calls words (Check n k d g) (program, args, is, form) =
+    let i = is_check_input args n k d (option_map (λ s. s.now) g) form in
+    record {
+      program = program;
+      args = args;
+      words_are = is;
+      lacks = i.lacks;
+      passes = i.passes;
+      values = (
+        i.values,
+        flag_is check_rules (the_decide ∷ []) check_are args n k (check_flags d) (option_map (λ s. s.now) g) i
+            the_decide,
+      );
     }
 calls words (Script n k g) (program, args, is, form) =
     let i = is_plain_input args n k (option_map (λ s. s.now) g) form in

@@ -11,9 +11,9 @@ use Rattle.clap.specs.Walk.{has_row, is_empty, nothing_held, rows_after, with_de
 use Rattle.clap.specs.Faults.{defaults_fault, given_default_fault, level_fault}
 use Rattle.clap.specs.declared.builder.value_parser.Reading.TheVariants.{AsWritten}
 use Rattle.clap.specs.declared.parser.matches.ValueSource.TheVariants.{DefaultValue}
-use Rattle.command.specs.Account.{cert_app, command_app, default_text, is_set, solve_app}
+use Rattle.command.specs.Account.{cert_app, check_app, command_app, default_text, is_set, solve_app}
 use Rattle.command.specs.Forms.{Flag, Part, Setting, all_flags, flag_name, setting_name, spelled}
-use Rattle.command.specs.Forms.Flag.{the_qdo, the_binary, the_trim}
+use Rattle.command.specs.Forms.Flag.{the_qdo, the_binary, the_trim, the_decide}
 use Rattle.command.specs.Forms.Setting.{the_budget, the_restarts}
 use Rattle.command.proofs.Turns.{leaf, no_kinds, rules_of}
 use Rattle.command.proofs.Names.{apart_name, apart_setting, same_flag, setting_apart}
@@ -196,6 +196,7 @@ flag_itself : (f : Flag) → bytes_eq (flag_name f) (flag_name f) ≡ true
 flag_itself the_qdo = refl
 flag_itself the_binary = refl
 flag_itself the_trim = refl
+flag_itself the_decide = refl
 
 flag_kept : (f g : Flag) (rows : List Row)
     → is_set (flag_name f) (defaulted (flag_name g) (codes "false") rows) ≡ is_set (flag_name f) rows
@@ -226,7 +227,7 @@ pub record AreInputRules (c : List Rule) (flags : List Flag) : Type 0 where
 none_by : (id : Text) (rows : List Row) → cond (has_row id rows) rows rows ≡ rows
 none_by id rows = same_either (has_row id rows) rows
 
--- the rules of `trace` and `script`, of `solve` and of `cert`, and those of a command that takes all flags
+-- the rules of `trace` and `script`, of `solve`, of `cert` and of `check`, and those of a command that takes all flags
 abbrev pub input_rules : List Rule
 input_rules = rules_of (command_app [] [])
 
@@ -235,6 +236,9 @@ solve_rules = rules_of solve_app
 
 abbrev pub cert_rules : List Rule
 cert_rules = rules_of cert_app
+
+abbrev pub check_rules : List Rule
+check_rules = rules_of check_app
 
 abbrev pub full_rules : List Rule
 full_rules = rules_of (command_app [] all_flags)
@@ -297,6 +301,26 @@ cert_are = record {
       ∙ ap (with_flags (the_binary ∷ the_trim ∷ [])) (none_by (codes "name") (with_settings rows));
 }
 
+check_knows : (s : Setting) → KnowsSetting s check_rules
+check_knows the_budget = (refl, refl)
+check_knows the_restarts = (refl, refl)
+
+pub check_are : AreInputRules check_rules (the_decide ∷ [])
+check_are = record {
+  rules = record {
+    help_alone = λ x. refl;
+    long = λ n. long_of_rules check_rules n (the_decide ∷ []) check_knows (refl, tt)
+        (λ b r others. rw (b, r, others.0) refl);
+    left = (refl, record { found = refl; one_use = refl; one_value = refl; no_trail = refl }, refl, refl);
+  };
+  knows = check_knows;
+  known = (refl, tt);
+  ends = λ rows. ap (λ k. or_else k []) (harmless rows check_rules
+      (inr refl, (inr refl, (inl refl, (inr refl, (inl refl, tt))))));
+  last = λ rows. none_by (codes "help") _
+      ∙ ap (with_flags (the_decide ∷ [])) (none_by (codes "name") (with_settings rows));
+}
+
 full_knows : (s : Setting) → KnowsSetting s full_rules
 full_knows the_budget = (refl, refl)
 full_knows the_restarts = (refl, refl)
@@ -305,14 +329,14 @@ pub full_are : AreInputRules full_rules all_flags
 full_are = record {
   rules = record {
     help_alone = λ x. refl;
-    long = λ n. long_of_rules full_rules n all_flags full_knows (refl, (refl, (refl, tt)))
-        (λ b r others. rw (b, r, others.0, others.1.0, others.1.1.0) refl);
+    long = λ n. long_of_rules full_rules n all_flags full_knows (refl, (refl, (refl, (refl, tt))))
+        (λ b r others. rw (b, r, others.0, others.1.0, others.1.1.0, others.1.1.1.0) refl);
     left = (refl, record { found = refl; one_use = refl; one_value = refl; no_trail = refl }, refl, refl);
   };
   knows = full_knows;
-  known = (refl, (refl, (refl, tt)));
+  known = (refl, (refl, (refl, (refl, tt))));
   ends = λ rows. ap (λ k. or_else k []) (harmless rows full_rules
-      (inr refl, (inr refl, (inl refl, (inr refl, (inr refl, (inr refl, (inl refl, tt))))))));
+      (inr refl, (inr refl, (inl refl, (inr refl, (inr refl, (inr refl, (inr refl, (inl refl, tt)))))))));
   last = λ rows. none_by (codes "help") _
       ∙ ap (with_flags all_flags) (none_by (codes "name") (with_settings rows));
 }

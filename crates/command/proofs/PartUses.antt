@@ -17,7 +17,7 @@ use Rattle.clap.specs.declared.parser.matches.ValueSource.{ValueSource}
 use Rattle.clap.specs.declared.parser.matches.ValueSource.TheVariants.{CommandLine}
 use Rattle.command.specs.Account.{name_rule}
 use Rattle.command.specs.Forms.{Part, flag_name, setting_name}
-use Rattle.command.specs.Forms.Flag.{the_qdo, the_binary, the_trim}
+use Rattle.command.specs.Forms.Flag.{the_qdo, the_binary, the_trim, the_decide}
 use Rattle.command.specs.Forms.Part.{setting_part, joined_part, flag_part, name_part}
 use Rattle.command.specs.Forms.Setting.{the_budget, the_restarts}
 use Rattle.command.proofs.Names.{argument_names, bit}
@@ -143,6 +143,7 @@ of_itself (joined_part the_restarts t) = refl
 of_itself (flag_part the_qdo) = refl
 of_itself (flag_part the_binary) = refl
 of_itself (flag_part the_trim) = refl
+of_itself (flag_part the_decide) = refl
 of_itself (name_part w) = refl
 
 -- an argument is used once at most, those of earlier rows too
@@ -341,6 +342,7 @@ own_once (name_part w) = refl
 own_once (flag_part the_qdo) = refl
 own_once (flag_part the_binary) = refl
 own_once (flag_part the_trim) = refl
+own_once (flag_part the_decide) = refl
 
 pub argument_order : (ps : List Part) → IsPermutation (by_names argument_names ps) ps
 argument_order [] = IsPermutation-refl []

@@ -13,10 +13,10 @@ use Rattle.clap.specs.Faults.{check_fault, defaults_fault, entered_fault, level_
 use Rattle.clap.proofs.WalkLemmas.{walk_stopped}
 use Rattle.clap.proofs.FaultLemmas.{past, stopped_fault}
 use Rattle.clap.proofs.OnLiterals.{clap_on_literals}
-use Rattle.command.specs.Account.{cert_app, command_app, command_apps, demo_app, gen_app, qbf_app, solve_app}
+use Rattle.command.specs.Account.{cert_app, check_app, command_app, command_apps, demo_app, gen_app, qbf_app, solve_app}
 use Rattle.command.specs.Forms.{word_of}
 use Rattle.command.specs.declared.command.Command.{Command}
-use Rattle.command.specs.declared.command.Command.TheVariants.{Cert, Demo, Gen, Script, Solve, Trace}
+use Rattle.command.specs.declared.command.Command.TheVariants.{Cert, Check, Demo, Gen, Script, Solve, Trace}
 use Rattle.command.proofs.Turns.{IsPlainWord, held, leaf, no_kinds, nothing_after, plain_met, rules_of, some_left}
 use Rattle.command.proofs.WordKinds.{IsNotDashes, first_flag, long_fails, long_fault_is, short_fault_is}
 
@@ -122,7 +122,10 @@ all_are = (
         record { met = refl; no_help = refl; no_dashes = refl; found = refl },
         (
           record { met = refl; no_help = refl; no_dashes = refl; found = refl },
-          (record { met = refl; no_help = refl; no_dashes = refl; found = refl }, tt),
+          (
+            record { met = refl; no_help = refl; no_dashes = refl; found = refl },
+            (record { met = refl; no_help = refl; no_dashes = refl; found = refl }, tt),
+          ),
         ),
       ),
     ),
@@ -134,6 +137,7 @@ abbrev pub app_for : Command → App
 app_for (Solve n k q g) = solve_app
 app_for (Trace n k g) = command_app (codes "trace") []
 app_for (Cert n k b t g) = cert_app
+app_for (Check n k d g) = check_app
 app_for (Script n k g) = command_app (codes "script") []
 app_for (Gen s v k) = gen_app
 app_for (Demo s k) = demo_app
@@ -142,14 +146,16 @@ pub is_command : (c : Command) → IsCommand (app_for c)
 is_command (Solve n k q g) = all_are.0
 is_command (Trace n k g) = all_are.1.0
 is_command (Cert n k b t g) = all_are.1.1.0
-is_command (Script n k g) = all_are.1.1.1.0
-is_command (Gen s v k) = all_are.1.1.1.1.0
-is_command (Demo s k) = all_are.1.1.1.1.1.0
+is_command (Check n k d g) = all_are.1.1.1.0
+is_command (Script n k g) = all_are.1.1.1.1.0
+is_command (Gen s v k) = all_are.1.1.1.1.1.0
+is_command (Demo s k) = all_are.1.1.1.1.1.1.0
 
 pub word_is : (c : Command) → (app_for c).top.name ≡ word_of c
 word_is (Solve n k q g) = refl
 word_is (Trace n k g) = refl
 word_is (Cert n k b t g) = refl
+word_is (Check n k d g) = refl
 word_is (Script n k g) = refl
 word_is (Gen s v k) = refl
 word_is (Demo s k) = refl
@@ -224,10 +230,12 @@ by_long w dashes other (Some p) l =
 turn_fails : (w : Text) → IsNotDashes w → IsNoneOf command_apps w → (b : Bool) → bytes_eq (codes "help") w ≡ b
     → TurnFails w
 turn_fails w dashes none true e = λ x.
-    let bad = rw (none.0, none.1.0, none.1.1.0, none.1.1.1.0, none.1.1.1.1.0, none.1.1.1.1.1.0, e) at x in
+    let bad = rw (none.0, none.1.0, none.1.1.0, none.1.1.1.0, none.1.1.1.1.0, none.1.1.1.1.1.0, none.1.1.1.1.1.1.0, e)
+    at x in
     absurd cc
 turn_fails w dashes none false e =
-    let other : IsOther w = rw (none.0, none.1.0, none.1.1.0, none.1.1.1.0, none.1.1.1.1.0, none.1.1.1.1.1.0, e) refl in
+    let other : IsOther w =
+    rw (none.0, none.1.0, none.1.1.0, none.1.1.1.0, none.1.1.1.1.0, none.1.1.1.1.1.0, none.1.1.1.1.1.1.0, e) refl in
     by_long w dashes other (long_of w) refl
 
 -- a first word that is neither `--` nor that of a command

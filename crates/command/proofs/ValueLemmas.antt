@@ -9,7 +9,7 @@ use Rattle.command.specs.Account.{AreInput, AreValues, HasNoHyphen, IsNumberAt, 
 use Rattle.command.specs.Forms.{word_of}
 use Rattle.command.specs.Forms.Setting.{the_restarts}
 use Rattle.command.specs.declared.command.Command.{Command}
-use Rattle.command.specs.declared.command.Command.TheVariants.{Cert, Demo, Gen, Script, Solve, Trace}
+use Rattle.command.specs.declared.command.Command.TheVariants.{Cert, Check, Demo, Gen, Script, Solve, Trace}
 
 pub if_none : {X : Type 0} (o : Option X) (P : Type 0) → P → IfNone o P
 if_none None P p = p
@@ -94,6 +94,7 @@ module _ (rows : List Row) (word : Text) where
   no_input gen demo none (Solve n k q g) e v = none n k _ v.0
   no_input gen demo none (Trace n k g) e v = none n k _ v
   no_input gen demo none (Cert n k b t g) e v = none n k _ v.0
+  no_input gen demo none (Check n k d g) e v = none n k _ v.0
   no_input gen demo none (Script n k g) e v = none n k _ v
   no_input gen demo none (Gen s v k) e h = gen (sym e)
   no_input gen demo none (Demo s k) e h = demo (sym e)

@@ -9,9 +9,9 @@ use Rattle.clap.specs.Simple.{on_top}
 use Rattle.clap.specs.declared.builder.ArgAction.TheVariants.{SetTrue}
 use Rattle.clap.specs.declared.builder.ValueParser.TheVariants as parser
 use Rattle.command.specs.declared.command.Command.{Command}
-use Rattle.command.specs.declared.command.Command.TheVariants.{Solve, Trace, Cert, Script, Gen, Demo}
+use Rattle.command.specs.declared.command.Command.TheVariants.{Solve, Trace, Cert, Check, Script, Gen, Demo}
 use Rattle.command.specs.Forms.{Flag, IsBetween, Setting, flag_name, greatest_of, setting_name, word_of}
-use Rattle.command.specs.Forms.Flag.{the_qdo, the_binary, the_trim}
+use Rattle.command.specs.Forms.Flag.{the_qdo, the_binary, the_trim, the_decide}
 use Rattle.command.specs.Forms.Setting.{the_budget, the_restarts}
 
 -- ---- what `clap` is told
@@ -59,6 +59,10 @@ solve_app = command_app (codes "solve") (the_qdo ∷ [])
 abbrev pub cert_app : App
 cert_app = command_app (codes "cert") (the_binary ∷ the_trim ∷ [])
 
+-- `check [--budget N] [--restarts R] [--decide] [NAME]`
+abbrev pub check_app : App
+check_app = command_app (codes "check") (the_decide ∷ [])
+
 -- `gen SEED VARS CLAUSES`
 abbrev pub gen_app : App
 gen_app = with_rule (with_rule (with_rule (new_app (codes "gen")) (number_rule (codes "SEED") 0 4294967295))
@@ -71,8 +75,8 @@ demo_app = with_rule (with_rule (new_app (codes "demo")) (number_rule (codes "SE
 
 -- the commands
 abbrev pub command_apps : List App
-command_apps = solve_app ∷ command_app (codes "trace") [] ∷ cert_app ∷ command_app (codes "script") [] ∷ gen_app
-    ∷ demo_app ∷ []
+command_apps = solve_app ∷ command_app (codes "trace") [] ∷ cert_app ∷ check_app ∷ command_app (codes "script") []
+    ∷ gen_app ∷ demo_app ∷ []
 
 -- the program without its commands, one of which is wanted
 abbrev pub bare_app : App
@@ -123,6 +127,8 @@ AreValues rows (Solve budget restarts qdo name) =
 AreValues rows (Trace budget restarts name) = AreInput rows budget restarts (option_map (λ s. s.now) name)
 AreValues rows (Cert budget restarts binary trim name) = AreInput rows budget restarts (option_map (λ s. s.now) name)
     × (binary ≡ is_set (codes "binary") rows) × (trim ≡ is_set (codes "trim") rows)
+AreValues rows (Check budget restarts decide name) =
+    AreInput rows budget restarts (option_map (λ s. s.now) name) × (decide ≡ is_set (codes "decide") rows)
 AreValues rows (Script budget restarts name) = AreInput rows budget restarts (option_map (λ s. s.now) name)
 AreValues rows (Gen seed vars clauses) = AreGen rows seed vars clauses
 AreValues rows (Demo seed count) = AreDemo rows seed count

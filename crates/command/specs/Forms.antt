@@ -3,7 +3,7 @@ use Rattle.std.specs.Prelude.{◌≡◌, ◌≢◌, ◌⊎◌, ⊤, ℕ, ◌<◌
 use Rattle.std.specs.Fmt.{decimal}
 use Rattle.std.specs.List.{flat_map}
 use Rattle.command.specs.declared.command.Command.{Command}
-use Rattle.command.specs.declared.command.Command.TheVariants.{Solve, Trace, Cert, Script, Gen, Demo}
+use Rattle.command.specs.declared.command.Command.TheVariants.{Solve, Trace, Cert, Check, Script, Gen, Demo}
 use Rattle.command.specs.declared.refused.Refused.{Refused}
 use Rattle.command.specs.declared.refused.Refused.TheVariants.{Usage, NoMemory}
 
@@ -32,20 +32,22 @@ abbrev pub default_of : Setting → ℕ
 default_of the_budget = 2 ^ 64 - 1
 default_of the_restarts = 0
 
--- an option without a number: `--qdo`, `--binary`, or `--trim`
+-- an option without a number: `--qdo`, `--binary`, `--trim`, or `--decide`
 pub data Flag : Type 0 where
   the_qdo : Flag
   the_binary : Flag
   the_trim : Flag
+  the_decide : Flag
 
 -- its name
 abbrev pub flag_name : Flag → Text
 flag_name the_qdo = codes "qdo"
 flag_name the_binary = codes "binary"
 flag_name the_trim = codes "trim"
+flag_name the_decide = codes "decide"
 
 abbrev pub all_flags : List Flag
-all_flags = the_qdo ∷ the_binary ∷ the_trim ∷ []
+all_flags = the_qdo ∷ the_binary ∷ the_trim ∷ the_decide ∷ []
 
 -- none is given
 abbrev pub no_flags : Flag → Bool
@@ -56,12 +58,21 @@ abbrev pub solve_flags : Bool → Flag → Bool
 solve_flags qdo the_qdo = qdo
 solve_flags qdo the_binary = false
 solve_flags qdo the_trim = false
+solve_flags qdo the_decide = false
 
 -- `cert` takes `--binary` and `--trim`, each of which is given or not
 abbrev pub cert_flags : (binary trim : Bool) → Flag → Bool
 cert_flags binary trim the_qdo = false
 cert_flags binary trim the_binary = binary
 cert_flags binary trim the_trim = trim
+cert_flags binary trim the_decide = false
+
+-- `check` takes `--decide`, which is given or not
+abbrev pub check_flags : Bool → Flag → Bool
+check_flags decide the_qdo = false
+check_flags decide the_binary = false
+check_flags decide the_trim = false
+check_flags decide the_decide = decide
 
 -- a part of the words behind the word of a command
 pub data Part : Type 0 where
@@ -130,6 +141,11 @@ abbrev pub AsksCert : List Text → (budget restarts : ℕ) → (binary trim : B
 AsksCert words budget restarts binary trim name =
     AsksInput (codes "cert") words budget restarts (cert_flags binary trim) name
 
+-- `check [--budget N] [--restarts R] [--decide] [NAME]`
+abbrev pub AsksCheck : List Text → (budget restarts : ℕ) → Bool → Option Text → Type 0
+AsksCheck words budget restarts decide name =
+    AsksInput (codes "check") words budget restarts (check_flags decide) name
+
 -- `script [--budget N] [--restarts R] [NAME]`
 abbrev pub AsksScript : List Text → (budget restarts : ℕ) → Option Text → Type 0
 AsksScript words budget restarts name = AsksInput (codes "script") words budget restarts no_flags name
@@ -162,6 +178,8 @@ Asks words (Solve budget restarts qdo name) = AsksSolve words budget restarts qd
 Asks words (Trace budget restarts name) = AsksTrace words budget restarts (option_map (λ s. s.now) name)
 Asks words (Cert budget restarts binary trim name) =
     AsksCert words budget restarts binary trim (option_map (λ s. s.now) name)
+Asks words (Check budget restarts decide name) =
+    AsksCheck words budget restarts decide (option_map (λ s. s.now) name)
 Asks words (Script budget restarts name) = AsksScript words budget restarts (option_map (λ s. s.now) name)
 Asks words (Gen seed vars clauses) = AsksGen words seed vars clauses
 Asks words (Demo seed count) = AsksDemo words seed count
@@ -171,6 +189,7 @@ abbrev pub word_of : Command → Text
 word_of (Solve budget restarts qdo name) = codes "solve"
 word_of (Trace budget restarts name) = codes "trace"
 word_of (Cert budget restarts binary trim name) = codes "cert"
+word_of (Check budget restarts decide name) = codes "check"
 word_of (Script budget restarts name) = codes "script"
 word_of (Gen seed vars clauses) = codes "gen"
 word_of (Demo seed count) = codes "demo"
@@ -180,6 +199,7 @@ abbrev pub budget_of : Command → ℕ
 budget_of (Solve budget restarts qdo name) = budget
 budget_of (Trace budget restarts name) = budget
 budget_of (Cert budget restarts binary trim name) = budget
+budget_of (Check budget restarts decide name) = budget
 budget_of (Script budget restarts name) = budget
 budget_of (Gen seed vars clauses) = 2 ^ 64 - 1
 budget_of (Demo seed count) = 2 ^ 64 - 1
@@ -189,6 +209,7 @@ abbrev pub restarts_of : Command → ℕ
 restarts_of (Solve budget restarts qdo name) = restarts
 restarts_of (Trace budget restarts name) = restarts
 restarts_of (Cert budget restarts binary trim name) = restarts
+restarts_of (Check budget restarts decide name) = restarts
 restarts_of (Script budget restarts name) = restarts
 restarts_of (Gen seed vars clauses) = 0
 restarts_of (Demo seed count) = 0
@@ -198,6 +219,7 @@ abbrev pub flags_of : Command → Flag → Bool
 flags_of (Solve budget restarts qdo name) = solve_flags qdo
 flags_of (Trace budget restarts name) = no_flags
 flags_of (Cert budget restarts binary trim name) = cert_flags binary trim
+flags_of (Check budget restarts decide name) = check_flags decide
 flags_of (Script budget restarts name) = no_flags
 flags_of (Gen seed vars clauses) = no_flags
 flags_of (Demo seed count) = no_flags
@@ -207,6 +229,7 @@ abbrev pub name_of : Command → Option Text
 name_of (Solve budget restarts qdo name) = option_map (λ s. s.now) name
 name_of (Trace budget restarts name) = option_map (λ s. s.now) name
 name_of (Cert budget restarts binary trim name) = option_map (λ s. s.now) name
+name_of (Check budget restarts decide name) = option_map (λ s. s.now) name
 name_of (Script budget restarts name) = option_map (λ s. s.now) name
 name_of (Gen seed vars clauses) = None
 name_of (Demo seed count) = None

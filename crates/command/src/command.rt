@@ -29,6 +29,14 @@ pub enum Command<'a> {
         trim: bool,
         name: Option<&'a str>,
     },
+    /// Write the formula that says that the circuit of a formula's verdict loses, with a budget of this many steps and
+    /// at most so many restarts; where `decide` asks for it, decide that formula too.
+    Check {
+        budget: u64,
+        restarts: u32,
+        decide: bool,
+        name: Option<&'a str>,
+    },
     /// Reply to a script of incremental commands, each of its solves with a budget of this many steps and at most so
     /// many restarts.
     Script {

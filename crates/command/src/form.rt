@@ -2,7 +2,7 @@
 ghost use Rattle.std.specs.Prelude.{◌≡◌, IfOk, false};
 ghost use Rattle.clap.specs.Words.{app_of, rule_of};
 ghost use Rattle.clap.specs.declared.builder.Command.TheViews.{out-Command as fields_of};
-ghost use Rattle.command.specs.Account.{cert_app, demo_app, flag_rule, gen_app, input_app, number_rule, qbf_app, setting_rule, solve_app};
+ghost use Rattle.command.specs.Account.{cert_app, check_app, demo_app, flag_rule, gen_app, input_app, number_rule, qbf_app, setting_rule, solve_app};
 ghost use Rattle.command.specs.Forms.Setting.{the_budget, the_restarts};
 
 use clap::builder::ValueParser;
@@ -37,6 +37,7 @@ pub(crate) fn program<'a>(alloc: Global) -> Result<Command<'a>, AllocError>
             "Writes the derivation of a formula's verdict",
         )?)?
         .subcommand(certifier(alloc)?)?
+        .subcommand(checker(alloc)?)?
         .subcommand(command(alloc, "script", "Replies to a script of commands")?)?
         .subcommand(generator(alloc)?)?
         .subcommand(demonstration(alloc)?)
@@ -69,6 +70,23 @@ fn certifier<'a>(alloc: Global) -> Result<Command<'a>, AllocError>
         alloc,
         "trim",
         "Leaves out gates that no output is reached from",
+    ))
+}
+
+// The command that writes the check formula of a winning circuit.
+fn checker<'a>(alloc: Global) -> Result<Command<'a>, AllocError>
+    ensures app { IfOk result (λ c. app_of c ≡ check_app) }
+    ensures local { IfOk result (λ c. (fields_of c).has_globals ≡ false) }
+{
+    command(
+        alloc,
+        "check",
+        "Writes the formula that says that the circuit of a formula's verdict loses",
+    )?
+    .arg(flag(
+        alloc,
+        "decide",
+        "Decides that formula too, with a budget of its own",
     ))
 }
 

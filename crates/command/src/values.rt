@@ -52,6 +52,12 @@ fn input_command<'a>(word: &str, found: &ArgMatches<'a>) -> Option<Command<'a>>
             trim: is_set(found, "trim"),
             name,
         }),
+        "check" => Some(Command::Check {
+            budget,
+            restarts,
+            decide: is_set(found, "decide"),
+            name,
+        }),
         "script" => Some(Command::Script {
             budget,
             restarts,

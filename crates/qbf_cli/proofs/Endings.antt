@@ -4,17 +4,18 @@ use Rattle.std.specs.Io.KnownBytes.{Keeps}
 use Rattle.trail.specs.State.{Account}
 use Rattle.command.specs.Forms.{Asks, HasNoForm, Text}
 use Rattle.command.specs.declared.command.Command.{Command}
-use Rattle.command.specs.declared.command.Command.TheVariants.{Solve, Trace, Cert, Script, Gen, Demo}
+use Rattle.command.specs.declared.command.Command.TheVariants.{Solve, Trace, Cert, Check, Script, Gen, Demo}
 use Rattle.session.specs.declared.answer.Answer.TheVariants.{Sat, Unsat, Unknown}
 use Rattle.session.specs.Solve.{HasAnswer, IsDone}
 use Rattle.session.specs.declared.ending.Ending.{Ending}
-use Rattle.session.specs.declared.ending.Ending.TheVariants.{Done, Refused, Limit, ReadFault, WriteFault, NoMemory}
+use Rattle.session.specs.declared.ending.Ending.TheVariants.{Done, Refused, Limit, CheckLimit, ReadFault, WriteFault, NoMemory}
 use Rattle.session.specs.declared.ending.Job.TheVariants.{Trace as TraceJob, Cert as CertJob}
 use Rattle.qbf_cli.specs.declared.ending.RunEnding.{RunEnding}
 use Rattle.qbf_cli.specs.declared.ending.RunEnding.TheVariants.{Worked, Usage}
 use Rattle.qbf_cli.specs.Asked.{AskedAny, known_for, solve_job}
 use Rattle.qbf_cli.specs.Run.{Carried, IsAnswered, IsErrorLine, IsVerdict, IsWorkOf, line_of, status_of}
 use Rattle.qbf_cli.specs.Told.{IsOutput, IsOutputOf}
+use Rattle.qbf_cli.proofs.Checking.{check_error, check_output, check_reads, check_status, check_verdict}
 use Rattle.qbf_cli.proofs.Sampling.{sample_line, sample_output, sample_status, sample_verdict}
 use Rattle.qbf_cli.proofs.Scripting.{script_line, script_output, script_read, script_verdict}
 use Rattle.qbf_cli.proofs.Solving.{Content, other_verdict, plain_line, solve_line, solve_output, solve_read, solve_verdict}
@@ -37,6 +38,7 @@ ending_listed ReadFault h = (4, omega arith, refl)
 ending_listed WriteFault h = (5, omega arith, refl)
 ending_listed NoMemory h = (6, omega arith, refl)
 ending_listed (Limit quantity line) h = (7, omega arith, refl)
+ending_listed (CheckLimit quantity) h = (7, omega arith, refl)
 
 -- an answer's status is that of an ending with an answer
 ended : (f : Ending) → HasAnswer (status_of (Worked f)) → IsDone f
@@ -46,6 +48,7 @@ ended ReadFault h = no_answer 3 refl h
 ended WriteFault h = no_answer 4 refl h
 ended NoMemory h = no_answer 5 refl h
 ended (Limit quantity line) h = no_answer 6 refl h
+ended (CheckLimit quantity) h = no_answer 6 refl h
 
 pub answered : (e : RunEnding) → HasAnswer (status_of e) → IsAnswered e
 answered (Usage text) h = no_answer 7 refl h
@@ -59,6 +62,7 @@ read_fault ReadFault has is = refl
 read_fault WriteFault has is = absurd (omega (arith, is))
 read_fault NoMemory has is = absurd (omega (arith, is))
 read_fault (Limit quantity line) has is = absurd (omega (arith, is))
+read_fault (CheckLimit quantity) has is = absurd (omega (arith, is))
 
 write_fault : (f : Ending) → ((s : ℕ) → f ≡ Done s → HasAnswer s) → status_of (Worked f) ≡ 4 → f ≡ WriteFault
 write_fault (Done s) has is = is_answer s 4 refl (has s refl) is
@@ -67,6 +71,7 @@ write_fault ReadFault has is = absurd (omega (arith, is))
 write_fault WriteFault has is = refl
 write_fault NoMemory has is = absurd (omega (arith, is))
 write_fault (Limit quantity line) has is = absurd (omega (arith, is))
+write_fault (CheckLimit quantity) has is = absurd (omega (arith, is))
 
 module _ (words : List Text) (content : Content) (left : Option Text) (output : Option Text × Option Text)
     (told : List Account × List Account) where
@@ -99,6 +104,9 @@ module _ (words : List Text) (content : Content) (left : Option Text) (output : 
       by (Cert budget restarts binary trim name) f asks so =
           solve_verdict words content left output told (CertJob binary trim) (terms_of budget restarts)
           (Cert budget restarts binary trim name) asks (λ P h. h) f so
+      by (Check budget restarts decide name) f asks so =
+          check_verdict words content left output told decide (terms_of budget restarts)
+          (Check budget restarts decide name) asks (λ P h. h) (λ P h. h) f so
       by (Script budget restarts name) f asks so =
           script_verdict words content left output told (terms_of budget restarts) (Script budget restarts name) asks
           (λ P h. h) f so
@@ -121,6 +129,8 @@ module _ (words : List Text) (content : Content) (left : Option Text) (output : 
           empty f so
       by (Cert budget restarts binary trim name) f so = solve_output (CertJob binary trim) (terms_of budget restarts)
           _ left output told empty f so
+      by (Check budget restarts decide name) f so =
+          check_output decide (terms_of budget restarts) _ left output told empty f so
       by (Script budget restarts name) f so = script_output (terms_of budget restarts) _ output told empty f so.answered
       by (Gen seed vars clauses) f so = sample_output _ output told empty f so
       by (Demo seed count) f so = sample_output _ output told empty f so
@@ -147,6 +157,9 @@ module _ (words : List Text) (content : Content) (left : Option Text) (output : 
       by (Cert budget restarts binary trim name) f asks so =
           solve_line words content left output told (CertJob binary trim) (terms_of budget restarts)
           (Cert budget restarts binary trim name) asks (λ P h. h) f so
+      by (Check budget restarts decide name) f asks so =
+          check_error words content left output told decide (terms_of budget restarts)
+          (Check budget restarts decide name) asks (λ P h. h) (λ P h. h) f so
       by (Script budget restarts name) f asks so =
           script_line words content left output told (terms_of budget restarts) (Script budget restarts name) asks
           (λ P h. h) f so
@@ -175,6 +188,9 @@ module _ (words : List Text) (content : Content) (left : Option Text) (output : 
       by (Cert budget restarts binary trim name) f asks so h =
           inl (inl (solve_read words content left output told (CertJob binary trim) (terms_of budget restarts)
           (Cert budget restarts binary trim name) asks (λ P h. h) f so h))
+      by (Check budget restarts decide name) f asks so h =
+          inl (inl (check_reads words content left output told decide (terms_of budget restarts)
+          (Check budget restarts decide name) asks (λ P h. h) (λ P h. h) f so h))
       by (Script budget restarts name) f asks so h =
           inl (inr (script_read words content left output told (terms_of budget restarts)
           (Script budget restarts name) asks (λ P h. h) f so h))
@@ -187,6 +203,8 @@ module _ (words : List Text) (content : Content) (left : Option Text) (output : 
   done_status (Solve budget restarts qdo name) f so = so.status
   done_status (Trace budget restarts name) f so = so.status
   done_status (Cert budget restarts binary trim name) f so = so.status
+  done_status (Check budget restarts decide name) f so =
+      check_status decide (terms_of budget restarts) _ left output told f so
   done_status (Script budget restarts name) f so = λ s is. (Unknown, so.status s is)
   done_status (Gen seed vars clauses) f so = λ s is. (Unknown, sample_status _ output told f so s is)
   done_status (Demo seed count) f so = λ s is. (Unknown, sample_status _ output told f so s is)

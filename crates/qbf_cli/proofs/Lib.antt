@@ -1,3 +1,4 @@
+pub mod Checking
 pub mod Choosing
 pub mod Completing
 pub mod Endings
@@ -5,3 +6,8 @@ pub mod Sampling
 pub mod Scripting
 pub mod Solving
 pub mod Statuses
+pub mod WorkedChecks
+pub mod WorkedCommands
+mod WorkedOutputs
+pub mod WorkedVerdicts
+pub mod WorkedWords

@@ -1,10 +1,10 @@
 -- What is known of the work of a command that makes formulas, by its status.
-use Rattle.std.proofs.Common.{◌≡◌, inr, ℕ, List, [], Option, refl, sym, subst, arith, ◌∙◌}
+use Rattle.std.proofs.Common.{◌≡◌, inl, inr, ℕ, List, [], Option, refl, sym, subst, arith, ◌∙◌}
 use Rattle.trail.specs.State.{Account}
 use Rattle.command.specs.Forms.{Asks, HasNoForm, Text}
 use Rattle.command.specs.declared.command.Command.{Command}
 use Rattle.session.specs.declared.ending.Ending.{Ending}
-use Rattle.session.specs.declared.ending.Ending.TheVariants.{Done, Refused, Limit, ReadFault, WriteFault, NoMemory}
+use Rattle.session.specs.declared.ending.Ending.TheVariants.{Done, Refused, Limit, CheckLimit, ReadFault, WriteFault, NoMemory}
 use Rattle.qbf_cli.specs.declared.ending.RunEnding.TheVariants.{Worked}
 use Rattle.qbf_cli.specs.Asked.{AskedSample, IsSample}
 use Rattle.qbf_cli.specs.Run.{IsErrorLine, IsMade, IsVerdict, line_of, status_of}
@@ -17,6 +17,7 @@ module _ (text : Text) (output : Option Text × Option Text) (told : List Accoun
   sample_status (Done n) so s is = (let same : n ≡ s = cc in sym same) ∙ so.leaves.0
   sample_status (Refused number at) so s is = absurd so.leaves
   sample_status (Limit quantity at) so s is = absurd so.leaves
+  sample_status (CheckLimit quantity) so s is = absurd so.leaves
   sample_status ReadFault so s is = absurd so.leaves
   sample_status WriteFault so s is = absurd (let same : WriteFault ≡ Done s = is in cc)
   sample_status NoMemory so s is = absurd (let same : NoMemory ≡ Done s = is in cc)
@@ -34,6 +35,7 @@ module _ (text : Text) (output : Option Text × Option Text) (told : List Accoun
       }
   sample_output empty (Refused number at) so = absurd so.leaves
   sample_output empty (Limit quantity at) so = absurd so.leaves
+  sample_output empty (CheckLimit quantity) so = absurd so.leaves
   sample_output empty ReadFault so = absurd so.leaves
   sample_output empty WriteFault so = record {
     whole = λ h. absurd (omega (arith, h));
@@ -57,9 +59,9 @@ module _ (words : List Text) (content : Content) (output : Option Text × Option
   well s zero_is asked some_form = record {
     sat = λ h. absurd (omega (arith, h, zero_is));
     unsat = λ h. absurd (omega (arith, h, zero_is));
-    unknown = λ _. inr asked;
-    slow = λ _. inr asked;
-    solved = λ _. inr asked;
+    unknown = λ _. inl (inr asked);
+    slow = λ _. inl (inr asked);
+    solved = λ _. inl (inr asked);
     refused = λ h. absurd (omega (arith, h, zero_is));
     limit = λ h. absurd (omega (arith, h, zero_is));
     usage = λ h. absurd (omega (arith, h, zero_is));
@@ -71,6 +73,7 @@ module _ (words : List Text) (content : Content) (output : Option Text × Option
   sample_verdict c asks of (Done s) so = well s so.leaves.0 (c, asks, of) (λ none. none c asks)
   sample_verdict c asks of (Refused number at) so = absurd so.leaves
   sample_verdict c asks of (Limit quantity at) so = absurd so.leaves
+  sample_verdict c asks of (CheckLimit quantity) so = absurd so.leaves
   sample_verdict c asks of ReadFault so = absurd so.leaves
   sample_verdict c asks of WriteFault so =
       plain_verdict words content 4 refl (λ e. omega (arith, e)) (λ e. omega (arith, e)) (λ e. omega (arith, e))
@@ -86,6 +89,7 @@ module _ (words : List Text) (content : Content) (output : Option Text × Option
       (plain_line words content 0 [] (λ e. omega (arith, e)) (λ e. omega (arith, e)) refl)
   sample_line (Refused number at) so = absurd so.leaves
   sample_line (Limit quantity at) so = absurd so.leaves
+  sample_line (CheckLimit quantity) so = absurd so.leaves
   sample_line ReadFault so = absurd so.leaves
   sample_line WriteFault so = plain_line words content 4 _ (λ e. omega (arith, e)) (λ e. omega (arith, e)) refl
   sample_line NoMemory so = plain_line words content 5 _ (λ e. omega (arith, e)) (λ e. omega (arith, e)) refl

@@ -9,11 +9,11 @@ use Rattle.qdimacs.specs.declared.refusal.Quantity.TheVariants.{Bytes}
 use Rattle.qscript.specs.declared.command.Command.{Command as ScriptCommand}
 use Rattle.qscript.specs.Reads.{Ending as ScriptEnding, ReadsScript, done, limit as script_limit, refused as script_refused}
 use Rattle.session.specs.Replies.{says}
-use Rattle.session.specs.Scripts.{AreAnswered, AreFirst, IsReadOut, IsScriptEnding}
+use Rattle.session.specs.Scripts.{AreAnswered, AreFirst, EndsScript, IsReadOut, IsScriptEnding}
 use Rattle.session.specs.Solve.{HasAnswer}
 use Rattle.session.specs.Standing.{start}
 use Rattle.session.specs.declared.ending.Ending.{Ending}
-use Rattle.session.specs.declared.ending.Ending.TheVariants.{Done, Refused, Limit, ReadFault, WriteFault, NoMemory}
+use Rattle.session.specs.declared.ending.Ending.TheVariants.{Done, Refused, Limit, CheckLimit, ReadFault, WriteFault, NoMemory}
 use Rattle.qbf_cli.specs.declared.ending.RunEnding.TheVariants.{Worked}
 use Rattle.qbf_cli.specs.Asked.{AskedScript, OfScript, input_of}
 use Rattle.qbf_cli.specs.Run.{EndsIn, IsErrorLine, IsLimitedScript, IsRefusedScript, IsReplied, IsVerdict, line_of, status_of}
@@ -36,8 +36,8 @@ first_none reads (Some text) = reads text
 
 -- without any command nothing is written or told
 pub untouched : (terms : Terms) (known w : Option Text) (told : List Account) (e : Ending) → HaveReadings
-    → (IsReadOut e → ⊥) → AreAnswered terms known (w, w) (told, told) e
-untouched terms known w told e reads early = record {
+    → (IsReadOut e → ⊥) → EndsScript e → AreAnswered terms known (w, w) (told, told) e
+untouched terms known w told e reads early ends = record {
   commands = [];
   out = says [];
   after = start;
@@ -47,6 +47,7 @@ untouched terms known w told e reads early = record {
   front = record { count = 0; within = omega arith; appended = nothing_more w };
   whole = λ _. nothing_more w;
   told = sym (append-nil told);
+  ends = ends;
 }
 
 -- the input can't be chosen
@@ -56,7 +57,7 @@ unchosen terms known left w told reads = record {
   ending = by known;
   status = λ s is. absurd (let same : ReadFault ≡ Done s = is in cc);
   read = λ h. absurd h;
-  answered = untouched terms known w told ReadFault reads (λ h. h);
+  answered = untouched terms known w told ReadFault reads (λ h. h) tt;
 }
   where
     by : (known : Option Text) → IfSome known (λ text. IsScriptEnding text ReadFault)
@@ -91,6 +92,7 @@ module _ (terms : Terms) (known : Option Text) (output : Option Text × Option T
   script_output (Limit quantity at) so =
       with_status (Limit quantity at) 6 so (λ _. tt)
       (λ _ is. absurd (let same : Limit quantity at ≡ WriteFault = is in cc))
+  script_output (CheckLimit quantity) so = absurd so.ends
   script_output ReadFault so =
       with_status ReadFault 3 so (λ h. absent (0 ∷ 2 ∷ 6 ∷ []) 3 refl h)
       (λ _ is. absurd (let same : ReadFault ≡ WriteFault = is in cc))
@@ -116,11 +118,11 @@ module _ (words : List Text) (content : Content) (left : Option Text) (output : 
   well s zero_is ending = record {
     sat = λ h. absurd (omega (arith, h, zero_is));
     unsat = λ h. absurd (omega (arith, h, zero_is));
-    unknown = λ _. inl (inr good);
-    slow = λ _. inl (inr good);
-    solved = λ _. inl (inr (asked (λ n text. (s ≡ 0) × EndsIn text done)
+    unknown = λ _. inl (inl (inr good));
+    slow = λ _. inl (inl (inr good));
+    solved = λ _. inl (inl (inr (asked (λ n text. (s ≡ 0) × EndsIn text done)
         (some_map _ (λ text. IsScriptEnding text (Done s)) (λ text. (s ≡ 0) × EndsIn text done)
-        (λ text e. (e.0, (e.1, e.2))) ending)));
+        (λ text e. (e.0, (e.1, e.2))) ending))));
     refused = λ h. absurd (omega (arith, h, zero_is));
     limit = λ h. absurd (omega (arith, h, zero_is));
     usage = λ h. absurd (omega (arith, h, zero_is));
@@ -142,10 +144,11 @@ module _ (words : List Text) (content : Content) (left : Option Text) (output : 
       (λ e. absurd (omega (arith, e))) (λ e. absurd (omega (arith, e))) (λ none. absurd (some_form none))
   script_verdict (Limit quantity at) so =
       other_verdict words content 6 refl (λ e. absurd (omega (arith, e)))
-      (λ _. inr (asked (λ n text. IsLimitedScript text)
+      (λ _. inl (inr (asked (λ n text. IsLimitedScript text)
       (some_map _ (λ text. IsScriptEnding text (Limit quantity at)) IsLimitedScript (λ text h. (at, (h.1, h.2)))
-      so.ending)))
+      so.ending))))
       (λ e. absurd (omega (arith, e))) (λ none. absurd (some_form none))
+  script_verdict (CheckLimit quantity) so = absurd so.answered.ends
   script_verdict ReadFault so =
       plain_verdict words content 3 refl (λ e. omega (arith, e)) (λ e. omega (arith, e)) (λ e. omega (arith, e))
       some_form
@@ -170,7 +173,7 @@ module _ (words : List Text) (content : Content) (left : Option Text) (output : 
   }
   script_line (Limit quantity at) so = record {
     refused = λ h. absurd (omega (arith, h));
-    limit = λ _. (
+    limit = λ _. inl (
       quantity,
       at,
       refl,
@@ -180,6 +183,7 @@ module _ (words : List Text) (content : Content) (left : Option Text) (output : 
     );
     other = λ _ n _. absurd (n refl);
   }
+  script_line (CheckLimit quantity) so = absurd so.answered.ends
   script_line ReadFault so = plain_line words content 3 _ (λ e. omega (arith, e)) (λ e. omega (arith, e)) refl
   script_line WriteFault so = plain_line words content 4 _ (λ e. omega (arith, e)) (λ e. omega (arith, e)) refl
   script_line NoMemory so = plain_line words content 5 _ (λ e. omega (arith, e)) (λ e. omega (arith, e)) refl
@@ -189,6 +193,7 @@ module _ (words : List Text) (content : Content) (left : Option Text) (output : 
   script_read (Done s) so h = asked (λ n text. left ≡ Some []) (so.read tt)
   script_read (Refused number at) so h = no_answer 2 refl h
   script_read (Limit quantity at) so h = no_answer 6 refl h
+  script_read (CheckLimit quantity) so h = no_answer 6 refl h
   script_read ReadFault so h = no_answer 3 refl h
   script_read WriteFault so h = no_answer 4 refl h
   script_read NoMemory so h = no_answer 5 refl h

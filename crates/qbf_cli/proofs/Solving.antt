@@ -1,5 +1,5 @@
 -- What is known of the work on a formula, by its status.
-use Rattle.std.proofs.Common.{◌≡◌, ◌≢◌, inl, ℕ, true, false, List, [], ◌∷◌, Option, None, Some, Contains, refl, sym, subst, arith, ◌∙◌}
+use Rattle.std.proofs.Common.{◌≡◌, ◌≢◌, ◌⊎◌, inl, ℕ, true, false, List, [], ◌∷◌, Option, None, Some, Contains, refl, sym, subst, arith, ◌∙◌}
 use Rattle.std.specs.Prelude.{IfSome}
 use Rattle.std.specs.Io.KnownBytes.{Keeps}
 use Rattle.truth.specs.declared.formula.Formula.{Formula}
@@ -14,11 +14,11 @@ use Rattle.session.specs.declared.answer.Answer.TheVariants.{Sat, Unsat, Unknown
 use Rattle.session.specs.Solve.{answer_status, HasAnswer, IsAnswerTo, IsShort, OfAnswer, Solves}
 use Rattle.session.specs.Jobs.{IsReplyOn}
 use Rattle.session.specs.declared.ending.Ending.{Ending}
-use Rattle.session.specs.declared.ending.Ending.TheVariants.{Done, Refused, Limit, ReadFault, WriteFault, NoMemory}
+use Rattle.session.specs.declared.ending.Ending.TheVariants.{Done, Refused, Limit, CheckLimit, ReadFault, WriteFault, NoMemory}
 use Rattle.session.specs.declared.ending.Job.{Job}
 use Rattle.qbf_cli.specs.declared.ending.RunEnding.TheVariants.{Worked}
-use Rattle.qbf_cli.specs.Asked.{Asked, AskedEither, OfFormula, input_of}
-use Rattle.qbf_cli.specs.Run.{HasTruth, IsBeyond, IsErrorLine, IsLimited, IsLimitedScript, IsRefused, IsRefusedScript, IsSlow, IsSolved, IsVerdict, line_of, status_of, fixed_line}
+use Rattle.qbf_cli.specs.Asked.{Asked, AskedCheck, AskedEither, OfFormula, input_of}
+use Rattle.qbf_cli.specs.Run.{HasTruth, IsBeyond, IsErrorLine, IsLimited, IsLimitedCheck, IsLimitedScript, IsRefused, IsRefusedScript, IsSlow, IsSolved, IsVerdict, line_of, status_of, fixed_line}
 use Rattle.qbf_cli.specs.Told.{IsJobOutput}
 use Rattle.qbf_cli.proofs.Statuses.{absent, answer_absent, answers, is_among, is_answer, no_answer}
 use Rattle.session.specs.Terms.{Terms}
@@ -65,7 +65,8 @@ slow_of terms s is text (a, at, (f, reads, e)) = (f, reads, (is_short terms f a 
 -- a status that no answer has
 pub other_verdict : (words : List Text) (content : Content) (n : ℕ) → is_among answers n ≡ false
     → (n ≡ 2 → AskedEither words content (λ terms text. IsRefused text) (λ terms text. IsRefusedScript text))
-    → (n ≡ 6 → AskedEither words content (λ terms text. IsLimited text) (λ terms text. IsLimitedScript text))
+    → (n ≡ 6 → AskedEither words content (λ terms text. IsLimited text) (λ terms text. IsLimitedScript text)
+    ⊎ AskedCheck words content IsLimitedCheck)
     → (n ≡ 7 → HasNoForm words) → (HasNoForm words → Contains (5 ∷ 7 ∷ []) n) → IsVerdict words content n
 other_verdict words content n none two six seven unasked = record {
   sat = λ h. no_answer n none (Sat, h);
@@ -91,6 +92,19 @@ pub plain_line : (words : List Text) (content : Content) (n : ℕ) (line : Text)
     → IsErrorLine words content n line
 plain_line words content n line two six is =
     record { refused = λ h. absurd (two h); limit = λ h. absurd (six h); other = λ _ _ _. is }
+
+-- and none for an answer
+pub answer_line : (words : List Text) (content : Content) (s : ℕ) → HasAnswer s → IsErrorLine words content s []
+answer_line words content s has = record {
+  refused = λ h. is_answer s 2 refl has h;
+  limit = λ h. is_answer s 6 refl has h;
+  other = λ _ _ _. no_line s has;
+}
+  where
+    no_line : (s : ℕ) → HasAnswer s → [] ≡ fixed_line s
+    no_line s (Sat, e) = rw e refl
+    no_line s (Unsat, e) = rw e refl
+    no_line s (Unknown, e) = rw e refl
 
 module _ (job : Job) (terms : Terms) (known left : Option Text) (output : Option Text × Option Text)
     (told : List Account × List Account) (empty : told.0 ≡ []) where
@@ -127,6 +141,7 @@ module _ (job : Job) (terms : Terms) (known left : Option Text) (output : Option
   }
   solve_output (Refused number at) so = quiet 2 refl (λ e. omega (arith, e)) so.output_of
   solve_output (Limit quantity at) so = quiet 6 refl (λ e. omega (arith, e)) so.output_of
+  solve_output (CheckLimit quantity) so = absurd so.output_of
   solve_output ReadFault so = quiet 3 refl (λ e. omega (arith, e)) so.output_of
   solve_output NoMemory so = quiet 5 refl (λ e. omega (arith, e)) so.output_of
 
@@ -140,21 +155,24 @@ module _ (words : List Text) (content : Content) (left : Option Text) (output : 
   some_form : HasNoForm words → ⊥
   some_form none = none c asks
 
+  -- an answer to the formula
+  pub answer_verdict : (s : ℕ) → HasAnswer s
+      → IfSome (content (input_of c)) (λ text. OfAnswer s (Solves terms text)) → IsVerdict words content s
+  answer_verdict s has ending = record {
+    sat = λ h. asked (λ n text. HasTruth text true) (some_map _ _ _ (true_of terms s h) ending);
+    unsat = λ h. asked (λ n text. HasTruth text false) (some_map _ _ _ (false_of terms s h) ending);
+    unknown = λ h. inl (inl (inl (asked IsBeyond (some_map _ _ _ (beyond_of terms s h) ending))));
+    slow = λ h. inl (inl (inl (asked IsSlow (some_map _ _ _ (slow_of terms s h) ending))));
+    solved = λ _. inl (inl (inl (asked (λ n text. OfAnswer s (Solves n text)) ending)));
+    refused = λ h. is_answer s 2 refl has h;
+    limit = λ h. is_answer s 6 refl has h;
+    usage = λ h. is_answer s 7 refl has h;
+    unasked = λ none. absurd (some_form none);
+  }
+
   pub solve_verdict : (f : Ending) → IsSolved job terms (content (input_of c)) left output told f
       → IsVerdict words content (status_of (Worked f))
-  solve_verdict (Done s) so =
-      let has : HasAnswer s = so.status s refl in
-      record {
-        sat = λ h. asked (λ n text. HasTruth text true) (some_map _ _ _ (true_of terms s h) so.ending);
-        unsat = λ h. asked (λ n text. HasTruth text false) (some_map _ _ _ (false_of terms s h) so.ending);
-        unknown = λ h. inl (inl (asked IsBeyond (some_map _ _ _ (beyond_of terms s h) so.ending)));
-        slow = λ h. inl (inl (asked IsSlow (some_map _ _ _ (slow_of terms s h) so.ending)));
-        solved = λ _. inl (inl (asked (λ n text. OfAnswer s (Solves n text)) so.ending));
-        refused = λ h. is_answer s 2 refl has h;
-        limit = λ h. is_answer s 6 refl has h;
-        usage = λ h. is_answer s 7 refl has h;
-        unasked = λ none. absurd (some_form none);
-      }
+  solve_verdict (Done s) so = answer_verdict s (so.status s refl) so.ending
   solve_verdict (Refused number at) so =
       other_verdict words content 2 refl
       (λ _. inl (asked (λ n text. IsRefused text)
@@ -162,9 +180,10 @@ module _ (words : List Text) (content : Content) (left : Option Text) (output : 
       (λ e. absurd (omega (arith, e))) (λ e. absurd (omega (arith, e))) (λ none. absurd (some_form none))
   solve_verdict (Limit quantity at) so =
       other_verdict words content 6 refl (λ e. absurd (omega (arith, e)))
-      (λ _. inl (asked (λ n text. IsLimited text)
-      (some_map _ (λ text. Reads text (limit quantity at)) IsLimited (λ text h. (quantity, at, h)) so.ending)))
+      (λ _. inl (inl (asked (λ n text. IsLimited text)
+      (some_map _ (λ text. Reads text (limit quantity at)) IsLimited (λ text h. (quantity, at, h)) so.ending))))
       (λ e. absurd (omega (arith, e))) (λ none. absurd (some_form none))
+  solve_verdict (CheckLimit quantity) so = absurd so.output_of
   solve_verdict ReadFault so =
       plain_verdict words content 3 refl (λ e. omega (arith, e)) (λ e. omega (arith, e)) (λ e. omega (arith, e))
       some_form
@@ -177,18 +196,7 @@ module _ (words : List Text) (content : Content) (left : Option Text) (output : 
 
   pub solve_line : (f : Ending) → IsSolved job terms (content (input_of c)) left output told f
       → IsErrorLine words content (status_of (Worked f)) (line_of (Worked f))
-  solve_line (Done s) so =
-      let has : HasAnswer s = so.status s refl in
-      record {
-        refused = λ h. is_answer s 2 refl has h;
-        limit = λ h. is_answer s 6 refl has h;
-        other = λ _ _ _. no_line s has;
-      }
-    where
-      no_line : (s : ℕ) → HasAnswer s → [] ≡ fixed_line s
-      no_line s (Sat, e) = rw e refl
-      no_line s (Unsat, e) = rw e refl
-      no_line s (Unknown, e) = rw e refl
+  solve_line (Done s) so = answer_line words content s (so.status s refl)
   solve_line (Refused number at) so = record {
     refused = λ _. (number, at, refl, inl (asked (λ n text. Reads text (refused number at)) so.ending));
     limit = λ h. absurd (omega (arith, h));
@@ -196,9 +204,10 @@ module _ (words : List Text) (content : Content) (left : Option Text) (output : 
   }
   solve_line (Limit quantity at) so = record {
     refused = λ h. absurd (omega (arith, h));
-    limit = λ _. (quantity, at, refl, inl (asked (λ n text. Reads text (limit quantity at)) so.ending));
+    limit = λ _. inl (quantity, at, refl, inl (asked (λ n text. Reads text (limit quantity at)) so.ending));
     other = λ _ n _. absurd (n refl);
   }
+  solve_line (CheckLimit quantity) so = absurd so.output_of
   solve_line ReadFault so = plain_line words content 3 _ (λ e. omega (arith, e)) (λ e. omega (arith, e)) refl
   solve_line WriteFault so = plain_line words content 4 _ (λ e. omega (arith, e)) (λ e. omega (arith, e)) refl
   solve_line NoMemory so = plain_line words content 5 _ (λ e. omega (arith, e)) (λ e. omega (arith, e)) refl
@@ -208,6 +217,7 @@ module _ (words : List Text) (content : Content) (left : Option Text) (output : 
   solve_read (Done s) so h = asked (λ n text. left ≡ Some []) (so.read tt)
   solve_read (Refused number at) so h = no_answer 2 refl h
   solve_read (Limit quantity at) so h = no_answer 6 refl h
+  solve_read (CheckLimit quantity) so h = no_answer 6 refl h
   solve_read ReadFault so h = no_answer 3 refl h
   solve_read WriteFault so h = no_answer 4 refl h
   solve_read NoMemory so h = no_answer 5 refl h

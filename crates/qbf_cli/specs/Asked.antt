@@ -2,10 +2,11 @@
 use Rattle.std.specs.Prelude.{ℕ, ◌⊎◌, ⊤, Bool, true, false, List, Option, None, Some, IfSome, codes, length}
 use Rattle.command.specs.Forms.{Asks, Text, name_of}
 use Rattle.command.specs.declared.command.Command.{Command}
-use Rattle.command.specs.declared.command.Command.TheVariants.{Solve, Trace, Cert, Script, Gen, Demo}
+use Rattle.command.specs.declared.command.Command.TheVariants.{Solve, Trace, Cert, Check, Script, Gen, Demo}
 use Rattle.generate.specs.Made.{made}
 use Rattle.qdimacs_out.specs.Texts.{formula_text}
 use Rattle.samples.specs.Samples.{counts_text}
+use Rattle.session.specs.Checks.{RoomForCheck}
 use Rattle.session.specs.Jobs.{RoomForJob}
 use Rattle.session.specs.Scripts.{RoomForReplies}
 use Rattle.session.specs.Terms.{Terms, terms_of}
@@ -31,6 +32,7 @@ abbrev pub known_for : (Text → Option Text) → Command → Option Text
 known_for content (Solve budget restarts qdo name) = content (input_of (Solve budget restarts qdo name))
 known_for content (Trace budget restarts name) = content (input_of (Trace budget restarts name))
 known_for content (Cert budget restarts binary trim name) = content (input_of (Cert budget restarts binary trim name))
+known_for content (Check budget restarts decide name) = content (input_of (Check budget restarts decide name))
 known_for content (Script budget restarts name) = content (input_of (Script budget restarts name))
 known_for content (Gen seed vars clauses) = None
 known_for content (Demo seed count) = None
@@ -44,6 +46,8 @@ OfFormula (Trace budget restarts name) content P = IfSome (content (input_of (Tr
     (P (terms_of budget restarts))
 OfFormula (Cert budget restarts binary trim name) content P =
     IfSome (content (input_of (Cert budget restarts binary trim name))) (P (terms_of budget restarts))
+OfFormula (Check budget restarts decide name) content P =
+    IfSome (content (input_of (Check budget restarts decide name))) (P (terms_of budget restarts))
 OfFormula (Script budget restarts name) content P = ⊥
 OfFormula (Gen seed vars clauses) content P = ⊥
 OfFormula (Demo seed count) content P = ⊥
@@ -53,16 +57,30 @@ abbrev pub OfScript : Command → (Text → Option Text) → (Terms → Text →
 OfScript (Solve budget restarts qdo name) content P = ⊥
 OfScript (Trace budget restarts name) content P = ⊥
 OfScript (Cert budget restarts binary trim name) content P = ⊥
+OfScript (Check budget restarts decide name) content P = ⊥
 OfScript (Script budget restarts name) content P = IfSome (content (input_of (Script budget restarts name)))
     (P (terms_of budget restarts))
 OfScript (Gen seed vars clauses) content P = ⊥
 OfScript (Demo seed count) content P = ⊥
+
+-- The command checks the certificate of one formula, and this is so of whether it decides the check formula, of its
+-- terms and of that text.
+abbrev pub OfCheckCommand : Command → (Text → Option Text) → (Bool → Terms → Text → Type 0) → Type 0
+OfCheckCommand (Solve budget restarts qdo name) content P = ⊥
+OfCheckCommand (Trace budget restarts name) content P = ⊥
+OfCheckCommand (Cert budget restarts binary trim name) content P = ⊥
+OfCheckCommand (Check budget restarts decide name) content P =
+    IfSome (content (input_of (Check budget restarts decide name))) (P decide (terms_of budget restarts))
+OfCheckCommand (Script budget restarts name) content P = ⊥
+OfCheckCommand (Gen seed vars clauses) content P = ⊥
+OfCheckCommand (Demo seed count) content P = ⊥
 
 -- The command makes formulas from a seed, and has no input.
 abbrev pub IsSample : Command → Type 0
 IsSample (Solve budget restarts qdo name) = ⊥
 IsSample (Trace budget restarts name) = ⊥
 IsSample (Cert budget restarts binary trim name) = ⊥
+IsSample (Check budget restarts decide name) = ⊥
 IsSample (Script budget restarts name) = ⊥
 IsSample (Gen seed vars clauses) = ⊤
 IsSample (Demo seed count) = ⊤
@@ -74,6 +92,10 @@ Asked words content P = (c : Command) × Asks words c × OfFormula c content P
 -- The words ask for a script, and this is so of terms and text.
 abbrev pub AskedScript : List Text → (Text → Option Text) → (Terms → Text → Type 0) → Type 0
 AskedScript words content P = (c : Command) × Asks words c × OfScript c content P
+
+-- The words ask for a check of one formula's certificate, and this is so of it.
+abbrev pub AskedCheck : List Text → (Text → Option Text) → (Bool → Terms → Text → Type 0) → Type 0
+AskedCheck words content P = (c : Command) × Asks words c × OfCheckCommand c content P
 
 -- The words ask for a command that makes formulas from a seed.
 abbrev pub AskedSample : List Text → Type 0
@@ -92,6 +114,7 @@ abbrev pub SteadyFor : Command → (Text → Type 0) → Type 0
 SteadyFor (Solve budget restarts qdo name) steady = steady (input_of (Solve budget restarts qdo name))
 SteadyFor (Trace budget restarts name) steady = steady (input_of (Trace budget restarts name))
 SteadyFor (Cert budget restarts binary trim name) steady = steady (input_of (Cert budget restarts binary trim name))
+SteadyFor (Check budget restarts decide name) steady = steady (input_of (Check budget restarts decide name))
 SteadyFor (Script budget restarts name) steady = steady (input_of (Script budget restarts name))
 SteadyFor (Gen seed vars clauses) steady = ⊤
 SteadyFor (Demo seed count) steady = ⊤
@@ -108,6 +131,8 @@ RoomForCommand (Trace budget restarts name) known has_room = RoomForJob TraceJob
     has_room
 RoomForCommand (Cert budget restarts binary trim name) known has_room = RoomForJob (CertJob binary trim)
     (terms_of budget restarts) known has_room
+RoomForCommand (Check budget restarts decide name) known has_room =
+    RoomForCheck decide (terms_of budget restarts) known has_room
 RoomForCommand (Script budget restarts name) known has_room = RoomForReplies (terms_of budget restarts) known has_room
 RoomForCommand (Gen seed vars clauses) known has_room = has_room (length (formula_text (made seed vars clauses)))
 RoomForCommand (Demo seed count) known has_room = has_room (length (counts_text seed count))

@@ -1,14 +1,14 @@
 -- Valid inputs.
-use Rattle.std.specs.Prelude.{List, Option, IsSomeAnd, ⊤}
+use Rattle.std.specs.Prelude.{◌≡◌, ℕ, ◌⊎◌, List, [], ◌∷◌, Contains, Option, IsSomeAnd, ⊤}
 use Rattle.truth.specs.declared.formula.Formula.{Formula}
 use Rattle.qdimacs.specs.Rules.{parsed}
 use Rattle.qdimacs.specs.Reads.{Reads}
 use Rattle.qscript.specs.Reads.{done}
 use Rattle.command.specs.Forms.{Asks, Text}
 use Rattle.command.specs.declared.command.Command.{Command}
-use Rattle.command.specs.declared.command.Command.TheVariants.{Solve, Trace, Cert, Script, Gen, Demo}
-use Rattle.qbf_cli.specs.Asked.{input_of}
-use Rattle.qbf_cli.specs.Run.{EndsIn}
+use Rattle.command.specs.declared.command.Command.TheVariants.{Solve, Trace, Cert, Check, Script, Gen, Demo}
+use Rattle.qbf_cli.specs.Asked.{AskedCheck, input_of}
+use Rattle.qbf_cli.specs.Run.{EndsIn, IsLimitedCheck}
 
 -- The text is told, and is a formula.
 abbrev pub IsFormula : Option Text → Type 0
@@ -24,6 +24,8 @@ IsValidFor (Solve budget restarts qdo name) content = IsFormula (content (input_
 IsValidFor (Trace budget restarts name) content = IsFormula (content (input_of (Trace budget restarts name)))
 IsValidFor (Cert budget restarts binary trim name) content =
     IsFormula (content (input_of (Cert budget restarts binary trim name)))
+IsValidFor (Check budget restarts decide name) content =
+    IsFormula (content (input_of (Check budget restarts decide name)))
 IsValidFor (Script budget restarts name) content = IsScript (content (input_of (Script budget restarts name)))
 IsValidFor (Gen seed vars clauses) content = ⊤
 IsValidFor (Demo seed count) content = ⊤
@@ -33,3 +35,8 @@ pub record IsValid (words : List Text) (content : Text → Option Text) : Type 0
   pub command : Command
   pub asks : Asks words command
   pub valid : (c : Command) → Asks words c → IsValidFor c content
+
+-- The statuses of a valid input: those of answers, want of memory, and that of a check formula beyond a limit.
+abbrev pub IsComplete : (words : List Text) (content : Text → Option Text) → ℕ → Type 0
+IsComplete words content status =
+    Contains (10 ∷ 20 ∷ 0 ∷ 5 ∷ []) status ⊎ ((status ≡ 6) × AskedCheck words content IsLimitedCheck)

@@ -1,22 +1,26 @@
 -- What the exit status of a run says, and the line on the error output.
-use Rattle.std.specs.Prelude.{◌≡◌, ◌≢◌, ℕ, ◌+◌, ◌*◌, ◌<◌, Bool, true, false, ◌==◌, if◌then◌else◌, ◌⊎◌, List, [], ◌∷◌, ◌++◌, Contains, codes, Option, Some, IfSome, string_bytes}
+use Rattle.std.specs.Prelude.{◌≡◌, ◌≢◌, ℕ, ◌<◌, Bool, true, false, ◌==◌, if◌then◌else◌, ◌⊎◌, List, [], ◌∷◌, ◌++◌, Contains, codes, Option, Some, IfSome, string_bytes}
 use Rattle.std.specs.Fmt.{decimal}
 use Rattle.std.specs.Io.KnownBytes.{Appends, Keeps}
 use Rattle.ports.specs.Bytes.{AppendsFront}
 use Rattle.ports.specs.Causes.{Rose}
 use Rattle.command.specs.Forms.{Asks, HasNoForm, Text}
 use Rattle.command.specs.declared.command.Command.{Command}
-use Rattle.command.specs.declared.command.Command.TheVariants.{Solve, Trace, Cert, Script, Gen, Demo}
+use Rattle.command.specs.declared.command.Command.TheVariants.{Solve, Trace, Cert, Check, Script, Gen, Demo}
 use Rattle.calculus.specs.Limits.{propagation_limit}
 use Rattle.calculus.specs.Search.{IsRefuted}
 use Rattle.trail.specs.State.{Account}
 use Rattle.search.specs.Counting.{size_of}
+use Rattle.aig.specs.declared.strategy.Strategy.{Strategy}
+use Rattle.certcheck.specs.Building.{limit_of}
+use Rattle.session.specs.Checks.{HasCircuit, IsFinished, LeavesCheck, OfCheck, check_of}
+use Rattle.session.specs.Endings.{IsUnread}
 use Rattle.session.specs.Jobs.{LeavesOutput}
 use Rattle.session.specs.Scripts.{AreAnswered, IsScriptEnding}
 use Rattle.session.specs.Terms.{Terms, terms_of}
-use Rattle.session.specs.Solve.{HasAnswer, IsDone, IsEnding, OfAnswer, Solves}
+use Rattle.session.specs.Solve.{HasAnswer, IsDone, IsEnding, IsShort, OfAnswer, Solves}
 use Rattle.session.specs.declared.ending.Ending.{Ending}
-use Rattle.session.specs.declared.ending.Ending.TheVariants.{Done, Refused, Limit, ReadFault, WriteFault, NoMemory}
+use Rattle.session.specs.declared.ending.Ending.TheVariants.{Done, Refused, Limit, CheckLimit, ReadFault, WriteFault, NoMemory}
 use Rattle.session.specs.declared.ending.Job.{Job}
 use Rattle.session.specs.declared.ending.Job.TheVariants.{Trace as TraceJob, Cert as CertJob}
 use Rattle.steps.specs.Counter.{step_limit}
@@ -31,7 +35,7 @@ use Rattle.qscript.specs.Reads.{Ending as ScriptEnding, ReadsScript, done, limit
 use Rattle.generate.specs.Made.{made}
 use Rattle.qdimacs_out.specs.Texts.{formula_text}
 use Rattle.samples.specs.Samples.{LeavesText, counts_text}
-use Rattle.qbf_cli.specs.Asked.{Asked, AskedAny, AskedEither, known_for, solve_job}
+use Rattle.qbf_cli.specs.Asked.{Asked, AskedAny, AskedCheck, AskedEither, known_for, solve_job}
 use Rattle.qbf_cli.specs.declared.ending.RunEnding.{RunEnding}
 use Rattle.qbf_cli.specs.declared.ending.RunEnding.TheVariants.{Worked, Usage}
 
@@ -71,20 +75,37 @@ IsRefusedScript text = (number at : ℕ) × EndsIn text (script_refused number a
 abbrev pub IsLimitedScript : Text → Type 0
 IsLimitedScript text = (at : ℕ) × EndsIn text (script_limit at)
 
+-- The text is a formula, the check formula of its certificate is to be decided, and the budget is short for that.
+abbrev pub IsUndecidedCheck : Bool → Terms → Text → Type 0
+IsUndecidedCheck decide terms text = (f : Formula) × Reads text (parsed f) × (value : Bool)
+    × OfCheck terms f value (λ g. (decide ≡ true) × IsShort terms g)
+
+-- The text is a formula, and the check formula of its certificate goes beyond this limit.
+abbrev pub IsCheckBeyond : Quantity → Bool → Terms → Text → Type 0
+IsCheckBeyond quantity decide terms text = (f : Formula) × Reads text (parsed f) × (value : Bool)
+    × (circuit : Strategy) × HasCircuit terms f value circuit × (limit_of (check_of f circuit) ≡ Some quantity)
+
+-- The same of some limit.
+abbrev pub IsLimitedCheck : Bool → Terms → Text → Type 0
+IsLimitedCheck decide terms text = (quantity : Quantity) × IsCheckBeyond quantity decide terms text
+
 -- What the status says of the words and the input: a true formula, a false one, one for which the budget may be too
--- low, a script that ends well or no input at all, a malformed text, one beyond a limit, or words that ask for no
--- command.
+-- low, or too low for the check formula of its certificate, a script that ends well or no input at all, a malformed
+-- text, one beyond a limit, or one whose check formula is, or words that ask for no command.
 pub record IsVerdict (words : List Text) (content : Text → Option Text) (status : ℕ) : Type 0 where
   pub sat : status ≡ 10 → Asked words content (λ terms text. HasTruth text true)
   pub unsat : status ≡ 20 → Asked words content (λ terms text. HasTruth text false)
   pub unknown : status ≡ 0 → AskedAny words content IsBeyond (λ terms text. EndsIn text done)
+      ⊎ AskedCheck words content IsUndecidedCheck
   pub slow : status ≡ 0 → AskedAny words content IsSlow (λ terms text. EndsIn text done)
+      ⊎ AskedCheck words content IsUndecidedCheck
   pub solved : HasAnswer status → AskedAny words content (λ terms text. OfAnswer status (Solves terms text))
       (λ terms text. (status ≡ 0) × EndsIn text done)
+      ⊎ ((status ≡ 0) × AskedCheck words content IsUndecidedCheck)
   pub refused : status ≡ 2 → AskedEither words content (λ terms text. IsRefused text)
       (λ terms text. IsRefusedScript text)
   pub limit : status ≡ 6 → AskedEither words content (λ terms text. IsLimited text)
-      (λ terms text. IsLimitedScript text)
+      (λ terms text. IsLimitedScript text) ⊎ AskedCheck words content IsLimitedCheck
   pub usage : status ≡ 7 → HasNoForm words
   pub unasked : HasNoForm words → Contains (5 ∷ 7 ∷ []) status
 
@@ -96,6 +117,7 @@ status_of (Worked ReadFault) = 3
 status_of (Worked WriteFault) = 4
 status_of (Worked NoMemory) = 5
 status_of (Worked (Limit quantity line)) = 6
+status_of (Worked (CheckLimit quantity)) = 6
 status_of (Usage text) = 7
 
 -- the name of what there may be only so many of
@@ -116,6 +138,9 @@ refused_line number at = placed_line at (codes ": refused ") (decimal number)
 abbrev pub limit_line : Quantity → ℕ → Text
 limit_line quantity at = placed_line at (codes ": limit ") (quantity_name quantity)
 
+abbrev pub check_limit_line : Quantity → Text
+check_limit_line quantity = codes "qbf: limit " ++ (quantity_name quantity ++ codes "\n")
+
 -- the line on the error output of an ending
 abbrev pub line_of : RunEnding → Text
 line_of (Worked (Done status)) = []
@@ -124,6 +149,7 @@ line_of (Worked ReadFault) = codes "qbf: read fault\n"
 line_of (Worked WriteFault) = codes "qbf: write fault\n"
 line_of (Worked NoMemory) = codes "qbf: no memory\n"
 line_of (Worked (Limit quantity at)) = limit_line quantity at
+line_of (Worked (CheckLimit quantity)) = check_limit_line quantity
 line_of (Usage text) = string_bytes text
 
 -- the line on the error output where the status alone says it
@@ -134,15 +160,24 @@ fixed_line status =
     else if status == 5 then codes "qbf: no memory\n"
     else []
 
--- The line on the error output: with what the text says where it is malformed or goes beyond a limit, and any text
--- where the words ask for no command.
+-- It tells a limit of the input, with its line.
+abbrev pub IsInputLimit : (words : List Text) (content : Text → Option Text) (line : Text) → Type 0
+IsInputLimit words content line = (quantity : Quantity) × (at : ℕ) × (line ≡ limit_line quantity at)
+    × AskedEither words content (λ terms text. Reads text (limit quantity at))
+    (λ terms text. (quantity ≡ Bytes) × EndsIn text (script_limit at))
+
+-- It tells a limit of the check formula.
+abbrev pub IsCheckLimit : (words : List Text) (content : Text → Option Text) (line : Text) → Type 0
+IsCheckLimit words content line =
+    (quantity : Quantity) × (line ≡ check_limit_line quantity) × AskedCheck words content (IsCheckBeyond quantity)
+
+-- The line on the error output: with what the text says where it is malformed or goes beyond a limit, or its check
+-- formula does, and any text where the words ask for no command.
 pub record IsErrorLine (words : List Text) (content : Text → Option Text) (status : ℕ) (line : Text) : Type 0 where
   pub refused : status ≡ 2 → (number at : ℕ) × (line ≡ refused_line number at)
       × AskedEither words content (λ terms text. Reads text (refused number at))
       (λ terms text. EndsIn text (script_refused number at))
-  pub limit : status ≡ 6 → (quantity : Quantity) × (at : ℕ) × (line ≡ limit_line quantity at)
-      × AskedEither words content (λ terms text. Reads text (limit quantity at))
-      (λ terms text. (quantity ≡ Bytes) × EndsIn text (script_limit at))
+  pub limit : status ≡ 6 → IsInputLimit words content line ⊎ IsCheckLimit words content line
   pub other : status ≢ 2 → status ≢ 6 → status ≢ 7 → line ≡ fixed_line status
 
 -- What stands on the error output: a front of the line, and all of it where no fault was counted.
@@ -161,6 +196,13 @@ pub record IsSolved (job : Job) (terms : Terms) (known left : Option Text) (outp
   pub status : (s : ℕ) → e ≡ Done s → HasAnswer s
   pub read : IsDone e → IfSome known (λ text. left ≡ Some [])
   pub output_of : LeavesOutput job terms known output told e
+
+-- What is known of the check of a certificate of the formula that an input holds.
+pub record IsCheckWork (decide : Bool) (terms : Terms) (known left : Option Text) (output : Option Text × Option Text)
+    (told : List Account × List Account) (e : Ending) : Type 0 where
+  pub unread : IsUnread e → IfSome known (λ text. IsEnding terms text e)
+  pub read : IsFinished e → IfSome known (λ text. left ≡ Some [])
+  pub output_of : LeavesCheck decide terms known output told e
 
 -- What is known of the work on a script that an input holds.
 pub record IsReplied (terms : Terms) (known left : Option Text) (output : Option Text × Option Text)
@@ -185,6 +227,8 @@ IsWorkOf (Trace budget restarts name) known left output told e = IsSolved TraceJ
     left output told e
 IsWorkOf (Cert budget restarts binary trim name) known left output told e = IsSolved (CertJob binary trim)
     (terms_of budget restarts) known left output told e
+IsWorkOf (Check budget restarts decide name) known left output told e =
+    IsCheckWork decide (terms_of budget restarts) known left output told e
 IsWorkOf (Script budget restarts name) known left output told e = IsReplied (terms_of budget restarts) known left
     output told e
 IsWorkOf (Gen seed vars clauses) known left output told e = IsMade (formula_text (made seed vars clauses)) output told e

@@ -1,16 +1,21 @@
 -- What a run writes, and what it tells of searches that stopped.
-use Rattle.std.specs.Prelude.{◌≡◌, ◌≢◌, ◌⊎◌, ℕ, List, [], ◌∷◌, Contains, Option, IfSome}
+use Rattle.std.specs.Prelude.{◌≡◌, ◌≢◌, ◌⊎◌, ℕ, Bool, List, [], ◌∷◌, Contains, Option, IfSome}
 use Rattle.std.specs.Io.KnownBytes.{Appends, Keeps}
 use Rattle.ports.specs.Bytes.{AppendsFront}
 use Rattle.trail.specs.State.{Account}
 use Rattle.command.specs.Forms.{Asks, Text}
 use Rattle.command.specs.declared.command.Command.{Command}
-use Rattle.command.specs.declared.command.Command.TheVariants.{Solve, Trace, Cert, Script, Gen, Demo}
+use Rattle.command.specs.declared.command.Command.TheVariants.{Solve, Trace, Cert, Check, Script, Gen, Demo}
 use Rattle.qscript.specs.declared.command.Command.{Command as ScriptCommand}
 use Rattle.qscript.specs.Reads.{Ending as ScriptEnding, ReadsScript}
 use Rattle.session.specs.declared.answer.Answer.{Answer}
 use Rattle.session.specs.Replies.{Leads, Output}
 use Rattle.session.specs.Scripts.{AreFirst}
+use Rattle.qdimacs.specs.declared.refusal.Quantity.{Quantity}
+use Rattle.session.specs.declared.check.Outcome.{Outcome}
+use Rattle.session.specs.declared.check.Outcome.TheVariants.{Beyond}
+use Rattle.session.specs.declared.ending.Ending.TheVariants.{Done}
+use Rattle.session.specs.Checks.{IsCheckOn, check_ending}
 use Rattle.session.specs.Jobs.{IsReplyOn}
 use Rattle.session.specs.Solve.{HasAnswer, OfAnswer}
 use Rattle.session.specs.Standing.{Standing, start}
@@ -32,6 +37,18 @@ pub record IsJobOutput (job : Job) (terms : Terms) (known : Option Text) (writte
   pub front : status ≡ 4 → (answer : Answer) × (text : Text) × IsReplyOn job terms known ([], stops) answer text
       × AppendsFront written.0 written.1 text
   pub nothing : Contains (2 ∷ 3 ∷ 5 ∷ 6 ∷ []) status → Keeps written.0 written.1 × (stops ≡ [])
+
+-- What a check of a certificate leaves on the output and tells: its text where it comes to an answer, or to a limit of
+-- the check formula, a front of one after a write fault, and else nothing.
+pub record IsCheckOutput (decide : Bool) (terms : Terms) (known : Option Text) (written : Option Text × Option Text)
+    (stops : List Account) (status : ℕ) : Type 0 where
+  pub reply : HasAnswer status → (outcome : Outcome) × (text : Text) × (check_ending outcome ≡ Done status)
+      × IsCheckOn decide terms known ([], stops) outcome text × Appends written.0 written.1 text
+  pub limit : status ≡ 6 → (Keeps written.0 written.1 × (stops ≡ [])) ⊎ ((quantity : Quantity) × (text : Text)
+      × IsCheckOn decide terms known ([], stops) (Beyond quantity) text × Appends written.0 written.1 text)
+  pub front : status ≡ 4 → (outcome : Outcome) × (text : Text)
+      × IsCheckOn decide terms known ([], stops) outcome text × AppendsFront written.0 written.1 text
+  pub nothing : Contains (2 ∷ 3 ∷ 5 ∷ []) status → Keeps written.0 written.1 × (stops ≡ [])
 
 -- What a script leaves on the output: allowed replies to commands, all of them, or after a write fault a front of them.
 -- The commands are the first of the text's script, if the text is told, and all of them where it was read to its
@@ -68,6 +85,8 @@ IsOutputOf (Trace budget restarts name) known written stops status = IsJobOutput
     known written stops status
 IsOutputOf (Cert budget restarts binary trim name) known written stops status =
     IsJobOutput (CertJob binary trim) (terms_of budget restarts) known written stops status
+IsOutputOf (Check budget restarts decide name) known written stops status =
+    IsCheckOutput decide (terms_of budget restarts) known written stops status
 IsOutputOf (Script budget restarts name) known written stops status = IsScriptOutput (terms_of budget restarts) known
     written stops status
 IsOutputOf (Gen seed vars clauses) known written stops status =

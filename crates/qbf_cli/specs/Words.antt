@@ -2,7 +2,7 @@
 use Rattle.std.specs.Prelude.{◌≡◌, ◌≢◌, codes, string_bytes}
 use Rattle.std.specs.declared.io.ErrorKind.{ErrorKind}
 use Rattle.std.specs.declared.io.ErrorKind.TheVariants.{OutOfMemory}
-use Rattle.session.specs.declared.ending.Ending.TheVariants.{Done, Refused, Limit, ReadFault, WriteFault, NoMemory}
+use Rattle.session.specs.declared.ending.Ending.TheVariants.{Done, Refused, Limit, CheckLimit, ReadFault, WriteFault, NoMemory}
 use Rattle.qbf_cli.specs.declared.ending.RunEnding.{RunEnding}
 use Rattle.qbf_cli.specs.declared.ending.RunEnding.TheVariants.{Worked, Usage}
 
@@ -14,5 +14,6 @@ IsRefusal kind (Worked NoMemory) = Unit {0}
 IsRefusal kind (Worked (Done status)) = ⊥
 IsRefusal kind (Worked (Refused number line)) = ⊥
 IsRefusal kind (Worked (Limit quantity line)) = ⊥
+IsRefusal kind (Worked (CheckLimit quantity)) = ⊥
 IsRefusal kind (Worked ReadFault) = ⊥
 IsRefusal kind (Worked WriteFault) = ⊥

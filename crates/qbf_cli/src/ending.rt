@@ -4,7 +4,7 @@ ghost use Rattle.std.specs.Io.KnownBytes.{Appends};
 ghost use Rattle.ports.specs.Bytes.{AppendsFront};
 ghost use Rattle.ports.specs.Causes.{HasCause};
 ghost use Rattle.std.specs.Fmt.{decimal};
-ghost use Rattle.qbf_cli.specs.Run.{status_of, line_of, quantity_name as name_of_quantity, placed_line};
+ghost use Rattle.qbf_cli.specs.Run.{check_limit_line as line_of_check_limit, status_of, line_of, quantity_name as name_of_quantity, placed_line};
 
 use ports::{Failed, Sink, write_all};
 use qdimacs::Quantity;
@@ -31,6 +31,7 @@ impl RunEnding {
             Self::Worked(Ending::WriteFault) => 4,
             Self::Worked(Ending::NoMemory) => 5,
             Self::Worked(Ending::Limit { .. }) => 6,
+            Self::Worked(Ending::CheckLimit { .. }) => 6,
             Self::Usage(_) => 7,
         }
     }
@@ -49,6 +50,9 @@ impl RunEnding {
             }
             Self::Worked(Ending::Limit { quantity, line }) => {
                 write_placed(err, *line, ": limit ", quantity_name(quantity))
+            }
+            Self::Worked(Ending::CheckLimit { quantity }) => {
+                write_all(err, check_limit_line(quantity).as_bytes())
             }
             Self::Worked(Ending::ReadFault) => write_all(err, b"qbf: read fault\n"),
             Self::Worked(Ending::WriteFault) => write_all(err, b"qbf: write fault\n"),
@@ -70,6 +74,19 @@ fn write_placed<E: Sink>(err: &mut E, line: u32, what: &str, which: &str) -> Res
     write_all(err, what.as_bytes())?;
     write_all(err, which.as_bytes())?;
     write_all(err, b"\n")
+}
+
+// What is written where the check formula goes beyond a limit.
+fn check_limit_line(quantity: &Quantity) -> &'static str
+    ensures { result.now ≡ line_of_check_limit quantity.now }
+{
+    match quantity {
+        Quantity::Variables => "qbf: limit variables\n",
+        Quantity::Scopes => "qbf: limit scopes\n",
+        Quantity::Clauses => "qbf: limit clauses\n",
+        Quantity::Literals => "qbf: limit literals\n",
+        Quantity::Bytes => "qbf: limit bytes\n",
+    }
 }
 
 // The name of what there may be only so many of.

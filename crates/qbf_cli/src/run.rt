@@ -4,13 +4,14 @@ ghost use Rattle.std.specs.Io.KnownBytes.{Appends};
 ghost use Rattle.ports.specs.Bytes.{AllFlushed, AppendsFront};
 ghost use Rattle.ports.specs.Causes.{IsCounted, Rose};
 ghost use Rattle.command.specs.Forms.{Asks, Text};
+ghost use Rattle.session.specs.Checks.{RoomForCheck};
 ghost use Rattle.session.specs.Jobs.{RoomForJob};
 ghost use Rattle.session.specs.Scripts.{RoomForReplies};
 ghost use Rattle.session.specs.Solve.{HasAnswer, IsDone};
 ghost use Rattle.session.specs.Terms.{terms_of};
 ghost use Rattle.qbf_cli.specs.Asked.{AskedAny, RoomForCommand, RoomForOutput, SteadyFor, SteadyForInput, input_name as name_of_input, known_for, solve_job};
-ghost use Rattle.qbf_cli.specs.Complete.{IsValid};
-ghost use Rattle.qbf_cli.specs.Run.{Carried, IsAnswered, IsErrorOutput, IsReplied, IsSolved, IsVerdict, IsWorkOf, line_of, status_of};
+ghost use Rattle.qbf_cli.specs.Complete.{IsComplete, IsValid};
+ghost use Rattle.qbf_cli.specs.Run.{Carried, IsAnswered, IsCheckWork, IsErrorOutput, IsReplied, IsSolved, IsVerdict, IsWorkOf, line_of, status_of};
 ghost use Rattle.qbf_cli.specs.Told.{IsOutput};
 
 use super::ending::RunEnding;
@@ -19,7 +20,7 @@ use ports::{Desk, Sink};
 use qdimacs::each_text_has_one_outcome;
 use qscript::each_script_has_one_reading;
 use samples::{count_samples, write_sample};
-use session::{Ending, Job, run_file, run_script};
+use session::{Ending, Job, run_check, run_file, run_script};
 use std::alloc::Global;
 use trail::Stopped;
 
@@ -32,17 +33,20 @@ use trail::Stopped;
 /// - `cert [--budget N] [--restarts R] [--binary] [--trim] [NAME]` writes there the circuit by which the verdict's winner
 ///   wins (AIGER 1.9): in ASCII, or with `--binary` in the binary form; with `--trim` without the gates that no output
 ///   is reached from. `UNKNOWN` stays a line of text.
+/// - `check [--budget N] [--restarts R] [--decide] [NAME]` writes there the formula that says that this circuit loses,
+///   as QDIMACS, which is unsatisfiable; with `--decide` it decides that formula, with a budget of its own, and writes
+///   `WINS`, or `UNDECIDED` with status 0 where that budget was spent.
 /// - `script [--budget N] [--restarts R] [NAME]` replies on `out` to the commands of that input, each of its solves
 ///   with a budget of N steps and R restarts.
 /// - `gen SEED VARS CLAUSES` writes a formula that is made from a seed, and `demo SEED COUNT` how many of so many of
 ///   these are true and false.
 ///
-/// What else happens is said on `err`. With each `UNKNOWN` what the search that stopped tells is put into `stops`,
-/// which is empty at first.
+/// What else happens is said on `err`. With each `UNKNOWN` and `UNDECIDED` what the search that stopped tells is put
+/// into `stops`, which is empty at first.
 ///
 /// Answers the exit status: 10 for a true formula, 20 for a false one, and 0 where the budget was spent; 0 too where a
 /// script ends well, and of `gen` and `demo`; 2 where the input is malformed and 6 where it goes beyond a limit, each
-/// with its line; 3 for a read fault; 4 for a write fault of `out`; 5 for want of memory, which may come at any time; 7
+/// with its line; 6 too where the check formula goes beyond one, and then the circuit is written in its place; 3 for a read fault; 4 for a write fault of `out`; 5 for want of memory, which may come at any time; 7
 /// for other words. The first of these events decides. A failing `err` changes none.
 pub fn run<D: Desk, O: Sink, E: Sink>(
     alloc: Global,
@@ -68,10 +72,10 @@ pub fn run<D: Desk, O: Sink, E: Sink>(
     ensures steady { SteadyForInput (map string_bytes words.now) (D.steady desk.old) → result ≢ 3 }
     ensures room { RoomForOutput (map string_bytes words.now) (D.content desk.old) (O.has_room out.old) → result ≢ 4 }
 
-    // a valid input is answered, where no fault comes and there is memory
+    // a valid input is answered, or its check formula goes beyond a limit, where no fault comes and there is memory
     ensures complete { IsValid (map string_bytes words.now) (D.content desk.old)
         → ¬ Rose (D.faults desk.old) (D.faults desk.new) → ¬ Rose (O.faults out.old) (O.faults out.new)
-        → Contains (10 ∷ 20 ∷ 0 ∷ 5 ∷ []) result }
+        → IsComplete (map string_bytes words.now) (D.content desk.old) result }
 
     // what stands on the output, with what is told of searches that stopped: an entry for each UNKNOWN; and that all of
     // it is flushed where there is an answer
@@ -173,6 +177,12 @@ fn carry_out<D: Desk, O: Sink>(
             out,
             stops,
         ),
+        Command::Check {
+            budget,
+            restarts,
+            decide,
+            name,
+        } => check(alloc, budget, restarts, decide, name, desk, out, stops),
         Command::Script {
             budget,
             restarts,
@@ -221,6 +231,35 @@ fn work<D: Desk, O: Sink>(
         return Ending::ReadFault;
     }
     run_file(alloc, job, budget, restarts, desk, out, stops)
+}
+
+// Checks the certificate of the formula of an input.
+fn check<D: Desk, O: Sink>(
+    alloc: Global,
+    budget: u64,
+    restarts: u32,
+    decide: bool,
+    name: Option<&str>,
+    desk: &mut D,
+    out: &mut O,
+    stops: &mut Vec<Stopped>,
+) -> Ending
+    ensures checked { IsCheckWork decide (terms_of budget restarts)
+        (D.content desk.old (name_of_input (option_map (λ s. s.now) name.entry)))
+        (D.left desk.new) (O.written out.old, O.written out.new) (stops.old.items, stops.new.items) result }
+    ensures read_fault { IsCounted (result ≡ Ending.ReadFault) (IsDone result) (D.faults desk.old) (D.faults desk.new) }
+    ensures write_fault { IsCounted (result ≡ Ending.WriteFault) (IsDone result) (O.faults out.old) (O.faults out.new) }
+    ensures steady { D.steady desk.old (name_of_input (option_map (λ s. s.now) name.entry))
+        → result ≢ Ending.ReadFault }
+    ensures room { RoomForCheck decide (terms_of budget restarts)
+        (D.content desk.old (name_of_input (option_map (λ s. s.now) name.entry)))
+        (O.has_room out.old) → result ≢ Ending.WriteFault }
+    ensures flushed { IsDone result → AllFlushed (O.written out.new) (O.flushed out.old) (O.flushed out.new) }
+{
+    if desk.choose(input_name(name)).is_err() {
+        return Ending::ReadFault;
+    }
+    run_check(alloc, budget, restarts, decide, desk, out, stops)
 }
 
 // Replies to the script of an input.

@@ -1,8 +1,13 @@
 //! Runs of the whole program in memory.
 ghost use Rattle.std.specs.Prelude.{◌<◌};
 
+mod calls;
+mod check;
+mod devices;
 mod jobs;
+mod limits;
 mod made;
+mod malformed;
 mod pigeons;
 mod restarts;
 mod scripts;
@@ -147,154 +152,6 @@ fn lessons_settle_forty_variables_within_a_thousand_steps(rt: HostRuntime) -> Re
     assert!(rt; ends_with(alloc, &within, refuted.as_bytes(), 20, "UNSAT\n", "")?);
     let satisfied = satisfied_behind_forty(alloc)?;
     assert!(rt; ends_with(alloc, &within, satisfied.as_bytes(), 10, "SAT\n", "")?);
-    Ok(())
-}
-
-#[test]
-fn malformed_texts_are_refused_with_line_and_number(rt: HostRuntime) -> Result<(), Fail> {
-    let alloc = rt.alloc();
-    for (text, line, number) in [
-        ("", 1, 10),
-        ("cnf 1 0\n", 2, 10),
-        ("\nq cnf 1 0\n", 2, 10),
-        ("p cnf 1\n", 1, 11),
-        ("p dnf 1 0\n", 1, 11),
-        ("p cnf -1 0\n", 1, 11),
-        ("p cnf 1 0 0\n", 1, 11),
-        ("p\ncnf 1 0\n", 1, 11),
-        ("p cnf 1 1\n2 0\n", 2, 12),
-        ("p cnf 1 1\n-9223372036854775807 0\n", 2, 12),
-        ("p cnf 1 1\ne -1 0\n", 2, 12),
-        ("p cnf 1 1\ne 2 0\n", 2, 12),
-        ("p cnf 1 0\ne 1 0\na 1 0\n", 3, 13),
-        ("p cnf 2 1\ne 1\n1 0\n", 3, 13),
-        ("p cnf 1 1\n1 0\ne 1 0\n", 3, 14),
-        ("p cnf 1 1\n1", 2, 15),
-        ("p cnf 2 1\ne 1 a 2 0\n", 2, 15),
-        ("p cnf 1 1\n1 e 0\n", 2, 15),
-        ("p cnf 1 0\ne 1\n", 3, 15),
-        ("p cnf 1 2\n1 0\n", 3, 16),
-        ("p cnf 1 1\n1 0\n1 0\n", 3, 17),
-        ("p cnf 1 1\nx 0\n", 2, 18),
-        ("p cnf 1 1\n1 -0\n", 2, 18),
-        ("p cnf 1 1\n1 aVeryLongWordOfLetters 0\n", 2, 18),
-        ("p cnf 9223372036854775808 0\n", 1, 8),
-        ("p cnf 1 1\n99999999999999999999 0\n", 2, 8),
-        ("p cnf 1 1\n\u{e9} 0\n", 2, 7),
-        ("c a comment hides no line\np cnf 1 1\nc x\n2 0\n", 4, 12),
-    ] {
-        let want = format!(in alloc; "qbf: line {line}: refused {number}\n")?;
-        assert!(rt;
-            ends(alloc, text.as_bytes(), 2, "", want.as_str())?,
-            "{text:?}"
-        );
-    }
-    let packed = [31, 139, 8, 0];
-    assert!(rt; ends(alloc, &packed, 2, "", "qbf: line 1: refused 7\n")?);
-    Ok(())
-}
-
-#[test]
-fn texts_beyond_a_limit_are_told_with_line_and_quantity(rt: HostRuntime) -> Result<(), Fail> {
-    let alloc = rt.alloc();
-    for (text, want) in [
-        ("p cnf 1048577 0\n", "qbf: line 1: limit variables\n"),
-        ("c\np cnf 1 16777217\n", "qbf: line 2: limit clauses\n"),
-    ] {
-        assert!(rt; ends(alloc, text.as_bytes(), 6, "", want)?, "{text:?}");
-    }
-    // The 65,536th scope is read up to the end, and the next one is too many.
-    let mut text = String::from_str(alloc, "p cnf 65537 0")?;
-    for v in 1..65_536 {
-        let quant = if v % 2 == 0 { 'a' } else { 'e' };
-        write!(text, "\n{quant} {v} 0")?;
-    }
-    text.push_str("\na 65536")?;
-    assert!(rt;
-        ends(
-            alloc,
-            text.as_bytes(),
-            2,
-            "",
-            "qbf: line 65537: refused 15\n"
-        )?
-    );
-    text.push_str(" 0\ne 65537 0\n")?;
-    assert!(rt;
-        ends(
-            alloc,
-            text.as_bytes(),
-            6,
-            "",
-            "qbf: line 65538: limit scopes\n"
-        )?
-    );
-    Ok(())
-}
-
-#[test]
-fn a_failing_output_ends_with_a_front_of_the_answer(rt: HostRuntime) -> Result<(), Fail> {
-    let alloc = rt.alloc();
-    let solve = words(alloc, &["qbf", "solve"])?;
-    // The four bytes of the answer, one by one, and the flush.
-    for failing in 1..6 {
-        let mut desk = desk(alloc, DIFFERS.as_bytes(), 100, Vec::new(alloc))?;
-        let mut out = MemorySink::new(alloc, 64, 1, vec![in alloc; failing]?)?;
-        let mut err = MemorySink::new(alloc, 64, 64, Vec::new(alloc))?;
-        let mut stops = Vec::new(alloc);
-        assert_eq!(rt;
-            run(alloc, &solve, &mut desk, &mut out, &mut err, &mut stops),
-            4
-        );
-        let want: &[u8] = match failing {
-            1 => b"",
-            2 => b"S",
-            3 => b"SA",
-            4 => b"SAT",
-            _ => b"SAT\n",
-        };
-        assert_eq!(rt; out.bytes(), want);
-        assert_eq!(rt; err.bytes(), b"qbf: write fault\n".as_slice());
-    }
-    Ok(())
-}
-
-#[test]
-fn a_failing_input_ends_with_nothing_written(rt: HostRuntime) -> Result<(), Fail> {
-    let alloc = rt.alloc();
-    let solve = words(alloc, &["qbf", "solve"])?;
-    // The choice, the 36 bytes one by one, and the end.
-    for failing in 1..39 {
-        let mut desk = desk(alloc, DIFFERS.as_bytes(), 1, vec![in alloc; failing]?)?;
-        let mut out = MemorySink::new(alloc, 64, 64, Vec::new(alloc))?;
-        let mut err = MemorySink::new(alloc, 64, 64, Vec::new(alloc))?;
-        let mut stops = Vec::new(alloc);
-        assert_eq!(rt;
-            run(alloc, &solve, &mut desk, &mut out, &mut err, &mut stops),
-            3,
-            "{failing}"
-        );
-        assert_eq!(rt; out.bytes(), b"".as_slice());
-        assert_eq!(rt; err.bytes(), b"qbf: read fault\n".as_slice());
-    }
-    Ok(())
-}
-
-#[test]
-fn a_failing_error_output_changes_no_status(rt: HostRuntime) -> Result<(), Fail> {
-    let alloc = rt.alloc();
-    let solve = words(alloc, &["qbf", "solve"])?;
-    for failing in 1..30 {
-        let mut desk = desk(alloc, b"p cnf 1 2\n1 0\n", 100, Vec::new(alloc))?;
-        let mut out = MemorySink::new(alloc, 64, 64, Vec::new(alloc))?;
-        let mut err = MemorySink::new(alloc, 64, 1, vec![in alloc; failing]?)?;
-        let mut stops = Vec::new(alloc);
-        assert_eq!(rt;
-            run(alloc, &solve, &mut desk, &mut out, &mut err, &mut stops),
-            2
-        );
-        assert!(rt; b"qbf: line 3: refused 16\n".starts_with(err.bytes()));
-    }
     Ok(())
 }
 

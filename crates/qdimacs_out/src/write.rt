@@ -8,9 +8,11 @@ ghost use Rattle.ports.specs.Causes.{HasCause};
 ghost use Rattle.qdimacs_out.specs.Pieces.{clause_text, closing, scope_text, spaced};
 ghost use Rattle.qdimacs_out.specs.Texts.{formula_text, header_line, line_text, literal_word, quantifier_word};
 ghost use Rattle.ports.specs.Writing.{Writes};
+ghost use Rattle.blocks.specs.Held.{Puts};
 
 use crate::words::{self, Words};
-use ports::{Failed, Sink, write_all};
+use blocks::Block;
+use ports::{Failed, Sink};
 use prefix::{Lit, LitList, Prefix, Quant, Var};
 use truth::Formula;
 
@@ -29,109 +31,124 @@ pub fn write_formula<S: Sink>(f: &Formula, sink: &mut S) -> Result<(), Failed>
     put_formula(f, sink)
 }
 
-// Writes the lines of a formula.
+// Writes a formula, in blocks.
 fn put_formula<S: Sink>(f: &Formula, sink: &mut S) -> Result<(), Failed>
     ensures { Writes S.written S.flushed S.faults S.has_room sink.old sink.new (formula_text f.now) result }
 {
-    put_words(&words::header(f.declared_vars, f.declared_clauses), sink)?;
-    put_scopes(&f.prefix, sink)?;
-    put_clauses(f.clauses.clauses(), sink)
+    let mut block = Block::new();
+    put_parts(f, &mut block, sink)?;
+    block.finish(sink)
 }
 
-// Writes the lines of the scopes.
-fn put_scopes<S: Sink>(prefix: &Prefix, sink: &mut S) -> Result<(), Failed>
-    ensures { Writes S.written S.flushed S.faults S.has_room sink.old sink.new
+// Puts the parts of a formula's text: the header, the scopes and the clauses.
+fn put_parts<S: Sink>(f: &Formula, block: &mut Block, sink: &mut S) -> Result<(), Failed>
+    ensures { Puts S.written S.flushed S.faults S.has_room sink.old block.old sink.new block.new
+        (formula_text f.now) result }
+{
+    put_words(
+        &words::header(f.declared_vars, f.declared_clauses),
+        block,
+        sink,
+    )?;
+    put_scopes(&f.prefix, block, sink)?;
+    put_clauses(f.clauses.clauses(), block, sink)
+}
+
+// Puts the lines of the scopes.
+fn put_scopes<S: Sink>(prefix: &Prefix, block: &mut Block, sink: &mut S) -> Result<(), Failed>
+    ensures { Puts S.written S.flushed S.faults S.has_room sink.old block.old sink.new block.new
         (flat_map scope_text prefix.now) result }
 {
     for s in 0..prefix.scopes() {
         put_scope(
             prefix.scope_quant(s + 1).unwrap(),
             prefix.vars_of(s + 1),
+            block,
             sink,
         )?;
     }
     Ok(())
 }
 
-// Writes the line of a scope.
-fn put_scope<S: Sink>(quant: Quant, vars: &[Var], sink: &mut S) -> Result<(), Failed>
-    ensures { Writes S.written S.flushed S.faults S.has_room sink.old sink.new
+// Puts the line of a scope.
+fn put_scope<S: Sink>(
+    quant: Quant,
+    vars: &[Var],
+    block: &mut Block,
+    sink: &mut S,
+) -> Result<(), Failed>
+    ensures { Puts S.written S.flushed S.faults S.has_room sink.old block.old sink.new block.new
         (scope_text (record { quantifier = quant; variables = vars.now })) result }
 {
-    put_quantifier(quant, sink)?;
-    put_variables(vars, sink)?;
-    put_end(sink)
+    put_quantifier(quant, block, sink)?;
+    put_variables(vars, block, sink)?;
+    put_end(block, sink)
 }
 
-// Writes the letter of a quantifier, and a blank.
-fn put_quantifier<S: Sink>(quant: Quant, sink: &mut S) -> Result<(), Failed>
-    ensures { Writes S.written S.flushed S.faults S.has_room sink.old sink.new
+// Puts the letter of a quantifier, and a blank.
+fn put_quantifier<S: Sink>(quant: Quant, block: &mut Block, sink: &mut S) -> Result<(), Failed>
+    ensures { Puts S.written S.flushed S.faults S.has_room sink.old block.old sink.new block.new
         (spaced (quantifier_word quant)) result }
 {
     match quant {
-        Quant::Exists => put(b"e ", sink),
-        Quant::Forall => put(b"a ", sink),
+        Quant::Exists => block.put(b"e ", sink),
+        Quant::Forall => block.put(b"a ", sink),
     }
 }
 
-// Writes the numbers of variables, each with a blank.
-fn put_variables<S: Sink>(vars: &[Var], sink: &mut S) -> Result<(), Failed>
-    ensures { Writes S.written S.flushed S.faults S.has_room sink.old sink.new
+// Puts the numbers of variables, each with a blank.
+fn put_variables<S: Sink>(vars: &[Var], block: &mut Block, sink: &mut S) -> Result<(), Failed>
+    ensures { Puts S.written S.flushed S.faults S.has_room sink.old block.old sink.new block.new
         (flat_map (λ v. spaced (decimal v)) vars.now) result }
 {
     for v in vars {
-        put_words(&words::variable(*v), sink)?;
+        put_words(&words::variable(*v), block, sink)?;
     }
     Ok(())
 }
 
-// Writes the lines of clauses.
-fn put_clauses<S: Sink>(clauses: &[LitList], sink: &mut S) -> Result<(), Failed>
-    ensures { Writes S.written S.flushed S.faults S.has_room sink.old sink.new
+// Puts the lines of clauses.
+fn put_clauses<S: Sink>(clauses: &[LitList], block: &mut Block, sink: &mut S) -> Result<(), Failed>
+    ensures { Puts S.written S.flushed S.faults S.has_room sink.old block.old sink.new block.new
         (flat_map clause_text clauses.now) result }
 {
     for clause in clauses {
-        put_clause(clause.lits(), sink)?;
+        put_clause(clause.lits(), block, sink)?;
     }
     Ok(())
 }
 
-// Writes the line of a clause.
-fn put_clause<S: Sink>(lits: &[Lit], sink: &mut S) -> Result<(), Failed>
-    ensures { Writes S.written S.flushed S.faults S.has_room sink.old sink.new (clause_text lits.now) result }
+// Puts the line of a clause.
+fn put_clause<S: Sink>(lits: &[Lit], block: &mut Block, sink: &mut S) -> Result<(), Failed>
+    ensures { Puts S.written S.flushed S.faults S.has_room sink.old block.old sink.new block.new
+        (clause_text lits.now) result }
 {
-    put_literals(lits, sink)?;
-    put_end(sink)
+    put_literals(lits, block, sink)?;
+    put_end(block, sink)
 }
 
-// Writes the numbers of literals, each with a blank.
-fn put_literals<S: Sink>(lits: &[Lit], sink: &mut S) -> Result<(), Failed>
-    ensures { Writes S.written S.flushed S.faults S.has_room sink.old sink.new
+// Puts the numbers of literals, each with a blank.
+fn put_literals<S: Sink>(lits: &[Lit], block: &mut Block, sink: &mut S) -> Result<(), Failed>
+    ensures { Puts S.written S.flushed S.faults S.has_room sink.old block.old sink.new block.new
         (flat_map (λ l. spaced (literal_word l)) lits.now) result }
 {
     for lit in lits {
-        put_words(&words::literal(*lit), sink)?;
+        put_words(&words::literal(*lit), block, sink)?;
     }
     Ok(())
 }
 
-// Writes what ends a scope or a clause.
-fn put_end<S: Sink>(sink: &mut S) -> Result<(), Failed>
-    ensures { Writes S.written S.flushed S.faults S.has_room sink.old sink.new closing result }
+// Puts what ends a scope or a clause.
+fn put_end<S: Sink>(block: &mut Block, sink: &mut S) -> Result<(), Failed>
+    ensures { Puts S.written S.flushed S.faults S.has_room sink.old block.old sink.new block.new closing result }
 {
-    put(b"0\n", sink)
+    block.put(b"0\n", sink)
 }
 
-// Writes words.
-fn put_words<S: Sink>(words: &Words, sink: &mut S) -> Result<(), Failed>
-    ensures { Writes S.written S.flushed S.faults S.has_room sink.old sink.new words.now.bytes result }
+// Puts words.
+fn put_words<S: Sink>(words: &Words, block: &mut Block, sink: &mut S) -> Result<(), Failed>
+    ensures { Puts S.written S.flushed S.faults S.has_room sink.old block.old sink.new block.new
+        words.now.bytes result }
 {
-    put(words.as_str().as_bytes(), sink)
-}
-
-// Writes bytes.
-fn put<S: Sink>(bytes: &[u8], sink: &mut S) -> Result<(), Failed>
-    ensures { Writes S.written S.flushed S.faults S.has_room sink.old sink.new bytes.now result }
-{
-    write_all(sink, bytes)
+    block.put(words.as_str().as_bytes(), sink)
 }

@@ -19,5 +19,5 @@ mod worked;
 pub use gather::core;
 pub use laws::finishes_end_proofs;
 pub use listing::{Core, CoreStep};
-pub use text::{write_literals, write_trace};
-pub use worked::{worked_cores, worked_numbers, worked_texts};
+pub use text::{put_literals, write_trace};
+pub use worked::{worked_cores, worked_gaps, worked_numbers, worked_texts};

@@ -8,10 +8,12 @@ ghost use Rattle.ports.specs.Causes.{HasCause};
 ghost use Rattle.qrp_trace.specs.Cores.{IsNumbered};
 ghost use Rattle.qrp_trace.specs.Texts.{greatest, header_line, literal_word, number_word, qrp_text, quantifier_word, scope_line, scope_numbered, step_line, variables_line, verdict_line as last_line};
 ghost use Rattle.ports.specs.Writing.{Writes};
+ghost use Rattle.blocks.specs.Held.{Puts};
 
 use crate::listing::Core;
 use crate::words::{self, Words};
-use ports::{Failed, Sink, write_all};
+use blocks::Block;
+use ports::{Failed, Sink};
 use prefix::{Lit, Prefix, Quant, Var};
 
 /// Writes the trace of a core under a prefix: the header, a line for each scope that has variables, one for each step,
@@ -31,22 +33,46 @@ pub fn write_trace<S: Sink>(core: &Core, prefix: &Prefix, sink: &mut S) -> Resul
     put_trace(core, prefix, sink)
 }
 
-// Writes the trace of a core.
+// Writes the trace of a core, in blocks.
 fn put_trace<S: Sink>(core: &Core, prefix: &Prefix, sink: &mut S) -> Result<(), Failed>
     ensures { Writes S.written S.flushed S.faults S.has_room sink.old sink.new (qrp_text prefix.now core.now) result }
 {
-    put_header(core, prefix, sink)?;
-    put_scopes(prefix, sink)?;
-    put_steps(core, sink)?;
-    put_verdict(core.winner(), sink)
+    let mut block = Block::new();
+    put_parts(core, prefix, &mut block, sink)?;
+    block.finish(sink)
 }
 
-// Writes the first line.
-fn put_header<S: Sink>(core: &Core, prefix: &Prefix, sink: &mut S) -> Result<(), Failed>
-    ensures { Writes S.written S.flushed S.faults S.has_room sink.old sink.new
+// Puts the parts of a trace: the header, the scopes, the steps and the verdict.
+fn put_parts<S: Sink>(
+    core: &Core,
+    prefix: &Prefix,
+    block: &mut Block,
+    sink: &mut S,
+) -> Result<(), Failed>
+    ensures { Puts S.written S.flushed S.faults S.has_room sink.old block.old sink.new block.new
+        (qrp_text prefix.now core.now) result }
+{
+    put_header(core, prefix, block, sink)?;
+    put_scopes(prefix, block, sink)?;
+    put_steps(core, block, sink)?;
+    put_verdict(core.winner(), block, sink)
+}
+
+// Puts the first line.
+fn put_header<S: Sink>(
+    core: &Core,
+    prefix: &Prefix,
+    block: &mut Block,
+    sink: &mut S,
+) -> Result<(), Failed>
+    ensures { Puts S.written S.flushed S.faults S.has_room sink.old block.old sink.new block.new
         (header_line (greatest (all_variables prefix.now)) (length core.now.lines)) result }
 {
-    put_words(&words::header(greatest_variable(prefix), core.len()), sink)
+    put_words(
+        &words::header(greatest_variable(prefix), core.len()),
+        block,
+        sink,
+    )
 }
 
 // The greatest number of a variable, 0 where there is none.
@@ -78,123 +104,127 @@ fn greater(a: usize, b: usize) -> usize
     a.max(b)
 }
 
-// Writes the lines of the scopes.
-fn put_scopes<S: Sink>(prefix: &Prefix, sink: &mut S) -> Result<(), Failed>
-    ensures { Writes S.written S.flushed S.faults S.has_room sink.old sink.new
+// Puts the lines of the scopes.
+fn put_scopes<S: Sink>(prefix: &Prefix, block: &mut Block, sink: &mut S) -> Result<(), Failed>
+    ensures { Puts S.written S.flushed S.faults S.has_room sink.old block.old sink.new block.new
         (flat_map scope_line prefix.now) result }
 {
     for s in 0..prefix.scopes() {
-        put_scope(prefix, s + 1, sink)?;
+        put_scope(prefix, s + 1, block, sink)?;
     }
     Ok(())
 }
 
-// Writes the line of a scope, if it has variables.
-fn put_scope<S: Sink>(prefix: &Prefix, s: usize, sink: &mut S) -> Result<(), Failed>
+// Puts the line of a scope, if it has variables.
+fn put_scope<S: Sink>(
+    prefix: &Prefix,
+    s: usize,
+    block: &mut Block,
+    sink: &mut S,
+) -> Result<(), Failed>
     requires first { 1 ≤ s }
     requires last { s ≤ length prefix.now }
-    ensures { Writes S.written S.flushed S.faults S.has_room sink.old sink.new
+    ensures { Puts S.written S.flushed S.faults S.has_room sink.old block.old sink.new block.new
         (scope_line (scope_numbered prefix.now s)) result }
 {
     let vars = prefix.vars_of(s);
     if vars.is_empty() {
         return Ok(());
     }
-    put_quantifier(prefix.scope_quant(s).unwrap(), sink)?;
-    put_variables(vars, sink)?;
-    put(b"0\n", sink)
+    put_quantifier(prefix.scope_quant(s).unwrap(), block, sink)?;
+    put_variables(vars, block, sink)?;
+    block.put(b"0\n", sink)
 }
 
-// Writes the letter of a quantifier.
-fn put_quantifier<S: Sink>(quant: Quant, sink: &mut S) -> Result<(), Failed>
-    ensures { Writes S.written S.flushed S.faults S.has_room sink.old sink.new (quantifier_word quant) result }
+// Puts the letter of a quantifier.
+fn put_quantifier<S: Sink>(quant: Quant, block: &mut Block, sink: &mut S) -> Result<(), Failed>
+    ensures { Puts S.written S.flushed S.faults S.has_room sink.old block.old sink.new block.new
+        (quantifier_word quant) result }
 {
     match quant {
-        Quant::Exists => put(b"e ", sink),
-        Quant::Forall => put(b"a ", sink),
+        Quant::Exists => block.put(b"e ", sink),
+        Quant::Forall => block.put(b"a ", sink),
     }
 }
 
-// Writes variables, each with a blank.
-fn put_variables<S: Sink>(vars: &[Var], sink: &mut S) -> Result<(), Failed>
-    ensures { Writes S.written S.flushed S.faults S.has_room sink.old sink.new
+// Puts variables, each with a blank.
+fn put_variables<S: Sink>(vars: &[Var], block: &mut Block, sink: &mut S) -> Result<(), Failed>
+    ensures { Puts S.written S.flushed S.faults S.has_room sink.old block.old sink.new block.new
         (flat_map number_word vars.now) result }
 {
     for v in vars {
-        put_number(v.number() as usize, sink)?;
+        put_number(v.number() as usize, block, sink)?;
     }
     Ok(())
 }
 
-// Writes the lines of the steps.
-fn put_steps<S: Sink>(core: &Core, sink: &mut S) -> Result<(), Failed>
-    ensures { Writes S.written S.flushed S.faults S.has_room sink.old sink.new
+// Puts the lines of the steps.
+fn put_steps<S: Sink>(core: &Core, block: &mut Block, sink: &mut S) -> Result<(), Failed>
+    ensures { Puts S.written S.flushed S.faults S.has_room sink.old block.old sink.new block.new
         (flat_map (step_line core.now.lines) (range_with_len 1 (length core.now.lines))) result }
 {
     for i in 0..core.len() {
-        put_step(core, i + 1, sink)?;
+        put_step(core, i + 1, block, sink)?;
     }
     Ok(())
 }
 
-// Writes the line of a step.
-fn put_step<S: Sink>(core: &Core, i: usize, sink: &mut S) -> Result<(), Failed>
+// Puts the line of a step.
+fn put_step<S: Sink>(core: &Core, i: usize, block: &mut Block, sink: &mut S) -> Result<(), Failed>
     requires first { 1 ≤ i }
     requires last { i ≤ length core.now.lines }
-    ensures { Writes S.written S.flushed S.faults S.has_room sink.old sink.new (step_line core.now.lines i) result }
+    ensures { Puts S.written S.flushed S.faults S.has_room sink.old block.old sink.new block.new
+        (step_line core.now.lines i) result }
 {
-    put_number(i, sink)?;
-    write_literals(core.lits(i), sink)?;
-    put_words(&words::antecedents(core.step(i)), sink)
+    put_number(i, block, sink)?;
+    put_literals(core.lits(i), block, sink)?;
+    put_words(&words::antecedents(core.step(i)), block, sink)
 }
 
-/// Writes literals by their numbers, each with a blank behind it. This takes no memory.
+/// Puts literals into a block by their numbers, each with a blank behind it. This takes no memory.
 ///
-/// Fails only where the sink does, with a front of the text written.
-pub fn write_literals<S: Sink>(lits: &[Lit], sink: &mut S) -> Result<(), Failed>
-    ensures { Writes S.written S.flushed S.faults S.has_room sink.old sink.new
+/// Fails only where the sink does, with a front of what was held and of these words written.
+pub fn put_literals<S: Sink>(lits: &[Lit], block: &mut Block, sink: &mut S) -> Result<(), Failed>
+    ensures { Puts S.written S.flushed S.faults S.has_room sink.old block.old sink.new block.new
         (flat_map literal_word lits.now) result }
 {
     for lit in lits {
-        put_literal(*lit, sink)?;
+        put_literal(*lit, block, sink)?;
     }
     Ok(())
 }
 
-// Writes a literal, and a blank.
-fn put_literal<S: Sink>(lit: Lit, sink: &mut S) -> Result<(), Failed>
-    ensures { Writes S.written S.flushed S.faults S.has_room sink.old sink.new (literal_word lit) result }
+// Puts a literal, and a blank.
+fn put_literal<S: Sink>(lit: Lit, block: &mut Block, sink: &mut S) -> Result<(), Failed>
+    ensures { Puts S.written S.flushed S.faults S.has_room sink.old block.old sink.new block.new
+        (literal_word lit) result }
 {
-    put_words(&words::literal(lit), sink)
+    put_words(&words::literal(lit), block, sink)
 }
 
-// Writes the last line.
-fn put_verdict<S: Sink>(winner: Quant, sink: &mut S) -> Result<(), Failed>
-    ensures { Writes S.written S.flushed S.faults S.has_room sink.old sink.new (last_line winner) result }
+// Puts the last line.
+fn put_verdict<S: Sink>(winner: Quant, block: &mut Block, sink: &mut S) -> Result<(), Failed>
+    ensures { Puts S.written S.flushed S.faults S.has_room sink.old block.old sink.new block.new
+        (last_line winner) result }
 {
     match winner {
-        Quant::Exists => put(b"r SAT\n", sink),
-        Quant::Forall => put(b"r UNSAT\n", sink),
+        Quant::Exists => block.put(b"r SAT\n", sink),
+        Quant::Forall => block.put(b"r UNSAT\n", sink),
     }
 }
 
-// Writes a number, and a blank.
-fn put_number<S: Sink>(n: usize, sink: &mut S) -> Result<(), Failed>
-    ensures { Writes S.written S.flushed S.faults S.has_room sink.old sink.new (number_word n) result }
+// Puts a number, and a blank.
+fn put_number<S: Sink>(n: usize, block: &mut Block, sink: &mut S) -> Result<(), Failed>
+    ensures { Puts S.written S.flushed S.faults S.has_room sink.old block.old sink.new block.new
+        (number_word n) result }
 {
-    put_words(&words::number(n), sink)
+    put_words(&words::number(n), block, sink)
 }
 
-// Writes words.
-fn put_words<S: Sink>(words: &Words, sink: &mut S) -> Result<(), Failed>
-    ensures { Writes S.written S.flushed S.faults S.has_room sink.old sink.new words.now.bytes result }
+// Puts words.
+fn put_words<S: Sink>(words: &Words, block: &mut Block, sink: &mut S) -> Result<(), Failed>
+    ensures { Puts S.written S.flushed S.faults S.has_room sink.old block.old sink.new block.new
+        words.now.bytes result }
 {
-    put(words.as_str().as_bytes(), sink)
-}
-
-// Writes bytes.
-fn put<S: Sink>(bytes: &[u8], sink: &mut S) -> Result<(), Failed>
-    ensures { Writes S.written S.flushed S.faults S.has_room sink.old sink.new bytes.now result }
-{
-    write_all(sink, bytes)
+    block.put(words.as_str().as_bytes(), sink)
 }

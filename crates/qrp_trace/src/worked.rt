@@ -1,5 +1,5 @@
 //! Worked values of the definitions, each proved.
-ghost use Rattle.qrp_trace.specs.Worked.{WorkedCores, WorkedNumbers, WorkedTexts};
+ghost use Rattle.qrp_trace.specs.Worked.{WorkedCores, WorkedGaps, WorkedNumbers, WorkedTexts};
 
 /// The cores of steps of a small derivation, with their numbers.
 pub fn worked_cores()
@@ -14,4 +14,9 @@ pub fn worked_numbers()
 /// Texts of small cores.
 pub fn worked_texts()
     ensures { WorkedTexts }
+{}
+
+/// Texts of cores over variables with gaps between their numbers.
+pub fn worked_gaps()
+    ensures { WorkedGaps }
 {}

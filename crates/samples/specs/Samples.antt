@@ -8,7 +8,7 @@ use Rattle.truth.specs.declared.formula.Formula.{Formula}
 use Rattle.truth.specs.Truth.{truth}
 use Rattle.generate.specs.Made.{made}
 use Rattle.session.specs.declared.ending.Ending.{Ending}
-use Rattle.session.specs.declared.ending.Ending.TheVariants.{Done, Refused, Limit, ReadFault, WriteFault, NoMemory}
+use Rattle.session.specs.declared.ending.Ending.TheVariants.{Done, Refused, Limit, CheckLimit, ReadFault, WriteFault, NoMemory}
 
 abbrev pub Text : Type 0
 Text = List ℕ
@@ -49,4 +49,5 @@ LeavesText text old new WriteFault = AppendsFront old new text
 LeavesText text old new NoMemory = Keeps old new
 LeavesText text old new (Refused number line) = ⊥
 LeavesText text old new (Limit quantity line) = ⊥
+LeavesText text old new (CheckLimit quantity) = ⊥
 LeavesText text old new ReadFault = ⊥

@@ -67,7 +67,7 @@ fn decide_sample(alloc: Global, seed: u32, i: u32) -> Result<bool, NoMemory>
 {
     made_formulas_are_formed();
     let f = make(alloc, seed_at(seed, i), 3 + i % 10, 1 + i % 37)?;
-    match decide_formula(alloc, &f, u64::MAX)? {
+    match decide_formula(alloc, &f)? {
         Answer::Sat => Ok(true),
         Answer::Unsat => Ok(false),
         // The budget suffices for twelve variables.

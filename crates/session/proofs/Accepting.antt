@@ -24,7 +24,7 @@ use Rattle.session.specs.declared.reply.SessionStop.TheVariants.{NoMemory}
 use Rattle.session.specs.Replies.{Changes, IsAccepted, IsReplyWith, Output, no_change, refusal_number, refused_text, says}
 use Rattle.session.specs.Standing.{Standing}
 use Rattle.session.specs.State.{Holds, given_of}
-use Rattle.session.specs.Steps.{Refuses, Steps, left_by}
+use Rattle.session.specs.Steps.{IsAcceptedReply, IsReplyFor, Refuses, Steps, left_by}
 use Rattle.session.proofs.Telling.{stepped}
 use Rattle.session.specs.Terms.{Terms}
 
@@ -188,7 +188,8 @@ module _ {S : Type 0} (written flushed : S → Option (List ℕ)) (faults : S �
     (terms : Terms) (command : Command) (change : FrameCommand) (s : Standing) (before e : EngineState)
     (holds : Holds terms before s) (number : refusal_number s command ≡ no_change s.script.formula change)
     (changes : (out : Output) (after : Standing) → Changes s change out after
-    → IsAccepted terms s command out after) (left : left_by command s ≡ s)
+    → IsAccepted terms s command out after) (quiet : IsAcceptedReply s command Silent)
+    (left : left_by command s ≡ s)
     (drops : verdict_after s.script.formula change ≡ None)
     (same_solves : (counted s.script change).solves ≡ s.script.solves)
     (same_clauses : (counted s.script change).clauses ≡ clauses_after s.script.clauses change)
@@ -249,17 +250,18 @@ module _ {S : Type 0} (written flushed : S → Option (List ℕ)) (faults : S �
         next,
         subst (λ n. IsReplyWith n terms s command (says []) next) (sym (number_is None none))
             (changes (says []) next (record { silent = refl; state = refl })),
-        refl,
+        subst (λ n. IsReplyFor n s command Silent) (sym (number_is None none)) quiet,
         nothing written flushed faults has_room old,
         holds_next none leaves,
       ))
 
-  wants : (old new : S) (result : Result Reply SessionStop) → Holds terms e s → result ≡ Err NoMemory → new ≡ old
-      → Goal old new result
-  wants old new result kept is same =
+  wants : (old new : S) (result : Result Reply SessionStop) → Holds terms e s → refusal_number s command ≡ None
+      → result ≡ Err NoMemory → new ≡ old → Goal old new result
+  wants old new result kept unrefused is same =
       subst (Goal old new) (sym is) (subst (λ n. Goal old n (Err NoMemory)) (sym same) (
         nothing written flushed faults has_room old,
         subst (λ t. Holds terms e t) (sym left) kept,
+        unrefused,
       ))
 
   refused : (old new : S) (result : Result Reply SessionStop) (x : FrameRefusal) (n : ℕ)
@@ -268,7 +270,8 @@ module _ {S : Type 0} (written flushed : S → Option (List ℕ)) (faults : S �
   refused old new result x n some numbers kept refuses =
       stepped written flushed faults has_room terms command s s old new e (Refused n) (refused_text n) result
       (subst (λ m. IsReplyWith m terms s command (says (refused_text n)) s)
-      (sym (number_is (Some x) some ∙ numbers)) (refl, refl)) refl kept
+      (sym (number_is (Some x) some ∙ numbers)) (refl, refl))
+      (subst (λ m. IsReplyFor m s command (Refused n)) (sym (number_is (Some x) some ∙ numbers)) refl) kept
       (subst (λ m. Refuses written flushed faults has_room m old new result) numbers refuses)
 
   pub accepts : (P : Type 0) (r : Result (Unit {0}) FrameRefusal) (old new : S) (result : Result Reply SessionStop)
@@ -285,9 +288,9 @@ module _ {S : Type 0} (written flushed : S → Option (List ℕ)) (faults : S �
       by (Some x) some m = absurd (let both : ◌≡◌ {A = Result (Unit {0}) FrameRefusal} (Ok u) (Err x) = m in cc)
   accepts P (Err x) old new result ok refusal only err answer = by (refusal_of before.formula change) refl refusal
     where
-      memory : x ≡ NoSpace → Goal old new result
-      memory is = let want = subst (λ y. Refuses written flushed faults has_room (number_of y) old new result) is
-          answer in wants old new result err want.0 want.1
+      memory : refusal_of before.formula change ≡ None → x ≡ NoSpace → Goal old new result
+      memory none is = let want = subst (λ y. Refuses written flushed faults has_room (number_of y) old new result) is
+          answer in wants old new result err (number_is None none) want.0 want.1
 
       at : (o : Option ℕ) → number_of x ≡ o → is_some o ≡ true → refusal_of before.formula change ≡ Some x
           → Goal old new result
@@ -296,7 +299,7 @@ module _ {S : Type 0} (written flushed : S → Option (List ℕ)) (faults : S �
 
       by : (o : Option FrameRefusal) → refusal_of before.formula change ≡ o
           → MatchOption o P (λ (y : FrameRefusal). ◌≡◌ {A = Result (Unit {0}) FrameRefusal} (Err x) (Err y)) → Goal old new result
-      by None none m = memory (only m x refl)
+      by None none m = memory none (only m x refl)
       by (Some y) some m =
           let same : x ≡ y = let both : ◌≡◌ {A = Result (Unit {0}) FrameRefusal} (Err x) (Err y) = m in cc in
           let there : refusal_of before.formula change ≡ Some x = some ∙ ap Some (sym same) in

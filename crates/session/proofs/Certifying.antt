@@ -1,5 +1,5 @@
 -- Worked values of certificates: two circuits for one formula, with a gate that no output is reached from and without.
-use Rattle.std.specs.Prelude.{codes}
+use Rattle.std.specs.Prelude.{codes, ◌-◌}
 use Rattle.std.proofs.Common.{◌≡◌, ◌∙◌, ◌<◌, ◌≤◌, ℕ, zero, suc, Bool, true, false, not, ◌&&◌, List, [], ◌∷◌, length, get_or, Contains, Some, None, inl, inr, ⊎_elim, refl, sym, ap, ap₂, subst, arith}
 use Rattle.std.proofs.lemmas.List.Elements.{AllZip-get_or, length_all_zip}
 use Rattle.prefix.specs.declared.quant.Quant.TheVariants.{Exists, Forall}
@@ -17,8 +17,9 @@ use Rattle.aig.specs.declared.edge.Node.{Node}
 use Rattle.aig.specs.declared.edge.Node.TheVariants.{Constant, Input, Gate}
 use Rattle.aig.specs.declared.strategy.Output.{Output}
 use Rattle.aig.specs.declared.strategy.Strategy.{Strategy}
-use Rattle.aiger_out.specs.Aag.{IsAagText}
-use Rattle.aiger_out.specs.Binary.{IsAigBytes}
+use Rattle.aiger_out.specs.Aag.{IsAagText, IsGateLine}
+use Rattle.aiger_out.specs.Binary.{IsAigBytes, IsDelta, IsGateBytes}
+use Rattle.aiger_out.specs.Text.{numeral}
 use Rattle.aiger_out.specs.Theorems.{AreOneGate, HaveOneCircuit}
 use Rattle.trim.specs.Trimmed.{IsAt, IsOver, IsReached}
 use Rattle.trim.specs.Trimmed.IsReached.{of_output, of_gate}
@@ -63,6 +64,39 @@ of_inputs k s t = record {
   differ = λ e. apart 1 0 (omega arith) (ap node_place e);
 }
 
+-- the gate that is true where neither input is, at a place, where its edge has this literal
+none_line : (lhs place : ℕ) → lhs ≡ edge_number 2 (gate place) → 5 < lhs
+    → IsGateLine 2 place (numeral lhs ∷ codes "5" ∷ codes "3" ∷ []) none_gate
+none_line lhs place is above = record {
+  lhs = lhs;
+  rhs0 = 5;
+  rhs1 = 3;
+  words = refl;
+  literal = is;
+  edges = inl (refl, refl);
+  later = above;
+  ordered = omega arith;
+  proper = of_inputs place true true;
+}
+
+none_bytes : (lhs place first : ℕ) → lhs ≡ edge_number 2 (gate place) → 5 < lhs → IsDelta (lhs - 5) (first ∷ [])
+    → IsGateBytes 2 place (first ∷ 2 ∷ []) none_gate
+none_bytes lhs place first is above delta = record {
+  lhs = lhs;
+  rhs0 = 5;
+  rhs1 = 3;
+  first = first ∷ [];
+  second = 2 ∷ [];
+  parts = refl;
+  literal = is;
+  first_delta = delta;
+  second_delta = record { groups = omega arith; value = refl };
+  edges = inl (refl, refl);
+  later = above;
+  ordered = omega arith;
+  proper = of_inputs place true true;
+}
+
 two_differ : AreDistinct (both_gate ∷ none_gate ∷ [])
 two_differ zero zero d before within e = absurd (omega arith)
 two_differ zero (suc zero) d before within (inl e) = apart 5 4 (omega arith) (sym (ap (edge_number 2) e.0))
@@ -100,20 +134,7 @@ whole_denotes = record {
       ordered = omega arith;
       proper = of_inputs 0 false false;
     },
-    (
-      record {
-        lhs = 8;
-        rhs0 = 5;
-        rhs1 = 3;
-        words = refl;
-        literal = refl;
-        edges = inl (refl, refl);
-        later = omega arith;
-        ordered = omega arith;
-        proper = of_inputs 1 true true;
-      },
-      tt,
-    ),
+    (none_line 8 1 refl (omega arith), tt),
   );
   distinct = two_differ;
   input_names = (refl, (refl, tt));
@@ -146,24 +167,7 @@ bytes_denote = record {
       ordered = omega arith;
       proper = of_inputs 0 false false;
     },
-    (
-      record {
-        lhs = 8;
-        rhs0 = 5;
-        rhs1 = 3;
-        first = 3 ∷ [];
-        second = 2 ∷ [];
-        parts = refl;
-        literal = refl;
-        first_delta = record { groups = omega arith; value = refl };
-        second_delta = record { groups = omega arith; value = refl };
-        edges = inl (refl, refl);
-        later = omega arith;
-        ordered = omega arith;
-        proper = of_inputs 1 true true;
-      },
-      tt,
-    ),
+    (none_bytes 8 1 3 refl (omega arith) (record { groups = omega arith; value = refl }), tt),
   );
   distinct = two_differ;
   input_names = (refl, (refl, tt));
@@ -182,20 +186,7 @@ trimmed_denotes = record {
   named = refl;
   inputs = (refl, (refl, tt));
   outputs = (record { stands = omega arith; literal = refl }, tt);
-  gates = (
-    record {
-      lhs = 6;
-      rhs0 = 5;
-      rhs1 = 3;
-      words = refl;
-      literal = refl;
-      edges = inl (refl, refl);
-      later = omega arith;
-      ordered = omega arith;
-      proper = of_inputs 0 true true;
-    },
-    tt,
-  );
+  gates = (none_line 6 0 refl (omega arith), tt);
   distinct = one_differs;
   input_names = (refl, (refl, tt));
   output_names = (refl, tt);
@@ -211,24 +202,7 @@ trimmed_bytes_denote = record {
   whole = refl;
   named = refl;
   outputs = (record { stands = omega arith; literal = refl }, tt);
-  gates = (
-    record {
-      lhs = 6;
-      rhs0 = 5;
-      rhs1 = 3;
-      first = 1 ∷ [];
-      second = 2 ∷ [];
-      parts = refl;
-      literal = refl;
-      first_delta = record { groups = omega arith; value = refl };
-      second_delta = record { groups = omega arith; value = refl };
-      edges = inl (refl, refl);
-      later = omega arith;
-      ordered = omega arith;
-      proper = of_inputs 0 true true;
-    },
-    tt,
-  );
+  gates = (none_bytes 6 0 1 refl (omega arith) (record { groups = omega arith; value = refl }), tt);
   distinct = one_differs;
   input_names = (refl, (refl, tt));
   output_names = (refl, tt);

@@ -27,7 +27,7 @@ use Rattle.session.specs.Solve.{answer_line}
 use Rattle.session.specs.Standing.{IsWitness, Standing}
 use Rattle.session.specs.Stops.{IsStopAt}
 use Rattle.session.specs.State.{Holds, given_of}
-use Rattle.session.specs.Steps.{HasText, IsDecided, answered, reply_of, told_by}
+use Rattle.session.specs.Steps.{IsDecided, IsSolveReply, answered, reply_of, told_by, truth_of}
 use Rattle.session.specs.Terms.{Terms}
 
 -- a count goes on, up to its last value
@@ -127,23 +127,25 @@ module _ (terms : Terms) (s : Standing) (before e : EngineState) (holds : Holds 
       after = after;
       reply_is = inl (record {
         truth = t;
-        right = subst (λ (f : OpenFormula). truth_under f.assumptions f.scopes (clauses_in f.frames) ≡ t)
-            (sym holds.formula) (sym truth ∙ same);
+        right = right;
         witness = subst (λ (f : OpenFormula). IsWitness f (record { truth = t; assumptions = f.assumptions })
             (record { proof = state.proof; values = first_values e.formula state })) (sym holds.formula) witness;
         says_truth = line t;
         state = refl;
       });
-      text = has t;
+      says_truth = subst (λ b. IsSolveReply b (reply_of t)) (sym right) (has t);
       holds = held;
     }
       where
+        right : truth_of s.script.formula ≡ t
+        right = subst (λ (f : OpenFormula). truth_of f ≡ t) (sym holds.formula) (sym truth ∙ same)
+
         line : (b : Bool) → record { text = answer_line (answered (reply_of b)); stops = told_by (reply_of b) }
             ≡ says (verdict_text b)
         line true = refl
         line false = refl
 
-        has : (b : Bool) → HasText (reply_of b) (answer_line (answered (reply_of b)))
+        has : (b : Bool) → IsSolveReply b (reply_of b)
         has true = refl
         has false = refl
 
@@ -177,7 +179,7 @@ module _ (terms : Terms) (s : Standing) (before e : EngineState) (holds : Holds 
         says_unknown = refl;
         state = refl;
       });
-      text = refl;
+      says_truth = tt;
       holds = record {
         formula = holds.formula ∙ sym kept;
         verdict = sym (ap (option_map given_of) none);

@@ -13,7 +13,7 @@ use Rattle.qscript.specs.declared.words.Item.TheVariants.{BadByte, End, NumberRa
 use Rattle.qscript.specs.Run.{Script}
 use Rattle.qscript.specs.State.{EndsWith, GoesOn, IsDone, IsFirst, IsRefusal, is_end, is_fault}
 use Rattle.session.specs.declared.ending.Ending.{Ending}
-use Rattle.session.specs.declared.ending.Ending.TheVariants.{Done, Limit, NoMemory, ReadFault, Refused, WriteFault}
+use Rattle.session.specs.declared.ending.Ending.TheVariants.{Done, Limit, CheckLimit, NoMemory, ReadFault, Refused, WriteFault}
 use Rattle.session.specs.Endings.{ending_for}
 use Rattle.session.specs.Replies.{IsReply, Leads, Output, Text, joined, says}
 use Rattle.session.specs.Scripts.{Answers, IsLeftAt, IsSentAt, IsUnderWay}
@@ -253,6 +253,8 @@ module _ {S : Type 0} (written flushed : S → Option (List ℕ)) (faults : S �
   failed_at before after c e f old middle new first between last way is (Refused number line) goes =
       absurd (goes way.so_far.after way.holds)
   failed_at before after c e f old middle new first between last way is (Limit quantity line) goes =
+      absurd (goes way.so_far.after way.holds)
+  failed_at before after c e f old middle new first between last way is (CheckLimit quantity) goes =
       absurd (goes way.so_far.after way.holds)
   failed_at before after c e f old middle new first between last way is ReadFault goes =
       absurd (goes way.so_far.after way.holds)

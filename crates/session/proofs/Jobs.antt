@@ -26,7 +26,7 @@ use Rattle.ports.specs.declared.failed.Failed.{Failed}
 use Rattle.session.specs.declared.answer.Answer.{Answer}
 use Rattle.session.specs.declared.answer.Answer.TheVariants.{Sat, Unsat, Unknown}
 use Rattle.session.specs.declared.ending.Ending.{Ending}
-use Rattle.session.specs.declared.ending.Ending.TheVariants.{Done, Refused, Limit, ReadFault, WriteFault, NoMemory}
+use Rattle.session.specs.declared.ending.Ending.TheVariants.{Done, Refused, Limit, CheckLimit, ReadFault, WriteFault, NoMemory}
 use Rattle.session.specs.declared.ending.Job.{Job}
 use Rattle.session.specs.declared.ending.Job.TheVariants.{Solve, Qdo, Trace, Cert}
 use Rattle.session.specs.declared.reply.Reply.{Reply}
@@ -34,7 +34,7 @@ use Rattle.session.specs.declared.reply.SessionStop.{SessionStop}
 use Rattle.session.specs.declared.reply.SessionStop.TheVariants.{WriteFault as Unwritten, NoMemory as NoRoomLeft}
 use Rattle.session.specs.Endings.{IsUnread, ending_at, ending_with}
 use Rattle.session.specs.Feeding.{HoldsFormula}
-use Rattle.session.specs.Jobs.{HasVerdictFor, HasVerdictText, IsAnsweredBy, IsJobText, IsReplyTo, IsUntouched, IsVerdict, LeavesOutput, RepliesTo, RoomForJob, WritesJob, answer_with, built, gates_for, opened, solution_line, unassumed, unknown_text, value_lines}
+use Rattle.session.specs.Jobs.{HasVerdictFor, HasVerdictText, IsAnsweredBy, IsJobText, IsReplyTo, IsUntouched, IsVerdict, LeavesOutput, RepliesTo, RoomForJob, WritesJob, answer_with, built, gates_for, opened, solution_line, unassumed, value_lines}
 use Rattle.session.specs.Replies.{AllReached, Certifies, Decides, Denotes, GivesUp, IsAccepted, IsReply, IsReplyWith, IsTraceText, Output, Text, gates_after, no_verdict, says, verdict_text}
 use Rattle.session.specs.Solve.{IsAnswerTo, IsDone, IsEnding, Solves, answer_line}
 use Rattle.session.specs.Standing.{IsWitness, Standing}
@@ -229,13 +229,6 @@ solved terms f Sat s is = record { witness = s.witness; is_witness = is.verdict.
 solved terms f Unsat s is = record { witness = s.witness; is_witness = is.verdict.1; says = refl }
 solved terms f Unknown s is = refl
 
--- an answer that is unknown has the same line for each job but one
-pub unknown_line : (job : Job) (f : Formula) → (job ≡ Qdo → ⊥) → answer_line Unknown ≡ unknown_text job f
-unknown_line Solve f apart = refl
-unknown_line Qdo f apart = absurd (apart refl)
-unknown_line Trace f apart = refl
-unknown_line (Cert binary trim) f apart = refl
-
 -- an answer that isn't unknown is a verdict
 pub is_verdict : (a : Answer) → (a ≡ Unknown → ⊥) → IsVerdict a
 is_verdict Sat apart = tt
@@ -315,7 +308,7 @@ module _ {S : Type 0} (written flushed : S → Option (List ℕ)) (faults : S �
   job_failed job terms f a command s old new e NoRoomLeft there is steps = (there, steps.0)
 
   -- What a job leaves where its text was not written.
-  untouched : (old new : S) → Wrote written flushed faults has_room old new [] → IsUntouched written faults old new
+  pub untouched : (old new : S) → Wrote written flushed faults has_room old new [] → IsUntouched written faults old new
   untouched old new wrote = record { kept = by (written old) (written new) wrote.appended; no_fault = wrote.no_fault }
     where
       by : (a b : Option (List ℕ)) → Appends a b [] → Keeps a b
@@ -359,6 +352,7 @@ module _ {S : Type 0} (written flushed : S → Option (List ℕ)) (faults : S �
     reply_failed new (Done status) w = absurd w
     reply_failed new (Refused number line) w = absurd w
     reply_failed new (Limit quantity line) w = absurd w
+    reply_failed new (CheckLimit quantity) w = absurd w
     reply_failed new ReadFault w = absurd w
 
     module _ (middle new : S) (w : WritesJob written flushed faults has_room job terms f a old middle (Ok tt))
@@ -414,6 +408,7 @@ module _ {S : Type 0} (written flushed : S → Option (List ℕ)) (faults : S �
   ending_known (Err (Done status)) came = absurd came
   ending_known (Err (Refused number line)) came = absurd came
   ending_known (Err (Limit quantity line)) came = absurd came
+  ending_known (Err (CheckLimit quantity)) came = absurd came
   ending_known (Err ReadFault) came = absurd came
 
   pub no_read_fault : (r : Result Answer Ending) → Came r → IsErrOf r ReadFault → ⊥
@@ -423,6 +418,7 @@ module _ {S : Type 0} (written flushed : S → Option (List ℕ)) (faults : S �
   no_read_fault (Err (Done status)) came is = came
   no_read_fault (Err (Refused number line)) came is = came
   no_read_fault (Err (Limit quantity line)) came is = came
+  no_read_fault (Err (CheckLimit quantity)) came is = came
   no_read_fault (Err ReadFault) came is = came
 
   pub counted_known : (r : Result Answer Ending) → Came r
@@ -438,6 +434,7 @@ module _ {S : Type 0} (written flushed : S → Option (List ℕ)) (faults : S �
   counted_known (Err (Done status)) came = absurd came
   counted_known (Err (Refused number line)) came = absurd came
   counted_known (Err (Limit quantity line)) came = absurd came
+  counted_known (Err (CheckLimit quantity)) came = absurd came
   counted_known (Err ReadFault) came = absurd came
 
   pub room_known : (r : Result Answer Ending) → Came r → RoomForJob job terms known (has_room old)
@@ -449,6 +446,7 @@ module _ {S : Type 0} (written flushed : S → Option (List ℕ)) (faults : S �
   room_known (Err (Done status)) came room is = came
   room_known (Err (Refused number line)) came room is = came
   room_known (Err (Limit quantity line)) came room is = came
+  room_known (Err (CheckLimit quantity)) came room is = came
   room_known (Err ReadFault) came room is = came
 
   pub output_known : (r : Result Answer Ending) → Came r
@@ -461,6 +459,7 @@ module _ {S : Type 0} (written flushed : S → Option (List ℕ)) (faults : S �
   output_known (Err (Done status)) came = absurd came
   output_known (Err (Refused number line)) came = absurd came
   output_known (Err (Limit quantity line)) came = absurd came
+  output_known (Err (CheckLimit quantity)) came = absurd came
   output_known (Err ReadFault) came = absurd came
 
   pub flushed_known : (r : Result Answer Ending) → Came r
@@ -473,6 +472,7 @@ pub unread_undone : (e : Ending) → IsUnread e → ¬ IsDone e
 unread_undone (Done status) unread done = unread
 unread_undone (Refused number line) unread done = done
 unread_undone (Limit quantity line) unread done = done
+unread_undone (CheckLimit quantity) unread done = unread
 unread_undone ReadFault unread done = done
 unread_undone WriteFault unread done = done
 unread_undone NoMemory unread done = done

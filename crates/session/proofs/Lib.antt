@@ -1,15 +1,22 @@
 mod Feeding
 mod Numbers
 pub mod Certifying
+pub mod Checking
+pub mod CircuitValues
 pub mod Circuits
 pub mod Telling
 pub mod Deciding
 pub mod Accepting
 pub mod Gates
 pub mod Going
+pub mod JobValues
 pub mod Jobs
+pub mod Leaving
+pub mod NoGates
 pub mod Ordered
 pub mod Outermost
 pub mod Restarting
+pub mod ScriptValues
 pub mod Scripting
+pub mod TraceValues
 pub mod Working

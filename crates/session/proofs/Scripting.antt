@@ -12,9 +12,9 @@ use Rattle.qscript.specs.declared.command.Command.{Command}
 use Rattle.qscript.specs.Reads.{Ending as ScriptEnding, ReadsScript, done, limit, refused}
 use Rattle.qscript.specs.Run.{Script, stopped}
 use Rattle.session.specs.declared.ending.Ending.{Ending}
-use Rattle.session.specs.declared.ending.Ending.TheVariants.{Done, Limit, NoMemory, ReadFault, Refused, WriteFault}
+use Rattle.session.specs.declared.ending.Ending.TheVariants.{Done, Limit, CheckLimit, NoMemory, ReadFault, Refused, WriteFault}
 use Rattle.session.specs.Replies.{Text, says}
-use Rattle.session.specs.Scripts.{Answers, AreAnswered, AreFirst, IsLeftAt, IsReadOut, IsScriptEnding, IsSentAt, RoomForReplies, ending_of}
+use Rattle.session.specs.Scripts.{Answers, AreAnswered, AreFirst, EndsScript, IsLeftAt, IsReadOut, IsScriptEnding, IsSentAt, RoomForReplies, ending_of}
 use Rattle.session.specs.Solve.{IsDone}
 use Rattle.session.specs.Standing.{start}
 use Rattle.session.specs.Terms.{Terms}
@@ -55,6 +55,7 @@ none_answered terms known a stops all = record {
   front = front_none a;
   whole = λ apart. Appends-nil a;
   told = sym (append-nil stops);
+  ends = tt;
 }
 
 pub front_all : (a b : Option (List ℕ)) (text : Text) → Appends a b text → AppendsFront a b text
@@ -136,6 +137,7 @@ module _ {S : Type 0} (written flushed : S → Option (List ℕ)) (faults : S �
         subst (λ cs. ReadsScript text cs (limit line)) (append-nil replied.commands)
             (subst (λ (s : Script). ReadsScript text (replied.commands ++ s.0) s.1) r.2.1 r.1),
       )) h
+      by (Err (CheckLimit quantity)) h = some_map known _ _ (λ text r. absurd r.2) h
       by (Err ReadFault) h = some_map known _ _ (λ text r. tt) h
       by (Err WriteFault) h = some_map known _ _ (λ text r. tt) h
       by (Err NoMemory) h = some_map known _ _ (λ text r. tt) h
@@ -151,6 +153,7 @@ module _ {S : Type 0} (written flushed : S → Option (List ℕ)) (faults : S �
       by (Err (Done status)) h = absurd h
       by (Err (Refused number line)) h = front_all _ _ _ h.appended
       by (Err (Limit quantity line)) h = front_all _ _ _ h.appended
+      by (Err (CheckLimit quantity)) h = absurd h
       by (Err ReadFault) h = front_all _ _ _ h.appended
       by (Err WriteFault) h = h.front
       by (Err NoMemory) h = front_all _ _ _ h.appended
@@ -165,9 +168,24 @@ module _ {S : Type 0} (written flushed : S → Option (List ℕ)) (faults : S �
       by (Err (Done status)) h apart = absurd h
       by (Err (Refused number line)) h apart = h.appended
       by (Err (Limit quantity line)) h apart = h.appended
+      by (Err (CheckLimit quantity)) h apart = absurd h
       by (Err ReadFault) h apart = h.appended
       by (Err WriteFault) h apart = absurd (apart refl)
       by (Err NoMemory) h apart = h.appended
+
+  ends_is : EndsScript (ending_of result)
+  ends_is = by result replied.sent
+    where
+      by : (r : Result (Unit {0}) Ending)
+          → IsSentAt written flushed faults has_room old new replied.out.text r → EndsScript (ending_of r)
+      by (Ok u) h = tt
+      by (Err (Done status)) h = tt
+      by (Err (Refused number line)) h = tt
+      by (Err (Limit quantity line)) h = tt
+      by (Err (CheckLimit quantity)) h = h
+      by (Err ReadFault) h = tt
+      by (Err WriteFault) h = tt
+      by (Err NoMemory) h = tt
 
   pub answered_is : AreAnswered terms known (written old, written new) (before, after) (ending_of result)
   answered_is = record {
@@ -180,6 +198,7 @@ module _ {S : Type 0} (written flushed : S → Option (List ℕ)) (faults : S �
     front = front_is;
     whole = whole_is;
     told = replied.told;
+    ends = ends_is;
   }
     where
       by : (r : Result (Unit {0}) Ending)
@@ -192,6 +211,7 @@ module _ {S : Type 0} (written flushed : S → Option (List ℕ)) (faults : S �
           (all_read known replied.commands _ (refused number line) (λ r same. same) h)
       by (Err (Limit quantity line)) h read = all_with known replied.commands (limit line)
           (all_read known replied.commands _ (limit line) (λ r both. both.1) h)
+      by (Err (CheckLimit quantity)) h read = absurd read
       by (Err ReadFault) h read = absurd read
       by (Err WriteFault) h read = absurd read
       by (Err NoMemory) h read = absurd read
@@ -214,6 +234,7 @@ module _ {S : Type 0} (written flushed : S → Option (List ℕ)) (faults : S �
       by (Err (Done status)) h = absurd h
       by (Err (Refused number line)) h = whole (Err (Refused number line)) h (λ is. absurd (cc))
       by (Err (Limit quantity line)) h = whole (Err (Limit quantity line)) h (λ is. absurd (cc))
+      by (Err (CheckLimit quantity)) h = absurd h
       by (Err ReadFault) h = whole (Err ReadFault) h (λ is. absurd (cc))
       by (Err WriteFault) h = record { later = h.later; rose = λ is. h.rose; kept = λ ok. absurd (cc) }
       by (Err NoMemory) h = whole (Err NoMemory) h (λ is. absurd (cc))
@@ -227,6 +248,7 @@ module _ {S : Type 0} (written flushed : S → Option (List ℕ)) (faults : S �
       by (Err (Done status)) h = λ is. h
       by (Err (Refused number line)) h = λ is. is
       by (Err (Limit quantity line)) h = λ is. is
+      by (Err (CheckLimit quantity)) h = λ is. is
       by (Err ReadFault) h = λ is. is
       by (Err WriteFault) h = λ is. is
       by (Err NoMemory) h = λ is. is
@@ -244,6 +266,7 @@ module _ {S : Type 0} (written flushed : S → Option (List ℕ)) (faults : S �
       by (Err (Done status)) h is = absurd h
       by (Err (Refused number line)) h is = absurd (cc)
       by (Err (Limit quantity line)) h is = absurd (cc)
+      by (Err (CheckLimit quantity)) h is = absurd h
       by (Err ReadFault) h is = absurd (cc)
       by (Err WriteFault) h is = h.no_room (length replied.out.text) (omega arith) (has room)
       by (Err NoMemory) h is = absurd (cc)
@@ -272,6 +295,7 @@ answered_kept terms known a m n stops ending are kept = record {
   front = front_kept a m n are.out.text are.front kept;
   whole = λ apart. Appends-kept a m n are.out.text (are.whole apart) kept;
   told = are.told;
+  ends = are.ends;
 }
 
 answered_fault : (terms : Terms) (known a m n : Option (List ℕ)) (stops : List Account × List Account) (ending : Ending)
@@ -286,6 +310,7 @@ answered_fault terms known a m n stops ending are kept = record {
   front = front_kept a m n are.out.text are.front kept;
   whole = λ apart. absurd (apart refl);
   told = are.told;
+  ends = tt;
 }
 
 module _ {S : Type 0} (written flushed : S → Option (List ℕ)) (faults : S → ℕ) (has_room : S → ℕ → Type 0)

@@ -35,12 +35,17 @@ use Rattle.session.specs.declared.reply.SessionStop.TheVariants.{NoMemory, Write
 use Rattle.session.proofs.Gates.{weight_grows}
 use Rattle.session.proofs.Ordered.{proof_ordered}
 use Rattle.session.proofs.Scripting.{some_map}
-use Rattle.session.specs.Replies.{Certifies, gates_after, IsAccepted, IsCertText, IsReply, IsReplyWith, IsTraceText, Tells, Text, last_row, no_first, no_value, no_verdict, relevant_text, says, value_in, value_text}
+use Rattle.session.specs.Replies.{Certifies, gates_after, IsAccepted, IsCertText, IsReply, IsReplyWith, IsTraceText, Tells, Text, last_row, no_first, no_value, no_verdict, refusal_number, relevant_text, says, value_in, value_text}
 use Rattle.engine.proofs.FirstScope.{first_among, level_is, literal_among, value_among}
 use Rattle.session.specs.Standing.{Standing}
 use Rattle.session.specs.State.{Holds, given_of}
-use Rattle.session.specs.Steps.{HasText, IsSent, Sends, Steps, told_by}
+use Rattle.session.specs.Steps.{IsAcceptedReply, IsReplyFor, IsSent, Sends, Steps, told_by}
 use Rattle.session.specs.Terms.{Terms}
+
+-- a text answers a question, of whose refusal this is the number
+abbrev pub IsAnswer : Terms → Command → Standing → Text → Option ℕ → Type 0
+IsAnswer terms command s text number =
+    IsReplyWith number terms s command (says text) s × IsReplyFor number s command Written
 
 module _ {S : Type 0} (written flushed : S → Option (List ℕ)) (faults : S → ℕ) (has_room : S → ℕ → Type 0) where
   pub sent : (reply : Reply) (text : Text) (old new : S) (r : Result (Unit {0}) Failed) (result : Result Reply SessionStop)
@@ -53,14 +58,15 @@ module _ {S : Type 0} (written flushed : S → Option (List ℕ)) (faults : S �
 
   pub stepped : (terms : Terms) (command : Command) (s after : Standing) (old new : S) (e : EngineState) (reply : Reply)
       (text : Text) (result : Result Reply SessionStop)
-      → IsReply terms s command (record { text = text; stops = told_by reply }) after → HasText reply text
-      → Holds terms e after → Sends written flushed faults has_room reply text old new result
+      → IsReply terms s command (record { text = text; stops = told_by reply }) after
+      → IsReplyFor (refusal_number s command) s command reply → Holds terms e after
+      → Sends written flushed faults has_room reply text old new result
       → Steps written flushed faults has_room terms command s old new e result
   stepped terms command s after old new e reply text (Ok given) is has holds sends = (
     text,
     after,
     subst (λ r. IsReply terms s command (record { text = text; stops = told_by r }) after) (sym sends.0) is,
-    subst (λ r. HasText r text) (sym sends.0) has,
+    subst (IsReplyFor (refusal_number s command) s command) (sym sends.0) has,
     sends.1,
     holds,
   )
@@ -76,11 +82,11 @@ module _ {S : Type 0} (written flushed : S → Option (List ℕ)) (faults : S �
   -- the answer to a question
   pub tells : (terms : Terms) (command : Command) (s : Standing) (old new : S) (e : EngineState) (text : Text)
       (r : Result (Unit {0}) Failed) (result : Result Reply SessionStop)
-      → IsReply terms s command (says text) s → Holds terms e s
+      → IsAnswer terms command s text (refusal_number s command) → Holds terms e s
       → Writes written flushed faults has_room old new text r → IsSent Written r result
       → Steps written flushed faults has_room terms command s old new e result
   tells terms command s old new e text r result is holds writes is_sent =
-      stepped terms command s s old new e Written text result is tt holds
+      stepped terms command s s old new e Written text result is.0 is.1 holds
       (sent Written text old new r result writes is_sent)
 
 -- an answered question wasn't refused
@@ -159,14 +165,14 @@ module _ (terms : Terms) (e : EngineState) (s : Standing) (holds : Holds terms e
 
   -- a question that any verdict answers isn't refused
   answered : (command : Command) (text : Text) (v : VerdictState) → e.verdict ≡ Some v
-      → IsAccepted terms s command (says text) s
-      → IsReplyWith (no_verdict s.script.verdict) terms s command (says text) s
-  answered command text v some accepted =
-      subst (λ o. IsReplyWith (no_verdict o) terms s command (says text) s) (sym (verdict_is v some)) accepted
+      → IsAccepted terms s command (says text) s → IsAcceptedReply s command Written
+      → IsAnswer terms command s text (no_verdict s.script.verdict)
+  answered command text v some accepted is_written =
+      subst (λ o. IsAnswer terms command s text (no_verdict o)) (sym (verdict_is v some)) (accepted, is_written)
 
   pub tells_relevant : (list : List Literal) → ask_refusal e ≡ None
       → IfSome e.verdict (λ v. list ≡ relevant_of v.assumptions v.row) → IfSome e.verdict (IsVerdictOf e.formula)
-      → IsReply terms s Relevant (says (relevant_text list)) s
+      → IsAnswer terms Relevant s (relevant_text list) (refusal_number s Relevant)
   tells_relevant list asked value facts = unless_none e.verdict refl asked (λ v some.
       let is = subst (λ o. IfSome o (λ v. list ≡ relevant_of v.assumptions v.row)) some value in
       let fact = subst (λ o. IfSome o (IsVerdictOf e.formula)) some facts in
@@ -175,13 +181,13 @@ module _ (terms : Terms) (e : EngineState) (s : Standing) (holds : Holds terms e
       answered Relevant (relevant_text list) v some
       (told_at (λ given text. text ≡ relevant_text (relevant_of given.assumptions (last_row s.witness.proof)))
       (relevant_text list) v some
-      (ap relevant_text (is ∙ ap (relevant_of v.assumptions) (sym row)))))
+      (ap relevant_text (is ∙ ap (relevant_of v.assumptions) (sym row)))) refl)
 
   pub tells_trace : (core : Trace) (scopes : List Scope) (d : State) → scopes ≡ e.formula.scopes
       → ask_refusal e ≡ None → IfSome e.verdict (λ v. core.winner ≡ winner_of v.truth)
       → IfSome e.verdict (λ v. inferences_of core.lines ≡ v.proof) → IsNumbered core.lines
       → IfSome e.verdict (λ v. v.proof ≡ proof_at d v.assumptions v.end)
-      → IsReply terms s TraceCommand (says (qrp_text scopes core)) s
+      → IsAnswer terms TraceCommand s (qrp_text scopes core) (refusal_number s TraceCommand)
   tells_trace core scopes d same asked winner list numbered derived = unless_none e.verdict refl asked (λ v some.
       let wins = subst (λ o. IfSome o (λ v. core.winner ≡ winner_of v.truth)) some winner in
       let is = subst (λ o. IfSome o (λ v. inferences_of core.lines ≡ v.proof)) some list in
@@ -196,7 +202,7 @@ module _ (terms : Terms) (e : EngineState) (s : Standing) (holds : Holds terms e
         inputs_first = subst (λ steps. core_order steps ≡ steps) (sym (holds.proof v some ∙ made))
             (proof_ordered d v.assumptions v.end);
         text_of_core = ap (λ f. qrp_text f core) (same ∙ sym (ap (λ (f : OpenFormula). f.scopes) holds.formula));
-      })))
+      })) refl)
 
   abbrev bound : ℕ
   bound = gates_after terms s.script
@@ -238,7 +244,7 @@ module _ (terms : Terms) (e : EngineState) (s : Standing) (holds : Holds terms e
       → ask_refusal e ≡ None → IfSome e.verdict (λ v. IsCertificateOf e.formula v strategy)
       → length strategy.aig.gates ≤ weight_bound e.counts.clauses e.counts.solves e.counts.budget
       e.counts.restarts e.counts.vars
-      → IsReply terms s Cert (says text) s
+      → IsAnswer terms Cert s text (refusal_number s Cert)
   tells_circuit strategy text denotes asked certifies few = unless_none e.verdict refl asked (λ v some.
       answered Cert text v some (record {
         text = text;
@@ -253,14 +259,15 @@ module _ (terms : Terms) (e : EngineState) (s : Standing) (holds : Holds terms e
             }) (certifies_after strategy certifies few);
         says_text = refl;
         same = refl;
-      }))
+      }) refl)
 
   pub tells_value : (x : ℕ) (lit : Literal) → value_refusal e x ≡ None
       → IfSome e.verdict (λ v. lit ≡ record { variable = x; positive = values_of e.formula v x })
-      → IsReply terms s (Value x) (says (value_text lit)) s
+      → IsAnswer terms (Value x) s (value_text lit) (refusal_number s (Value x))
   tells_value x lit asked value = by e.verdict refl
     where
-      by : (o : Option VerdictState) → e.verdict ≡ o → IsReply terms s (Value x) (says (value_text lit)) s
+      by : (o : Option VerdictState) → e.verdict ≡ o
+          → IsAnswer terms (Value x) s (value_text lit) (refusal_number s (Value x))
       by None none = absurd (let f : Some NoVerdict ≡ None =
           subst (λ o. value_refusal (record e { verdict = o }) x ≡ None) none asked in cc)
       by (Some v) some =
@@ -279,6 +286,8 @@ module _ (terms : Terms) (e : EngineState) (s : Standing) (holds : Holds terms e
           (not (is_of (quantifier_at e.formula.scopes 1) (winner_of v.truth))) tests) in
           let number : no_value s.script.formula.scopes s.script.verdict x ≡ None =
           ap (λ o. no_value s.script.formula.scopes o x) (verdict_is v some) ∙ numbers in
-          subst (λ n. IsReplyWith n terms s (Value x) (says (value_text lit)) s) (sym number)
-          (told_at (λ given text. text ≡ value_text (value_in s.witness.values x)) (value_text lit) v some
-          (ap value_text (sym values)))
+          subst (IsAnswer terms (Value x) s (value_text lit)) (sym number) (
+            told_at (λ given text. text ≡ value_text (value_in s.witness.values x)) (value_text lit) v some
+                (ap value_text (sym values)),
+            refl,
+          )

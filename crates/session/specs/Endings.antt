@@ -4,7 +4,7 @@ use Rattle.qdimacs.specs.declared.refusal.ReadRefusal.{ReadRefusal}
 use Rattle.qdimacs.specs.declared.refusal.ReadRefusal.TheVariants.{Refused as Rejected, Limit as Beyond, ReadFault as Unreadable, NoMemory as NoRoom}
 use Rattle.session.specs.declared.answer.Answer.{Answer}
 use Rattle.session.specs.declared.ending.Ending.{Ending}
-use Rattle.session.specs.declared.ending.Ending.TheVariants.{Done, Refused, Limit, ReadFault, WriteFault, NoMemory}
+use Rattle.session.specs.declared.ending.Ending.TheVariants.{Done, Refused, Limit, CheckLimit, ReadFault, WriteFault, NoMemory}
 use Rattle.session.specs.declared.reply.SessionStop.{SessionStop}
 use Rattle.session.specs.declared.reply.SessionStop.TheVariants.{WriteFault as Unwritten, NoMemory as NoRoomLeft}
 use Rattle.session.specs.Solve.{answer_status}
@@ -31,6 +31,7 @@ abbrev pub IsUnread : Ending → Type 0
 IsUnread (Done status) = ⊥
 IsUnread (Refused number line) = Unit {0}
 IsUnread (Limit quantity line) = Unit {0}
+IsUnread (CheckLimit quantity) = ⊥
 IsUnread ReadFault = Unit {0}
 IsUnread WriteFault = ⊥
 IsUnread NoMemory = Unit {0}

@@ -21,7 +21,7 @@ use Rattle.ports.specs.Writing.{Stops, Wrote}
 use Rattle.session.specs.declared.answer.Answer.{Answer}
 use Rattle.session.specs.declared.answer.Answer.TheVariants.{Sat, Unsat, Unknown}
 use Rattle.session.specs.declared.ending.Ending.{Ending}
-use Rattle.session.specs.declared.ending.Ending.TheVariants.{Done, Refused, Limit, ReadFault, WriteFault, NoMemory}
+use Rattle.session.specs.declared.ending.Ending.TheVariants.{Done, Refused, Limit, CheckLimit, ReadFault, WriteFault, NoMemory}
 use Rattle.session.specs.declared.ending.Job.{Job}
 use Rattle.session.specs.declared.file.Header.{Header}
 use Rattle.session.specs.declared.ending.Job.TheVariants.{Solve, Qdo, Trace, Cert}
@@ -77,8 +77,8 @@ abbrev pub gates_for : Terms → Formula → ℕ
 gates_for terms f = weight_bound (length f.clauses) 1 terms.budget terms.greatest (size_of f.prefix)
 
 -- The text of a job for a verdict with this witness: its line; the lines of its result, with the values of the first
--- scope; the trace of its proof; or its certificate, in one of the two forms and trimmed or not, in which outputs of the
--- first scope have these values.
+-- scope; the trace of its proof; or its certificate, in one of the two forms and trimmed or not, in which outputs of
+-- the first scope have these values.
 abbrev pub IsVerdictText : Job → Terms → Formula → Bool → Witness → Text → Type 0
 IsVerdictText Solve terms f truth witness text = text ≡ verdict_text truth
 IsVerdictText Qdo terms f truth witness text =
@@ -133,6 +133,7 @@ LeavesOutput job terms known written stops (Refused number line) =
     Keeps written.0 written.1 × (stops.1 ≡ stops.0)
 LeavesOutput job terms known written stops (Limit quantity line) =
     Keeps written.0 written.1 × (stops.1 ≡ stops.0)
+LeavesOutput job terms known written stops (CheckLimit quantity) = ⊥
 LeavesOutput job terms known written stops ReadFault = Keeps written.0 written.1 × (stops.1 ≡ stops.0)
 LeavesOutput job terms known written stops NoMemory = Keeps written.0 written.1 × (stops.1 ≡ stops.0)
 
@@ -179,6 +180,7 @@ WritesJob written flushed faults has_room job terms f answer old new (Err NoMemo
 WritesJob written flushed faults has_room job terms f answer old new (Err (Done status)) = ⊥
 WritesJob written flushed faults has_room job terms f answer old new (Err (Refused number line)) = ⊥
 WritesJob written flushed faults has_room job terms f answer old new (Err (Limit quantity line)) = ⊥
+WritesJob written flushed faults has_room job terms f answer old new (Err (CheckLimit quantity)) = ⊥
 WritesJob written flushed faults has_room job terms f answer old new (Err ReadFault) = ⊥
 
 -- a text was written, and all that is written was flushed
@@ -213,4 +215,5 @@ RepliesTo written flushed faults has_room job terms f old new stops (Err NoMemor
 RepliesTo written flushed faults has_room job terms f old new stops (Err (Done status)) = ⊥
 RepliesTo written flushed faults has_room job terms f old new stops (Err (Refused number line)) = ⊥
 RepliesTo written flushed faults has_room job terms f old new stops (Err (Limit quantity line)) = ⊥
+RepliesTo written flushed faults has_room job terms f old new stops (Err (CheckLimit quantity)) = ⊥
 RepliesTo written flushed faults has_room job terms f old new stops (Err ReadFault) = ⊥

@@ -1,3 +1,4 @@
+pub mod Checks
 pub mod Endings
 pub mod Feeding
 pub mod Jobs
@@ -10,3 +11,5 @@ pub mod Steps
 pub mod Stops
 pub mod Terms
 pub mod Worked
+pub mod WorkedScripts
+pub mod WorkedSteps

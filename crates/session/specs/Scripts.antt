@@ -10,7 +10,7 @@ use Rattle.engine.specs.State.{EngineState}
 use Rattle.qscript.specs.Run.{Script, stopped}
 use Rattle.qscript.specs.Reads.{Ending as ScriptEnding, ReadsScript, done, limit, refused}
 use Rattle.session.specs.declared.ending.Ending.{Ending}
-use Rattle.session.specs.declared.ending.Ending.TheVariants.{Done, Refused, Limit, ReadFault, WriteFault, NoMemory}
+use Rattle.session.specs.declared.ending.Ending.TheVariants.{Done, Refused, Limit, CheckLimit, ReadFault, WriteFault, NoMemory}
 use Rattle.session.specs.Replies.{Leads, Output, Text}
 use Rattle.session.specs.Standing.{Standing, start}
 use Rattle.session.specs.State.{Holds}
@@ -23,6 +23,7 @@ IsScriptEnding text (Done status) = (status ≡ 0) × (commands : List Command) 
 IsScriptEnding text (Refused number line) = (commands : List Command) × ReadsScript text commands (refused number line)
 IsScriptEnding text (Limit quantity line) = (quantity ≡ Bytes)
     × (commands : List Command) × ReadsScript text commands (limit line)
+IsScriptEnding text (CheckLimit quantity) = ⊥
 IsScriptEnding text ReadFault = ⊤
 IsScriptEnding text WriteFault = ⊤
 IsScriptEnding text NoMemory = ⊤
@@ -32,9 +33,20 @@ abbrev pub IsReadOut : Ending → Type 0
 IsReadOut (Done status) = ⊤
 IsReadOut (Refused number line) = ⊤
 IsReadOut (Limit quantity line) = ⊤
+IsReadOut (CheckLimit quantity) = ⊥
 IsReadOut ReadFault = ⊥
 IsReadOut WriteFault = ⊥
 IsReadOut NoMemory = ⊥
+
+-- The work on a script may end so: in any way but by a check formula.
+abbrev pub EndsScript : Ending → Type 0
+EndsScript (Done status) = ⊤
+EndsScript (Refused number line) = ⊤
+EndsScript (Limit quantity line) = ⊤
+EndsScript (CheckLimit quantity) = ⊥
+EndsScript ReadFault = ⊤
+EndsScript WriteFault = ⊤
+EndsScript NoMemory = ⊤
 
 -- These commands are the first of the text's script.
 abbrev pub AreFirst : List ℕ → List Command → Type 0
@@ -55,6 +67,7 @@ pub record AreAnswered (terms : Terms) (known : Option (List ℕ)) (written : Op
   pub front : AppendsFront written.0 written.1 out.text
   pub whole : ending ≢ WriteFault → Appends written.0 written.1 out.text
   pub told : stops.1 ≡ stops.0 ++ out.stops
+  pub ends : EndsScript ending
 
 -- The output has room for all allowed replies to the first commands of the text's script, if the text is told.
 abbrev pub RoomForReplies : Terms → Option (List ℕ) → (ℕ → Type 0) → Type 0
@@ -73,6 +86,7 @@ IsLeftAt (Ok u) rest = rest ≡ stopped done
 IsLeftAt (Err (Done status)) rest = ⊥
 IsLeftAt (Err (Refused number line)) rest = rest ≡ stopped (refused number line)
 IsLeftAt (Err (Limit quantity line)) rest = (quantity ≡ Bytes) × (rest ≡ stopped (limit line))
+IsLeftAt (Err (CheckLimit quantity)) rest = ⊥
 IsLeftAt (Err ReadFault) rest = ⊤
 IsLeftAt (Err WriteFault) rest = ⊤
 IsLeftAt (Err NoMemory) rest = ⊤
@@ -88,6 +102,7 @@ IsSentAt written flushed faults has_room old new text (Err (Refused number line)
     Wrote written flushed faults has_room old new text
 IsSentAt written flushed faults has_room old new text (Err (Limit quantity line)) =
     Wrote written flushed faults has_room old new text
+IsSentAt written flushed faults has_room old new text (Err (CheckLimit quantity)) = ⊥
 IsSentAt written flushed faults has_room old new text (Err ReadFault) =
     Wrote written flushed faults has_room old new text
 IsSentAt written flushed faults has_room old new text (Err NoMemory) =

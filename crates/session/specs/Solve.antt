@@ -12,7 +12,7 @@ use Rattle.session.specs.Terms.{Terms}
 use Rattle.session.specs.declared.answer.Answer.{Answer}
 use Rattle.session.specs.declared.answer.Answer.TheVariants.{Sat, Unsat, Unknown}
 use Rattle.session.specs.declared.ending.Ending.{Ending}
-use Rattle.session.specs.declared.ending.Ending.TheVariants.{Done, Refused, Limit, ReadFault, WriteFault, NoMemory}
+use Rattle.session.specs.declared.ending.Ending.TheVariants.{Done, Refused, Limit, CheckLimit, ReadFault, WriteFault, NoMemory}
 
 -- The budget is short for a formula: below the step limit of its variables, for a search that may begin anew so often,
 -- and where propagation alone refutes the clauses below the limit of propagation.
@@ -55,6 +55,7 @@ abbrev pub IsEnding : Terms → List ℕ → Ending → Type 0
 IsEnding terms text (Done status) = OfAnswer status (Solves terms text)
 IsEnding terms text (Refused number line) = Reads text (refused number line)
 IsEnding terms text (Limit quantity line) = Reads text (limit quantity line)
+IsEnding terms text (CheckLimit quantity) = ⊥
 IsEnding terms text ReadFault = Unit {0}
 IsEnding terms text WriteFault = Unit {0}
 IsEnding terms text NoMemory = Unit {0}
@@ -64,6 +65,7 @@ abbrev pub IsDone : Ending → Type 0
 IsDone (Done status) = Unit {0}
 IsDone (Refused number line) = ⊥
 IsDone (Limit quantity line) = ⊥
+IsDone (CheckLimit quantity) = ⊥
 IsDone ReadFault = ⊥
 IsDone WriteFault = ⊥
 IsDone NoMemory = ⊥

@@ -1,8 +1,10 @@
 -- What a session does at a command.
-use Rattle.std.specs.Prelude.{◌≡◌, ℕ, Bool, true, false, List, [], ◌∷◌, ◌++◌, codes, Option, Some, None, Result, Ok, Err, ⊤}
+use Rattle.std.specs.Prelude.{◌≡◌, ◌≤◌, ℕ, Bool, true, false, List, [], ◌∷◌, ◌++◌, Option, Some, None, Result, Ok, Err, ⊤}
+use Rattle.truth.specs.Truth.{truth_under}
 use Rattle.trail.specs.State.{Account}
 use Rattle.frames.specs.Commands.{Solve as Decide, Stop}
 use Rattle.frames.specs.Fold.{state_after}
+use Rattle.frames.specs.State.{OpenFormula, clauses_in}
 use Rattle.ports.specs.Writing.{Stops, Wrote}
 use Rattle.engine.specs.State.{EngineState}
 use Rattle.qscript.specs.declared.command.Command.{Command}
@@ -10,15 +12,15 @@ use Rattle.qscript.specs.declared.command.Command.TheVariants.{Scope as ScopeCom
 use Rattle.session.specs.declared.answer.Answer.{Answer}
 use Rattle.session.specs.declared.answer.Answer.TheVariants.{Sat as IsSat, Unsat as IsUnsat, Unknown as IsUnknown}
 use Rattle.session.specs.declared.ending.Ending.{Ending}
-use Rattle.session.specs.declared.ending.Ending.TheVariants.{Done, Refused as Malformed, Limit as Beyond, ReadFault as Unreadable, WriteFault as EndsInFault, NoMemory as EndsInWant}
+use Rattle.session.specs.declared.ending.Ending.TheVariants.{Done, Refused as Malformed, Limit as Beyond, CheckLimit, ReadFault as Unreadable, WriteFault as EndsInFault, NoMemory as EndsInWant}
 use Rattle.session.specs.declared.reply.Reply.{Reply}
 use Rattle.session.specs.declared.reply.Reply.TheVariants.{Silent, Refused, Sat, Unsat, Unknown, Written}
 use Rattle.session.specs.declared.reply.SessionStop.{SessionStop}
 use Rattle.session.specs.declared.reply.SessionStop.TheVariants.{WriteFault, NoMemory}
-use Rattle.session.specs.Replies.{IsReply, Output, Text, refused_text, verdict_text}
+use Rattle.session.specs.Replies.{IsReply, Output, Text, refusal_number, refused_text}
 use Rattle.session.specs.Solve.{answer_line}
 use Rattle.session.specs.Standing.{Standing}
-use Rattle.session.specs.State.{Holds}
+use Rattle.session.specs.State.{Holds, SessionState}
 use Rattle.session.specs.Terms.{Terms}
 
 -- what a reply tells of a search that stopped
@@ -35,14 +37,37 @@ abbrev pub listed : Option Account → List Account
 listed None = []
 listed (Some stopped) = stopped ∷ []
 
--- A reply is one with this text.
-abbrev pub HasText : Reply → Text → Type 0
-HasText Silent text = text ≡ []
-HasText (Refused number) text = text ≡ refused_text number
-HasText Sat text = text ≡ verdict_text true
-HasText Unsat text = text ≡ verdict_text false
-HasText (Unknown stopped) text = text ≡ codes "UNKNOWN\n"
-HasText Written text = ⊤
+-- the truth of a formula under its assumptions
+abbrev pub truth_of : OpenFormula → Bool
+truth_of f = truth_under f.assumptions f.scopes (clauses_in f.frames)
+
+-- The reply to a solve of a formula with this truth: the truth, or that the budget was spent first.
+abbrev pub IsSolveReply : Bool → Reply → Type 0
+IsSolveReply truth Silent = ⊥
+IsSolveReply truth (Refused number) = ⊥
+IsSolveReply truth Sat = truth ≡ true
+IsSolveReply truth Unsat = truth ≡ false
+IsSolveReply truth (Unknown stopped) = ⊤
+IsSolveReply truth Written = ⊥
+
+-- Which reply an accepted command has: a change none, a solve the truth or `UNKNOWN`, and a question what was asked.
+abbrev pub IsAcceptedReply : Standing → Command → Reply → Type 0
+IsAcceptedReply s (ScopeCommand quant at) reply = reply ≡ Silent
+IsAcceptedReply s (Var var scope) reply = reply ≡ Silent
+IsAcceptedReply s (Clause lits) reply = reply ≡ Silent
+IsAcceptedReply s Push reply = reply ≡ Silent
+IsAcceptedReply s Pop reply = reply ≡ Silent
+IsAcceptedReply s (Assume lit) reply = reply ≡ Silent
+IsAcceptedReply s Solve reply = IsSolveReply (truth_of s.script.formula) reply
+IsAcceptedReply s (Value v) reply = reply ≡ Written
+IsAcceptedReply s Relevant reply = reply ≡ Written
+IsAcceptedReply s Trace reply = reply ≡ Written
+IsAcceptedReply s Cert reply = reply ≡ Written
+
+-- Which reply a command has, whose refusal has this number, if it is refused.
+abbrev pub IsReplyFor : Option ℕ → Standing → Command → Reply → Type 0
+IsReplyFor None s command reply = IsAcceptedReply s command reply
+IsReplyFor (Some number) s command reply = reply ≡ Refused number
 
 -- A reply with this text is sent: the text is written, or a front of it before a fault.
 abbrev pub Sends : {S : Type 0} → (written flushed : S → Option (List ℕ)) → (S → ℕ) → (S → ℕ → Type 0) → Reply → Text
@@ -93,25 +118,62 @@ answered Unsat = IsUnsat
 answered (Unknown stopped) = IsUnknown
 answered Written = IsUnsat
 
--- The reply to a solve has the line of its answer, and the engine holds what it comes to.
+-- The reply to a solve says the truth, or that the budget was spent; it has the line of its answer, and the engine
+-- holds what it comes to.
 pub record IsDecided (terms : Terms) (s : Standing) (reply : Reply) (e : EngineState) : Type 0 where
   pub after : Standing
   pub reply_is : IsReply terms s Solve (record { text = answer_line (answered reply); stops = told_by reply }) after
-  pub text : HasText reply (answer_line (answered reply))
+  pub says_truth : IsSolveReply (truth_of s.script.formula) reply
   pub holds : Holds terms e after
 
--- A command is replied to, and the reply is written; or a front of it is, before a fault; or there is no memory, and
--- nothing is written. `old` and `new` are the sink, by what sinks of its type tell.
+-- A command is replied to, and the reply is written; or a front of it is, before a fault; or there is no memory for one
+-- that isn't refused, and nothing is written. `old` and `new` are the sink, by what sinks of its type tell.
 abbrev pub Steps : {S : Type 0} → (written flushed : S → Option (List ℕ)) → (S → ℕ) → (S → ℕ → Type 0) → Terms → Command
     → Standing → S → S → EngineState → Result Reply SessionStop → Type 0
 Steps written flushed faults has_room terms command s old new e (Ok reply) = (text : Text) × (after : Standing)
-    × IsReply terms s command (record { text = text; stops = told_by reply }) after × HasText reply text
-    × Wrote written flushed faults has_room old new text × Holds terms e after
+    × IsReply terms s command (record { text = text; stops = told_by reply }) after
+    × IsReplyFor (refusal_number s command) s command reply × Wrote written flushed faults has_room old new text
+    × Holds terms e after
 Steps written flushed faults has_room terms command s old new e (Err (WriteFault told)) = (text : Text)
     × (after : Standing) × IsReply terms s command (record { text = text; stops = listed told }) after
     × Stops written flushed faults has_room old new text × Holds terms e after
 Steps written flushed faults has_room terms command s old new e (Err NoMemory) =
     Wrote written flushed faults has_room old new [] × Holds terms e (left_by command s)
+    × (refusal_number s command ≡ None)
+
+-- A command asks for something of the verdict.
+abbrev pub IsQuestion : Command → Type 0
+IsQuestion (ScopeCommand quant at) = ⊥
+IsQuestion (Var var scope) = ⊥
+IsQuestion (Clause lits) = ⊥
+IsQuestion Push = ⊥
+IsQuestion Pop = ⊥
+IsQuestion (Assume lit) = ⊥
+IsQuestion Solve = ⊥
+IsQuestion (Value v) = ⊤
+IsQuestion Relevant = ⊤
+IsQuestion Trace = ⊤
+IsQuestion Cert = ⊤
+
+-- A session is as it was, but that fewer long learned rows may be attached.
+pub record IsAllButLong (old new : SessionState) : Type 0 where
+  pub rest : new ≡ record old { engine = record old.engine { kept_long = new.engine.kept_long } }
+  pub fewer : new.engine.kept_long ≤ old.engine.kept_long
+
+-- What a command leaves of a session where there is no memory for it: all, but that `clause` may have let go of long
+-- learned rows. What a solve leaves, `left_by` says.
+abbrev pub LeavesAtWant : Command → SessionState → SessionState → Type 0
+LeavesAtWant (ScopeCommand quant at) old new = new ≡ old
+LeavesAtWant (Var var scope) old new = new ≡ old
+LeavesAtWant (Clause lits) old new = IsAllButLong old new
+LeavesAtWant Push old new = new ≡ old
+LeavesAtWant Pop old new = new ≡ old
+LeavesAtWant (Assume lit) old new = new ≡ old
+LeavesAtWant Solve old new = ⊤
+LeavesAtWant (Value v) old new = new ≡ old
+LeavesAtWant Relevant old new = new ≡ old
+LeavesAtWant Trace old new = new ≡ old
+LeavesAtWant Cert old new = new ≡ old
 
 -- A command of a script is replied to, and what the reply tells of a search that stopped is listed behind what was;
 -- after a fault too. Without memory nothing is written or listed. `stops` is the list before and after.
@@ -128,4 +190,5 @@ Goes written flushed faults has_room terms command s old new e stops (Err EndsIn
 Goes written flushed faults has_room terms command s old new e stops (Err (Done status)) = ⊥
 Goes written flushed faults has_room terms command s old new e stops (Err (Malformed number line)) = ⊥
 Goes written flushed faults has_room terms command s old new e stops (Err (Beyond quantity line)) = ⊥
+Goes written flushed faults has_room terms command s old new e stops (Err (CheckLimit quantity)) = ⊥
 Goes written flushed faults has_room terms command s old new e stops (Err Unreadable) = ⊥

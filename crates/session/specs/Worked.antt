@@ -1,22 +1,26 @@
 -- Worked values: answers to two formulas, what is told of searches that stopped, replies to commands, what jobs write,
--- and certificates.
-use Rattle.std.specs.Prelude.{◌≡◌, ℕ, List, pos, negsuc, true, false, [], ◌∷◌, ◌++◌, codes, Some, None}
+-- certificates, and what comes of checking them.
+use Rattle.std.specs.Prelude.{◌≡◌, ◌≤◌, ℕ, List, pos, negsuc, true, false, [], ◌∷◌, ◌++◌, codes, Some, None}
 use Rattle.prefix.specs.declared.quant.Quant.{Quant}
 use Rattle.prefix.specs.declared.quant.Quant.TheVariants.{Exists, Forall}
 use Rattle.truth.specs.declared.formula.Formula.{Formula}
 use Rattle.trail.specs.State.{Account}
+use Rattle.calculus.specs.Derivations.{Inference}
 use Rattle.calculus.specs.Derivations.Reason.{Input, One}
 use Rattle.calculus.specs.Worked.{existential, minus, plus, universal}
 use Rattle.frames.specs.Commands.{AddClause, AddScope, AddVariable, Assume as AssumeLiteral, Solve as Decide, Verdict}
 use Rattle.frames.specs.Fold.{new_script, state_after, state_of}
 use Rattle.frames.specs.State.{OpenFormula}
+use Rattle.qdimacs.specs.declared.refusal.Quantity.TheVariants.{Variables}
 use Rattle.qscript.specs.declared.command.Command.TheVariants.{Assume, Clause, Pop, Solve, Trace, Value}
 use Rattle.session.specs.declared.answer.Answer.TheVariants.{Sat, Unsat, Unknown}
-use Rattle.session.specs.declared.ending.Ending.TheVariants.{Done, NoMemory, Refused}
+use Rattle.session.specs.declared.ending.Ending.TheVariants.{CheckLimit, Done, NoMemory, Refused}
 use Rattle.session.specs.declared.ending.Job.TheVariants.{Solve as SolveJob, Qdo as QdoJob, Trace as TraceJob, Cert as CertJob}
+use Rattle.session.specs.declared.check.Outcome.TheVariants.{Unknown as Stopped, Checked, Undecided, Beyond}
+use Rattle.session.specs.Checks.{IsCheck, IsCheckReply, LeavesCheck, check_ending}
 use Rattle.session.specs.Feeding.{formula_with}
-use Rattle.session.specs.Jobs.{IsJobText, IsReplyTo, LeavesOutput, solution_line, unassumed, value_lines}
-use Rattle.session.specs.Replies.{AllowedReplies, Decides, GivesUp, IsCertificate, IsTraceText, Output, refusal_number, refused_text, relevant_text, says, value_in, value_text}
+use Rattle.session.specs.Jobs.{IsJobText, IsReplyTo, LeavesOutput, RoomForJob, opened, solution_line, unassumed, value_lines}
+use Rattle.session.specs.Replies.{AllowedReplies, Decides, GivesUp, IsCertText, IsCertificate, IsTraceText, Output, refusal_number, refused_text, relevant_text, says, value_in, value_text}
 use Rattle.session.specs.Scripts.{IsScriptEnding}
 use Rattle.session.specs.Solve.{IsAnswerTo}
 use Rattle.session.specs.Standing.{Standing, start}
@@ -76,19 +80,22 @@ negative = record {
   witness = record { proof = []; values = record { variable = 1; positive = false } ∷ [] };
 }
 
+-- The same where the verdict is the other one.
+abbrev pub lost : Standing
+lost = record negative {
+  script = record negative.script { verdict = Some (record { truth = false; assumptions = [] }) };
+}
+
 -- numbers of refusals, texts, and replies that are allowed and that aren't
 pub record WorkedReplies : Type 0 where
   pub no_frame : refusal_number start Pop ≡ Some 40
   pub unknown_variable : refusal_number start (Assume (pos 5)) ≡ Some 41
   pub no_verdict : refusal_number start (Value 1) ≡ Some 50
   pub no_trace : refusal_number start Trace ≡ Some 50
-  -- 51 comes before 52
+  -- 51 comes before 52, where both hold
   pub not_outermost : refusal_number negative (Value 2) ≡ Some 51
-  pub not_winner : refusal_number (record negative {
-    script = record negative.script {
-      verdict = Some (record { truth = false; assumptions = [] });
-    };
-  }) (Value 1) ≡ Some 52
+  pub not_winner : refusal_number lost (Value 1) ≡ Some 52
+  pub not_first : refusal_number lost (Value 2) ≡ Some 51
   pub accepted : refusal_number negative (Value 1) ≡ None
   pub solved : refusal_number start Solve ≡ None
   pub refused : refused_text 40 ≡ codes "refused 40\n"
@@ -122,14 +129,29 @@ anything_fits = record { prefix = []; clauses = []; declared_vars = 0; declared_
 abbrev pub at_nineteen : Account
 at_nineteen = record at_thirty_six { budget = 19 }
 
+-- the proof of the empty clause
+abbrev pub by_itself : List Inference
+by_itself = record { row = []; reason = Input } ∷ []
+
+-- its trace
+abbrev pub trace_text : List ℕ
+trace_text = codes "p qrp 0 1\n1 0 0\nr UNSAT\n"
+
 pub record WorkedJobs : Type 0 where
   -- a line for a solve, and no other
   pub solved : IsJobText SolveJob (terms_of 0 0) nothing_fits Unsat (codes "UNSAT\n")
   pub not_solved : IsJobText SolveJob (terms_of 0 0) nothing_fits Unsat (codes "SAT\n") → ⊥
   -- the trace of the empty clause, which no line of an answer is
-  pub traced : IsJobText TraceJob (terms_of 0 0) nothing_fits Unsat (codes "p qrp 0 1\n1 0 0\nr UNSAT\n")
+  pub traced : IsJobText TraceJob (terms_of 0 0) nothing_fits Unsat trace_text
   pub not_traced : IsJobText TraceJob (terms_of 0 0) nothing_fits Unsat (codes "UNSAT\n") → ⊥
-  -- no trace has an input behind another step
+  -- it is that of no other winner, proof or prefix
+  pub trace_is : IsTraceText [] false by_itself trace_text
+  pub other_winner : IsTraceText [] true by_itself trace_text → ⊥
+  pub other_proof : IsTraceText [] false [] trace_text → ⊥
+  pub other_prefix : IsTraceText (existential (1 ∷ []) ∷ []) false by_itself trace_text → ⊥
+  -- no trace has a step before the last that no other rests on
+  pub unused_step : (text : List ℕ) → IsTraceText [] false (by_itself ++ by_itself) text → ⊥
+  -- nor an input behind another step
   pub input_behind : (text : List ℕ) → IsTraceText [] false
       (record { row = []; reason = One (plus 4 ∷ []) } ∷ record { row = plus 4 ∷ []; reason = Input } ∷ []) text → ⊥
   -- a circuit without variables, which is no trace, in ASCII and in the binary form
@@ -158,6 +180,12 @@ pub record WorkedJobs : Type 0 where
   pub told : IsReplyTo SolveJob (terms_of 19 0) (differs Forall Exists) ([], at_nineteen ∷ []) Unknown
       (codes "UNKNOWN\n")
   pub untold : IsReplyTo SolveJob (terms_of 19 0) (differs Forall Exists) ([], []) Unknown (codes "UNKNOWN\n") → ⊥
+  -- Eight bytes are room for each line of a solve, and five aren't. Where the formula is known to be true, with a
+  -- budget that suffices, four are.
+  pub room : RoomForJob SolveJob (terms_of 0 0) None (λ n. n ≤ 8)
+  pub no_room : RoomForJob SolveJob (terms_of 0 0) None (λ n. n ≤ 5) → ⊥
+  pub room_for_one : RoomForJob SolveJob (terms_of 16 0) (Some (codes "p cnf 0 0\n")) (λ n. n ≤ 4)
+  pub no_room_for_one : RoomForJob SolveJob (terms_of 16 0) (Some (codes "p cnf 0 0\n")) (λ n. n ≤ 3) → ⊥
   -- after an ending without an answer nothing more is written
   pub kept : LeavesOutput SolveJob (terms_of 12 0) None (Some [], Some []) ([], []) NoMemory
   pub not_kept : LeavesOutput SolveJob (terms_of 12 0) None (Some [], Some (codes "SAT\n")) ([], []) NoMemory → ⊥
@@ -189,6 +217,14 @@ either = formula_with (existential (3 ∷ []) ∷ universal (4 ∷ []) ∷ []) (
 abbrev pub true_text : List ℕ
 true_text = codes "aag 1 1 0 1 0\n2\n1\ni0 4\no0 3\nc\nskolem\n"
 
+-- 3 alone
+abbrev pub three : OpenFormula
+three = formula_with (existential (3 ∷ []) ∷ []) []
+
+-- no variable
+abbrev pub none_text : List ℕ → List ℕ
+none_text comment = codes "aag 0 0 0 0 0\nc\n" ++ comment
+
 pub record WorkedCertificates : Type 0 where
   -- in ASCII and in the binary form, as the circuit is
   pub whole : IsCertificate false false neither (unassumed true) [] 2 whole_text
@@ -209,3 +245,43 @@ pub record WorkedCertificates : Type 0 where
   pub otherwise_assumed : IsCertificate false false either (record { truth = true; assumptions = minus 3 ∷ [] })
       [] 0 true_text → ⊥
   pub other_value : IsCertificate false false either (unassumed true) (minus 3 ∷ []) 0 true_text → ⊥
+  -- A script asks for a certificate in ASCII. It is of no other winner, and has all of the loser's variables as inputs
+  -- and the winner's alone as outputs. It wins, and no output looks at a later scope, but each may look at earlier
+  -- ones.
+  pub herbrand : IsCertText (opened nothing_fits) (unassumed false) [] 0 (none_text (codes "herbrand\n"))
+  pub other_winner : IsCertText (opened nothing_fits) (unassumed false) [] 0 (none_text (codes "skolem\n")) → ⊥
+  pub true_always : IsCertText either (unassumed true) [] 0 true_text
+  pub no_input : IsCertText either (unassumed true) [] 0 (codes "aag 0 0 0 1 0\n1\no0 3\nc\nskolem\n") → ⊥
+  pub other_output : IsCertText three (unassumed true) [] 0
+      (codes "aag 0 0 0 2 0\n1\n1\no0 3\no1 9\nc\nskolem\n") → ⊥
+  pub false_always : IsCertText either (unassumed true) [] 0 (codes "aag 1 1 0 1 0\n2\n0\ni0 4\no0 3\nc\nskolem\n") → ⊥
+  pub looks_ahead : IsCertText either (unassumed true) [] 0 (codes "aag 1 1 0 1 0\n2\n3\ni0 4\no0 3\nc\nskolem\n") → ⊥
+  pub looks_back : IsCertText neither (unassumed true) [] 2 whole_text
+  pub one_gate_more : IsCertText neither (unassumed true) [] 1 whole_text → ⊥
+  pub in_bytes : IsCertText neither (unassumed true) [] 2 whole_bytes → ⊥
+  pub other_first_value : IsCertText either (unassumed true) (minus 3 ∷ []) 0 true_text → ⊥
+  pub other_assumed_value : IsCertText either (record { truth = true; assumptions = minus 3 ∷ [] }) [] 0 true_text → ⊥
+
+pub record WorkedChecks : Type 0 where
+  -- the check formula of the circuit of no gates, which wins where there is no clause: a selector is true, of none
+  pub written : IsCheck false (terms_of 0 0) anything_fits ([], []) (Checked true) (codes "p cnf 0 1\n0\n")
+  pub not_decided : IsCheck false (terms_of 0 0) anything_fits ([], []) (Checked true) (codes "WINS\n") → ⊥
+  pub decided : IsCheck true (terms_of 0 0) anything_fits ([], []) (Checked true) (codes "WINS\n")
+  pub not_written : IsCheck true (terms_of 0 0) anything_fits ([], []) (Checked true) (codes "p cnf 0 1\n0\n") → ⊥
+  pub not_false : IsCheck false (terms_of 0 0) anything_fits ([], []) (Checked false) (codes "p cnf 0 1\n0\n") → ⊥
+  -- a search that stops is told, on the way to the verdict and where the check formula is decided
+  pub unknown : IsCheck true (terms_of 19 0) (differs Forall Exists) ([], at_nineteen ∷ []) Stopped (codes "UNKNOWN\n")
+  pub untold : IsCheck true (terms_of 19 0) (differs Forall Exists) ([], []) Stopped (codes "UNKNOWN\n") → ⊥
+  pub undecided : IsCheckReply true (terms_of 19 0) (differs Forall Exists) true ([], at_nineteen ∷ []) Undecided
+      (codes "UNDECIDED\n")
+  pub not_won : IsCheckReply true (terms_of 19 0) (differs Forall Exists) true ([], at_nineteen ∷ []) Undecided
+      (codes "WINS\n") → ⊥
+  pub not_asked : IsCheckReply false (terms_of 19 0) (differs Forall Exists) true ([], at_nineteen ∷ []) Undecided
+      (codes "UNDECIDED\n") → ⊥
+  -- endings
+  pub ends : check_ending (Checked false) ≡ Done 20
+  pub ends_undecided : check_ending Undecided ≡ Done 0
+  pub ends_beyond : check_ending (Beyond Variables) ≡ CheckLimit Variables
+  -- after an ending without an answer nothing more is written
+  pub kept : LeavesCheck true (terms_of 12 0) None (Some [], Some []) ([], []) NoMemory
+  pub not_kept : LeavesCheck true (terms_of 12 0) None (Some [], Some (codes "WINS\n")) ([], []) NoMemory → ⊥

@@ -33,6 +33,8 @@ pub enum Ending {
     Refused { number: u8, line: u32 },
     /// The input goes beyond a limit on this line.
     Limit { quantity: Quantity, line: u32 },
+    /// The check formula of the certificate goes beyond this limit. The certificate is written in its place.
+    CheckLimit { quantity: Quantity },
     /// The input can't be read.
     ReadFault,
     /// The output can't be written.

@@ -1,5 +1,5 @@
 //! One formula, read from the chosen input and decided.
-ghost use Rattle.std.specs.Prelude.{◌≡◌, ◌≢◌, ◌≤◌, ◌++◌, ℕ, Bool, true, length, flat_map, List, IfOk, IfErr, IfSome, IsErrOf, IsOk, OnOk, [], None, Some};
+ghost use Rattle.std.specs.Prelude.{◌≡◌, ◌≢◌, ◌≤◌, ◌++◌, ◌^◌, ◌-◌, ℕ, Bool, true, length, flat_map, List, IfOk, IfErr, IfSome, IsErrOf, IsOk, OnOk, [], None, Some};
 ghost use Rattle.aig.specs.Strategies.{IsStrategy};
 ghost use Rattle.ports.specs.Bytes.{AllFlushed};
 ghost use Rattle.ports.specs.Causes.{IsCounted};
@@ -7,6 +7,7 @@ ghost use Rattle.qdimacs.specs.Reads.{Reads};
 ghost use Rattle.qdimacs.specs.Rules.{parsed};
 ghost use Rattle.session.specs.Feeding.{HoldsFormula};
 ghost use Rattle.ports.specs.Writing.{Writes};
+ghost use Rattle.blocks.specs.Held.{Puts};
 ghost use Rattle.session.specs.Endings.{IsUnread, ending_with};
 ghost use Rattle.engine.specs.Asks.{first_values};
 ghost use Rattle.engine.specs.Refusals.{winner_of};
@@ -25,10 +26,11 @@ ghost use Rattle.truth.specs.declared.formula.Formula.{Formula as AnyFormula};
 use crate::answer::Answer;
 use crate::ending::{Ending, Job};
 use crate::feed::feed;
-use crate::lines::{write_answer, write_circuit, write_outermost, write_solution};
+use crate::lines::{put_outermost, put_solution, write_answer, write_circuit, write_solution};
 use crate::script::put_told;
 use crate::session::{decide, tell_trace};
 use aig::Strategy;
+use blocks::Block;
 use engine::Engine;
 use ports::{Desk, Failed, Sink};
 use prefix::{Prefix, Quant};
@@ -146,7 +148,7 @@ fn load<D: Desk>(alloc: Global, desk: &mut D) -> Result<(Engine, Header), Ending
 }
 
 // An engine that holds a formula.
-fn engine_with(alloc: Global, f: &Formula) -> Result<Engine, NoMemory>
+pub(crate) fn engine_with(alloc: Global, f: &Formula) -> Result<Engine, NoMemory>
     requires { IsFormed f.now }
     ensures { IfOk result (HoldsFormula f.now.prefix f.now.clauses) }
 {
@@ -158,16 +160,16 @@ fn engine_with(alloc: Global, f: &Formula) -> Result<Engine, NoMemory>
     }
 }
 
-/// Decides a formula by search with a budget of that many steps. UNKNOWN comes only where the budget is below the step
-/// limit of the formula's variables, and where propagation alone refutes the clauses only where it is below
-/// 2 * n * (n + 3), for n variables. It fails for want of memory alone.
-pub fn decide_formula(alloc: Global, f: &Formula, budget: u64) -> Result<Answer, NoMemory>
+/// Decides a formula by search with the greatest budget, of 2^64 - 1 steps. UNKNOWN comes only where this is below the
+/// step limit of the formula's variables, so for 55 of them at least, and where propagation alone refutes the clauses
+/// never, as 2 * n * (n + 3) isn't above it for n variables. It fails for want of memory alone.
+pub fn decide_formula(alloc: Global, f: &Formula) -> Result<Answer, NoMemory>
     requires { IsFormed f.now }
-    ensures { IfOk result (IsAnswerTo (terms_of budget 0) f.now) }
+    ensures { IfOk result (IsAnswerTo (terms_of (2 ^ 64 - 1) 0) f.now) }
 {
     no_assumptions();
     let mut engine = engine_with(alloc, f)?;
-    let reply = decide(&mut engine, budget)?;
+    let reply = decide(&mut engine, u64::MAX)?;
     Ok(reply.answer())
 }
 
@@ -286,7 +288,7 @@ fn circuit_of(alloc: Global, engine: &Engine, trimmed: bool) -> Result<Strategy,
 }
 
 // The circuit of a verdict as it is.
-fn whole_circuit(engine: &Engine) -> Result<Strategy, NoMemory>
+pub(crate) fn whole_circuit(engine: &Engine) -> Result<Strategy, NoMemory>
     ensures strategy { IfOk result IsStrategy }
     ensures certifies { (terms : Terms) (s : Standing) → Holds terms engine.now s → IfSome s.script.verdict
         (λ given. IfOk result (Certifies s.script.formula given s.witness.values (gates_after terms s.script))) }
@@ -297,7 +299,7 @@ fn whole_circuit(engine: &Engine) -> Result<Strategy, NoMemory>
     }
 }
 
-// Writes the solution line of a verdict, and the values of the first scope where this is the winner's.
+// Writes the solution line of a verdict, and the values of the first scope where this is the winner's, in blocks.
 fn write_result<S: Sink>(
     engine: &Engine,
     header: Header,
@@ -310,11 +312,30 @@ fn write_result<S: Sink>(
         → Writes S.written S.flushed S.faults S.has_room sink.old sink.new
         (solution_line answer f ++ value_lines f.prefix truth s.witness.values) result }
 {
-    write_solution(answer, header, sink)?;
+    let mut block = Block::new();
+    put_result(engine, header, answer, &mut block, sink)?;
+    block.finish(sink)
+}
+
+// Puts these lines into a block.
+fn put_result<S: Sink>(
+    engine: &Engine,
+    header: Header,
+    answer: Answer,
+    block: &mut Block,
+    sink: &mut S,
+) -> Result<(), Failed>
+    ensures { (terms : Terms) (f : AnyFormula) (s : Standing) (truth : Bool) → Holds terms engine.now s → IsHeaderOf
+        f header
+        → s.script.formula ≡ opened f → s.script.verdict ≡ Some (unassumed truth) → answer ≡ answer_with truth
+        → Puts S.written S.flushed S.faults S.has_room sink.old block.old sink.new block.new
+        (solution_line answer f ++ value_lines f.prefix truth s.witness.values) result }
+{
+    put_solution(answer, header, block, sink)?;
     if !is_won_first(engine.prefix(), answer.winner()) {
         return Ok(());
     }
-    write_values(engine, sink)
+    put_values(engine, block, sink)
 }
 
 // Whether the first scope is of the side that wins.
@@ -327,19 +348,20 @@ fn is_won_first(prefix: &Prefix, winner: Quant) -> bool
     }
 }
 
-// Writes the values of the first scope, where this is the winner's.
-fn write_values<S: Sink>(engine: &Engine, sink: &mut S) -> Result<(), Failed>
+// Puts the values of the first scope, where this is the winner's.
+fn put_values<S: Sink>(engine: &Engine, block: &mut Block, sink: &mut S) -> Result<(), Failed>
     requires { 1 ≤ length engine.now.formula.scopes }
     ensures { (v : VerdictState) → engine.now.verdict ≡ Some v
-        → quantifier_at engine.now.formula.scopes 1 ≡ Some (winner_of v.truth) → Writes S.written S.flushed S.faults
-        S.has_room sink.old sink.new (flat_map line_of_value (first_values engine.now.formula v)) result }
+        → quantifier_at engine.now.formula.scopes 1 ≡ Some (winner_of v.truth) → Puts S.written S.flushed S.faults
+        S.has_room sink.old block.old sink.new block.new
+        (flat_map line_of_value (first_values engine.now.formula v)) result }
 {
     for var in engine.prefix().vars_of(1) {
         // Each variable of the first scope has a value where this is the winner's.
         let Ok(lit) = engine.value(var.number() as u64) else {
             return Ok(());
         };
-        write_outermost(lit, sink)?;
+        put_outermost(lit, block, sink)?;
     }
     Ok(())
 }

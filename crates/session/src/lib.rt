@@ -2,10 +2,12 @@
 //!
 //! A formula is read, fed to an engine and solved. `specs/Terms` says on what terms, `specs/Solve` what the answer to a
 //! text is, `specs/Jobs` what is written for it, and `specs/Stops` what is told of a search that stopped.
+//! `specs/Checks` says what is written where its certificate is checked.
 //! `specs/Replies` says what the commands of a script may reply, `specs/Scripts` what the work on a script comes to.
 #![tactic(auto)]
 
 mod answer;
+mod check;
 mod ending;
 mod feed;
 mod file;
@@ -16,9 +18,13 @@ mod session;
 mod worked;
 
 pub use answer::Answer;
+pub use check::run_check;
 pub use ending::{Ending, Job};
 pub use file::{decide_formula, run_file};
 pub use reply::{Reply, SessionStop};
 pub use script::run_script;
 pub use session::Session;
-pub use worked::{worked_answers, worked_certificates, worked_jobs, worked_replies};
+pub use worked::{
+    worked_answers, worked_certificates, worked_checks, worked_jobs, worked_replies,
+    worked_scripts, worked_steps,
+};

@@ -7,6 +7,7 @@ ghost use Rattle.aiger_out.specs.Binary.{IsAigBytes};
 ghost use Rattle.aig.specs.Strategies.{IsStrategy};
 ghost use Rattle.qrp_trace.specs.Texts.{literal_word, qrp_text};
 ghost use Rattle.ports.specs.Writing.{Writes};
+ghost use Rattle.blocks.specs.Held.{Puts};
 ghost use Rattle.session.specs.Replies.{Denotes, Text, refused_text, relevant_text, value_text};
 ghost use Rattle.session.specs.Jobs.{IsHeaderOf, solution_line, value_line as line_of_value};
 ghost use Rattle.session.specs.Solve.{answer_line};
@@ -17,9 +18,10 @@ use crate::file::Header;
 use aig::Strategy;
 use aiger_out::{circuits_have_one_form_of_bytes, circuits_have_one_text, write_aag, write_aig};
 use arrayvec::ArrayString;
+use blocks::Block;
 use ports::{Failed, Sink, write_all};
 use prefix::{Lit, Prefix};
-use qrp_trace::{Core, write_literals, write_trace};
+use qrp_trace::{Core, put_literals, write_trace};
 
 // Room for the longest line: two words and a number of at most forty digits.
 const ROOM: usize = 64;
@@ -47,13 +49,23 @@ pub(crate) fn write_value<S: Sink>(lit: Lit, sink: &mut S) -> Result<(), Failed>
     write(value_line(lit).as_str().as_bytes(), sink)
 }
 
-// Writes assumptions.
+// Writes assumptions, in blocks.
 pub(crate) fn write_relevant<S: Sink>(lits: &[Lit], sink: &mut S) -> Result<(), Failed>
     ensures { Writes S.written S.flushed S.faults S.has_room sink.old sink.new (relevant_text lits.now) result }
 {
-    write(b"relevant ", sink)?;
-    write_literals(lits, sink)?;
-    write(b"0\n", sink)
+    let mut block = Block::new();
+    put_relevant(lits, &mut block, sink)?;
+    block.finish(sink)
+}
+
+// Puts the line of assumptions.
+fn put_relevant<S: Sink>(lits: &[Lit], block: &mut Block, sink: &mut S) -> Result<(), Failed>
+    ensures { Puts S.written S.flushed S.faults S.has_room sink.old block.old sink.new block.new
+        (relevant_text lits.now) result }
+{
+    block.put(b"relevant ", sink)?;
+    put_literals(lits, block, sink)?;
+    block.put(b"0\n", sink)
 }
 
 // Writes the solution line of an answer, with the numbers of a header.
@@ -68,11 +80,29 @@ pub(crate) fn write_solution<S: Sink>(
     write(solution(answer, header).as_str().as_bytes(), sink)
 }
 
-// Writes the line of an outermost variable's value.
-pub(crate) fn write_outermost<S: Sink>(lit: Lit, sink: &mut S) -> Result<(), Failed>
-    ensures { Writes S.written S.flushed S.faults S.has_room sink.old sink.new (line_of_value lit) result }
+// Puts that line into a block.
+pub(crate) fn put_solution<S: Sink>(
+    answer: Answer,
+    header: Header,
+    block: &mut Block,
+    sink: &mut S,
+) -> Result<(), Failed>
+    ensures { (f : Formula) → IsHeaderOf f header → Puts S.written S.flushed S.faults S.has_room sink.old block.old
+        sink.new block.new (solution_line answer f) result }
 {
-    write(outermost_line(lit).as_str().as_bytes(), sink)
+    block.put(solution(answer, header).as_str().as_bytes(), sink)
+}
+
+// Puts the line of an outermost variable's value into a block.
+pub(crate) fn put_outermost<S: Sink>(
+    lit: Lit,
+    block: &mut Block,
+    sink: &mut S,
+) -> Result<(), Failed>
+    ensures { Puts S.written S.flushed S.faults S.has_room sink.old block.old sink.new block.new
+        (line_of_value lit) result }
+{
+    block.put(outermost_line(lit).as_str().as_bytes(), sink)
 }
 
 // Writes a trace.
@@ -120,7 +150,7 @@ fn write_bytes<S: Sink>(strategy: &Strategy, sink: &mut S) -> Result<(), Failed>
 }
 
 // Writes bytes.
-fn write<S: Sink>(bytes: &[u8], sink: &mut S) -> Result<(), Failed>
+pub(crate) fn write<S: Sink>(bytes: &[u8], sink: &mut S) -> Result<(), Failed>
     ensures { Writes S.written S.flushed S.faults S.has_room sink.old sink.new bytes.now result }
 {
     write_all(sink, bytes)

@@ -1,10 +1,11 @@
 //! Sessions: the commands of a script, replied to.
-ghost use Rattle.std.specs.Prelude.{◌≡◌, Ok, IsOk, IfOk, IfSome, OnErr, MatchResult};
+ghost use Rattle.std.specs.Prelude.{◌≡◌, ℕ, Ok, Err, Some, IsOk, IfOk, IfSome, OnErr, MatchResult};
 ghost use Rattle.frames.specs.Refusal.{number_of};
 ghost use Rattle.engine.specs.Asks.{IsVerdictOf, PlaysFirst};
 ghost use Rattle.session.specs.Standing.{Standing, start};
 ghost use Rattle.session.specs.State.{Holds};
-ghost use Rattle.session.specs.Steps.{IsDecided, IsSent, Refuses, Steps as StepsOf, left_by, reply_of};
+ghost use Rattle.session.specs.Replies.{refusal_number};
+ghost use Rattle.session.specs.Steps.{IsDecided, IsQuestion, IsSent, LeavesAtWant, Refuses, Steps as StepsOf, left_by, reply_of};
 ghost use Rattle.session.specs.Terms.{Terms, terms_of, with_restarts};
 
 use crate::lines::{
@@ -71,14 +72,20 @@ impl Session {
 
     /// Carries a command out, and writes its reply; nothing is flushed.
     ///
-    /// A command is refused as the table `refusal_number` says, and then changes nothing. Where the reply can't be
-    /// written, the command is carried out and a front of the reply is written. Where there is no memory nothing is
-    /// written; a solve leaves the formula and the assumptions, and no verdict, and any other command leaves what the
-    /// engine held (`Holds`): the formula, the assumptions and the verdict with its proof and values.
+    /// A command is refused as the table `refusal_number` says, and then leaves the session as it was, as a question
+    /// does. Which reply comes, the command pins (`IsReplyFor`). Where the reply can't be written, the command is
+    /// carried out and a front of the reply is written. Where there is no memory nothing is written; a solve leaves the
+    /// formula and the assumptions, and no verdict, and any other command leaves the session as it was, but that
+    /// `clause` may have let go of long learned rows.
     pub fn step<S: Sink>(&mut self, command: &Command, sink: &mut S) -> Result<Reply, SessionStop>
         ensures terms { self.new.terms ≡ self.old.terms }
         ensures steps { (s : Standing) → Holds self.old.terms self.old.engine s → StepsOf S.written S.flushed S.faults
             S.has_room self.old.terms command.now s sink.old sink.new self.new.engine result }
+        // A question, a refusal, and want of memory for any command but a solve leave the session as it was.
+        ensures asked { IsQuestion command.now → self.new ≡ self.old }
+        ensures refused { (s : Standing) (n : ℕ) → Holds self.old.terms self.old.engine s
+            → refusal_number s command.now ≡ Some n → self.new ≡ self.old }
+        ensures wants { result ≡ Err SessionStop.NoMemory → LeavesAtWant command.now self.old self.new }
     {
         match command {
             Command::Scope { quant, at } => accept(self.engine.scope(*quant, *at), sink),

@@ -1,5 +1,7 @@
 //! Worked values of the definitions, each proved.
-ghost use Rattle.session.specs.Worked.{WorkedAnswers, WorkedCertificates, WorkedJobs, WorkedReplies};
+ghost use Rattle.session.specs.Worked.{WorkedAnswers, WorkedCertificates, WorkedChecks, WorkedJobs, WorkedReplies};
+ghost use Rattle.session.specs.WorkedScripts.{WorkedScripts};
+ghost use Rattle.session.specs.WorkedSteps.{WorkedSteps};
 
 use aiger_out::{bytes_denote_one_circuit, texts_denote_one_circuit};
 
@@ -11,6 +13,16 @@ pub fn worked_answers()
 /// Replies to commands, allowed ones and others.
 pub fn worked_replies()
     ensures { WorkedReplies }
+{}
+
+/// Which reply comes to a command, and what is left of a session.
+pub fn worked_steps()
+    ensures { WorkedSteps }
+{}
+
+/// What the work on a script comes to.
+pub fn worked_scripts()
+    ensures { WorkedScripts }
 {}
 
 /// What jobs write for formulas, and what they leave where there is no answer.
@@ -25,3 +37,8 @@ pub fn worked_certificates()
     texts_denote_one_circuit();
     bytes_denote_one_circuit();
 }
+
+/// What comes of the checks of certificates, and what does not.
+pub fn worked_checks()
+    ensures { WorkedChecks }
+{}

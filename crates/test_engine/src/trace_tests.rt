@@ -75,7 +75,7 @@ fn is_so(alloc: Global, core: &Core, prefix: &Prefix, look: Look) -> Result<bool
             Ok(has_text(alloc, core, prefix, CONFIRMATION)? && is_won_by(core, Quant::Exists))
         }
         Look::Faults => {
-            let faults = [(200, 1, 0), (200, 3, 12), (200, 11, 28), (20, 99, 20)];
+            let faults = [(200, 1, 0), (200, 2, 64), (20, 99, 20)];
             are_faults(alloc, core, prefix, &faults)
         }
     }

@@ -45,6 +45,15 @@ fn cert_in_form(binary: bool, trim: bool, name: Option<&str>) -> Want<'_> {
     })
 }
 
+fn check(budget: u64, restarts: u32, decide: bool, name: Option<&str>) -> Want<'_> {
+    Ok(Command::Check {
+        budget,
+        restarts,
+        decide,
+        name,
+    })
+}
+
 fn script(budget: u64, name: Option<&str>) -> Want<'_> {
     Ok(Command::Script {
         budget,
@@ -157,6 +166,43 @@ fn forms_of_circuits_are_read(rt: HostRuntime) -> Result<(), Fail> {
         (
             "qbf cert -h",
             Err("--trim          Leaves out gates that no output is reached from\n"),
+        ),
+    ] {
+        assert!(rt; comes_to(rt.alloc(), line, want)?, "{line}");
+    }
+    Ok(())
+}
+
+#[test]
+fn checks_are_read(rt: HostRuntime) -> Result<(), Fail> {
+    for (line, want) in [
+        ("qbf check", check(GREATEST, 0, false, None)),
+        ("qbf check f", check(GREATEST, 0, false, Some("f"))),
+        ("qbf check --decide", check(GREATEST, 0, true, None)),
+        (
+            "qbf check f --decide --budget 7",
+            check(7, 0, true, Some("f")),
+        ),
+        (
+            "qbf check --restarts=2 --budget=7 f",
+            check(7, 2, false, Some("f")),
+        ),
+        ("qbf check --decide --decide", Err("multiple times")),
+        (
+            "qbf check --decide=false",
+            Err("unexpected value 'false' for '--decide'"),
+        ),
+        (
+            "qbf check --trim",
+            Err("unexpected argument '--trim' found"),
+        ),
+        (
+            "qbf cert --decide",
+            Err("unexpected argument '--decide' found"),
+        ),
+        (
+            "qbf check -h",
+            Err("--decide        Decides that formula too, with a budget of its own\n"),
         ),
     ] {
         assert!(rt; comes_to(rt.alloc(), line, want)?, "{line}");

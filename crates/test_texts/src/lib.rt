@@ -19,3 +19,5 @@ mod qdimacs_out_tests;
 mod qdimacs_tests;
 #[cfg(test)]
 mod qscript_tests;
+#[cfg(test)]
+mod sets_tests;

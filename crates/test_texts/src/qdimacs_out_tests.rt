@@ -43,16 +43,16 @@ fn what_is_written_is_read_back(rt: HostRuntime) -> Result<(), Fail> {
     Ok(())
 }
 
-// Each of the calls fails in turn, and then the room is too small.
+// Each of the calls for a byte fails in turn, and then the room is too small.
 #[test]
 fn a_fault_leaves_a_front(rt: HostRuntime) -> Result<(), Fail> {
     let f = make(rt.alloc(), 1, 4, 2)?;
     let whole = TWO_CLAUSES.as_bytes();
-    for failing in 1..20 {
-        let failing = vec![in rt.alloc(); failing]?;
-        let mut sink = MemorySink::new(rt.alloc(), 64, 64, failing)?;
+    for n in 0..whole.len() {
+        let failing = vec![in rt.alloc(); n as u64 + 1]?;
+        let mut sink = MemorySink::new(rt.alloc(), 64, 1, failing)?;
         assert_eq!(rt; write_formula(&f, &mut sink), Err(Failed));
-        assert!(rt; whole.starts_with(sink.bytes()));
+        assert_eq!(rt; sink.bytes(), &whole[..n], "{n}");
     }
     let mut sink = sink_with(rt.alloc(), whole.len() - 1, 64)?;
     assert_eq!(rt; write_formula(&f, &mut sink), Err(Failed));

@@ -216,25 +216,3 @@ fn each_failing_call_of_an_output_leaves_a_front(rt: HostRuntime) -> Result<(), 
     }
     Ok(())
 }
-
-#[test]
-fn each_failing_call_of_an_input_leaves_nothing(rt: HostRuntime) -> Result<(), Fail> {
-    let alloc = rt.alloc();
-    let text = lines(alloc, DIFFERS)?;
-    for command in ["trace", "cert"] {
-        // The choice, the 36 bytes one by one, and the end.
-        for failing in 1..39 {
-            let found = carry_out(
-                alloc,
-                &["qbf", command],
-                &text,
-                vec![in alloc; failing]?,
-                Vec::new(alloc),
-            )?;
-            assert_eq!(rt; found.status, 3);
-            assert_eq!(rt; found.err.as_str(), "qbf: read fault\n");
-            assert!(rt; found.out.is_empty());
-        }
-    }
-    Ok(())
-}

@@ -170,44 +170,6 @@ fn each_unknown_of_a_script_is_told(rt: HostRuntime) -> Result<(), Fail> {
     Ok(())
 }
 
-#[test]
-fn malformed_scripts_are_refused_behind_their_replies(rt: HostRuntime) -> Result<(), Fail> {
-    let alloc = rt.alloc();
-    for (script, out, line, number) in [
-        ("p qscript 1/solve/jump/", "SAT/", 3, 31),
-        ("solve/", "", 1, 30),
-        ("", "", 1, 30),
-        ("p qscript 1/var 1/", "", 2, 32),
-        ("p qscript 1/solve/\u{e9}/", "SAT/", 3, 7),
-        (
-            "p qscript 1/pop/solve/clause 99999999999999999999 0/",
-            "refused 40/SAT/",
-            4,
-            8,
-        ),
-        ("p cnf 1 0/", "", 1, 30),
-    ] {
-        let text = lines(alloc, script)?;
-        let found = carry_out(
-            alloc,
-            &["qbf", "script"],
-            &text,
-            Vec::new(alloc),
-            Vec::new(alloc),
-        )?;
-        let want = format!(in alloc; "qbf: line {line}: refused {number}\n")?;
-        assert_eq!(rt; found.status, 2, "{script:?}");
-        assert_eq!(rt; found.err.as_str(), want.as_str(), "{script:?}");
-        assert_eq!(rt;
-            found.out.as_str(),
-            written(alloc, out)?.as_str(),
-            "{script:?}"
-        );
-        assert_eq!(rt; found.flushed.as_str(), "", "{script:?}");
-    }
-    Ok(())
-}
-
 // Forty existential variables, each clause of two neighbours; then 41 universal, and four clauses over 42 and 43 that
 // no values satisfy. The clauses stand in a frame, which is popped after a solve.
 fn popped_behind_forty(alloc: Global) -> Result<String, Fail> {

@@ -1,20 +1,17 @@
-use Rattle.aiger_out.specs.Written.{header_text, sections_bytes}
-use Rattle.ports.proofs.Pieces.{part_more, writes_err, writes_then}
+use Rattle.aiger_out.specs.Written.{written}
+use Rattle.blocks.proofs.Putting.{cut_short, finished}
 use Rattle.aiger_out.proofs.write.put_circuit.Goals as goal
 
-pub returns-in_err-put_header-clause-written : goal.returns-in_err-put_header-clause-written
-returns-in_err-put_header-clause-written g c =
-    let header = header_text c.args.form c.args.strategy.now in
-    let rest = sections_bytes c.args.form c.args.strategy.now in
-    writes_err g.S.Sink.written g.S.Sink.flushed g.S.Sink.faults g.S.Sink.has_room _ c.from_residual.result
-    c.args.sink.now c.put_header.new.sink _ c.from_residual.ensures.1
-    (part_more g.S.Sink.written g.S.Sink.flushed g.S.Sink.faults g.S.Sink.has_room c.args.sink.now
-    c.put_header.new.sink header rest c.in_err-put_header.ensures.written)
+pub returns-in_err-put_parts-clause-written : goal.returns-in_err-put_parts-clause-written
+returns-in_err-put_parts-clause-written g c =
+    cut_short g.S.Sink.written g.S.Sink.flushed g.S.Sink.faults g.S.Sink.has_room _ c.from_residual.result
+    c.args.sink.now c.new-block.result c.put_parts.new.sink (written c.args.form c.args.strategy.now)
+    c.new-block.ensures c.from_residual.ensures.1
+    c.in_err-put_parts.ensures.written
 
 pub returns-clause-written : goal.returns-clause-written
 returns-clause-written g c =
-    let header = header_text c.args.form c.args.strategy.now in
-    let rest = sections_bytes c.args.form c.args.strategy.now in
-    writes_then g.S.Sink.written g.S.Sink.flushed g.S.Sink.faults g.S.Sink.has_room c.put_sections.result
-    c.args.sink.now c.put_header.new.sink c.put_sections.new.sink header rest
-    c.in_ok-put_header.ensures.written c.put_sections.ensures
+    finished g.S.Sink.written g.S.Sink.flushed g.S.Sink.faults g.S.Sink.has_room c.finish.result c.args.sink.now
+    c.new-block.result c.put_parts.new.sink c.put_parts.new.block c.finish.new.sink (written c.args.form
+    c.args.strategy.now) c.new-block.ensures
+    c.in_ok-put_parts.ensures.written c.finish.ensures

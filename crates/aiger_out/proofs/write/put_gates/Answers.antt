@@ -2,9 +2,14 @@ use Rattle.std.proofs.Common.{◌≤◌, ℕ, List, [], suc, length, get_or, ari
 use Rattle.aig.specs.Circuits.{zero}
 use Rattle.aig.specs.declared.edge.And.{And}
 use Rattle.aiger_out.specs.Written.{circuit_bytes, gate_bytes}
-use Rattle.ports.proofs.Pieces.{each_done, each_more, each_stops}
+use Rattle.blocks.proofs.Putting.{nothing, each_done, each_more, each_stops}
 use Rattle.aiger_out.proofs.Lines.{form_here, length_each}
 use Rattle.aiger_out.proofs.write.put_gates.Goals as goal
+
+pub loop-place-init : goal.loop-place-init
+loop-place-init g c =
+    nothing g.S.Sink.written g.S.Sink.flushed g.S.Sink.faults g.S.Sink.has_room c.args.sink.now
+    c.args.block.now
 
 pub loop-place-preserved : goal.loop-place-preserved
 loop-place-preserved g c =
@@ -15,7 +20,8 @@ loop-place-preserved g c =
     let within : suc place ≤ length circuit.gates = omega (arith, c.gates-place-end.ensures.count) in
     let below : suc place ≤ length (circuit_bytes circuit) = omega (arith, count, within) in
     each_more g.S.Sink.written g.S.Sink.flushed g.S.Sink.faults g.S.Sink.has_room (λ (bytes : List ℕ). bytes)
-    (circuit_bytes circuit) place [] c.args.sink.now c.loop-place.sink c.put_gate.new.sink
+    (circuit_bytes circuit) place [] c.args.sink.now c.args.block.now c.loop-place.sink c.loop-place.block
+    c.put_gate.new.sink c.put_gate.new.block
     (gate_bytes circuit.inputs place (get_or circuit.gates place any)) below
     (form_here (gate_bytes circuit.inputs) circuit.gates place [] any within) c.loop-place.invariant
     (c.in_ok-put_gate.ensures any)
@@ -29,7 +35,8 @@ returns-in_err-put_gate g c =
     let within : suc place ≤ length circuit.gates = omega (arith, c.gates-place-end.ensures.count) in
     let below : suc place ≤ length (circuit_bytes circuit) = omega (arith, count, within) in
     each_stops g.S.Sink.written g.S.Sink.flushed g.S.Sink.faults g.S.Sink.has_room (λ (bytes : List ℕ). bytes)
-    (circuit_bytes circuit) place [] c.args.sink.now c.loop-place.sink c.put_gate.new.sink
+    (circuit_bytes circuit) place [] c.args.sink.now c.args.block.now c.loop-place.sink c.loop-place.block
+    c.put_gate.new.sink c.put_gate.new.block
     (gate_bytes circuit.inputs place (get_or circuit.gates place any)) _ c.from_residual.result below
     (form_here (gate_bytes circuit.inputs) circuit.gates place [] any within) c.loop-place.invariant
     (c.in_err-put_gate.ensures any) c.from_residual.ensures.1
@@ -41,4 +48,5 @@ returns g c =
     let all : length (circuit_bytes circuit) ≤ c.loop-place.place =
     omega (arith, count, c.gates-place-end.ensures.count) in
     each_done g.S.Sink.written g.S.Sink.flushed g.S.Sink.faults g.S.Sink.has_room (λ (bytes : List ℕ). bytes)
-    (circuit_bytes circuit) c.loop-place.place c.args.sink.now c.loop-place.sink all c.loop-place.invariant
+    (circuit_bytes circuit) c.loop-place.place c.args.sink.now c.args.block.now c.loop-place.sink c.loop-place.block
+    all c.loop-place.invariant

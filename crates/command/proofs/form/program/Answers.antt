@@ -17,9 +17,11 @@ returns c =
     ∙ ap₂ with_subcommand solve_is (ap (λ (a : App). a.top) c.in_ok-command.ensures.app) in
     let cert_is = c.in_ok-subcommand-3.ensures.shape c.in_ok-certifier.ensures.local
     ∙ ap₂ with_subcommand trace_is (ap (λ (a : App). a.top) c.in_ok-certifier.ensures.app) in
-    let script_is = c.in_ok-subcommand-4.ensures.shape c.in_ok-command-2.ensures.local
-    ∙ ap₂ with_subcommand cert_is (ap (λ (a : App). a.top) c.in_ok-command-2.ensures.app) in
-    let generator_is = c.in_ok-subcommand-5.ensures.shape c.in_ok-generator.ensures.local
+    let checker_is = c.in_ok-subcommand-4.ensures.shape c.in_ok-checker.ensures.local
+    ∙ ap₂ with_subcommand cert_is (ap (λ (a : App). a.top) c.in_ok-checker.ensures.app) in
+    let script_is = c.in_ok-subcommand-5.ensures.shape c.in_ok-command-2.ensures.local
+    ∙ ap₂ with_subcommand checker_is (ap (λ (a : App). a.top) c.in_ok-command-2.ensures.app) in
+    let generator_is = c.in_ok-subcommand-6.ensures.shape c.in_ok-generator.ensures.local
     ∙ ap₂ with_subcommand script_is (ap (λ (a : App). a.top) c.in_ok-generator.ensures.app) in
-    IfOk-weaker c.subcommand-6.result _ _ (λ r h. h.shape c.in_ok-demonstration.ensures.local
-    ∙ ap₂ with_subcommand generator_is (ap (λ (a : App). a.top) c.in_ok-demonstration.ensures.app)) c.subcommand-6.ensures
+    IfOk-weaker c.subcommand-7.result _ _ (λ r h. h.shape c.in_ok-demonstration.ensures.local
+    ∙ ap₂ with_subcommand generator_is (ap (λ (a : App). a.top) c.in_ok-demonstration.ensures.app)) c.subcommand-7.ensures

@@ -5,7 +5,8 @@ use Rattle.session.specs.Solve.{HasAnswer}
 use Rattle.qbf_cli.specs.Run.{IsVerdict, line_of}
 use Rattle.qbf_cli.specs.Told.{IsOutput}
 use Rattle.qbf_cli.proofs.Endings as by
-use Rattle.qbf_cli.proofs.Completing.{Complete, complete}
+use Rattle.qbf_cli.specs.Complete.{IsComplete}
+use Rattle.qbf_cli.proofs.Completing.{complete}
 use Rattle.qbf_cli.proofs.run.run.Goals as goal
 
 pub returns-clause-statuses : goal.returns-clause-statuses
@@ -44,7 +45,7 @@ returns-clause-error g c = record {
 }
 
 pub returns-clause-complete : goal.returns-clause-complete
-returns-clause-complete g c valid reads writes = subst Complete (sym c.report.ensures.status)
+returns-clause-complete g c valid reads writes = subst (IsComplete _ _) (sym c.report.ensures.status)
     (complete c.each_text_has_one_outcome.ensures.one c.each_script_has_one_reading.ensures.one _ _ _ _ _ valid
     c.ending_of-ending.result c.ending_of-ending.ensures.carried
     (λ is. reads (c.ending_of-ending.ensures.read_fault.rose is))

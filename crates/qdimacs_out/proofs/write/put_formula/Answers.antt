@@ -1,62 +1,17 @@
-use Rattle.std.proofs.Common.{◌++◌, ap, subst, sym}
-use Rattle.std.specs.List.{flat_map}
-use Rattle.qdimacs_out.specs.Pieces.{clause_text, scope_text}
-use Rattle.qdimacs_out.specs.Texts.{header_line, line_text}
-use Rattle.ports.specs.Writing.{Stops, Wrote, Writes}
-use Rattle.qdimacs_out.proofs.Lines.{text_is}
-use Rattle.ports.proofs.Pieces.{part_more, part_then, writes_err, writes_then}
+use Rattle.qdimacs_out.specs.Texts.{formula_text}
+use Rattle.blocks.proofs.Putting.{cut_short, finished}
 use Rattle.qdimacs_out.proofs.write.put_formula.Goals as goal
 
-pub returns-in_err-put_words : goal.returns-in_err-put_words
-returns-in_err-put_words g c =
-    let f = c.args.f.now in
-    let header = line_text (header_line f.declared_vars f.declared_clauses) in
-    let rest = flat_map scope_text f.prefix ++ flat_map clause_text f.clauses in
-    subst (λ t. Writes g.S.Sink.written g.S.Sink.flushed g.S.Sink.faults g.S.Sink.has_room c.args.sink.now
-    c.put_words.new.sink t c.from_residual.result) (sym (text_is f))
-    (writes_err g.S.Sink.written g.S.Sink.flushed g.S.Sink.faults g.S.Sink.has_room _ c.from_residual.result
-    c.args.sink.now c.put_words.new.sink (header ++ rest)
+pub returns-in_err-put_parts : goal.returns-in_err-put_parts
+returns-in_err-put_parts g c =
+    cut_short g.S.Sink.written g.S.Sink.flushed g.S.Sink.faults g.S.Sink.has_room _ c.from_residual.result
+    c.args.sink.now c.new-block.result c.put_parts.new.sink (formula_text c.args.f.now) c.new-block.ensures
     c.from_residual.ensures.1
-    (part_more g.S.Sink.written g.S.Sink.flushed g.S.Sink.faults g.S.Sink.has_room c.args.sink.now
-    c.put_words.new.sink header rest
-    (subst (λ t. Stops g.S.Sink.written g.S.Sink.flushed g.S.Sink.faults g.S.Sink.has_room c.args.sink.now
-    c.put_words.new.sink t) c.header.ensures c.in_err-put_words.ensures)))
-
-pub returns-in_err-put_scopes : goal.returns-in_err-put_scopes
-returns-in_err-put_scopes g c =
-    let f = c.args.f.now in
-    let header = line_text (header_line f.declared_vars f.declared_clauses) in
-    let scopes = flat_map scope_text f.prefix in
-    let clauses = flat_map clause_text f.clauses in
-    subst (λ t. Writes g.S.Sink.written g.S.Sink.flushed g.S.Sink.faults g.S.Sink.has_room c.args.sink.now
-    c.put_scopes.new.sink t c.from_residual-in_err-put_scopes.result)
-    (sym (text_is f))
-    (writes_err g.S.Sink.written g.S.Sink.flushed g.S.Sink.faults g.S.Sink.has_room _
-    c.from_residual-in_err-put_scopes.result c.args.sink.now c.put_scopes.new.sink
-    (header ++ (scopes ++ clauses)) c.from_residual-in_err-put_scopes.ensures.1
-    (part_then g.S.Sink.written g.S.Sink.flushed g.S.Sink.faults g.S.Sink.has_room c.args.sink.now
-    c.put_words.new.sink c.put_scopes.new.sink header (scopes ++ clauses)
-    (subst (λ t. Wrote g.S.Sink.written g.S.Sink.flushed g.S.Sink.faults g.S.Sink.has_room c.args.sink.now
-    c.put_words.new.sink t) c.header.ensures c.in_ok-put_words.ensures)
-    (part_more g.S.Sink.written g.S.Sink.flushed g.S.Sink.faults g.S.Sink.has_room c.put_words.new.sink
-    c.put_scopes.new.sink scopes clauses c.in_err-put_scopes.ensures)))
+    c.in_err-put_parts.ensures
 
 pub returns : goal.returns
 returns g c =
-    let f = c.args.f.now in
-    let header = line_text (header_line f.declared_vars f.declared_clauses) in
-    let scopes = flat_map scope_text f.prefix in
-    let clauses = flat_map clause_text f.clauses in
-    subst (λ t. Writes g.S.Sink.written g.S.Sink.flushed g.S.Sink.faults g.S.Sink.has_room c.args.sink.now
-    c.put_clauses.new.sink t c.put_clauses.result) (sym (text_is f))
-    (writes_then g.S.Sink.written g.S.Sink.flushed g.S.Sink.faults g.S.Sink.has_room c.put_clauses.result
-    c.args.sink.now c.put_words.new.sink c.put_clauses.new.sink header
-    (scopes ++ clauses)
-    (subst (λ t. Wrote g.S.Sink.written g.S.Sink.flushed g.S.Sink.faults g.S.Sink.has_room c.args.sink.now
-    c.put_words.new.sink t) c.header.ensures c.in_ok-put_words.ensures)
-    (writes_then g.S.Sink.written g.S.Sink.flushed g.S.Sink.faults g.S.Sink.has_room c.put_clauses.result
-    c.put_words.new.sink c.put_scopes.new.sink c.put_clauses.new.sink scopes
-    clauses c.in_ok-put_scopes.ensures
-    (subst (λ t. Writes g.S.Sink.written g.S.Sink.flushed g.S.Sink.faults g.S.Sink.has_room c.put_scopes.new.sink
-    c.put_clauses.new.sink t c.put_clauses.result)
-    (ap (flat_map clause_text) c.clauses.ensures) c.put_clauses.ensures)))
+    finished g.S.Sink.written g.S.Sink.flushed g.S.Sink.faults g.S.Sink.has_room c.finish.result c.args.sink.now
+    c.new-block.result c.put_parts.new.sink c.put_parts.new.block c.finish.new.sink (formula_text c.args.f.now)
+    c.new-block.ensures
+    c.in_ok-put_parts.ensures c.finish.ensures

@@ -1,15 +1,21 @@
 use Rattle.std.proofs.Common.{◌≤◌, suc, length, ap, sym, ◌∙◌, arith}
 use Rattle.qdimacs_out.specs.Pieces.{spaced}
 use Rattle.qdimacs_out.specs.Texts.{literal_word}
-use Rattle.ports.proofs.Pieces.{each_more, each_stops}
+use Rattle.blocks.proofs.Putting.{nothing, each_more, each_stops}
 use Rattle.qdimacs_out.proofs.write.put_literals.Goals as goal
+
+pub loop-lit-init : goal.loop-lit-init
+loop-lit-init g c =
+    nothing g.S.Sink.written g.S.Sink.flushed g.S.Sink.faults g.S.Sink.has_room c.args.sink.now
+    c.args.block.now
 
 pub loop-lit-preserved : goal.loop-lit-preserved
 loop-lit-preserved g c =
     let below : suc c.loop-lit.lit-index ≤ length c.args.lits.now = omega arith in
     each_more g.S.Sink.written g.S.Sink.flushed g.S.Sink.faults g.S.Sink.has_room
     (λ l. spaced (literal_word l)) c.args.lits.now c.loop-lit.lit-index c.lit-item.result
-    c.args.sink.now c.loop-lit.sink c.put_words.new.sink c.literal.result.bytes below
+    c.args.sink.now c.args.block.now c.loop-lit.sink c.loop-lit.block c.put_words.new.sink c.put_words.new.block
+    c.literal.result.bytes below
     (ap (λ l. spaced (literal_word l)) (sym c.lit-item.is)
     ∙ sym c.literal.ensures) c.loop-lit.invariant c.in_ok-put_words.ensures
 
@@ -18,6 +24,7 @@ returns-in_err-put_words g c =
     let below : suc c.loop-lit.lit-index ≤ length c.args.lits.now = omega arith in
     each_stops g.S.Sink.written g.S.Sink.flushed g.S.Sink.faults g.S.Sink.has_room
     (λ l. spaced (literal_word l)) c.args.lits.now c.loop-lit.lit-index c.lit-item.result
-    c.args.sink.now c.loop-lit.sink c.put_words.new.sink c.literal.result.bytes _ c.from_residual.result below
+    c.args.sink.now c.args.block.now c.loop-lit.sink c.loop-lit.block c.put_words.new.sink c.put_words.new.block
+    c.literal.result.bytes _ c.from_residual.result below
     (ap (λ l. spaced (literal_word l)) (sym c.lit-item.is)
     ∙ sym c.literal.ensures) c.loop-lit.invariant c.in_err-put_words.ensures c.from_residual.ensures.1

@@ -1,69 +1,17 @@
-use Rattle.std.proofs.Common.{◌++◌, length}
-use Rattle.std.specs.List.{flat_map, range_with_len}
-use Rattle.ports.proofs.Pieces.{part_more, part_then, writes_err, writes_then}
-use Rattle.prefix.specs.Scopes.{all_variables}
-use Rattle.qrp_trace.specs.Texts.{greatest, header_line, scope_line, step_line, verdict_line}
+use Rattle.qrp_trace.specs.Texts.{qrp_text}
+use Rattle.blocks.proofs.Putting.{cut_short, finished}
 use Rattle.qrp_trace.proofs.text.put_trace.Goals as goal
 
-pub returns-in_err-put_header : goal.returns-in_err-put_header
-returns-in_err-put_header g c =
-    writes_err g.S.Sink.written g.S.Sink.flushed g.S.Sink.faults g.S.Sink.has_room _ c.from_residual.result
-    c.args.sink.now c.put_header.new.sink _ c.from_residual.ensures.1
-    (part_more g.S.Sink.written g.S.Sink.flushed g.S.Sink.faults g.S.Sink.has_room c.args.sink.now
-    c.put_header.new.sink (header_line (greatest (all_variables c.args.prefix.now)) (length c.args.core.now.lines))
-    (flat_map scope_line c.args.prefix.now
-    ++ (flat_map (step_line c.args.core.now.lines) (range_with_len 1 (length c.args.core.now.lines))
-    ++ verdict_line c.args.core.now.winner)) c.in_err-put_header.ensures)
-
-pub returns-in_err-put_scopes : goal.returns-in_err-put_scopes
-returns-in_err-put_scopes g c =
-    writes_err g.S.Sink.written g.S.Sink.flushed g.S.Sink.faults g.S.Sink.has_room _
-    c.from_residual-in_err-put_scopes.result c.args.sink.now c.put_scopes.new.sink _
-    c.from_residual-in_err-put_scopes.ensures.1
-    (part_then g.S.Sink.written g.S.Sink.flushed g.S.Sink.faults g.S.Sink.has_room c.args.sink.now
-    c.put_header.new.sink c.put_scopes.new.sink
-    (header_line (greatest (all_variables c.args.prefix.now)) (length c.args.core.now.lines))
-    (flat_map scope_line c.args.prefix.now
-    ++ (flat_map (step_line c.args.core.now.lines) (range_with_len 1 (length c.args.core.now.lines))
-    ++ verdict_line c.args.core.now.winner)) c.in_ok-put_header.ensures
-    (part_more g.S.Sink.written g.S.Sink.flushed g.S.Sink.faults g.S.Sink.has_room c.put_header.new.sink
-    c.put_scopes.new.sink (flat_map scope_line c.args.prefix.now)
-    (flat_map (step_line c.args.core.now.lines) (range_with_len 1 (length c.args.core.now.lines))
-    ++ verdict_line c.args.core.now.winner) c.in_err-put_scopes.ensures))
-
-pub returns-in_err-put_steps : goal.returns-in_err-put_steps
-returns-in_err-put_steps g c =
-    writes_err g.S.Sink.written g.S.Sink.flushed g.S.Sink.faults g.S.Sink.has_room _
-    c.from_residual-in_err-put_steps.result c.args.sink.now c.put_steps.new.sink _
-    c.from_residual-in_err-put_steps.ensures.1
-    (part_then g.S.Sink.written g.S.Sink.flushed g.S.Sink.faults g.S.Sink.has_room c.args.sink.now
-    c.put_header.new.sink c.put_steps.new.sink
-    (header_line (greatest (all_variables c.args.prefix.now)) (length c.args.core.now.lines))
-    (flat_map scope_line c.args.prefix.now
-    ++ (flat_map (step_line c.args.core.now.lines) (range_with_len 1 (length c.args.core.now.lines))
-    ++ verdict_line c.args.core.now.winner)) c.in_ok-put_header.ensures
-    (part_then g.S.Sink.written g.S.Sink.flushed g.S.Sink.faults g.S.Sink.has_room c.put_header.new.sink
-    c.put_scopes.new.sink c.put_steps.new.sink (flat_map scope_line c.args.prefix.now)
-    (flat_map (step_line c.args.core.now.lines) (range_with_len 1 (length c.args.core.now.lines))
-    ++ verdict_line c.args.core.now.winner) c.in_ok-put_scopes.ensures
-    (part_more g.S.Sink.written g.S.Sink.flushed g.S.Sink.faults g.S.Sink.has_room c.put_scopes.new.sink
-    c.put_steps.new.sink (flat_map (step_line c.args.core.now.lines)
-    (range_with_len 1 (length c.args.core.now.lines)))
-    (verdict_line c.args.core.now.winner) c.in_err-put_steps.ensures)))
+pub returns-in_err-put_parts : goal.returns-in_err-put_parts
+returns-in_err-put_parts g c =
+    cut_short g.S.Sink.written g.S.Sink.flushed g.S.Sink.faults g.S.Sink.has_room _ c.from_residual.result
+    c.args.sink.now c.new-block.result c.put_parts.new.sink (qrp_text c.args.prefix.now c.args.core.now)
+    c.new-block.ensures c.from_residual.ensures.1
+    c.in_err-put_parts.ensures
 
 pub returns : goal.returns
 returns g c =
-    writes_then g.S.Sink.written g.S.Sink.flushed g.S.Sink.faults g.S.Sink.has_room c.put_verdict.result
-    c.args.sink.now c.put_header.new.sink c.put_verdict.new.sink
-    (header_line (greatest (all_variables c.args.prefix.now)) (length c.args.core.now.lines))
-    (flat_map scope_line c.args.prefix.now
-    ++ (flat_map (step_line c.args.core.now.lines) (range_with_len 1 (length c.args.core.now.lines))
-    ++ verdict_line c.args.core.now.winner)) c.in_ok-put_header.ensures
-    (writes_then g.S.Sink.written g.S.Sink.flushed g.S.Sink.faults g.S.Sink.has_room c.put_verdict.result
-    c.put_header.new.sink c.put_scopes.new.sink c.put_verdict.new.sink (flat_map scope_line c.args.prefix.now)
-    (flat_map (step_line c.args.core.now.lines) (range_with_len 1 (length c.args.core.now.lines))
-    ++ verdict_line c.args.core.now.winner) c.in_ok-put_scopes.ensures
-    (writes_then g.S.Sink.written g.S.Sink.flushed g.S.Sink.faults g.S.Sink.has_room c.put_verdict.result
-    c.put_scopes.new.sink c.put_steps.new.sink c.put_verdict.new.sink
-    (flat_map (step_line c.args.core.now.lines) (range_with_len 1 (length c.args.core.now.lines)))
-    (verdict_line c.args.core.now.winner) c.in_ok-put_steps.ensures ((rw c.winner.ensures at c.put_verdict.ensures))))
+    finished g.S.Sink.written g.S.Sink.flushed g.S.Sink.faults g.S.Sink.has_room c.finish.result c.args.sink.now
+    c.new-block.result c.put_parts.new.sink c.put_parts.new.block c.finish.new.sink (qrp_text c.args.prefix.now
+    c.args.core.now) c.new-block.ensures
+    c.in_ok-put_parts.ensures c.finish.ensures

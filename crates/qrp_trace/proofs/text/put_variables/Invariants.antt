@@ -1,10 +1,11 @@
 use Rattle.std.proofs.Common.{take}
 use Rattle.std.specs.List.{flat_map}
 use Rattle.qrp_trace.specs.Texts.{number_word}
-use Rattle.ports.specs.Writing.{Wrote}
+use Rattle.blocks.specs.Held.{PassesOn}
 use Rattle.qrp_trace.proofs.text.put_variables.Given as goal
 
 abbrev pub invariant-loop-v : goal.invariant-loop-v
 invariant-loop-v g l =
-    Wrote g.S.Sink.written g.S.Sink.flushed g.S.Sink.faults g.S.Sink.has_room l.initial.sink l.sink
+    PassesOn g.S.Sink.written g.S.Sink.flushed g.S.Sink.faults g.S.Sink.has_room l.initial.sink l.initial.block l.sink
+    l.block
     (flat_map number_word (take l.v-index l.vars))

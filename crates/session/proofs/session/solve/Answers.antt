@@ -20,5 +20,5 @@ returns g c terms s same holds =
     let writes = subst (λ a. Writes written flushed faults has_room old new (answer_line a) c.write_answer.result)
     c.answer.ensures c.write_answer.ensures in
     stepped written flushed faults has_room terms Solve s is.after old new c.decide.new.engine reply line c.send.result
-    is.reply_is is.text is.holds
+    is.reply_is is.says_truth is.holds
     (sent written flushed faults has_room reply line old new c.write_answer.result c.send.result writes c.send.ensures)

@@ -1,5 +1,4 @@
-use Rattle.std.specs.Prelude.{codes}
-use Rattle.std.proofs.Common.{◌≡◌, ◌∙◌, ◌<◌, ℕ, Bool, true, false, nat_eq, if◌then◌else◌, List, [], ◌∷◌, map, get_or, Option, Some, None, ⊎_elim, refl, sym, ap, subst, arith}
+use Rattle.std.proofs.Common.{◌≡◌, ◌∙◌, ℕ, Bool, true, false, nat_eq, if◌then◌else◌, List, [], ◌∷◌, get_or, Option, Some, None, ⊎_elim, refl, sym, ap, subst, arith}
 use Rattle.std.proofs.lemmas.Bool.{eqb-true, false≢true, true≢false}
 use Rattle.prefix.specs.Literal.{Literal}
 use Rattle.prefix.specs.Scopes.{quantifier_of}
@@ -7,48 +6,23 @@ use Rattle.prefix.specs.declared.quant.Quant.TheVariants.{Exists, Forall}
 use Rattle.truth.specs.Truth.{assumed_value}
 use Rattle.calculus.specs.Worked.{minus, plus}
 use Rattle.calculus.proofs.Lists.{contains_cons, contains_head, contains_nil}
+use Rattle.calculus.specs.Plays.{IsAllowed}
 use Rattle.calculus.specs.Rows.{Assignment}
-use Rattle.aig.specs.Circuits.{IsEdge, one, value_of}
-use Rattle.aig.specs.Strategies.{output_of, value_or, values_of}
+use Rattle.aig.specs.Circuits.{value_of, zero}
+use Rattle.aig.specs.Strategies.{output_of, output_vars, values_of}
 use Rattle.aig.specs.declared.edge.Node.TheVariants.{Constant}
 use Rattle.aig.specs.declared.edge.Edge.{Edge}
 use Rattle.aig.specs.declared.strategy.Strategy.{Strategy}
-use Rattle.aiger_out.specs.Aag.{IsAagText}
 use Rattle.aiger_out.specs.Theorems.{HaveOneCircuit}
 use Rattle.session.specs.Replies.{Certifies}
-use Rattle.session.specs.Worked.{either, true_text, whole_text, whole_bytes}
+use Rattle.session.specs.Jobs.{opened, unassumed}
+use Rattle.session.specs.Worked.{either, nothing_fits, true_text, whole_text, whole_bytes}
+use Rattle.session.proofs.CircuitValues.{ahead, ahead_stands, always, always_denotes, always_value, bare, bare_denotes, inputless, inputless_denotes, looks_at_four, never_value, same_value, three_by, three_denotes, three_or_four, two_outputs, two_outputs_denote, zero_stands}
 use Rattle.session.proofs.Certifying.{bytes_denote, first_not_reached, one_gate, one_reached, trimmed_bytes_denote, trimmed_certifies, trimmed_denotes, two_gates, two_there, whole_certifies, whole_denotes}
 use Rattle.session.proofs.worked.worked_certificates.Goals as goal
 
 second_byte : List ℕ → ℕ
 second_byte text = get_or text 1 0
-
--- 3 is always true, and 4 is an input
-abbrev always : Strategy
-always = record {
-  aig = record { inputs = 1; gates = [] };
-  winner = Exists;
-  inputs = 4 ∷ [];
-  outputs = record { var = 3; edge = one } ∷ [];
-}
-
-always_denotes : IsAagText true_text always
-unfolding IsEdge
-always_denotes = record {
-  input_lines = (codes "2" ∷ []) ∷ [];
-  output_lines = (codes "1" ∷ []) ∷ [];
-  gate_lines = [];
-  input_symbols = (codes "i0" ∷ codes "4" ∷ []) ∷ [];
-  output_symbols = (codes "o0" ∷ codes "3" ∷ []) ∷ [];
-  lines = refl;
-  named = refl;
-  inputs = (refl, tt);
-  outputs = (record { stands = tt; literal = refl }, tt);
-  gates = tt;
-  distinct = λ i j d before within e. absurd (let no : j < 0 = within in omega (arith, no));
-  input_names = (refl, tt);
-  output_names = (refl, tt);
-}
 
 -- 3 alone is assumed, to be true
 assumed_three : (x : ℕ) (b : Bool) → assumed_value (plus 3 ∷ []) x ≡ Some b → (3 ≡ x) × (b ≡ true)
@@ -87,15 +61,44 @@ is_negated (Some e) = e.negated
 
 -- 3 is true by each circuit of that text
 three_is_true : (t : Strategy) → HaveOneCircuit always t → (inputs : Assignment) → values_of t inputs 3 ≡ true
-unfolding value_of
-three_is_true t same inputs =
-    subst (λ outputs. value_or t.aig (map inputs t.inputs) (output_of outputs 3) (inputs 3) ≡ true) same.outputs refl
+three_is_true t same inputs = sym (same_value always t same inputs 3) ∙ always_value inputs
 
 not_constant : (t : Strategy) → HaveOneCircuit always t
     → output_of t.outputs 3 ≡ Some (record { node = Constant; negated = false }) → ⊥
 unfolding is_negated
 not_constant t same e = true≢false (ap is_negated
     (subst (λ outputs. output_of outputs 3 ≡ Some (record { node = Constant; negated = false })) (sym same.outputs) e))
+
+-- without an assumption
+always_wins : Certifies either (unassumed true) [] 0 always
+unfolding value_of
+always_wins = record {
+  winner = refl;
+  inputs = refl;
+  outputs = refl;
+  wins = λ v allowed. (refl, λ x b e apart. absurd (let f : None ≡ Some b = e in cc));
+  earlier = always_certifies.earlier;
+  assumed = λ x b e apart. absurd (let f : None ≡ Some b = e in cc);
+  first_values = λ e l i inputs. absurd (contains_nil l i);
+  few = omega arith;
+}
+
+-- a circuit of nothing wins where nothing can be won
+bare_wins : Certifies (opened nothing_fits) (unassumed false) [] 0 (bare Forall)
+bare_wins = record {
+  winner = refl;
+  inputs = refl;
+  outputs = refl;
+  wins = λ v allowed. (refl, λ x b e apart. absurd (let f : None ≡ Some b = e in cc));
+  earlier = λ x i. absurd (contains_nil x i);
+  assumed = λ x b e apart. absurd (let f : None ≡ Some b = e in cc);
+  first_values = λ e l i inputs. absurd (contains_nil l i);
+  few = omega arith;
+}
+
+-- no value of 4 is assumed
+all_allowed : (v : Assignment) → IsAllowed Forall either.scopes [] v
+all_allowed v x b e at = absurd (let f : None ≡ Some b = e in cc)
 
 pub returns : goal.returns
 unfolding second_byte
@@ -151,4 +154,50 @@ returns c =
       other_value = λ h. false≢true
           (sym (h.certifies.first_values refl (minus 3) (contains_head (minus 3) []) (λ x. true))
           ∙ three_is_true h.strategy (text_one true_text always h.strategy always_denotes h.denotes) (λ x. true));
+      herbrand = record {
+        strategy = bare Forall;
+        denotes = bare_denotes Forall;
+        certifies = bare_wins;
+        reached = λ trim. absurd (false≢true trim);
+      };
+      other_winner = λ h.
+          let same = text_one _ (bare Exists) h.strategy (bare_denotes Exists) h.denotes in
+          absurd (let f : Exists ≡ Forall = same.winner ∙ h.certifies.winner in cc);
+      true_always = record {
+        strategy = always;
+        denotes = always_denotes;
+        certifies = always_wins;
+        reached = λ trim. absurd (false≢true trim);
+      };
+      no_input = λ h.
+          let same = text_one _ inputless h.strategy inputless_denotes h.denotes in
+          absurd (let f : [] ≡ 4 ∷ [] = same.inputs ∙ h.certifies.inputs in cc);
+      other_output = λ h.
+          let same = text_one _ two_outputs h.strategy two_outputs_denote h.denotes in
+          absurd (let f : 3 ∷ 9 ∷ [] ≡ 3 ∷ [] = ap output_vars same.outputs ∙ h.certifies.outputs in cc);
+      false_always = λ h.
+          let same = text_one _ (three_by zero) h.strategy (three_denotes zero zero_stands) h.denotes in
+          let v : Assignment = λ x. false in
+          three_or_four (values_of h.strategy v)
+          (sym (same_value (three_by zero) h.strategy same v 3) ∙ never_value v)
+          (sym (same_value (three_by zero) h.strategy same v 4)) (h.certifies.wins v (all_allowed v)).0;
+      looks_ahead = λ h.
+          let same = text_one _ (three_by ahead) h.strategy (three_denotes ahead ahead_stands) h.denotes in
+          looks_at_four h.strategy same h.certifies.earlier;
+      looks_back = record {
+        strategy = two_gates;
+        denotes = whole_denotes;
+        certifies = whole_certifies 2 (omega arith);
+        reached = λ trim. absurd (false≢true trim);
+      };
+      one_gate_more = λ h.
+          let same = text_one whole_text two_gates h.strategy whole_denotes h.denotes in
+          absurd (let two = two_there h.strategy same in let few = h.certifies.few in omega (arith, two, few));
+      in_bytes = λ h. absurd (let f : 105 ≡ 97 = ap second_byte h.denotes.lines in omega (arith, f));
+      other_first_value = λ h. false≢true
+          (sym (h.certifies.first_values refl (minus 3) (contains_head (minus 3) []) (λ x. true))
+          ∙ three_is_true h.strategy (text_one true_text always h.strategy always_denotes h.denotes) (λ x. true));
+      other_assumed_value = λ h.
+          not_constant h.strategy (text_one true_text always h.strategy always_denotes h.denotes)
+          (h.certifies.assumed 3 false refl (λ e. absurd (let f : Some Exists ≡ Some Forall = e in cc)));
     }

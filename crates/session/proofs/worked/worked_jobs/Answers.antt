@@ -1,4 +1,4 @@
-use Rattle.std.proofs.Common.{◌≡◌, ◌<◌, ℕ, Bool, true, false, List, [], ◌∷◌, codes, Some, None, refl, ap, subst, arith, lit<}
+use Rattle.std.proofs.Common.{◌≡◌, ◌<◌, ◌≤◌, ℕ, Bool, true, false, List, [], ◌∷◌, codes, Some, None, refl, ap, arith, lit<}
 use Rattle.std.proofs.lemmas.Bool.{false≢true, true≢false}
 use Rattle.std.specs.Prelude.{slice_index_or}
 use Rattle.std.specs.Fmt.{digits}
@@ -6,85 +6,25 @@ use Rattle.prefix.specs.declared.quant.Quant.TheVariants.{Exists, Forall}
 use Rattle.calculus.specs.Derivations.{Inference, is_input}
 use Rattle.calculus.specs.Derivations.Reason.{Input as ByInput}
 use Rattle.calculus.proofs.Lists.{contains_nil}
-use Rattle.qrp_trace.specs.declared.listing.Line.{Line}
-use Rattle.qrp_trace.specs.declared.listing.CoreStep.TheVariants.{Input}
-use Rattle.qrp_trace.specs.Cores.{IsNumbered, RestsOnNumber, step_numbered}
 use Rattle.aig.specs.Circuits.{AreDistinct}
 use Rattle.aig.specs.declared.strategy.Strategy.{Strategy}
-use Rattle.calculus.specs.Verdicts.{IsProof}
 use Rattle.session.specs.Jobs.{IsJobText, gates_for, opened, unassumed}
 use Rattle.session.specs.Replies.{Certifies}
-use Rattle.session.specs.Worked.{anything_fits, at_nineteen, nothing_fits}
-use Rattle.session.specs.declared.answer.Answer.TheVariants.{Unsat}
-use Rattle.session.specs.declared.ending.Job.TheVariants.{Solve, Trace}
+use Rattle.session.specs.Worked.{anything_fits, at_nineteen, nothing_fits, trace_text}
+use Rattle.session.specs.declared.answer.Answer.TheVariants.{Sat, Unsat}
+use Rattle.session.specs.declared.ending.Job.TheVariants.{Trace}
 use Rattle.session.specs.Terms.{terms_of}
+use Rattle.session.proofs.JobValues.{bare_is, bare_reads, line_length, sat, true_length, unsat}
+use Rattle.session.proofs.TraceValues.{other_prefix, other_proof, other_winner, trace_is, unused_step}
+use Rattle.session.proofs.NoGates.{empty_cube, no_gates, no_gates_certify, none}
 use Rattle.session.proofs.Working.{empty_proof}
 use Rattle.session.proofs.worked.worked_jobs.Goals as goal
 
-abbrev one_input : List Line
-one_input = record { lits = []; step = Input } ∷ []
-
-numbered : IsNumbered one_input
-numbered = record {
-  earlier = λ i k low high rests. absurd (subst (λ n. RestsOnNumber (step_numbered one_input n) k)
-      (let one : i ≡ 1 = omega arith in one) rests);
-  used = λ k low high. absurd (omega (arith, low, high));
-}
-
-unsat : (text : List ℕ) → text ≡ codes "UNSAT\n" → IsJobText Solve (terms_of 0 0) nothing_fits Unsat text
-unsat text is = record {
-  witness = record { proof = record { row = []; reason = ByInput } ∷ []; values = [] };
-  is_witness = record { proof = empty_proof; values = λ e. absurd (let f : None ≡ Some Forall = e in cc) };
-  says = is;
-}
-
-trace : IsJobText Trace (terms_of 0 0) nothing_fits Unsat (codes "p qrp 0 1\n1 0 0\nr UNSAT\n")
-unfolding digits
+trace : IsJobText Trace (terms_of 0 0) nothing_fits Unsat trace_text
 trace = record {
   witness = record { proof = record { row = []; reason = ByInput } ∷ []; values = [] };
   is_witness = record { proof = empty_proof; values = λ e. absurd (let f : None ≡ Some Forall = e in cc) };
-  says = record {
-    core = record { winner = Forall; lines = one_input };
-    winner = refl;
-    numbered = numbered;
-    proof_steps = refl;
-    inputs_first = refl;
-    text_of_core = refl;
-  };
-}
-
--- the empty cube hits no clause, and is a proof by itself
-empty_cube : IsProof Forall [] [] [] (record { row = []; reason = ByInput } ∷ [])
-empty_cube = record {
-  front = [];
-  last = record { row = []; reason = ByInput };
-  parts = refl;
-  legal = tt;
-  last_row = record { ascending = tt; over_prefix = λ l i. absurd (contains_nil l i) };
-  last_step = λ c i. absurd (contains_nil c i);
-  decided = λ l i. absurd (contains_nil l i);
-  used = tt;
-}
-
-no_gates : Strategy
-no_gates = record { aig = record { inputs = 0; gates = [] }; winner = Exists; inputs = []; outputs = [] }
-
--- no gate stands twice among none
-none : AreDistinct []
-none i j d before within e = absurd (let no : ⊥ = omega arith in no)
-
-no_gates_certify : Certifies (opened anything_fits) (unassumed true) [] (gates_for (terms_of 0 0) anything_fits)
-    no_gates
-unfolding no_gates
-no_gates_certify = record {
-  winner = refl;
-  inputs = refl;
-  outputs = refl;
-  wins = λ inputs allowed. (refl, λ x b e. absurd (let f : None ≡ Some b = e in cc));
-  earlier = λ x i. absurd (contains_nil x i);
-  assumed = λ x b e. absurd (let f : None ≡ Some b = e in cc);
-  first_values = λ e. absurd (let f : None ≡ Some Exists = e in cc);
-  few = omega arith;
+  says = trace_is;
 }
 
 first_byte : List ℕ → ℕ
@@ -98,11 +38,16 @@ begins_with_input [] = false
 begins_with_input (s ∷ steps) = is_input s.reason
 
 pub returns : goal.returns
-unfolding no_gates first_byte second_byte begins_with_input digits
+unfolding first_byte second_byte begins_with_input digits
 returns c = record {
-  solved = unsat (codes "UNSAT\n") refl;
+  solved = unsat (terms_of 0 0) (codes "UNSAT\n") refl;
   not_solved = λ h. absurd (let f : 83 ≡ 85 = ap first_byte h.says in omega (arith, f));
   traced = trace;
+  trace_is = trace_is;
+  other_winner = other_winner;
+  other_proof = other_proof;
+  other_prefix = other_prefix;
+  unused_step = unused_step;
   not_traced = λ h. absurd (let f : 85 ≡ 112 = ap first_byte h.says.text_of_core in omega (arith, f));
   input_behind = λ text h. absurd (true≢false (ap begins_with_input h.inputs_first));
   certified = record {
@@ -167,6 +112,13 @@ returns c = record {
     told = (at_nineteen, refl, record { budget = refl; vars = refl; few = lit< tt; restarts = omega arith });
   };
   untold = λ h. absurd (let f : [] ≡ h.told.0 ∷ [] = h.told.1 in cc);
+  room = λ f a text read right says. line_length (terms_of 0 0) f a text says;
+  no_room = λ room. absurd (let few : 6 ≤ 5 = room nothing_fits Unsat (codes "UNSAT\n") tt refl
+      (unsat (terms_of 0 0) (codes "UNSAT\n") refl) in omega (arith, few));
+  room_for_one = λ f a text read right says. true_length f a text (bare_is f read) right says;
+  no_room_for_one = λ room. absurd (let few : 4 ≤ 3 = room anything_fits Sat (codes "SAT\n") bare_reads refl
+      (sat (terms_of 16 0)) in
+      omega (arith, few));
   kept = (refl, refl);
   not_kept = λ h. absurd (let f : codes "SAT\n" ≡ [] = h.0 in cc);
 }

@@ -14,6 +14,7 @@ returns c = record {
   no_trace = refl;
   not_outermost = refl;
   not_winner = refl;
+  not_first = refl;
   accepted = refl;
   solved = refl;
   refused = refl;

@@ -1,4 +1,4 @@
-use Rattle.std.proofs.Common.{SFits, refl, rules, w64}
+use Rattle.std.proofs.Common.{◌≡◌, SFits, refl, rules, w64}
 use Rattle.std.proofs.Math.Facts.{to_z-of_z}
 use Rattle.std.specs.Prelude.{length, not, ◌&&◌, ◌==◌}
 use Rattle.std.specs.List.{list_all}
@@ -9,6 +9,7 @@ use Rattle.frames.specs.Commands.{AddClause, AddScope, AddVariable, Assume, Pop,
 use Rattle.frames.specs.State.{clauses_in, depth}
 use Rattle.qscript.specs.declared.command.Command.TheVariants as command
 use Rattle.session.proofs.Accepting.{accepts, always, has_changed, has_clause, held_again, one_numbered, scope_numbered, three_numbered, two_numbered, unless_memory, variable_numbered}
+use Rattle.session.proofs.Leaving.{any_error, at_want, session_same, stays_refused}
 use Rattle.session.proofs.session.Session.step.Goals as goal
 
 pub returns-in-Scope-clause-steps : goal.returns-in-Scope-clause-steps
@@ -16,7 +17,8 @@ returns-in-Scope-clause-steps g c = rw (← c.self.view_is, c.in-Scope.is) (λ s
     accepts g.S.Sink.written g.S.Sink.flushed g.S.Sink.faults g.S.Sink.has_room _
     (command.Scope c.in-Scope.quant c.in-Scope.at) (AddScope c.in-Scope.quant c.in-Scope.at)
     s c.self.inside.engine c.scope.new.self holds refl
-    (λ out after h. h) refl refl refl refl refl (λ f. scope_numbered f c.in-Scope.quant c.in-Scope.at) _ c.scope.result
+    (λ out after h. h) refl refl refl refl refl refl (λ f. scope_numbered f c.in-Scope.quant c.in-Scope.at) _
+    c.scope.result
     c.args.sink.now c.accept.new.sink c.accept.result
     (on_ok_weaker c.scope.result
     (λ same. has_changed (AddScope c.in-Scope.quant c.in-Scope.at) c.self.inside.engine c.scope.new.self _ same refl)
@@ -30,7 +32,8 @@ returns-in-Var-clause-steps g c = rw (← c.self.view_is, c.in-Var.is) (λ s hol
     accepts g.S.Sink.written g.S.Sink.flushed g.S.Sink.faults g.S.Sink.has_room _
     (command.Var c.in-Var.var c.in-Var.scope) (AddVariable c.in-Var.var c.in-Var.scope)
     s c.self.inside.engine c.var.new.self holds refl
-    (λ out after h. h) refl refl refl refl refl (λ f. variable_numbered f c.in-Var.var c.in-Var.scope) _ c.var.result
+    (λ out after h. h) refl refl refl refl refl refl (λ f. variable_numbered f c.in-Var.var c.in-Var.scope) _
+    c.var.result
     c.args.sink.now c.accept-in-Var.new.sink c.accept-in-Var.result
     (on_ok_weaker c.var.result
     (λ same. has_changed (AddVariable c.in-Var.var c.in-Var.scope) c.self.inside.engine c.var.new.self _ same refl)
@@ -43,7 +46,7 @@ pub returns-in-Clause-clause-steps : goal.returns-in-Clause-clause-steps
 returns-in-Clause-clause-steps g c = rw (← c.self.view_is, c.in-Clause.is) (λ s holds.
     accepts g.S.Sink.written g.S.Sink.flushed g.S.Sink.faults g.S.Sink.has_room _
     (command.Clause c.in-Clause.lits) (AddClause c.in-Clause.lits) s c.self.inside.engine c.clause.new.self holds refl
-    (λ out after h. h) refl refl refl refl refl (λ f. two_numbered
+    (λ out after h. h) refl refl refl refl refl refl (λ f. two_numbered
     (not (list_all (is_known f.scopes) c.in-Clause.lits))
     (not (is_tautology c.in-Clause.lits) && is_beyond (clauses_in f.frames) (length (variables_of c.in-Clause.lits)))
     UnknownVar Limit refl refl) _ c.clause.result
@@ -60,7 +63,7 @@ pub returns-in-Push-clause-steps : goal.returns-in-Push-clause-steps
 returns-in-Push-clause-steps g c = rw (← c.self.view_is, c.in-Push.is) (λ s holds.
     accepts g.S.Sink.written g.S.Sink.flushed g.S.Sink.faults g.S.Sink.has_room _
     command.Push Push s c.self.inside.engine c.push.new.self holds refl
-    (λ out after h. h) refl refl refl refl refl (λ f. one_numbered (depth f.frames == max_pushed) Limit refl) _
+    (λ out after h. h) refl refl refl refl refl refl (λ f. one_numbered (depth f.frames == max_pushed) Limit refl) _
     c.push.result c.args.sink.now c.accept-in-Push.new.sink c.accept-in-Push.result
     (on_ok_weaker c.push.result
     (λ same. has_changed Push c.self.inside.engine c.push.new.self _ same refl)
@@ -73,7 +76,8 @@ pub returns-in-Pop-clause-steps : goal.returns-in-Pop-clause-steps
 returns-in-Pop-clause-steps g c = rw (← c.self.view_is, c.in-Pop.is) (λ s holds.
     accepts g.S.Sink.written g.S.Sink.flushed g.S.Sink.faults g.S.Sink.has_room _
     command.Pop Pop s c.self.inside.engine c.pop.new.self holds refl
-    (λ out after h. h) refl refl refl refl refl (λ f. one_numbered (depth f.frames == 0) NoFrame refl) _ c.pop.result
+    (λ out after h. h) refl refl refl refl refl refl (λ f. one_numbered (depth f.frames == 0) NoFrame refl) _
+    c.pop.result
     c.args.sink.now c.accept-in-Pop.new.sink c.accept-in-Pop.result
     (on_ok_weaker c.pop.result
     (λ same. has_changed Pop c.self.inside.engine c.pop.new.self _ same refl)
@@ -90,7 +94,7 @@ returns-in-Assume-clause-steps g c = rw (← c.self.view_is, c.in-Assume.is) (λ
     let refused = rw same at c.assume.ensures.refused in
     accepts g.S.Sink.written g.S.Sink.flushed g.S.Sink.faults g.S.Sink.has_room _
     (command.Assume c.in-Assume.lit) (Assume c.in-Assume.lit) s c.self.inside.engine c.assume.new.self holds refl
-    (λ out after h. h) refl refl refl refl refl (λ f. three_numbered
+    (λ out after h. h) refl refl refl refl refl refl (λ f. three_numbered
     (not (is_known f.scopes c.in-Assume.lit)) (not (is_outermost f.scopes c.in-Assume.lit))
     (clashes_with f.assumptions c.in-Assume.lit) UnknownVar AssumeScope AssumeClash refl refl refl) _ c.assume.result
     c.args.sink.now c.accept-in-Assume.new.sink c.accept-in-Assume.result
@@ -120,3 +124,86 @@ returns-in-Trace-clause-steps g c = rw (← c.self.view_is, c.in-Trace.is) (λ s
 pub returns-in-Cert-clause-steps : goal.returns-in-Cert-clause-steps
 returns-in-Cert-clause-steps g c = rw (← c.self.view_is, c.in-Cert.is) (λ s holds.
     c.tell_circuit.ensures _ s holds)
+
+-- what is left where a command is refused, asks, or wants memory
+
+pub returns-in-Scope-clause-refused : goal.returns-in-Scope-clause-refused
+returns-in-Scope-clause-refused g c = rw (← c.self.view_is, c.in-Scope.is) (λ s n holds number.
+    stays_refused _ s c.self.inside.engine c.scope.new.self (AddScope c.in-Scope.quant c.in-Scope.at) n holds number _
+    c.scope.result c.scope.ensures.refused
+    (any_error (c.scope.new.self ≡ c.self.inside.engine) c.scope.result c.scope.ensures.err))
+
+pub returns-in-Scope-clause-wants : goal.returns-in-Scope-clause-wants
+returns-in-Scope-clause-wants g c = rw (← c.self.view_is, c.in-Scope.is) (λ none.
+    session_same _ c.self.inside.engine c.scope.new.self
+    (at_want g.S.Sink.written g.S.Sink.flushed g.S.Sink.faults g.S.Sink.has_room c.scope.result
+    c.args.sink.now c.accept.new.sink c.accept.result c.accept.ensures c.scope.ensures.err none))
+
+pub returns-in-Var-clause-refused : goal.returns-in-Var-clause-refused
+returns-in-Var-clause-refused g c = rw (← c.self.view_is, c.in-Var.is) (λ s n holds number.
+    stays_refused _ s c.self.inside.engine c.var.new.self (AddVariable c.in-Var.var c.in-Var.scope) n holds number _
+    c.var.result c.var.ensures.refused
+    (any_error (c.var.new.self ≡ c.self.inside.engine) c.var.result c.var.ensures.err))
+
+pub returns-in-Var-clause-wants : goal.returns-in-Var-clause-wants
+returns-in-Var-clause-wants g c = rw (← c.self.view_is, c.in-Var.is) (λ none.
+    session_same _ c.self.inside.engine c.var.new.self
+    (at_want g.S.Sink.written g.S.Sink.flushed g.S.Sink.faults g.S.Sink.has_room c.var.result
+    c.args.sink.now c.accept-in-Var.new.sink c.accept-in-Var.result c.accept-in-Var.ensures c.var.ensures.err none))
+
+pub returns-in-Clause-clause-refused : goal.returns-in-Clause-clause-refused
+returns-in-Clause-clause-refused g c = rw (← c.self.view_is, c.in-Clause.is) (λ s n holds number.
+    stays_refused _ s c.self.inside.engine c.clause.new.self (AddClause c.in-Clause.lits) n holds number _
+    c.clause.result (rw c.numbers.ensures at c.clause.ensures.refused) c.clause.ensures.stays)
+
+pub returns-in-Clause-clause-wants : goal.returns-in-Clause-clause-wants
+returns-in-Clause-clause-wants g c = rw (← c.self.view_is, c.in-Clause.is) (λ none.
+    record {
+      rest = session_same _ (record c.self.inside.engine { kept_long = c.clause.new.self.kept_long }) c.clause.new.self
+          (at_want g.S.Sink.written g.S.Sink.flushed g.S.Sink.faults g.S.Sink.has_room c.clause.result
+          c.args.sink.now c.accept-in-Clause.new.sink c.accept-in-Clause.result c.accept-in-Clause.ensures
+          c.clause.ensures.err none);
+      fewer = at_want g.S.Sink.written g.S.Sink.flushed g.S.Sink.faults g.S.Sink.has_room c.clause.result
+          c.args.sink.now c.accept-in-Clause.new.sink c.accept-in-Clause.result c.accept-in-Clause.ensures
+          c.clause.ensures.fewer none;
+    })
+
+pub returns-in-Push-clause-refused : goal.returns-in-Push-clause-refused
+returns-in-Push-clause-refused g c = rw (← c.self.view_is, c.in-Push.is) (λ s n holds number.
+    stays_refused _ s c.self.inside.engine c.push.new.self (Push) n holds number _
+    c.push.result c.push.ensures.refused
+    (any_error (c.push.new.self ≡ c.self.inside.engine) c.push.result c.push.ensures.err))
+
+pub returns-in-Push-clause-wants : goal.returns-in-Push-clause-wants
+returns-in-Push-clause-wants g c = rw (← c.self.view_is, c.in-Push.is) (λ none.
+    session_same _ c.self.inside.engine c.push.new.self
+    (at_want g.S.Sink.written g.S.Sink.flushed g.S.Sink.faults g.S.Sink.has_room c.push.result
+    c.args.sink.now c.accept-in-Push.new.sink c.accept-in-Push.result c.accept-in-Push.ensures c.push.ensures.err none))
+
+pub returns-in-Pop-clause-refused : goal.returns-in-Pop-clause-refused
+returns-in-Pop-clause-refused g c = rw (← c.self.view_is, c.in-Pop.is) (λ s n holds number.
+    stays_refused _ s c.self.inside.engine c.pop.new.self (Pop) n holds number _
+    c.pop.result c.pop.ensures.refused
+    (any_error (c.pop.new.self ≡ c.self.inside.engine) c.pop.result c.pop.ensures.err))
+
+pub returns-in-Pop-clause-wants : goal.returns-in-Pop-clause-wants
+returns-in-Pop-clause-wants g c = rw (← c.self.view_is, c.in-Pop.is) (λ none.
+    session_same _ c.self.inside.engine c.pop.new.self
+    (at_want g.S.Sink.written g.S.Sink.flushed g.S.Sink.faults g.S.Sink.has_room c.pop.result
+    c.args.sink.now c.accept-in-Pop.new.sink c.accept-in-Pop.result c.accept-in-Pop.ensures c.pop.ensures.err none))
+
+pub returns-in-Assume-clause-refused : goal.returns-in-Assume-clause-refused
+returns-in-Assume-clause-refused g c = rw (← c.self.view_is, c.in-Assume.is) (λ s n holds number.
+    let fits : SFits w64 c.in-Assume.lit = search rules in
+    let same = to_z-of_z {w = w64} {z = c.in-Assume.lit} fits in
+    let unaccepted = rw same at c.assume.ensures.refused in
+    stays_refused _ s c.self.inside.engine c.assume.new.self (Assume c.in-Assume.lit) n holds number _
+    c.assume.result unaccepted
+    (any_error (c.assume.new.self ≡ c.self.inside.engine) c.assume.result c.assume.ensures.err))
+
+pub returns-in-Assume-clause-wants : goal.returns-in-Assume-clause-wants
+returns-in-Assume-clause-wants g c = rw (← c.self.view_is, c.in-Assume.is) (λ none.
+    session_same _ c.self.inside.engine c.assume.new.self
+    (at_want g.S.Sink.written g.S.Sink.flushed g.S.Sink.faults g.S.Sink.has_room c.assume.result
+    c.args.sink.now c.accept-in-Assume.new.sink c.accept-in-Assume.result c.accept-in-Assume.ensures
+    c.assume.ensures.err none))

@@ -1,0 +1,10 @@
+//! Texts that are written in blocks, so that a sink is called once for many words.
+//!
+//! `specs/Held` says what is passed on and what is held back, and `specs/Worked` has small cases.
+#![tactic(auto)]
+
+mod block;
+mod worked;
+
+pub use block::Block;
+pub use worked::worked_blocks;

@@ -1,0 +1,11 @@
+use Rattle.std.proofs.Common.{take}
+use Rattle.std.specs.List.{flat_map}
+use Rattle.qrp_trace.specs.Texts.{literal_word}
+use Rattle.blocks.specs.Held.{PassesOn}
+use Rattle.qrp_trace.proofs.text.put_literals.Given as goal
+
+abbrev pub invariant-loop-lit : goal.invariant-loop-lit
+invariant-loop-lit g l =
+    PassesOn g.S.Sink.written g.S.Sink.flushed g.S.Sink.faults g.S.Sink.has_room l.initial.sink l.initial.block l.sink
+    l.block
+    (flat_map literal_word (take l.lit-index l.lits))

@@ -1,0 +1,100 @@
+use Rattle.std.proofs.Common.{◌≡◌, ◌≤◌, List, [], ◌∷◌, length, codes, refl, ap, arith, ⊎_elim}
+use Rattle.qscript.specs.declared.command.Command.{Command}
+use Rattle.qscript.specs.declared.command.Command.TheVariants.{Pop, Push}
+use Rattle.qscript.specs.Reads.{done}
+use Rattle.session.specs.declared.ending.Ending.TheVariants.{Done, NoMemory, ReadFault, Refused, WriteFault}
+use Rattle.session.specs.Replies.{says}
+use Rattle.session.specs.Standing.{start}
+use Rattle.session.specs.Terms.{terms_of}
+use Rattle.session.specs.Worked.{at_thirty_six}
+use Rattle.session.specs.WorkedScripts.{one_refusal, two_refusals}
+use Rattle.session.proofs.ScriptValues.{both_read, first_ones, front_head, leads_one, leads_two, none_told, read_length, reply_length, some_reply, too_short, whole_length}
+use Rattle.session.proofs.worked.worked_scripts.Goals as goal
+
+pub returns : goal.returns
+returns c = record {
+  none_first = (Pop ∷ Pop ∷ [], done, both_read);
+  one_first = (Pop ∷ [], done, both_read);
+  both_first = ([], done, both_read);
+  other_first = λ h. ⊎_elim (λ e. absurd (let f : Push ∷ [] ≡ [] = e in cc))
+      (⊎_elim (λ e. absurd (let f : Push ∷ [] ≡ Pop ∷ [] = e in let g : Push ≡ Pop = cc in cc))
+      (λ e. absurd (let n : 1 ≡ 2 = ap (λ (cs : List Command). length cs) e in omega (arith, n))))
+      (first_ones (Push ∷ []) h);
+  too_many = λ h. ⊎_elim
+      (λ e. absurd (let n : 3 ≡ 0 = ap (λ (cs : List Command). length cs) e in omega (arith, n)))
+      (⊎_elim (λ e. absurd (let n : 3 ≡ 1 = ap (λ (cs : List Command). length cs) e in omega (arith, n)))
+      (λ e. absurd (let n : 3 ≡ 2 = ap (λ (cs : List Command). length cs) e in omega (arith, n))))
+      (first_ones (Pop ∷ Pop ∷ Pop ∷ []) h);
+  both = record {
+    commands = Pop ∷ Pop ∷ [];
+    out = says two_refusals;
+    after = start;
+    allowed = leads_two (terms_of 0 0);
+    first = ([], done, both_read);
+    all = λ read. (done, both_read);
+    front = record { count = 22; within = omega arith; appended = refl };
+    whole = λ sound. refl;
+    told = refl;
+    ends = tt;
+  };
+  one_alone = λ h. absurd (let n : 11 ≡ 22 = read_length (terms_of 0 0) one_refusal [] (Done 0) h tt
+      (λ e. absurd (let f : Done 0 ≡ WriteFault = e in cc)) in omega (arith, n));
+  one_alone_refused = λ h. absurd (let n : 11 ≡ 22 = read_length (terms_of 0 0) one_refusal [] (Refused 31 4) h tt
+      (λ e. absurd (let f : Refused 31 4 ≡ WriteFault = e in cc)) in omega (arith, n));
+  one = record {
+    commands = Pop ∷ [];
+    out = says one_refusal;
+    after = start;
+    allowed = leads_one (terms_of 0 0);
+    first = (Pop ∷ [], done, both_read);
+    all = λ read. absurd read;
+    front = record { count = 11; within = omega arith; appended = refl };
+    whole = λ sound. refl;
+    told = refl;
+    ends = tt;
+  };
+  none_read = record {
+    commands = [];
+    out = says [];
+    after = start;
+    allowed = (refl, refl);
+    first = (Pop ∷ Pop ∷ [], done, both_read);
+    all = λ read. absurd read;
+    front = record { count = 0; within = omega arith; appended = refl };
+    whole = λ sound. refl;
+    told = refl;
+    ends = tt;
+  };
+  part = λ h. too_short 3 (whole_length (terms_of 0 0) (codes "ref") [] NoMemory h
+      (λ e. absurd (let f : NoMemory ≡ WriteFault = e in cc)))
+      (λ e. omega (arith, e)) (λ e. omega (arith, e)) (λ e. omega (arith, e));
+  part_read = λ h. too_short 3 (whole_length (terms_of 0 0) (codes "ref") [] ReadFault h
+      (λ e. absurd (let f : ReadFault ≡ WriteFault = e in cc)))
+      (λ e. omega (arith, e)) (λ e. omega (arith, e)) (λ e. omega (arith, e));
+  front = record {
+    commands = Pop ∷ Pop ∷ [];
+    out = says two_refusals;
+    after = start;
+    allowed = leads_two (terms_of 0 0);
+    first = ([], done, both_read);
+    all = λ read. absurd read;
+    front = record { count = 14; within = omega arith; appended = refl };
+    whole = λ sound. absurd (sound refl);
+    told = refl;
+    ends = tt;
+  };
+  no_front = λ h. absurd (let n : 83 ≡ 114 = front_head (terms_of 0 0) (codes "SAT\n") [] WriteFault h in
+      omega (arith, n));
+  not_its_own = λ h. too_short 6 (whole_length (terms_of 0 0) (codes "UNSAT\n") [] NoMemory h
+      (λ e. absurd (let f : NoMemory ≡ WriteFault = e in cc)))
+      (λ e. omega (arith, e)) (λ e. omega (arith, e)) (λ e. omega (arith, e));
+  told = λ h. absurd (let f : at_thirty_six ∷ [] ≡ [] =
+      none_told (terms_of 0 0) two_refusals (at_thirty_six ∷ []) (Done 0) h in cc);
+  room = λ commands out after leads first.
+      let long = reply_length out (some_reply (terms_of 0 0) commands (first_ones commands first) out after leads)
+      (length out.text) refl in
+      ⊎_elim (λ n. omega (arith, n)) (⊎_elim (λ n. omega (arith, n)) (λ n. omega (arith, n))) long;
+  no_room = λ room. absurd (let few : 22 ≤ 21 = room (Pop ∷ Pop ∷ []) (says two_refusals) start
+      (leads_two (terms_of 0 0))
+      ([], done, both_read) in omega (arith, few));
+}

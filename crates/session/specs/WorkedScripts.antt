@@ -1,0 +1,52 @@
+-- Worked values: what the work on a script comes to.
+use Rattle.std.specs.Prelude.{◌≤◌, ℕ, List, [], ◌∷◌, codes, Some}
+use Rattle.qscript.specs.declared.command.Command.TheVariants.{Pop, Push}
+use Rattle.session.specs.declared.ending.Ending.{Ending}
+use Rattle.session.specs.declared.ending.Ending.TheVariants.{Done, NoMemory, ReadFault, Refused, WriteFault}
+use Rattle.session.specs.Scripts.{AreAnswered, AreFirst, RoomForReplies}
+use Rattle.session.specs.Terms.{terms_of}
+use Rattle.session.specs.Worked.{at_thirty_six}
+
+-- a script of two commands, each of which is refused
+abbrev pub two_pops : List ℕ
+two_pops = codes "p qscript 1\npop\npop\n"
+
+-- the reply to one of them, and to both
+abbrev pub one_refusal : List ℕ
+one_refusal = codes "refused 40\n"
+
+abbrev pub two_refusals : List ℕ
+two_refusals = codes "refused 40\nrefused 40\n"
+
+-- what is written, with nothing told of a search
+abbrev pub Replied : List ℕ → Ending → Type 0
+Replied text ending = AreAnswered (terms_of 0 0) (Some two_pops) (Some [], Some text) ([], []) ending
+
+pub record WorkedScripts : Type 0 where
+  -- the first commands of a script, none and all of them among these
+  pub none_first : AreFirst two_pops []
+  pub one_first : AreFirst two_pops (Pop ∷ [])
+  pub both_first : AreFirst two_pops (Pop ∷ Pop ∷ [])
+  pub other_first : AreFirst two_pops (Push ∷ []) → ⊥
+  pub too_many : AreFirst two_pops (Pop ∷ Pop ∷ Pop ∷ []) → ⊥
+  -- a script that is answered got all of its replies
+  pub both : Replied two_refusals (Done 0)
+  pub one_alone : Replied one_refusal (Done 0) → ⊥
+  -- and so did one that is malformed behind them
+  pub one_alone_refused : Replied one_refusal (Refused 31 4) → ⊥
+  -- without memory, or after a read fault, the replies to some of the first
+  pub one : Replied one_refusal NoMemory
+  pub none_read : Replied [] ReadFault
+  pub part : Replied (codes "ref") NoMemory → ⊥
+  pub part_read : Replied (codes "ref") ReadFault → ⊥
+  -- after a write fault a front of them
+  pub front : Replied (codes "refused 40\nref") WriteFault
+  pub no_front : Replied (codes "SAT\n") WriteFault → ⊥
+  -- commands that are not the script's have no reply
+  pub not_its_own : Replied (codes "UNSAT\n") NoMemory → ⊥
+  -- what is told of a search has its `UNKNOWN`
+  pub told : AreAnswered (terms_of 0 0) (Some two_pops) (Some [], Some two_refusals) ([], at_thirty_six ∷ []) (Done 0)
+      → ⊥
+  -- 22 bytes are room for all replies, and 21 aren't
+  pub room : RoomForReplies (terms_of 0 0) (Some two_pops) (λ n. n ≤ 22)
+  pub no_room : RoomForReplies (terms_of 0 0) (Some two_pops) (λ n. n ≤ 21) → ⊥
