@@ -12,6 +12,8 @@ mod clauses_tests;
 #[cfg(test)]
 mod frames_tests;
 #[cfg(test)]
+mod limits_tests;
+#[cfg(test)]
 mod ports_tests;
 #[cfg(test)]
 mod prefix_tests;
