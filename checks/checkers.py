@@ -146,8 +146,10 @@ def check_changed(program, tools, text, seed, counts):
 
 
 def beyond(program, *options):
-    """A selector for each clause of a true formula, where there may be no more variables."""
+    """A selector for each clause of a true formula, where there may be no more variables; as many aren't decided."""
     for more, wanted in (0, (TRUE, b"")), (1, (6, b"qbf: limit variables\n")):
+        if options and not more:
+            continue
         count = 1_048_576 + more
         text = f"p cnf 1 {count}\ne 1 0\n" + count * "1 0\n"
         given = [program, "check", *options]

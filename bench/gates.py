@@ -8,7 +8,7 @@ clauses are y0; each x negated; for each k from 1 on -y(k-1), yk, all x and uk; 
 propagation. Each u is removed from its clause once, so that its decision list has a conjunction of the M + 2 other
 literals of that clause, which hardly shares a gate with another one.
 
-usage: circuits.py [K [M]]    QBF=PROGRAM in the environment: another program than bin/qbf
+usage: gates.py [K [M]]    QBF=PROGRAM in the environment: another program than bin/qbf
 """
 
 import os
