@@ -234,11 +234,14 @@ impl Decider {
         }
     }
 
-    // Saves the sign of a literal and lets its variable wait.
+    // Saves the sign of a literal and lets its variable wait, if it doesn't already.
     fn put_back(&mut self, lit: Lit, prefix: &Prefix)
         ensures { self.new ≡ with_phase self.old lit }
     {
         self.save(lit);
+        if self.is_waiting(lit.var()) {
+            return;
+        }
         if let Some(scope) = prefix.level(lit.var()) {
             self.put(lit.var(), scope);
         }
@@ -247,6 +250,11 @@ impl Decider {
     // What comes first of all that wait.
     fn first(&self) -> Option<Waiting> {
         self.waiting.first()
+    }
+
+    // Whether a variable waits.
+    fn is_waiting(&self, v: Var) -> bool {
+        self.waiting.is_waiting(v.index())
     }
 
     // Lets a variable of a scope wait.

@@ -78,7 +78,14 @@ impl WaitingList {
         *self.nodes.get(1)?
     }
 
-    // Lets a variable of a scope wait at a place, with the place's priority.
+    // Whether a variable waits at a place.
+    pub(crate) fn is_waiting(&self, place: usize) -> bool {
+        let leaf = self.scores.len().saturating_add(place);
+        matches!(self.nodes.get(leaf), Some(Some(_)))
+    }
+
+    // Lets a variable of a scope wait at a place, with the place's priority; where it waits so already nothing is
+    // written.
     pub(crate) fn put(&mut self, place: usize, scope: usize, number: u32)
         ensures { self.new ≡ self.old }
     {
@@ -135,6 +142,15 @@ impl WaitingList {
     }
 }
 
+// Whether two are the same in all that they say.
+fn is_same(a: Option<Waiting>, b: Option<Waiting>) -> bool {
+    match (a, b) {
+        (Some(x), Some(y)) => x.score == y.score && x.scope == y.scope && x.number == y.number,
+        (None, None) => true,
+        _ => false,
+    }
+}
+
 // Which of two comes first.
 fn first_of(a: Option<Waiting>, b: Option<Waiting>) -> Option<Waiting> {
     match (a, b) {
@@ -153,17 +169,22 @@ fn new_tree(alloc: Global, places: usize) -> Result<Vec<Option<Waiting>>, AllocE
     Ok(nodes)
 }
 
-// Writes what waits at a place, and what comes first above it.
+// Writes what waits at a place, and what comes first above it, as far up as a node changes: above one that stays as it
+// was all others stay too.
 fn write_up(nodes: &mut Vec<Option<Waiting>>, places: usize, place: usize, waiting: Option<Waiting>)
     requires size { length nodes.old.items ≡ 2 * places }
     requires within { place < places }
     ensures { length nodes.new.items ≡ length nodes.old.items }
 {
     let mut i = places + place;
-    nodes[i] = waiting;
-    while i > 1 {
+    let mut node = waiting;
+    while i > 0 {
+        if is_same(nodes[i], node) {
+            return;
+        }
+        nodes[i] = node;
         i /= 2;
-        nodes[i] = first_of(nodes[2 * i], nodes[2 * i + 1]);
+        node = first_of(nodes[2 * i], nodes[2 * i + 1]);
     }
 }
 
