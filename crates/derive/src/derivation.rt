@@ -1,5 +1,5 @@
 //! Derivations.
-ghost use Rattle.std.specs.Prelude.{◌≡◌, ◌≢◌, ◌<◌, ◌⊎◌, ℕ, false, IsTrue, IsFalse, Some, None, IfOk, OnOk, OnErr, Err, List, [], ◌∷◌, ◌++◌, filter, max, not, nat_lt, ◌==◌, if◌then◌else◌, length, slice_index_or, slice_set, Contains};
+ghost use Rattle.std.specs.Prelude.{◌≡◌, ◌≢◌, ◌↔◌, ◌<◌, ◌⊎◌, ℕ, false, IsTrue, IsFalse, Some, None, IfOk, OnOk, OnErr, Err, List, [], ◌∷◌, ◌++◌, filter, max, not, nat_lt, ◌==◌, if◌then◌else◌, length, slice_index_or, slice_set, Contains};
 ghost use Rattle.prefix.specs.Scopes.{Scope, IsAscending};
 ghost use Rattle.prefix.specs.declared.quant.Quant.TheVariants.{Exists as exists, Forall as forall};
 ghost use Rattle.rows.specs.Arena.{Arena, literals_at};
@@ -22,7 +22,7 @@ use super::cubes::{drop_missing, list_cube, retain_cubes};
 use super::dropping::{Roots, drop_roots};
 use super::new_step::NewStep;
 use super::note::Note;
-use super::removal::{push_assumed, reduce_of};
+use super::removal::{is_reduced_of, push_assumed, reduce_of};
 use super::sweeping::{sweep_all, widen_marks};
 use super::{Step, StepId};
 use prefix::{Lit, Prefix, Quant, Var};
@@ -228,6 +228,9 @@ impl Derivation {
         ensures legal { OnOk result (IsLegalFor prefix.now self.old → IsLegalFor prefix.now self.new) }
         ensures err { OnErr result (self.new ≡ self.old) }
     {
+        if self.is_reduced(prefix, a) {
+            return Ok(a);
+        }
         let mut row = Row::new(*self.notes.allocator());
         reduce_of(self.side(a), prefix, self.lits(a), &mut row)?;
         self.add_removal(a, Step::Reduced(a), row.as_slice())
@@ -258,11 +261,11 @@ impl Derivation {
             × (steps.old.spent ≡ steps.old.budget) × (steps.new ≡ steps.old) }
         ensures tried { OnErr result ((steps.new ≡ steps.old) ⊎ (steps.new ≡ after steps.old 1)) }
     {
-        let mut row = Row::new(*self.notes.allocator());
-        reduce_of(self.side(a), prefix, self.lits(a), &mut row)?;
-        if row.len() == self.lits(a).len() {
+        if self.is_reduced(prefix, a) {
             return Ok(a);
         }
+        let mut row = Row::new(*self.notes.allocator());
+        reduce_of(self.side(a), prefix, self.lits(a), &mut row)?;
         steps.tick()?;
         Ok(self.add_removal(a, Step::Reduced(a), row.as_slice())?)
     }
@@ -424,6 +427,15 @@ impl Derivation {
         self.notes[id].as_ref().unwrap()
     }
 
+    // Whether the reduction of a step is the step itself.
+    fn is_reduced(&self, prefix: &Prefix, a: StepId) -> bool
+        requires rows { IsTrue (has_rows self.now) }
+        requires step { IsTrue (is_step self.now a) }
+        ensures { IsTrue result ↔ (reduction_at prefix.now self.now a ≡ row_of self.now a) }
+    {
+        is_reduced_of(self.side(a), prefix, self.lits(a))
+    }
+
     // The rows, while they are here.
     fn rows(&self) -> &Rows
         requires { IsTrue (has_rows self.now) }
@@ -492,13 +504,13 @@ impl Derivation {
         ensures unlinked { OnOk result (AreUnlinked self.old self.new) }
         ensures err { OnErr result (self.new ≡ self.old) }
     {
-        let mut row = Row::new(*self.notes.allocator());
-        reduce_of(Quant::Exists, prefix, lits, &mut row)?;
-        if row.len() == lits.len() {
+        if is_reduced_of(Quant::Exists, prefix, lits) {
             let input = NewStep::new(Quant::Exists, Step::InputClause, frame);
             let id = self.add(input, lits)?;
             return Ok((id, id));
         }
+        let mut row = Row::new(*self.notes.allocator());
+        reduce_of(Quant::Exists, prefix, lits, &mut row)?;
         self.add_both(lits, row.as_slice(), frame)
     }
 

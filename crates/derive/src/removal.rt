@@ -1,13 +1,23 @@
 //! Rows with literals removed from them.
-ghost use Rattle.std.specs.Prelude.{◌≡◌, ◌++◌, is_some, OnOk};
+ghost use Rattle.std.specs.Prelude.{◌≡◌, ◌↔◌, ◌++◌, is_some, IsTrue, OnOk};
 ghost use Rattle.prefix.specs.Scopes.{IsAscending};
 ghost use Rattle.truth.specs.Truth.{assumed_value};
 ghost use Rattle.calculus.specs.Rows.{reduce as reduction, variables_in};
 ghost use Rattle.calculus.specs.Verdicts.{finished};
 
 use prefix::{Clauses, Cubes, Lit, Prefix, Quant, Var};
-use reduce::{Row, reduce};
+use reduce::{Row, is_reduced, reduce};
 use steps::NoMemory;
+
+// Whether the reduction of a row of that side is the row itself.
+pub(crate) fn is_reduced_of(side: Quant, prefix: &Prefix, lits: &[Lit]) -> bool
+    ensures { IsTrue result ↔ (reduction side prefix.now lits.now ≡ lits.now) }
+{
+    match side {
+        Quant::Exists => is_reduced::<Clauses>(prefix, lits),
+        Quant::Forall => is_reduced::<Cubes>(prefix, lits),
+    }
+}
 
 // Makes `out` the reduction of a row of that side.
 pub(crate) fn reduce_of(

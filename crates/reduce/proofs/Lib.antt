@@ -1,2 +1,3 @@
 mod Clashing
+mod Reducing
 mod Resolving

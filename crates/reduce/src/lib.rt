@@ -5,7 +5,7 @@ mod reduction;
 mod resolution;
 
 use prefix::Lit;
-pub use reduction::reduce;
+pub use reduction::{is_reduced, reduce};
 pub use resolution::{clashes, resolve};
 use smallvec::SmallVec;
 

@@ -1,5 +1,5 @@
 //! Universal reduction of clauses and existential reduction of cubes.
-ghost use Rattle.std.specs.Prelude.{◌≡◌, [], ◌++◌, filter, OnOk, OnErr};
+ghost use Rattle.std.specs.Prelude.{◌≡◌, ◌↔◌, [], ◌++◌, filter, IsTrue, OnOk, OnErr};
 ghost use Rattle.prefix.specs.Scopes.{IsAscending};
 ghost use Rattle.calculus.specs.Rows.{reduce as reduction, variables_in};
 ghost use Rattle.reduce.specs.Deepest.{IsDeepest, is_before as before, stays_before};
@@ -22,6 +22,33 @@ pub fn reduce<S: Side>(prefix: &Prefix, lits: &[Lit], out: &mut Row) -> Result<(
         out.clear();
     }
     done
+}
+
+/// Whether the reduction of a row is the row itself. This goes over the row once, and takes no memory.
+pub fn is_reduced<S: Side>(prefix: &Prefix, lits: &[Lit]) -> bool
+    ensures { IsTrue result ↔ (reduction S.PIVOT prefix.now lits.now ≡ lits.now) }
+{
+    let mut deepest = None;
+    let mut other = None;
+    for lit in lits {
+        let depth = prefix.depth(lit.var());
+        if prefix.is_pivot::<S>(*lit) {
+            if !is_before(deepest, depth) {
+                deepest = Some(depth);
+            }
+            continue;
+        }
+        if !is_before(other, depth) {
+            other = Some(depth);
+        }
+    }
+    let Some(deepest) = deepest else {
+        return true;
+    };
+    match other {
+        Some(other) => other < deepest,
+        None => true,
+    }
 }
 
 // Appends the reduction of a row.

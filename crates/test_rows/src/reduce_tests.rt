@@ -1,7 +1,7 @@
 //! Tests of `reduce`.
 use fixtures::{ascends, literal, other, prefix_of, rows, variable};
 use prefix::{Clauses, Cubes, Lit, LitList, Prefix, Side, Var};
-use reduce::{Row, clashes, reduce, resolve};
+use reduce::{Row, clashes, is_reduced, reduce, resolve};
 use std::alloc::Global;
 use std::test::Fail;
 
@@ -23,7 +23,7 @@ fn row_before(alloc: Global, number: i32) -> Result<Row, Fail> {
     Ok(row)
 }
 
-// Whether the reduction of a row is this one.
+// Whether the reduction of a row is this one, and the row is told reduced exactly where it is its own reduction.
 fn is_reduction<S: Side>(
     prefix: &Prefix,
     lits: &[Lit],
@@ -31,7 +31,7 @@ fn is_reduction<S: Side>(
     out: &mut Row,
 ) -> Result<bool, Fail> {
     reduce::<S>(prefix, lits, out)?;
-    Ok(out.as_slice() == want)
+    Ok(out.as_slice() == want && is_reduced::<S>(prefix, lits) == (lits == want))
 }
 
 // Whether of two rows, which stand in a list, the second is the reduction of the first.

@@ -1,4 +1,4 @@
-use Rattle.std.proofs.Common.{◌≡◌, ◌∙◌, ap, ap₂, sym, refl, inl, length, Option, Some, None, is_some, true}
+use Rattle.std.proofs.Common.{◌≡◌, ◌∙◌, ap₂, sym, refl, inl, Option, Some, None, is_some, true}
 use Rattle.calculus.specs.Rows.{Row, reduce}
 use Rattle.derive.specs.State.{Note, may_be_antecedent, note_at, row_of, side_at}
 use Rattle.derive.proofs.Additions.{removes_none}
@@ -16,38 +16,17 @@ step_live : (o : Option Note) → may_be_antecedent o ≡ true → is_some o ≡
 step_live None h = h
 step_live (Some n) h = refl
 
-pub returns-then-len-lits-clause-ok : goal.returns-then-len-lits-clause-ok
-returns-then-len-lits-clause-ok c =
+pub returns-then-is_reduced-clause-ok : goal.returns-then-is_reduced-clause-ok
+returns-then-is_reduced-clause-ok c =
     let s = c.args.self.now in
-    let out : c.reduce_of.new.out.items ≡ reduce (side_at s c.args.a) c.args.prefix.now (row_of s c.args.a) =
-    c.in_ok-reduce_of.ensures ∙ ap₂ (λ side (row : Row). reduce side c.args.prefix.now row) c.side.ensures c.lits.ensures in
-    let long : length c.reduce_of.new.out.items ≡ length (row_of s c.args.a) =
-    sym c.len.ensures.value ∙ (c.if-len-lits.true ∙ ap (λ (r : Row). length r) c.lits-2.ensures) in
-    let same : reduce (side_at s c.args.a) c.args.prefix.now (row_of s c.args.a) ≡ row_of s c.args.a =
-    sym out ∙ reduced_whole (side_at s c.args.a) c.args.prefix.now (row_of s c.args.a) _ out long in
-    removes_none s c.args.a _ _ c.requires.rows (step_live (note_at s c.args.a) c.requires.step) same
+    removes_none s c.args.a _ _ c.requires.rows (step_live (note_at s c.args.a) c.requires.step) (c.is_reduced.ensures.0 c.if-is_reduced.true)
 
-pub returns-then-len-lits-clause-step : goal.returns-then-len-lits-clause-step
-returns-then-len-lits-clause-step c =
-    let s = c.args.self.now in
-    let out : c.reduce_of.new.out.items ≡ reduce (side_at s c.args.a) c.args.prefix.now (row_of s c.args.a) =
-    c.in_ok-reduce_of.ensures ∙ ap₂ (λ side (row : Row). reduce side c.args.prefix.now row) c.side.ensures c.lits.ensures in
-    let long : length c.reduce_of.new.out.items ≡ length (row_of s c.args.a) =
-    sym c.len.ensures.value ∙ (c.if-len-lits.true ∙ ap (λ (r : Row). length r) c.lits-2.ensures) in
-    let same : reduce (side_at s c.args.a) c.args.prefix.now (row_of s c.args.a) ≡ row_of s c.args.a =
-    sym out ∙ reduced_whole (side_at s c.args.a) c.args.prefix.now (row_of s c.args.a) _ out long in
-    record { step = c.requires.step; has_side = refl; has_row = sym same; has_tag = refl }
+pub returns-then-is_reduced-clause-step : goal.returns-then-is_reduced-clause-step
+returns-then-is_reduced-clause-step c =
+    record { step = c.requires.step; has_side = refl; has_row = sym (c.is_reduced.ensures.0 c.if-is_reduced.true); has_tag = refl }
 
-pub returns-then-len-lits-clause-counted : goal.returns-then-len-lits-clause-counted
-returns-then-len-lits-clause-counted c =
-    let s = c.args.self.now in
-    let out : c.reduce_of.new.out.items ≡ reduce (side_at s c.args.a) c.args.prefix.now (row_of s c.args.a) =
-    c.in_ok-reduce_of.ensures ∙ ap₂ (λ side (row : Row). reduce side c.args.prefix.now row) c.side.ensures c.lits.ensures in
-    let long : length c.reduce_of.new.out.items ≡ length (row_of s c.args.a) =
-    sym c.len.ensures.value ∙ (c.if-len-lits.true ∙ ap (λ (r : Row). length r) c.lits-2.ensures) in
-    let same : reduce (side_at s c.args.a) c.args.prefix.now (row_of s c.args.a) ≡ row_of s c.args.a =
-    sym out ∙ reduced_whole (side_at s c.args.a) c.args.prefix.now (row_of s c.args.a) _ out long in
-    inl (same, refl)
+pub returns-then-is_reduced-clause-counted : goal.returns-then-is_reduced-clause-counted
+returns-then-is_reduced-clause-counted c = inl (c.is_reduced.ensures.0 c.if-is_reduced.true, refl)
 
 pub returns-clause-legal : goal.returns-clause-legal
 returns-clause-legal c = λ legal.
