@@ -3,7 +3,7 @@ use Rattle.std.proofs.Common.{◌≡◌, ℕ, ◌+◌, ◌<◌, ◌≤◌, ◌�
 use Rattle.std.specs.Prelude.{IsTrue}
 use Rattle.std.specs.Bool.{beq}
 use Rattle.std.proofs.lemmas.Bool.{cases_Bool, cases_lt, and_parts, and_from, eqb-true, eq-eqb, ltb-true, lt-ltb, cond-true, cond-false, true≢false, false≢true}
-use Rattle.std.proofs.lemmas.List.{take_more}
+use Rattle.std.proofs.lemmas.List.{get_or_default, take_more}
 use Rattle.std.proofs.lemmas.List.Elements.{Contains-push, Contains-push_cases, Contains-append_left}
 use Rattle.prefix.specs.declared.quant.Quant.{Quant}
 use Rattle.prefix.specs.declared.quant.Quant.TheVariants.{Exists, Forall}
@@ -13,13 +13,18 @@ use Rattle.truth.specs.Matrix.{Values, clause_true, is_true_of, literal_true, sa
 use Rattle.calculus.specs.Rows.{Row, depth_of, is_of, is_pivot}
 use Rattle.calculus.specs.Search.{IsOrderedAfter, IsOrderedTrail, Trail, value_on}
 use Rattle.calculus.proofs.Levels.{has_quantifier}
-use Rattle.calculus.proofs.Lists.{any_at, contains_nil}
+use Rattle.calculus.proofs.Lists.{any_at, contains_cons, contains_nil}
 use Rattle.calculus.proofs.Trails.{value_past}
-use Rattle.cover.specs.Choices.{AreChoices, AreHit, AreHitWith, Choices, Chooses, IsHit, IsInnermost, MayCover, chosen_at, has_sign, is_chosen, is_better, is_true_one}
+use Rattle.cover.specs.Choices.{AreChoices, AreHit, AreHitBut, AreHitWith, Choices, Chooses, IsHit, IsInnermost, IsListed, MayCover, chosen_at, has_sign, is_chosen, is_better, is_true_one}
 
 pub one_more : {X : Type 0} (xs : List X) (i : ℕ) (v : X) → i < length xs → v ≡ get_or xs i v
     → take (i + 1) xs ≡ take i xs ++ v ∷ []
 one_more xs i v below is = take_more xs i v below ∙ ap (λ l. take i xs ++ l ∷ []) (sym is)
+
+-- of some clauses of a matrix each one is hit, but for those at these places
+abbrev pub AreHitAmong : List ℕ → List Row → List Row → Choices → Type 0
+AreHitAmong places matrix clauses table =
+    (clause : Row) → Contains clauses clause → IsListed places matrix clause ⊎ IsHit table clause
 
 clash : (b : Bool) → b ≡ true → b ≡ false → ⊥
 clash b t f = true≢false (sym t ∙ f)
@@ -281,15 +286,53 @@ module _ (scopes : List Scope) (values : Values) (matrix : List Row) where
             (Contains-push_cases clauses clause c i),
       )
 
-  -- the universal ones
-  pub universal_skip : (clauses : List Row) (table : Choices) (clause : Row) → AreChoices scopes values matrix table
-      → ((l : Literal) × Contains clause l × IsTrue (is_chosen table l)) → AreHit clauses table
-      → AreHit (clauses ++ clause ∷ []) table
-  universal_skip clauses table clause are hit before c i =
+  -- what isn't hit is listed
+  pub listed_more : (clauses : List Row) (places : List ℕ) (table : Choices) (place : ℕ) (clause : Row)
+      → place < length matrix → get_or matrix place clause ≡ clause → AreHitAmong places matrix clauses table
+      → AreHitAmong (places ++ place ∷ []) matrix (clauses ++ clause ∷ []) table
+  listed_more clauses places table place clause below is before c i =
       ⊎_elim
-      (λ k. before c k)
-      (λ e. (hit.0, subst (λ (r : Row). Contains r hit.0) e hit.1, chosen_is table are hit.0 hit.2))
+      (λ k. ⊎_elim
+      (λ listed. inl (listed.0, Contains-append_left places (place ∷ []) listed.0 listed.1, listed.2, listed.3))
+      inr
+      (before c k))
+      (λ e. inl (subst (λ (r : Row). IsListed (places ++ place ∷ []) matrix r) e
+      (place, Contains-push places place, below, is)))
       (Contains-push_cases clauses clause c i)
+
+  pub hit_more : (clauses : List Row) (places : List ℕ) (old new : Choices) (clause : Row) (m : Literal)
+      → Contains matrix clause → IsInnermost Exists scopes values clause (Some m)
+      → AreChoices scopes values matrix old → Chooses old new m → AreHitAmong places matrix clauses old
+      → AreHitAmong places matrix (clauses ++ clause ∷ []) new
+  hit_more clauses places old new clause m stands taken are chooses before c i =
+      let may = may_existential clause m stands taken in
+      ⊎_elim
+      (λ k. ⊎_elim inl (λ hit. inr (hit_stays old new m are chooses may c hit)) (before c k))
+      (λ e. inr (hit_now old new m are chooses may c (subst (λ (r : Row). Contains r m) e taken.0)))
+      (Contains-push_cases clauses clause c i)
+
+  -- the universal ones
+  hit_next : (place : ℕ) (places : List ℕ) (table : Choices) (clause : Row) → place < length matrix
+      → get_or matrix place clause ≡ clause → IsHit table clause → AreHitBut (place ∷ places) matrix table
+      → AreHitBut places matrix table
+  hit_next place places table clause below is hit before c i =
+      ⊎_elim
+      (λ listed. ⊎_elim
+      (λ e.
+      let there : get_or matrix place c ≡ c = rw e listed.3 in
+      let same : clause ≡ c = sym is ∙ (get_or_default matrix place clause c below ∙ there) in
+      inr (subst (λ (r : Row). IsHit table r) same hit))
+      (λ rest. inl (listed.0, rest, listed.2, listed.3))
+      (contains_cons place places listed.0 listed.1))
+      inr
+      (before c i)
+
+  pub universal_skip : (place : ℕ) (places : List ℕ) (table : Choices) (clause : Row) → place < length matrix
+      → get_or matrix place clause ≡ clause → AreChoices scopes values matrix table
+      → ((l : Literal) × Contains clause l × IsTrue (is_chosen table l)) → AreHitBut (place ∷ places) matrix table
+      → AreHitBut places matrix table
+  universal_skip place places table clause below is are hit before =
+      hit_next place places table clause below is (hit.0, hit.1, chosen_is table are hit.0 hit.2) before
 
   -- a clause of which nothing is chosen has no true existential literal
   pub none_existential : (table : Choices) (clause : Row) → Contains matrix clause
@@ -309,22 +352,27 @@ module _ (scopes : List Scope) (values : Values) (matrix : List Row) where
       beq_self true = refl
       beq_self false = refl
 
-  pub universal_takes : (clauses : List Row) (old new : Choices) (clause : Row) (m : Literal) → Contains matrix clause
+  pub universal_takes : (place : ℕ) (places : List ℕ) (old new : Choices) (clause : Row) (m : Literal)
+      → place < length matrix → get_or matrix place clause ≡ clause
       → IsInnermost Forall scopes values clause (Some m) → AreChoices scopes values matrix old
       → AreHitWith Exists scopes values matrix old → ((l : Literal) → Contains clause l → is_chosen old l ≡ false)
-      → Chooses old new m → AreHit clauses old → AreChoices scopes values matrix new
-      × AreHitWith Exists scopes values matrix new × AreHit (clauses ++ clause ∷ []) new
-  universal_takes clauses old new clause m stands taken are existential missed chooses before =
+      → Chooses old new m → AreHitBut (place ∷ places) matrix old → AreChoices scopes values matrix new
+      × AreHitWith Exists scopes values matrix new × AreHitBut places matrix new
+  universal_takes place places old new clause m below is taken are existential missed chooses before =
+      let stands : Contains matrix clause = (place, below, is) in
       let may =
       may_universal clause m stands taken.0 taken.1
       (none_existential old clause stands existential missed) in (
         choices_more old new m are chooses may,
         λ c l i j one. hit_stays old new m are chooses may c (existential c l i j one),
-        λ c i. ⊎_elim
-            (λ k. hit_stays old new m are chooses may c (before c k))
-            (λ e. hit_now old new m are chooses may c (subst (λ (r : Row). Contains r m) e taken.0))
-            (Contains-push_cases clauses clause c i),
+        hit_next place places new clause below is (hit_now old new m are chooses may clause taken.0)
+            (λ c i. ⊎_elim inl (λ hit. inr (hit_stays old new m are chooses may c hit)) (before c i)),
       )
+
+-- nothing is left
+pub hit_all : (matrix : List Row) (table : Choices) → AreHitBut [] matrix table → AreHit matrix table
+hit_all matrix table hit c i =
+    ⊎_elim (λ listed. absurd (contains_nil listed.0 listed.1)) (λ there. there) (hit c i)
 
 -- a true clause without a true existential literal has a true universal one
 pub universal_there : (scopes : List Scope) (trail : Trail) (matrix : List Row) (table : Choices) (clause : Row)

@@ -1,5 +1,5 @@
 -- The worked values, literal by literal.
-use Rattle.std.proofs.Common.{◌≡◌, ◌<◌, ◌≤◌, false, true, [], ◌∷◌, Contains, refl, subst, sym, ⊎_elim, arith}
+use Rattle.std.proofs.Common.{◌≡◌, ℕ, ◌<◌, ◌≤◌, ◌⊎◌, false, true, [], ◌∷◌, length, get_or, Contains, Some, None, inl, inr, refl, ap, subst, sym, ⊎_elim, arith}
 use Rattle.std.specs.Prelude.{IsTrue}
 use Rattle.std.proofs.lemmas.Bool.{true≢false, false≢true}
 use Rattle.prefix.specs.declared.quant.Quant.TheVariants.{Exists, Forall}
@@ -9,8 +9,8 @@ use Rattle.calculus.specs.Search.{is_bad_now}
 use Rattle.calculus.specs.Worked.{minus, plus}
 use Rattle.calculus.proofs.Lists.{contains_cons, contains_nil}
 use Rattle.prefix.specs.Scopes.{all_variables}
-use Rattle.cover.specs.Choices.{MayCover, is_true_one}
-use Rattle.cover.specs.Worked.{WorkedChoices, WorkedCovers, WorkedRows, lone, mixed, three_scopes, values}
+use Rattle.cover.specs.Choices.{IsHit, IsListed, MayCover, chosen_at, is_true_one}
+use Rattle.cover.specs.Worked.{WorkedChoices, WorkedCovers, WorkedRows, lone, mixed, one_chosen, three_scopes, values}
 
 -- the literals of the two rows
 each : (P : Literal → Type 0) → P (minus 1) → P (plus 2) → P (plus 3) → (l : Literal) → Contains mixed l → P l
@@ -48,6 +48,33 @@ no_later =
     each NoLater (λ t. absurd (false≢true t)) (λ t. (let h : 2 ≤ 3 = omega arith in h))
     (λ t. (let h : 3 ≤ 3 = omega arith in h))
 
+-- the two clauses, and where they stand
+either : (P : Row → Type 0) → P mixed → P lone → (clause : Row) → Contains (mixed ∷ lone ∷ []) clause → P clause
+either P a b clause i =
+    ⊎_elim (λ e. subst P e a)
+    (λ j. ⊎_elim (λ e. subst P e b) (λ n. absurd (contains_nil clause n)) (contains_cons lone [] clause j))
+    (contains_cons mixed (lone ∷ []) clause i)
+
+differ : mixed ≡ lone → ⊥
+differ e = let same : 3 ≡ 2 = ap (λ (r : Row). length r) e in omega (arith, same)
+
+lone_listed : IsListed (1 ∷ []) (mixed ∷ lone ∷ []) lone
+lone_listed = (1, (0, omega arith, refl), omega arith, refl)
+
+not_first : IsListed (0 ∷ []) (mixed ∷ lone ∷ []) lone → ⊥
+not_first (i, there, below, is) =
+    ⊎_elim
+    (λ e. differ (subst (λ (j : ℕ). get_or (mixed ∷ lone ∷ []) j lone ≡ lone) (sym e) is))
+    (λ n. contains_nil i n)
+    (contains_cons 0 [] i there)
+
+not_hit : IsHit one_chosen lone → ⊥
+not_hit (l, i, at) =
+    both (λ m. chosen_at one_chosen m.variable ≡ Some m → ⊥) (λ e. none_some e) (λ e. none_some e) l i at
+  where
+    none_some : {m : Literal} → None ≡ Some m → ⊥
+    none_some e = cc
+
 pub choices : WorkedChoices
 choices = record {
   later = refl;
@@ -63,6 +90,11 @@ choices = record {
         (λ t. (let h : 1 ≤ 1 = omega arith in h)) (λ t. absurd (false≢true t)) (λ t. absurd (false≢true t)),
   );
   no_other = both (λ l. is_true_one Exists three_scopes values l ≡ false) refl refl;
+  listed = lone_listed;
+  not_listed = not_first;
+  hit_but = either (λ clause. IsListed (1 ∷ []) (mixed ∷ lone ∷ []) clause ⊎ IsHit one_chosen clause)
+      (inr (plus 3, third, refl)) (inl lone_listed);
+  not_hit_but = λ hit. ⊎_elim not_first not_hit (hit lone (1, omega arith, refl));
 }
 
 pub covers : WorkedCovers
@@ -122,12 +154,6 @@ third_of_both = record {
 abbrev Shares : Row → Row → Type 0
 Shares row clause = (l : Literal) × Contains clause l × Contains row l
 
-two_clauses : (P : Row → Type 0) → P mixed → P lone → (clause : Row) → Contains (mixed ∷ lone ∷ []) clause → P clause
-two_clauses P a b clause i =
-    ⊎_elim (λ e. subst P e a)
-    (λ j. ⊎_elim (λ e. subst P e b) (λ n. absurd (contains_nil clause n)) (contains_cons lone [] clause j))
-    (contains_cons mixed (lone ∷ []) clause i)
-
 fourth_differs : (l : Literal) → Contains mixed l → l.variable ≡ 4 → ⊥
 fourth_differs =
     each (λ l. l.variable ≡ 4 → ⊥) (λ e. omega (arith, e)) (λ e. omega (arith, e)) (λ e. omega (arith, e))
@@ -150,7 +176,7 @@ cover_rows = record {
     };
     literals = pair (MayCover three_scopes values (mixed ∷ lone ∷ [])) (minus 1) (plus 3) covers.needed third_of_both;
     bad = λ l i. pair (λ m. is_bad_now Forall values m ≡ true) (minus 1) (plus 3) refl refl l i;
-    hits = two_clauses (Shares (minus 1 ∷ plus 3 ∷ [])) (plus 3, third, (1, omega arith, refl))
+    hits = either (Shares (minus 1 ∷ plus 3 ∷ [])) (plus 3, third, (1, omega arith, refl))
         (minus 1, (0, omega arith, refl), (0, omega arith, refl));
   };
   not_latest_row = λ h. covers.not_latest (h.literals (plus 2) (0, omega arith, refl));

@@ -14,11 +14,8 @@ use trail::Trail;
 fn is_true_one<S: Side>(trail: &Trail, prefix: &Prefix, lit: Lit) -> bool
     ensures { result ≡ true_one S.PIVOT prefix.now (value_on trail.now.placed) lit }
 {
-    if !prefix.is_pivot::<S>(lit) {
-        return false;
-    }
     match trail.value(lit.var()) {
-        Some(value) => value == lit.is_positive(),
+        Some(value) => value == lit.is_positive() && prefix.is_pivot::<S>(lit),
         None => false,
     }
 }

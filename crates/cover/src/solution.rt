@@ -1,5 +1,5 @@
 //! Covers.
-ghost use Rattle.std.specs.Prelude.{◌≡◌, IsTrue, IfOk, OnErr, OnOk, Contains};
+ghost use Rattle.std.specs.Prelude.{◌≡◌, ◌<◌, [], length, All, IsTrue, IfOk, OnErr, OnOk, Contains};
 ghost use Rattle.prefix.specs.declared.quant.Quant.TheVariants.{Exists as exists};
 ghost use Rattle.truth.specs.Matrix.{clause_true};
 ghost use Rattle.calculus.specs.Rows.{Row as Clause};
@@ -7,7 +7,7 @@ ghost use Rattle.calculus.specs.Search.{value_on};
 ghost use Rattle.derive.specs.Growing.{GainsSteps};
 ghost use Rattle.derive.specs.State.{has_rows, open_clauses, IsLegalFor};
 ghost use Rattle.trail.specs.State.{IsTrailFor};
-ghost use Rattle.cover.specs.Choices.{AreChoices, AreHit, AreHitWith};
+ghost use Rattle.cover.specs.Choices.{AreChoices, AreHit, AreHitBut, AreHitWith};
 ghost use Rattle.cover.specs.Covers.{Covers};
 
 use super::choices::{choose, chosen_row, innermost, is_hit};
@@ -37,37 +37,47 @@ pub fn cover(
 {
     let alloc = trail.alloc();
     let mut table = Vec::new(alloc);
-    choose_existential(trail, prefix, matrix, &mut table)?;
-    choose_universal(trail, prefix, matrix, &mut table)?;
+    let mut others = Vec::new(alloc);
+    choose_existential(trail, prefix, matrix, &mut table, &mut others)?;
+    choose_universal(trail, prefix, matrix, &others, &mut table)?;
     let row = chosen_row(alloc, &table)?;
     derivation.input_cube(&row)
 }
 
-// Chooses a literal of each clause with a true existential one.
+// Chooses a literal of each clause with a true existential one, and lists the places of the others.
 fn choose_existential(
     trail: &Trail,
     prefix: &Prefix,
     matrix: &[LitList],
     table: &mut Vec<Option<Lit>>,
+    others: &mut Vec<usize>,
 ) -> Result<(), NoMemory>
-    requires { AreChoices prefix.now (value_on trail.now.placed) matrix.now table.old.items }
+    requires choices { AreChoices prefix.now (value_on trail.now.placed) matrix.now table.old.items }
+    requires none { others.old.items ≡ [] }
     ensures choices { OnOk result (AreChoices prefix.now (value_on trail.now.placed) matrix.now table.new.items) }
     ensures hit { OnOk result (AreHitWith exists prefix.now (value_on trail.now.placed) matrix.now table.new.items) }
+    ensures others { OnOk result (AreHitBut others.new.items matrix.now table.new.items) }
+    ensures within { OnOk result (All (λ i. i < length matrix.now) others.new.items) }
 {
-    for clause in matrix {
+    for place in 0..matrix.len() {
+        let clause = &matrix[place];
         match innermost::<Clauses>(table, trail, prefix, clause.lits()) {
             Some(lit) => choose(table, lit)?,
-            None => continue,
+            None => {
+                others.push(place)?;
+                continue;
+            }
         }
     }
     Ok(())
 }
 
-// Chooses a literal of each clause that isn't hit yet.
+// Chooses a literal of each of the clauses at these places that isn't hit yet.
 fn choose_universal(
     trail: &Trail,
     prefix: &Prefix,
     matrix: &[LitList],
+    places: &[usize],
     table: &mut Vec<Option<Lit>>,
 ) -> Result<(), NoMemory>
     requires trail { IsTrailFor prefix.now trail.now }
@@ -75,10 +85,13 @@ fn choose_universal(
         IsTrue (clause_true (value_on trail.now.placed) clause) }
     requires choices { AreChoices prefix.now (value_on trail.now.placed) matrix.now table.old.items }
     requires hit { AreHitWith exists prefix.now (value_on trail.now.placed) matrix.now table.old.items }
+    requires others { AreHitBut places.now matrix.now table.old.items }
+    requires within { All (λ i. i < length matrix.now) places.now }
     ensures choices { OnOk result (AreChoices prefix.now (value_on trail.now.placed) matrix.now table.new.items) }
     ensures hit { OnOk result (AreHit matrix.now table.new.items) }
 {
-    for clause in matrix {
+    for place in places {
+        let clause = &matrix[*place];
         if is_hit(table, clause.lits()) {
             continue;
         }
