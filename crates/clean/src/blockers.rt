@@ -1,7 +1,7 @@
 //! The literals of a row that cleaning and analysis look for.
 ghost use Rattle.std.specs.Prelude.{◌≡◌, ◌≤◌, take, length};
 ghost use Rattle.calculus.specs.Search.{place_on, value_on};
-ghost use Rattle.clean.specs.Blockers.{is_free as free, is_deeper as deeper, is_last_so_far, is_smaller as smaller, IsOutermost, IsLatest, IsLatestBlocker};
+ghost use Rattle.clean.specs.Blockers.{is_free as free, is_deeper as deeper, is_smaller as smaller, IsOutermost, IsLatest, IsLatestBlocker};
 
 use prefix::{Lit, Prefix, Side, Var};
 use trail::Trail;
@@ -29,7 +29,11 @@ fn is_free<S: Side>(trail: &Trail, prefix: &Prefix, lit: Lit, end: usize) -> boo
 fn is_deeper<S: Side>(prefix: &Prefix, depth_of_other: usize, lit: Lit) -> bool
     ensures { result ≡ deeper S.PIVOT prefix.now depth_of_other lit }
 {
-    prefix.is_pivot::<S>(lit) && depth_of_other < prefix.depth(lit.var())
+    if !prefix.is_pivot::<S>(lit) {
+        return false;
+    }
+    // Each depth is at least 1.
+    depth_of_other == 0 || depth_of_other < prefix.depth(lit.var())
 }
 
 // Whether a number is smaller than that one, if there is one.
@@ -61,19 +65,6 @@ fn outermost_free<S: Side>(trail: &Trail, prefix: &Prefix, row: &[Lit], end: usi
     outermost
 }
 
-// Whether a literal is no earlier among the first `end` literals of a trail than that one, if there is one.
-fn is_later(trail: &Trail, lit: Lit, latest: &Option<Lit>, end: usize) -> bool
-    requires { end ≤ length trail.now.placed }
-    ensures { result ≡ is_last_so_far (take end trail.now.placed) latest.now lit }
-{
-    match latest {
-        Some(latest) => {
-            place_before(trail, latest.var(), end) <= place_before(trail, lit.var(), end)
-        }
-        None => true,
-    }
-}
-
 /// The pivot-type literal of a row, of those of a greater depth than that, which stands last on the trail, of which the
 /// first `end` literals are looked at; a literal that isn't one of them counts as the last. This looks at the row
 /// once.
@@ -88,14 +79,18 @@ pub fn latest_pivot<S: Side>(
     ensures { IsLatest S.PIVOT prefix.now (take end trail.now.placed) depth row.now result }
 {
     let mut latest = None;
+    // Its place, once there is one.
+    let mut last = 0;
     for lit in row {
         if !is_deeper::<S>(prefix, depth, *lit) {
             continue;
         }
-        if !is_later(trail, *lit, &latest, end) {
+        let place = place_before(trail, lit.var(), end);
+        if place < last {
             continue;
         }
         latest = Some(*lit);
+        last = place;
     }
     latest
 }
