@@ -1,5 +1,5 @@
 -- Scopes once a variable is taken out.
-use Rattle.std.proofs.Common.{◌≡◌, ℕ, zero, suc, ◌+◌, ◌-◌, ◌<◌, ◌≤◌, Bool, true, false, not, cond, List, [], ◌∷◌, ◌++◌, length, map, filter, get_or, set, Option, Some, None, ◌⊎◌, inl, inr, refl, sym, ap, ⊎_elim, ◌∙◌, arith}
+use Rattle.std.proofs.Common.{◌≡◌, ℕ, zero, suc, ◌+◌, ◌-◌, ◌<◌, ◌≤◌, Bool, true, false, not, cond, List, [], ◌∷◌, ◌++◌, length, filter, get_or, set, Option, Some, None, ◌⊎◌, inl, inr, refl, sym, ap, ⊎_elim, ◌∙◌, arith}
 use Rattle.std.specs.Prelude.{◌==◌, ◌||◌, ◌&&◌, IfSome, IsSome, is_some, slice_get, count_by, unwrap_or}
 use Rattle.std.specs.Option.{option_map, option_and_then}
 use Rattle.std.specs.List.{AllByRecursion}
@@ -7,9 +7,9 @@ use Rattle.std.proofs.lemmas.Bool.{cases_Bool, cond-true, cond-false, cases_eq, 
 use Rattle.std.proofs.lemmas.Bool.Decides.{nat_tests}
 use Rattle.std.proofs.lemmas.List.{length-map, length-set}
 use Rattle.std.proofs.lemmas.List.Sums.{sum_by-set}
-use Rattle.prefix.specs.Scopes.{Scope, is_among, level_of, all_variables, quantifier_at, quantifier_of, IsAscending, AreDistinct, without_variable}
+use Rattle.prefix.specs.Scopes.{Scope, is_among, level_of, all_variables, quantifier_at, IsAscending, AreDistinct, without_variable}
 use Rattle.prefix.specs.Insertion.{KeepsOrder}
-use Rattle.prefix.specs.Table.{IsTable, home_of}
+use Rattle.prefix.specs.Table.{IsTable, kept_for}
 use Rattle.prefix.proofs.ScopeLemmas.{is_among-append, level_positive}
 use Rattle.prefix.proofs.TableLemmas.{home_is}
 use Rattle.prefix.specs.Blocks.{IsTakenOut}
@@ -184,29 +184,29 @@ slice_get-set_other (y ∷ ys) zero (suc k) x h = refl
 slice_get-set_other (y ∷ ys) (suc i) zero x h = refl
 slice_get-set_other (y ∷ ys) (suc i) (suc k) x h = slice_get-set_other ys i k x (λ e. h (ap suc e))
 
-home_cleared : (hs : List (Option ℕ)) (i : ℕ) → home_of (set hs i None) (suc i) ≡ None
+home_cleared : (hs : List (Option ℕ)) (i : ℕ) → kept_for (set hs i None) (suc i) ≡ None
 home_cleared [] i = refl
 home_cleared (h ∷ hs) zero = refl
 home_cleared (h ∷ hs) (suc i) = home_cleared hs i
 
-home_of-cleared : (hs : List (Option ℕ)) (i w : ℕ) → home_of (set hs i None) w ≡ cond (w == suc i) None (home_of hs w)
-home_of-cleared hs i zero = sym (cond-false (0 == suc i) None None (ne_eqb 0 (suc i) (λ e. cc)))
-home_of-cleared hs i (suc w) =
+kept_for-cleared : (hs : List (Option ℕ)) (i w : ℕ) → kept_for (set hs i None) w ≡ cond (w == suc i) None (kept_for hs w)
+kept_for-cleared hs i zero = sym (cond-false (0 == suc i) None None (ne_eqb 0 (suc i) (λ e. cc)))
+kept_for-cleared hs i (suc w) =
     ⊎_elim
-    (λ (e : w ≡ i). ap (λ n. home_of (set hs i None) (suc n)) e ∙ (home_cleared hs i ∙ sym (cond-true (suc w == suc i) None (home_of hs (suc w)) (eq-eqb (suc w) (suc i) (ap suc e)))))
-    (λ n. ap (λ o. unwrap_or o None) (slice_get-set_other hs i w None n) ∙ sym (cond-false (suc w == suc i) None (home_of hs (suc w)) (ne_eqb (suc w) (suc i) (λ e. n (omega arith)))))
+    (λ (e : w ≡ i). ap (λ n. kept_for (set hs i None) (suc n)) e ∙ (home_cleared hs i ∙ sym (cond-true (suc w == suc i) None (kept_for hs (suc w)) (eq-eqb (suc w) (suc i) (ap suc e)))))
+    (λ n. ap (λ o. unwrap_or o None) (slice_get-set_other hs i w None n) ∙ sym (cond-false (suc w == suc i) None (kept_for hs (suc w)) (ne_eqb (suc w) (suc i) (λ e. n (omega arith)))))
     (cases_eq w i)
 
-count-cleared : (hs : List (Option ℕ)) (i id : ℕ) → i < length hs → home_of hs (suc i) ≡ Some id → count_by is_some (set hs i None) + 1 ≡ count_by is_some hs
+count-cleared : (hs : List (Option ℕ)) (i id : ℕ) → i < length hs → kept_for hs (suc i) ≡ Some id → count_by is_some (set hs i None) + 1 ≡ count_by is_some hs
 count-cleared hs i id h e =
     let one : cond {A = ℕ} (is_some (get_or hs i None)) 1 0 ≡ 1 = rw (sym (home_is hs i) ∙ e) refl in
     omega (arith, one, sum_by-set (λ (o : Option ℕ). cond {A = ℕ} (is_some o) 1 0) hs i None None h)
 
-pub table_without : (ss : List Scope) (ids ns : List ℕ) (hs : List (Option ℕ)) (k i id n : ℕ) → IsTable ss ids ns hs k → level_of ss (suc i) ≡ Some n → home_of hs (suc i) ≡ Some id → i < length hs → is_among (suc i) (all_variables ss) ≡ true → IsTable (without_variable (suc i) ss) ids ns (set hs i None) (k - 1)
+pub table_without : (ss : List Scope) (ids ns : List ℕ) (hs : List (Option ℕ)) (k i id n : ℕ) → IsTable ss ids ns hs k → level_of ss (suc i) ≡ Some n → kept_for hs (suc i) ≡ Some id → i < length hs → is_among (suc i) (all_variables ss) ≡ true → IsTable (without_variable (suc i) ss) ids ns (set hs i None) (k - 1)
 table_without ss ids ns hs k i id n t level home within stands =
     record {
-      found = λ w. level-without ss v w ∙ (split (w == v) (level_of ss w) (home_of hs w) (t.found w) ∙ ap (option_and_then (slice_get ns)) (sym (home_of-cleared hs i w)));
-      home_in = λ w. rw (home_of-cleared hs i w) (fits (w == v) (home_of hs w) (t.home_in w));
+      found = λ w. level-without ss v w ∙ (split (w == v) (level_of ss w) (kept_for hs w) (t.found w) ∙ ap (option_and_then (slice_get ns)) (sym (kept_for-cleared hs i w)));
+      home_in = λ w. rw (kept_for-cleared hs i w) (fits (w == v) (kept_for hs w) (t.home_in w));
       numbered = t.numbered;
       bounded = t.bounded;
       sizes = t.sizes;
@@ -248,7 +248,7 @@ quantifier_get [] v k = refl
 quantifier_get (s ∷ ss) v zero = refl
 quantifier_get (s ∷ ss) v (suc k) = quantifier_get ss v k
 
-quantifier-without : (ss : List Scope) (v m : ℕ) → quantifier_at (without_variable v ss) m ≡ quantifier_at ss m
+pub quantifier-without : (ss : List Scope) (v m : ℕ) → quantifier_at (without_variable v ss) m ≡ quantifier_at ss m
 quantifier-without ss v m = ap (cond (m == 0) None) (quantifier_get ss v (m - 1))
 
 pub removal_keeps_order : (ss : List Scope) (v : ℕ) → KeepsOrder (without_variable v ss) ss
@@ -273,7 +273,7 @@ home_there : (ns : List ℕ) (o : Option ℕ) (n : ℕ) → option_and_then (sli
 home_there ns None n e = absurd (cc)
 home_there ns (Some id) n e = (id, refl)
 
-home_within : (hs : List (Option ℕ)) (i id : ℕ) → home_of hs (suc i) ≡ Some id → i < length hs
+home_within : (hs : List (Option ℕ)) (i id : ℕ) → kept_for hs (suc i) ≡ Some id → i < length hs
 home_within [] i id e = absurd (cc)
 home_within (h ∷ hs) zero id e = omega arith
 home_within (h ∷ hs) (suc i) id e = let r : i < length hs = home_within hs i id e in omega arith
@@ -285,8 +285,8 @@ module _ (ss : List Scope) (ids ns : List ℕ) (hs : List (Option ℕ)) (k i v s
   level_here : level_of ss (suc i) ≡ Some scope
   level_here = ap (level_of ss) (sym is_next) ∙ level
 
-  home_here : (id : ℕ) × (home_of hs (suc i) ≡ Some id)
-  home_here = home_there ns (home_of hs (suc i)) scope (sym (t.found (suc i)) ∙ level_here)
+  home_here : (id : ℕ) × (kept_for hs (suc i) ≡ Some id)
+  home_here = home_there ns (kept_for hs (suc i)) scope (sym (t.found (suc i)) ∙ level_here)
 
   pub index_within : i < length hs
   index_within = home_within hs i home_here.0 home_here.1
