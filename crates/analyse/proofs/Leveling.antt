@@ -1,5 +1,6 @@
 -- The level at which a clean row is unit.
-use Rattle.std.proofs.Common.{◌≡◌, ℕ, ◌<◌, ◌≤◌, Bool, true, false, List, [], ◌∷◌, ◌++◌, max, Option, Some, None, is_some, is_none, nat_le, refl, sym, ap, ◌∙◌, inl, inr, ⊎_elim, arith}
+use Rattle.std.proofs.Common.{◌≡◌, ℕ, ◌<◌, ◌≤◌, ◌⊎◌, Contains, Bool, true, false, List, [], ◌∷◌, ◌++◌, max, Option, Some, None, is_some, is_none, nat_le, refl, sym, ap, ◌∙◌, inl, inr, ⊎_elim, arith}
+use Rattle.std.specs.Prelude.{IsTrue}
 use Rattle.std.proofs.lemmas.Bool.{cases_lt, cond-true, false≢true, le-leb, true≢false}
 use Rattle.std.proofs.lemmas.List.Elements.{Contains-push, Contains-push_cases, Contains-append_left}
 use Rattle.prefix.specs.declared.quant.Quant.{Quant}
@@ -80,22 +81,22 @@ module _ (pivot : Quant) (scopes : List Scope) (trail : Trail) (row : Row) (e : 
       let is = at.3 in omega arith)
       below.reached
 
--- where it isn't below, no level makes the row unit in it
-pub no_level_makes : (pivot : Quant) (scopes : List Scope) (trail : Trail) (row : Row) (e : Literal) (level : ℕ)
-    → IsClean pivot (value_on trail) row → IsLevelBelow pivot scopes trail e row level
-    → decision_level_on trail e.variable ≤ level → (b : ℕ) → MakesUnitAt pivot scopes trail row e b → ⊥
-no_level_makes pivot scopes trail row e level clean below high b makes =
+-- where one that must stay is of no earlier level, no level makes the row unit in it
+pub no_level_makes : (pivot : Quant) (scopes : List Scope) (trail : Trail) (row : Row) (e : Literal)
+    → IsClean pivot (value_on trail) row
+    → (decision_level_on trail e.variable ≡ 0) ⊎ ((l : Literal) × Contains row l × IsTrue (must_stay pivot scopes e l)
+    × (decision_level_on trail e.variable ≤ decision_level_on trail l.variable))
+    → (b : ℕ) → MakesUnitAt pivot scopes trail row e b → ⊥
+no_level_makes pivot scopes trail row e clean held b makes =
     let assigned = bad_assigned pivot (value_on trail e.variable) e (clean e makes.unit.stands) in
     let low : b < decision_level_on trail e.variable = ⊎_elim (λ (l : b < decision_level_on trail e.variable). l)
     (λ (h : decision_level_on trail e.variable ≤ b). absurd
     (stays_assigned assigned (le-leb (decision_level_on trail e.variable) b h)))
     (cases_lt b (decision_level_on trail e.variable)) in
-    let most : level ≤ b =
     ⊎_elim
     (λ none. omega arith)
-    (λ at. let one = must_least pivot scopes row e trail b makes at.0 at.1 at.2 in let is = at.3 in omega arith)
-    below.reached in
-    omega arith
+    (λ at. let one = must_least pivot scopes row e trail b makes at.0 at.1 at.2 in let high = at.3 in omega arith)
+    held
   where
     open_not : (o : Option Bool) → is_none o ≡ true → is_some o ≡ true → ⊥
     open_not None n s = false≢true s

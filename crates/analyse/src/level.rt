@@ -1,5 +1,6 @@
 //! The level at which a row is to be unit.
-ghost use Rattle.std.specs.Prelude.{◌≡◌, is_some, IsTrue};
+ghost use Rattle.std.specs.Prelude.{◌≡◌, ◌<◌, ◌≤◌, ◌⊎◌, is_some, IfSome, IsNone, IsTrue, Contains};
+ghost use Rattle.prefix.specs.Literal.{Literal};
 ghost use Rattle.calculus.specs.Search.{IsClean, decision_level_on, must_stay as stays, value_on};
 ghost use Rattle.analyse.specs.Levels.{IsLevelBelow};
 
@@ -42,4 +43,36 @@ pub(crate) fn level_below<S: Side>(trail: &Trail, prefix: &Prefix, row: &[Lit], 
         level = level_of(trail, lit.var()).max(level);
     }
     level
+}
+
+// The level that `level_below` gives, where it is smaller than this one. The look at the row ends at the first literal
+// by which it isn't.
+pub(crate) fn level_before<S: Side>(
+    trail: &Trail,
+    prefix: &Prefix,
+    row: &[Lit],
+    unit: Lit,
+    end: usize,
+) -> Option<usize>
+    requires { IsClean S.PIVOT (value_on trail.now.placed) row.now }
+    ensures some { IfSome result (λ level. IsLevelBelow S.PIVOT prefix.now trail.now.placed unit row.now level) }
+    ensures small { IfSome result (λ level. level < end) }
+    ensures none { IsNone result → (end ≡ 0) ⊎ ((l : Literal) × Contains row.now l
+        × IsTrue (stays S.PIVOT prefix.now unit l) × (end ≤ decision_level_on trail.now.placed l.variable)) }
+{
+    let mut level = 0;
+    for lit in row {
+        if !must_stay::<S>(prefix, *lit, unit) {
+            continue;
+        }
+        let other = level_of(trail, lit.var());
+        if end <= other {
+            return None;
+        }
+        level = other.max(level);
+    }
+    if level < end {
+        return Some(level);
+    }
+    None
 }

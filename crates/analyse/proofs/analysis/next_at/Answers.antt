@@ -1,4 +1,4 @@
-use Rattle.std.proofs.Common.{◌≡◌, ◌<◌, ◌≤◌, Some, sym, ap, ◌∙◌}
+use Rattle.std.proofs.Common.{◌≡◌, ◌<◌, Some, refl, sym, ap, ◌∙◌}
 use Rattle.calculus.specs.Search.{cause_on, decision_level_on, value_on}
 use Rattle.calculus.specs.Search.Cause.{Assumed, Decided, Propagated}
 use Rattle.calculus.proofs.Searching.{bad_assigned}
@@ -31,25 +31,26 @@ returns-in-Some-Decided g c =
     level_makes_unit g.S.Side.PIVOT c.args.prefix.now trail c.args.row.now c.args.last c.requires.row c.requires.clean
     c.requires.last c.level_below.result c.level_below.ensures below
 
-pub returns-then-level-level_of : goal.returns-then-level-level_of
-returns-then-level-level_of g c =
+pub returns-in-Some : goal.returns-in-Some
+returns-in-Some g c =
     let trail = c.args.trail.now.placed in
-    let below : c.level_below-level.result < decision_level_on trail c.args.last.variable =
-    rw (c.level_of.ensures, c.var-in-Some-Propagated.ensures) at c.if-level-level_of.true in
+    let is : c.level_of-end.result ≡ decision_level_on trail c.args.last.variable =
+    c.level_of-end.ensures ∙ ap (decision_level_on trail) c.var-in-Some-Propagated.ensures in
+    let below : c.in-Some.level < decision_level_on trail c.args.last.variable = rw is at c.in-Some.ensures.small in
     level_makes_unit g.S.Side.PIVOT c.args.prefix.now trail c.args.row.now c.args.last c.requires.row c.requires.clean
-    c.requires.last c.level_below-level.result c.level_below-level.ensures below
+    c.requires.last c.in-Some.level c.in-Some.ensures.some below
 
-pub returns-else-level-level_of : goal.returns-else-level-level_of
-returns-else-level-level_of g c =
+pub returns-in-None-level_before : goal.returns-in-None-level_before
+returns-in-None-level_before g c =
     let trail = c.args.trail.now.placed in
     let cause : cause_on trail c.args.last.variable ≡ Some (Propagated c.in-Some-Propagated.reason) =
     sym ((rw c.in-Some-Propagated.field-0-is at c.in-Some-Propagated.ensures)
     ∙ ap (cause_on trail) c.var.ensures) in
-    let high : decision_level_on trail c.args.last.variable ≤ c.level_below-level.result =
-    rw (c.level_of.ensures, c.var-in-Some-Propagated.ensures) at c.if-level-level_of.false in (
+    let is : c.level_of-end.result ≡ decision_level_on trail c.args.last.variable =
+    c.level_of-end.ensures ∙ ap (decision_level_on trail) c.var-in-Some-Propagated.ensures in (
       c.requires.clean,
       c.requires.last,
       cause,
-      no_level_makes g.S.Side.PIVOT c.args.prefix.now trail c.args.row.now
-          c.args.last c.level_below-level.result c.requires.clean c.level_below-level.ensures high,
+      no_level_makes g.S.Side.PIVOT c.args.prefix.now trail c.args.row.now c.args.last c.requires.clean
+          (rw is at (c.in-None-level_before.ensures.none refl)),
     )
