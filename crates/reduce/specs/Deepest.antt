@@ -1,5 +1,5 @@
 -- The depth that decides what reduction leaves: that of a row's last pivot-type literals.
-use Rattle.std.specs.Prelude.{◌≡◌, ℕ, Bool, false, nat_lt, List, Option, Some, None, is_some, ◌||◌}
+use Rattle.std.specs.Prelude.{◌≡◌, ℕ, Bool, false, nat_lt, List, Option, Some, None, is_some, not, ◌&&◌, ◌||◌}
 use Rattle.std.specs.List.{list_any}
 use Rattle.prefix.specs.declared.quant.Quant.{Quant}
 use Rattle.prefix.specs.Literal.{Literal}
@@ -22,3 +22,27 @@ pub record IsDeepest (pivot : Quant) (scopes : List Scope) (row : Row) (deepest 
 abbrev pub stays_before : Quant → List Scope → Option ℕ → Literal → Bool
 stays_before pivot scopes deepest literal = is_pivot pivot scopes literal || is_before deepest
     (depth_of scopes literal.variable)
+
+-- whether a literal goes where the deepest pivot-type ones are of this depth
+abbrev pub goes_at : Quant → List Scope → ℕ → Literal → Bool
+goes_at pivot scopes depth literal = not (is_pivot pivot scopes literal
+    || nat_lt (depth_of scopes literal.variable) depth)
+
+-- whether that depth, if there is one, is no smaller than this
+abbrev pub reaches : Option ℕ → ℕ → Bool
+reaches None depth = false
+reaches (Some deepest) depth = not (nat_lt deepest depth)
+
+-- the depth of a row's deepest literals that aren't pivot-type
+abbrev pub IsDeepestOther : Quant → List Scope → Row → Option ℕ → Type 0
+IsDeepestOther pivot scopes row deepest = (depth : ℕ) → list_any (goes_at pivot scopes depth) row
+    ≡ reaches deepest depth
+
+-- whether a literal is pivot-type and of a greater depth
+abbrev pub is_deeper : Quant → List Scope → ℕ → Literal → Bool
+is_deeper pivot scopes depth literal = is_pivot pivot scopes literal && nat_lt depth (depth_of scopes literal.variable)
+
+-- whether a row has such a literal, or no pivot-type one
+abbrev pub keeps_all : Quant → List Scope → ℕ → Row → Bool
+keeps_all pivot scopes depth row = not (list_any (is_pivot pivot scopes) row)
+    || list_any (is_deeper pivot scopes depth) row

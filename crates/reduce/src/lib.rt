@@ -3,11 +3,13 @@
 
 mod reduction;
 mod resolution;
+mod worked;
 
 use prefix::Lit;
 pub use reduction::{is_reduced, reduce};
 pub use resolution::{clashes, resolve};
 use smallvec::SmallVec;
+pub use worked::worked_depths;
 
 /// The literals of a clause or of a cube, of which most have few.
 pub type Row = SmallVec<Lit, 16>;

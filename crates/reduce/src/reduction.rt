@@ -2,7 +2,7 @@
 ghost use Rattle.std.specs.Prelude.{◌≡◌, ◌↔◌, [], ◌++◌, filter, IsTrue, OnOk, OnErr};
 ghost use Rattle.prefix.specs.Scopes.{IsAscending};
 ghost use Rattle.calculus.specs.Rows.{reduce as reduction, variables_in};
-ghost use Rattle.reduce.specs.Deepest.{IsDeepest, is_before as before, stays_before};
+ghost use Rattle.reduce.specs.Deepest.{IsDeepest, IsDeepestOther, is_before as before, keeps_all as keeps, stays_before};
 
 use super::Row;
 use prefix::{Lit, Prefix, Side};
@@ -24,31 +24,52 @@ pub fn reduce<S: Side>(prefix: &Prefix, lits: &[Lit], out: &mut Row) -> Result<(
     done
 }
 
-/// Whether the reduction of a row is the row itself. This goes over the row once, and takes no memory.
+/// Whether the reduction of a row is the row itself. This goes over the row at most twice, and takes no memory.
 pub fn is_reduced<S: Side>(prefix: &Prefix, lits: &[Lit]) -> bool
     ensures { IsTrue result ↔ (reduction S.PIVOT prefix.now lits.now ≡ lits.now) }
 {
-    let mut deepest = None;
-    let mut other = None;
-    for lit in lits {
-        let depth = prefix.depth(lit.var());
-        if prefix.is_pivot::<S>(*lit) {
-            if !is_before(deepest, depth) {
-                deepest = Some(depth);
-            }
-            continue;
-        }
-        if !is_before(other, depth) {
-            other = Some(depth);
-        }
-    }
-    let Some(deepest) = deepest else {
-        return true;
-    };
-    match other {
-        Some(other) => other < deepest,
+    match deepest_other::<S>(prefix, lits) {
+        Some(depth) => keeps_all::<S>(prefix, lits, depth),
         None => true,
     }
+}
+
+// The greatest depth of a literal that isn't pivot-type.
+fn deepest_other<S: Side>(prefix: &Prefix, lits: &[Lit]) -> Option<usize>
+    ensures { IsDeepestOther S.PIVOT prefix.now lits.now result }
+{
+    let mut deepest = None;
+    for lit in lits {
+        if prefix.is_pivot::<S>(*lit) {
+            continue;
+        }
+        let depth = prefix.depth(lit.var());
+        if !is_before(deepest, depth) {
+            deepest = Some(depth);
+        }
+    }
+    deepest
+}
+
+// Whether a row has a pivot-type literal of a greater depth than that, or none at all. The look begins at the last
+// literal, since variables of inner scopes mostly have greater numbers.
+fn keeps_all<S: Side>(prefix: &Prefix, lits: &[Lit], depth: usize) -> bool
+    ensures { result ≡ keeps S.PIVOT prefix.now depth lits.now }
+{
+    let mut i = lits.len();
+    let mut has_pivot = false;
+    while i > 0 {
+        i -= 1;
+        let lit = lits[i];
+        if !prefix.is_pivot::<S>(lit) {
+            continue;
+        }
+        if depth < prefix.depth(lit.var()) {
+            return true;
+        }
+        has_pivot = true;
+    }
+    !has_pivot
 }
 
 // Appends the reduction of a row.

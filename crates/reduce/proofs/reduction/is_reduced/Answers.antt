@@ -1,26 +1,12 @@
-use Rattle.std.proofs.Common.{None, refl, subst}
-use Rattle.std.proofs.lemmas.List.{take_all}
-use Rattle.calculus.specs.Rows.{Row}
-use Rattle.reduce.proofs.Reducing.{AreDeepest, goes_before, goes_nothing}
+use Rattle.std.proofs.Common.{refl, sym, ◌∙◌}
+use Rattle.reduce.proofs.Reducing.{all_pivots, keeps_where}
 use Rattle.reduce.proofs.reduction.is_reduced.Goals as goal
 
-pub returns-in-Some-other : goal.returns-in-Some-other
-returns-in-Some-other g c =
-    let pivot = g.S.Side.PIVOT in
-    let scopes = c.args.prefix.now in
-    let row = c.args.lits.now in
-    let whole : AreDeepest pivot scopes row c.loop-lit.deepest c.loop-lit.other =
-    subst (λ (r : Row). AreDeepest pivot scopes r c.loop-lit.deepest c.loop-lit.other)
-    (take_all c.loop-lit.lit-index row c.loop-lit-test.false) c.loop-lit.invariant in
-    goes_before pivot scopes row c.in-Some.deepest c.in-Some-other.other (rw (← c.in-Some.is, ← c.in-Some-other.is) whole)
+pub returns-in-Some : goal.returns-in-Some
+returns-in-Some g c =
+    let both = keeps_where g.S.Side.PIVOT c.args.prefix.now c.args.lits.now c.in-Some.depth c.in-Some.ensures in
+    (λ t. both.0 (sym c.keeps_all.ensures ∙ t), λ e. c.keeps_all.ensures ∙ both.1 e)
 
 pub returns-in-None : goal.returns-in-None
 returns-in-None g c =
-    let pivot = g.S.Side.PIVOT in
-    let scopes = c.args.prefix.now in
-    let row = c.args.lits.now in
-    let whole : AreDeepest pivot scopes row c.loop-lit.deepest c.loop-lit.other =
-    subst (λ (r : Row). AreDeepest pivot scopes r c.loop-lit.deepest c.loop-lit.other)
-    (take_all c.loop-lit.lit-index row c.loop-lit-test.false) c.loop-lit.invariant in
-    let both = goes_nothing pivot scopes row c.in-Some.deepest None (rw (← c.in-Some.is, ← c.in-None.is) whole) in
-    (λ e. both.0 refl, λ e. refl)
+    (λ e. all_pivots g.S.Side.PIVOT c.args.prefix.now c.args.lits.now c.in-None.ensures, λ e. refl)
