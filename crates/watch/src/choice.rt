@@ -1,5 +1,6 @@
 //! What to do with a row whose literals have these values.
-ghost use Rattle.std.specs.Prelude.{◌≡◌};
+ghost use Rattle.std.specs.Prelude.{◌≡◌, ℕ, ◌+◌, ◌-◌, ◌<◌, ◌≤◌};
+ghost use Rattle.std.specs.Option.{option_map};
 ghost use Rattle.calculus.specs.Rows.{same_literal};
 ghost use Rattle.calculus.specs.Search.{is_bad_now, value_on};
 ghost use Rattle.watch.specs.Pairs.{IsFound, is_free_pivot, is_good_now, is_partner, joins};
@@ -11,14 +12,21 @@ use trail::Trail;
 // What to do with a row.
 #[derive(Clone, Copy, Debug)]
 pub(crate) enum Choice {
-    // It may watch these two literals.
-    Pair(Lit, Lit),
+    // It may watch these two literals, of which the second was found at this place.
+    Pair(Lit, Lit, usize),
     // This good literal holds it.
     Held(Lit),
     // It is unit in this literal.
     Open(Lit),
     // It is bad.
     Fails,
+}
+
+// A literal of a row, with its place there.
+#[derive(Clone, Copy, Debug)]
+struct Found {
+    lit: Lit,
+    place: usize,
 }
 
 // Whether a literal is bad.
@@ -45,13 +53,34 @@ fn is_same(a: Lit, b: Lit) -> bool
     a.var().number() == b.var().number() && a.is_positive() == b.is_positive()
 }
 
-// A pivot-type literal that isn't bad.
-fn free_pivot<S: Side>(prefix: &Prefix, trail: &Trail, lits: &[Lit]) -> Option<Lit>
-    ensures { IsFound (is_free_pivot S.PIVOT prefix.now (value_on trail.now.placed)) lits.now result }
+// The place that is so many steps behind another one, where a row is gone round; past the row's end that one counts as
+// the first.
+fn place_round(start: usize, step: usize, len: usize) -> usize
+    requires { step < len }
+    ensures within { result < len }
+    ensures early { step < len - start → result ≡ start + step }
+    ensures late { len - start ≤ step → result + (len - start) ≡ step }
 {
-    for lit in lits {
-        if is_free::<S>(prefix, trail, *lit) {
-            return Some(*lit);
+    let tail = len.saturating_sub(start);
+    if step < tail {
+        start + step
+    } else {
+        step - tail
+    }
+}
+
+// A pivot-type literal that isn't bad, with its place: the first one from a place on, round the row.
+fn free_pivot<S: Side>(prefix: &Prefix, trail: &Trail, lits: &[Lit], start: usize) -> Option<Found>
+    ensures { IsFound (is_free_pivot S.PIVOT prefix.now (value_on trail.now.placed)) lits.now
+        (option_map (λ found. found.lit) result) }
+{
+    for step in 0..lits.len() {
+        let place = place_round(start, step, lits.len());
+        if is_free::<S>(prefix, trail, lits[place]) {
+            return Some(Found {
+                lit: lits[place],
+                place,
+            });
         }
     }
     None
@@ -64,13 +93,25 @@ fn is_free<S: Side>(prefix: &Prefix, trail: &Trail, lit: Lit) -> bool
     !is_bad::<S>(trail, lit) && prefix.is_pivot::<S>(lit)
 }
 
-// A literal that makes a typed pair with a pivot-type one, and isn't bad.
-fn partner<S: Side>(prefix: &Prefix, trail: &Trail, lits: &[Lit], first: Lit) -> Option<Lit>
-    ensures { IsFound (is_partner S.PIVOT prefix.now (value_on trail.now.placed) first) lits.now result }
+// A literal that makes a typed pair with a pivot-type one, and isn't bad, with its place: the first one from a place
+// on, round the row.
+fn partner<S: Side>(
+    prefix: &Prefix,
+    trail: &Trail,
+    lits: &[Lit],
+    first: Lit,
+    start: usize,
+) -> Option<Found>
+    ensures { IsFound (is_partner S.PIVOT prefix.now (value_on trail.now.placed) first) lits.now
+        (option_map (λ found. found.lit) result) }
 {
-    for lit in lits {
-        if is_match::<S>(prefix, trail, *lit, first) {
-            return Some(*lit);
+    for step in 0..lits.len() {
+        let place = place_round(start, step, lits.len());
+        if is_match::<S>(prefix, trail, lits[place], first) {
+            return Some(Found {
+                lit: lits[place],
+                place,
+            });
         }
     }
     None
@@ -102,21 +143,21 @@ fn good<S: Side>(trail: &Trail, lits: &[Lit]) -> Option<Lit>
     None
 }
 
-// What to do with a row.
-pub(crate) fn choose<S: Side>(prefix: &Prefix, trail: &Trail, lits: &[Lit]) -> Choice
+// What to do with a row, of which a pivot-type literal is searched from a place on, and another one from where that is.
+pub(crate) fn choose<S: Side>(prefix: &Prefix, trail: &Trail, lits: &[Lit], start: usize) -> Choice
     ensures { IsChoice S.PIVOT prefix.now (value_on trail.now.placed) lits.now result }
 {
-    let Some(first) = free_pivot::<S>(prefix, trail, lits) else {
+    let Some(pivot) = free_pivot::<S>(prefix, trail, lits, start) else {
         return match good::<S>(trail, lits) {
             Some(lit) => Choice::Held(lit),
             None => Choice::Fails,
         };
     };
-    if let Some(second) = partner::<S>(prefix, trail, lits, first) {
-        return Choice::Pair(first, second);
+    if let Some(other) = partner::<S>(prefix, trail, lits, pivot.lit, pivot.place) {
+        return Choice::Pair(pivot.lit, other.lit, other.place);
     }
     match good::<S>(trail, lits) {
         Some(lit) => Choice::Held(lit),
-        None => Choice::Open(first),
+        None => Choice::Open(pivot.lit),
     }
 }
