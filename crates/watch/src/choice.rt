@@ -143,7 +143,7 @@ fn good<S: Side>(trail: &Trail, lits: &[Lit]) -> Option<Lit>
     None
 }
 
-// What to do with a row, of which a pivot-type literal is searched from a place on, and another one from where that is.
+// What to do with a row, whose literals are searched from a place on.
 pub(crate) fn choose<S: Side>(prefix: &Prefix, trail: &Trail, lits: &[Lit], start: usize) -> Choice
     ensures { IsChoice S.PIVOT prefix.now (value_on trail.now.placed) lits.now result }
 {
@@ -153,7 +153,7 @@ pub(crate) fn choose<S: Side>(prefix: &Prefix, trail: &Trail, lits: &[Lit], star
             None => Choice::Fails,
         };
     };
-    if let Some(other) = partner::<S>(prefix, trail, lits, pivot.lit, pivot.place) {
+    if let Some(other) = partner::<S>(prefix, trail, lits, pivot.lit, start) {
         return Choice::Pair(pivot.lit, other.lit, other.place);
     }
     match good::<S>(trail, lits) {
