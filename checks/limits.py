@@ -3,12 +3,12 @@
 
 usage: limits.py PROGRAM [--heavy]
 
-Scopes, frames, variables and sets at their number and one beyond it; words of 16 MiB; and 300 drawn formulas of one to
-four variables, each in a scope of its own, with no step, with one, with as many as always suffice and with one less,
-and with as many where a search may begin anew twice: each verdict is that of the whole table, and none is left open
-with enough steps. With --heavy also all variables, clauses, literals and bytes that a text may have, and one more,
-which takes a minute of the processor and is no part of the gate. Prints a line a case and ends with status 1 if one
-failed.
+Scopes, frames, variables and sets at their number and one beyond it; words of 16 MiB; 400,000 clauses of a formula and
+of a script, which are taken within 20 seconds of the processor; and 300 drawn formulas of one to four variables, each
+in a scope of its own, with no step, with one, with as many as always suffice and with one less, and with as many where
+a search may begin anew twice: each verdict is that of the whole table, and none is left open with enough steps. With
+--heavy also all variables, clauses, literals and bytes that a text may have, and one more, which takes a minute of the
+processor and is no part of the gate. Prints a line a case and ends with status 1 if one failed.
 """
 
 import itertools
@@ -32,6 +32,8 @@ LONG = 2**24
 MIB = 2**20
 # Seconds of the processor, and bytes of memory, of one run.
 MOST_SECONDS, MOST_MEMORY = 300, 6 * 2**30
+# Many clauses, and the seconds within which they are taken: a pass over all of them for each one would take minutes.
+MANY, FEW_SECONDS = 400_000, 20
 
 
 def lines(*some):
@@ -119,6 +121,21 @@ def rows_of_words():
     yield "clause_without_its_zero", ["script"], text, 2, "SAT\n", refused(3, 32)
 
 
+def rows_of_many_clauses():
+    """Clauses of three literals over a quarter as many variables, fed and attached, but for the first step."""
+    draw = random.Random(1)
+    size = MANY // 4
+    some = [
+        " ".join(str(v if draw.random() < 0.5 else -v) for v in sorted(draw.sample(range(1, size + 1), 3)))
+        for _ in range(MANY)
+    ]
+    text = lines(f"p cnf {size} {MANY}"), lines(*(f"{clause} 0" for clause in some))
+    yield "many_clauses", ["solve", "--budget=0"], text, 0, "UNKNOWN\n", "", FEW_SECONDS
+    text = lines("p qscript 1", "scope e", *(f"var {v} 1" for v in range(1, size + 1)))
+    clauses = lines(*(f"clause {clause} 0" for clause in some), "solve")
+    yield "many_clauses_of_a_script", ["script", "--budget=0"], [text, clauses], 0, "UNKNOWN\n", "", FEW_SECONDS
+
+
 def rows_that_are_heavy():
     every = range(1, VARIABLES + 1)
     set_of_all = lines(f"p cnf {VARIABLES} 1", " ".join(map(str, ["e", *every, 0])), f"{VARIABLES} 0")
@@ -161,8 +178,8 @@ def rows_of_bytes():
 # Runs.
 
 
-def bound():
-    resource.setrlimit(resource.RLIMIT_CPU, (MOST_SECONDS, MOST_SECONDS + 1))
+def bound(seconds):
+    resource.setrlimit(resource.RLIMIT_CPU, (seconds, seconds + 1))
     resource.setrlimit(resource.RLIMIT_AS, (MOST_MEMORY, MOST_MEMORY))
 
 
@@ -177,10 +194,10 @@ def feed(to, pieces):
         pass
 
 
-def check(program, words, pieces, status, out, err):
+def check(program, words, pieces, status, out, err, seconds=MOST_SECONDS):
     with tempfile.TemporaryFile() as output, tempfile.TemporaryFile() as errors:
         pipes = {"stdin": subprocess.PIPE, "stdout": output, "stderr": errors}
-        with subprocess.Popen([program, *words], bufsize=0, preexec_fn=bound, **pipes) as child:
+        with subprocess.Popen([program, *words], bufsize=0, preexec_fn=lambda: bound(seconds), **pipes) as child:
             feed(child.stdin.fileno(), pieces)
         output.seek(0)
         errors.seek(0)
@@ -230,7 +247,8 @@ def all_budgets(program):
 
 
 def cases(program, is_heavy):
-    for name, *row in itertools.chain(rows_of_prefixes(), rows_of_words(), rows_that_are_heavy() if is_heavy else []):
+    rows = [rows_of_prefixes(), rows_of_words(), rows_of_many_clauses()]
+    for name, *row in itertools.chain(*rows, rows_that_are_heavy() if is_heavy else []):
         yield name, check, row
     yield "budgets", all_budgets, []
 

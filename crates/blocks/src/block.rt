@@ -3,6 +3,7 @@ ghost use Rattle.std.specs.Prelude.{◌≡◌, ◌≤◌, ◌<◌, ◌++◌, [],
 ghost use Rattle.ports.specs.Writing.{Writes};
 ghost use Rattle.blocks.specs.Held.{Puts};
 
+use crate::line::LineText;
 use arrayvec::ArrayVec;
 use ports::{Failed, Sink, write_all};
 use std::marker::Model;
@@ -48,6 +49,15 @@ impl Block {
             done += self.take_front(&bytes[done..]);
         }
         Ok(())
+    }
+
+    /// Puts a line behind what is held.
+    ///
+    /// Fails only where the sink does, with a front of the bytes held and of the line written.
+    pub fn put_line<S: Sink>(&mut self, line: &LineText, sink: &mut S) -> Result<(), Failed>
+        ensures { Puts S.written S.flushed S.faults S.has_room sink.old self.old sink.new self.new line.now result }
+    {
+        self.put(line.bytes(), sink)
     }
 
     /// Passes on all that is held.

@@ -10,7 +10,7 @@ ghost use Rattle.qdimacs_out.specs.Texts.{formula_text, header_line, line_text, 
 ghost use Rattle.ports.specs.Writing.{Writes};
 ghost use Rattle.blocks.specs.Held.{Puts};
 
-use crate::words::{self, Words};
+use crate::words;
 use blocks::Block;
 use ports::{Failed, Sink};
 use prefix::{Lit, LitList, Prefix, Quant, Var};
@@ -45,11 +45,7 @@ fn put_parts<S: Sink>(f: &Formula, block: &mut Block, sink: &mut S) -> Result<()
     ensures { Puts S.written S.flushed S.faults S.has_room sink.old block.old sink.new block.new
         (formula_text f.now) result }
 {
-    put_words(
-        &words::header(f.declared_vars, f.declared_clauses),
-        block,
-        sink,
-    )?;
+    block.put_line(&words::header(f.declared_vars, f.declared_clauses), sink)?;
     put_scopes(&f.prefix, block, sink)?;
     put_clauses(f.clauses.clauses(), block, sink)
 }
@@ -102,7 +98,7 @@ fn put_variables<S: Sink>(vars: &[Var], block: &mut Block, sink: &mut S) -> Resu
         (flat_map (λ v. spaced (decimal v)) vars.now) result }
 {
     for v in vars {
-        put_words(&words::variable(*v), block, sink)?;
+        block.put_line(&words::variable(*v), sink)?;
     }
     Ok(())
 }
@@ -133,7 +129,7 @@ fn put_literals<S: Sink>(lits: &[Lit], block: &mut Block, sink: &mut S) -> Resul
         (flat_map (λ l. spaced (literal_word l)) lits.now) result }
 {
     for lit in lits {
-        put_words(&words::literal(*lit), block, sink)?;
+        block.put_line(&words::literal(*lit), sink)?;
     }
     Ok(())
 }
@@ -143,12 +139,4 @@ fn put_end<S: Sink>(block: &mut Block, sink: &mut S) -> Result<(), Failed>
     ensures { Puts S.written S.flushed S.faults S.has_room sink.old block.old sink.new block.new closing result }
 {
     block.put(b"0\n", sink)
-}
-
-// Puts words.
-fn put_words<S: Sink>(words: &Words, block: &mut Block, sink: &mut S) -> Result<(), Failed>
-    ensures { Puts S.written S.flushed S.faults S.has_room sink.old block.old sink.new block.new
-        words.now.bytes result }
-{
-    block.put(words.as_str().as_bytes(), sink)
 }

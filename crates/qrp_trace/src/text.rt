@@ -11,7 +11,7 @@ ghost use Rattle.ports.specs.Writing.{Writes};
 ghost use Rattle.blocks.specs.Held.{Puts};
 
 use crate::listing::Core;
-use crate::words::{self, Words};
+use crate::words;
 use blocks::Block;
 use ports::{Failed, Sink};
 use prefix::{Lit, Prefix, Quant, Var};
@@ -68,11 +68,7 @@ fn put_header<S: Sink>(
     ensures { Puts S.written S.flushed S.faults S.has_room sink.old block.old sink.new block.new
         (header_line (greatest (all_variables prefix.now)) (length core.now.lines)) result }
 {
-    put_words(
-        &words::header(greatest_variable(prefix), core.len()),
-        block,
-        sink,
-    )
+    block.put_line(&words::header(greatest_variable(prefix), core.len()), sink)
 }
 
 // The greatest number of a variable, 0 where there is none.
@@ -178,7 +174,7 @@ fn put_step<S: Sink>(core: &Core, i: usize, block: &mut Block, sink: &mut S) -> 
 {
     put_number(i, block, sink)?;
     put_literals(core.lits(i), block, sink)?;
-    put_words(&words::antecedents(core.step(i)), block, sink)
+    block.put_line(&words::antecedents(core.step(i)), sink)
 }
 
 /// Puts literals into a block by their numbers, each with a blank behind it. This takes no memory.
@@ -199,7 +195,7 @@ fn put_literal<S: Sink>(lit: Lit, block: &mut Block, sink: &mut S) -> Result<(),
     ensures { Puts S.written S.flushed S.faults S.has_room sink.old block.old sink.new block.new
         (literal_word lit) result }
 {
-    put_words(&words::literal(lit), block, sink)
+    block.put_line(&words::literal(lit), sink)
 }
 
 // Puts the last line.
@@ -218,13 +214,5 @@ fn put_number<S: Sink>(n: usize, block: &mut Block, sink: &mut S) -> Result<(), 
     ensures { Puts S.written S.flushed S.faults S.has_room sink.old block.old sink.new block.new
         (number_word n) result }
 {
-    put_words(&words::number(n), block, sink)
-}
-
-// Puts words.
-fn put_words<S: Sink>(words: &Words, block: &mut Block, sink: &mut S) -> Result<(), Failed>
-    ensures { Puts S.written S.flushed S.faults S.has_room sink.old block.old sink.new block.new
-        words.now.bytes result }
-{
-    block.put(words.as_str().as_bytes(), sink)
+    block.put_line(&words::number(n), sink)
 }

@@ -1,82 +1,62 @@
-//! Words of the text of a trace, each made in room of its own, so that the sink is called once for it.
-ghost use Rattle.std.specs.Prelude.{◌≡◌, ◌≤◌, ◌<◌, ◌+◌, ◌++◌, ◌∷◌, [], codes};
+//! Words of the text of a trace.
+ghost use Rattle.std.specs.Prelude.{◌≡◌, ◌++◌, codes};
 ghost use Rattle.std.specs.List.{flat_map};
-ghost use Rattle.std.specs.Fmt.{decimal};
-ghost use Rattle.arrayvec.specs.ArrayString.{array_string_len};
 ghost use Rattle.qrp_trace.specs.Texts.{antecedents_of, header_line, literal_word, number_word};
 
 use crate::listing::CoreStep;
-use arrayvec::ArrayString;
+use blocks::LineText;
 use prefix::Lit;
 
-// Room for the longest piece: the first line, with two numbers of at most forty digits.
-const ROOM: usize = 96;
-
-// The bytes of some words.
-pub(crate) type Words = ArrayString<ROOM>;
-
 // The first line, with the greatest number of a variable and the number of steps.
-pub(crate) fn header(variables: usize, steps: usize) -> Words
-    ensures { result.bytes ≡ header_line variables steps }
+pub(crate) fn header(variables: usize, steps: usize) -> LineText
+    ensures { result ≡ header_line variables steps }
 {
-    let mut words = Words::new();
-    words.push_str("p qrp ");
-    push_number(&mut words, variables, ' ');
-    push_number(&mut words, steps, '\n');
-    words
+    let mut line = LineText::new();
+    line.word("p qrp ");
+    line.number(variables, ' ');
+    line.number(steps, '\n');
+    line
 }
 
 // A number, and a blank.
-pub(crate) fn number(n: usize) -> Words
-    ensures { result.bytes ≡ number_word n }
+pub(crate) fn number(n: usize) -> LineText
+    ensures { result ≡ number_word n }
 {
-    let mut words = Words::new();
-    push_number(&mut words, n, ' ');
-    words
+    let mut line = LineText::new();
+    line.number(n, ' ');
+    line
 }
 
 // A literal, and a blank.
-pub(crate) fn literal(lit: Lit) -> Words
-    ensures { result.bytes ≡ literal_word lit }
+pub(crate) fn literal(lit: Lit) -> LineText
+    ensures { result ≡ literal_word lit }
 {
-    let mut words = Words::new();
+    let mut line = LineText::new();
     if !lit.is_positive() {
-        words.push_str("-");
+        line.word("-");
     }
-    push_number(&mut words, lit.var().number() as usize, ' ');
-    words
+    line.number(lit.var().number() as usize, ' ');
+    line
 }
 
 // What ends the line of a step: 0 behind its literals, the numbers of what it rests on, ascending, and 0.
-pub(crate) fn antecedents(step: CoreStep) -> Words
-    ensures { result.bytes ≡ codes "0 " ++ (flat_map number_word (antecedents_of step) ++ codes "0\n") }
+pub(crate) fn antecedents(step: CoreStep) -> LineText
+    ensures { result ≡ codes "0 " ++ (flat_map number_word (antecedents_of step) ++ codes "0\n") }
 {
-    let mut words = Words::new();
-    words.push_str("0 ");
+    let mut line = LineText::new();
+    line.word("0 ");
     match step {
         CoreStep::Input => {}
-        CoreStep::One(k) => push_number(&mut words, k, ' '),
+        CoreStep::One(k) => line.number(k, ' '),
         CoreStep::Two {
             positive,
             negative,
             ..
         } => {
-            push_number(&mut words, positive.min(negative), ' ');
-            push_number(&mut words, positive.max(negative), ' ');
+            line.number(positive.min(negative), ' ');
+            line.number(positive.max(negative), ' ');
         }
     }
-    words.push_str("0\n");
-    words
-}
-
-// Puts a number behind what the words have, and what ends it.
-fn push_number(words: &mut Words, n: usize, end: char)
-    requires room { array_string_len words.old + 41 ≤ 96 }
-    requires ascii { end < 128 }
-    ensures bytes { words.new.bytes ≡ words.old.bytes ++ (decimal n ++ end ∷ []) }
-    ensures len { array_string_len words.new ≤ array_string_len words.old + 41 }
-{
-    let mut buffer = itoa::Buffer::new();
-    words.push_str(buffer.format(n));
-    words.push(end);
+    line.word("0\n");
+    line
 }

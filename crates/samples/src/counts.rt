@@ -1,14 +1,13 @@
 //! Formulas that are made from a seed, decided and counted.
 ghost use Rattle.std.specs.Prelude.{◌≡◌, ◌≢◌, ◌≤◌, ◌<◌, ◌+◌, ◌%◌, ◌^◌, ◌++◌, ◌∷◌, [], codes, length, IfOk};
 ghost use Rattle.std.specs.Fmt.{decimal};
-ghost use Rattle.arrayvec.specs.ArrayString.{array_string_len};
 ghost use Rattle.ports.specs.Bytes.{AllFlushed};
 ghost use Rattle.ports.specs.Causes.{IsCounted};
 ghost use Rattle.session.specs.Solve.{IsDone};
 ghost use Rattle.samples.specs.Samples.{LeavesText, counted_line, counts_lines, counts_text, false_ones, is_true, true_ones};
 
 use crate::sending::{ending, send_text};
-use arrayvec::ArrayString;
+use blocks::LineText;
 use generate::{made_formulas_are_formed, make};
 use ports::Sink;
 use session::{Answer, Ending, decide_formula};
@@ -21,9 +20,6 @@ struct Counts {
     sat: u32,
     unsat: u32,
 }
-
-// Room for the three lines, each with a word and a number of at most forty digits.
-type Lines = ArrayString<160>;
 
 /// Decides so many formulas that are made from a seed on, each in an engine of its own with a budget that suffices, and
 /// writes three lines with how many they are, how many are true and how many false; then flushes.
@@ -38,7 +34,7 @@ pub fn count_samples<S: Sink>(alloc: Global, seed: u32, count: u32, sink: &mut S
     ensures flushed { IsDone result → AllFlushed (S.written sink.new) (S.flushed sink.old) (S.flushed sink.new) }
 {
     match decide_samples(alloc, seed, count) {
-        Ok(counts) => ending(send_text(lines(count, counts).as_str().as_bytes(), sink)),
+        Ok(counts) => ending(send_text(lines(count, counts).bytes(), sink)),
         Err(NoMemory) => Ending::NoMemory,
     }
 }
@@ -83,27 +79,26 @@ fn seed_at(seed: u32, i: u32) -> u32
 }
 
 // The three lines.
-fn lines(count: u32, counts: Counts) -> Lines
-    ensures { result.bytes ≡ counts_lines count counts.sat counts.unsat }
+fn lines(count: u32, counts: Counts) -> LineText
+    ensures { result ≡ counts_lines count counts.sat counts.unsat }
 {
-    let mut lines = Lines::new();
-    lines.push_str("formulas");
+    let mut lines = LineText::new();
+    lines.word("formulas");
     push_count(&mut lines, count);
-    lines.push_str("sat");
+    lines.word("sat");
     push_count(&mut lines, counts.sat);
-    lines.push_str("unsat");
+    lines.word("unsat");
     push_count(&mut lines, counts.unsat);
     lines
 }
 
 // Puts a blank, a number and a line end behind what the lines have.
-fn push_count(lines: &mut Lines, n: u32)
-    requires { array_string_len lines.old + 42 ≤ 160 }
-    ensures bytes { lines.new.bytes ≡ lines.old.bytes ++ (codes " " ++ (decimal n ++ codes "\n")) }
-    ensures len { array_string_len lines.new ≤ array_string_len lines.old + 42 }
+fn push_count(lines: &mut LineText, n: u32)
+    requires { length lines.old + 42 ≤ 256 }
+    ensures bytes { lines.new ≡ lines.old ++ (codes " " ++ (decimal n ++ codes "\n")) }
+    ensures len { length lines.new ≤ length lines.old + 42 }
 {
-    let mut buffer = itoa::Buffer::new();
-    lines.push(' ');
-    lines.push_str(buffer.format(n));
-    lines.push('\n');
+    lines.word(" ");
+    lines.digits(n);
+    lines.word("\n");
 }

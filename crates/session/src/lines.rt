@@ -1,7 +1,6 @@
 //! The lines of replies.
 ghost use Rattle.std.specs.Prelude.{◌≡◌, ◌+◌, ◌≤◌, ◌<◌, ◌++◌, ◌∷◌, codes, flat_map};
 ghost use Rattle.std.specs.Fmt.{decimal};
-ghost use Rattle.arrayvec.specs.ArrayString.{array_string_len};
 ghost use Rattle.aiger_out.specs.Aag.{IsAagText};
 ghost use Rattle.aiger_out.specs.Binary.{IsAigBytes};
 ghost use Rattle.aig.specs.Strategies.{IsStrategy};
@@ -17,22 +16,16 @@ use crate::answer::Answer;
 use crate::file::Header;
 use aig::Strategy;
 use aiger_out::{circuits_have_one_form_of_bytes, circuits_have_one_text, write_aag, write_aig};
-use arrayvec::ArrayString;
-use blocks::Block;
+use blocks::{Block, LineText};
 use ports::{Failed, Sink, write_all};
 use prefix::{Lit, Prefix};
 use qrp_trace::{Core, put_literals, write_trace};
-
-// Room for the longest line: two words and a number of at most forty digits.
-const ROOM: usize = 64;
-
-type Line = ArrayString<ROOM>;
 
 // Writes that a command is refused.
 pub(crate) fn write_refused<S: Sink>(number: u8, sink: &mut S) -> Result<(), Failed>
     ensures { Writes S.written S.flushed S.faults S.has_room sink.old sink.new (refused_text number) result }
 {
-    write(refused_line(number).as_str().as_bytes(), sink)
+    write(refused_line(number).bytes(), sink)
 }
 
 // Writes the answer to a solve.
@@ -46,7 +39,7 @@ pub(crate) fn write_answer<S: Sink>(answer: Answer, sink: &mut S) -> Result<(), 
 pub(crate) fn write_value<S: Sink>(lit: Lit, sink: &mut S) -> Result<(), Failed>
     ensures { Writes S.written S.flushed S.faults S.has_room sink.old sink.new (value_text lit) result }
 {
-    write(value_line(lit).as_str().as_bytes(), sink)
+    write(value_line(lit).bytes(), sink)
 }
 
 // Writes assumptions, in blocks.
@@ -77,7 +70,7 @@ pub(crate) fn write_solution<S: Sink>(
     ensures { (f : Formula) → IsHeaderOf f header → Writes S.written S.flushed S.faults S.has_room sink.old sink.new
         (solution_line answer f) result }
 {
-    write(solution(answer, header).as_str().as_bytes(), sink)
+    write(solution(answer, header).bytes(), sink)
 }
 
 // Puts that line into a block.
@@ -90,7 +83,7 @@ pub(crate) fn put_solution<S: Sink>(
     ensures { (f : Formula) → IsHeaderOf f header → Puts S.written S.flushed S.faults S.has_room sink.old block.old
         sink.new block.new (solution_line answer f) result }
 {
-    block.put(solution(answer, header).as_str().as_bytes(), sink)
+    block.put_line(&solution(answer, header), sink)
 }
 
 // Puts the line of an outermost variable's value into a block.
@@ -102,7 +95,7 @@ pub(crate) fn put_outermost<S: Sink>(
     ensures { Puts S.written S.flushed S.faults S.has_room sink.old block.old sink.new block.new
         (line_of_value lit) result }
 {
-    block.put(outermost_line(lit).as_str().as_bytes(), sink)
+    block.put_line(&outermost_line(lit), sink)
 }
 
 // Writes a trace.
@@ -157,73 +150,53 @@ pub(crate) fn write<S: Sink>(bytes: &[u8], sink: &mut S) -> Result<(), Failed>
 }
 
 // The line of a refused command.
-fn refused_line(number: u8) -> Line
-    ensures { result.bytes ≡ refused_text number }
+fn refused_line(number: u8) -> LineText
+    ensures { result ≡ refused_text number }
 {
-    let mut line = Line::new();
-    line.push_str("refused ");
-    push_number(&mut line, number as u32);
+    let mut line = LineText::new();
+    line.word("refused ");
+    line.number(number, '\n');
     line
 }
 
 // The line of a variable's value.
-fn value_line(lit: Lit) -> Line
-    ensures { result.bytes ≡ value_text lit }
+fn value_line(lit: Lit) -> LineText
+    ensures { result ≡ value_text lit }
 {
-    let mut line = Line::new();
-    line.push_str("value ");
+    let mut line = LineText::new();
+    line.word("value ");
     if !lit.is_positive() {
-        line.push_str("-");
+        line.word("-");
     }
-    push_number(&mut line, lit.var().number());
+    line.number(lit.var().number(), '\n');
     line
 }
 
 // The solution line of an answer.
-fn solution(answer: Answer, header: Header) -> Line
-    ensures { (f : Formula) → IsHeaderOf f header → result.bytes ≡ solution_line answer f }
+fn solution(answer: Answer, header: Header) -> LineText
+    ensures { (f : Formula) → IsHeaderOf f header → result ≡ solution_line answer f }
 {
-    let mut line = Line::new();
-    line.push_str("s cnf ");
-    line.push_str(answer.result());
-    line.push(' ');
-    push_digits(&mut line, header.vars);
-    line.push(' ');
-    push_digits(&mut line, header.clauses);
-    line.push('\n');
+    let mut line = LineText::new();
+    line.word("s cnf ");
+    line.word(answer.result());
+    line.word(" ");
+    line.digits(header.vars);
+    line.word(" ");
+    line.digits(header.clauses);
+    line.word("\n");
     line
 }
 
 // The line of an outermost variable's value.
-fn outermost_line(lit: Lit) -> Line
-    ensures { result.bytes ≡ line_of_value lit }
+fn outermost_line(lit: Lit) -> LineText
+    ensures { result ≡ line_of_value lit }
 {
-    let mut line = Line::new();
-    line.push_str("V ");
+    let mut line = LineText::new();
+    line.word("V ");
     if !lit.is_positive() {
-        line.push_str("-");
+        line.word("-");
     }
-    push_digits(&mut line, lit.var().number());
-    line.push_str(" 0\n");
+    line.digits(lit.var().number());
+    line.word(" 0\n");
     line
-}
-
-// Puts a number behind what the line has, and ends it.
-fn push_number(line: &mut Line, n: u32)
-    requires room { array_string_len line.old + 41 ≤ 64 }
-    ensures bytes { line.new.bytes ≡ line.old.bytes ++ (decimal n ++ codes "\n") }
-{
-    let mut buffer = itoa::Buffer::new();
-    line.push_str(buffer.format(n));
-    line.push('\n');
-}
-
-// Puts a number behind what the line has.
-fn push_digits(line: &mut Line, n: u32)
-    requires room { array_string_len line.old + 10 ≤ 64 }
-    ensures bytes { line.new.bytes ≡ line.old.bytes ++ decimal n }
-    ensures longer { array_string_len line.new ≤ array_string_len line.old + 10 }
-{
-    let mut buffer = itoa::Buffer::new();
-    line.push_str(buffer.format(n));
 }

@@ -14,8 +14,8 @@ loop-place-preserved g c =
     let lines = section_lines c.args.strategy.now c.args.section in
     let below : suc c.loop-place.place ≤ length lines = omega (arith, c.len-place-end.ensures) in
     each_more g.S.Sink.written g.S.Sink.flushed g.S.Sink.faults g.S.Sink.has_room line_text lines c.loop-place.place []
-    c.args.sink.now c.args.block.now c.loop-place.sink c.loop-place.block c.put_line.new.sink c.put_line.new.block
-    c.line.result.bytes below
+    c.args.sink.now c.args.block.now c.loop-place.sink c.loop-place.block c.put_line.new.sink c.put_line.new.self
+    c.line.result below
     (sym c.line.ensures) c.loop-place.invariant c.in_ok-put_line.ensures
 
 pub returns-in_err-put_line : goal.returns-in_err-put_line
@@ -23,6 +23,6 @@ returns-in_err-put_line g c =
     let lines = section_lines c.args.strategy.now c.args.section in
     let below : suc c.loop-place.place ≤ length lines = omega (arith, c.len-place-end.ensures) in
     each_stops g.S.Sink.written g.S.Sink.flushed g.S.Sink.faults g.S.Sink.has_room line_text lines c.loop-place.place []
-    c.args.sink.now c.args.block.now c.loop-place.sink c.loop-place.block c.put_line.new.sink c.put_line.new.block
-    c.line.result.bytes _ c.from_residual.result below
+    c.args.sink.now c.args.block.now c.loop-place.sink c.loop-place.block c.put_line.new.sink c.put_line.new.self
+    c.line.result _ c.from_residual.result below
     (sym c.line.ensures) c.loop-place.invariant c.in_err-put_line.ensures c.from_residual.ensures.1

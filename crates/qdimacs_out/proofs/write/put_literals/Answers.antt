@@ -14,17 +14,17 @@ loop-lit-preserved g c =
     let below : suc c.loop-lit.lit-index ≤ length c.args.lits.now = omega arith in
     each_more g.S.Sink.written g.S.Sink.flushed g.S.Sink.faults g.S.Sink.has_room
     (λ l. spaced (literal_word l)) c.args.lits.now c.loop-lit.lit-index c.lit-item.result
-    c.args.sink.now c.args.block.now c.loop-lit.sink c.loop-lit.block c.put_words.new.sink c.put_words.new.block
-    c.literal.result.bytes below
+    c.args.sink.now c.args.block.now c.loop-lit.sink c.loop-lit.block c.put_line.new.sink c.put_line.new.self
+    c.literal.result below
     (ap (λ l. spaced (literal_word l)) (sym c.lit-item.is)
-    ∙ sym c.literal.ensures) c.loop-lit.invariant c.in_ok-put_words.ensures
+    ∙ sym c.literal.ensures) c.loop-lit.invariant c.in_ok-put_line.ensures
 
-pub returns-in_err-put_words : goal.returns-in_err-put_words
-returns-in_err-put_words g c =
+pub returns-in_err-put_line : goal.returns-in_err-put_line
+returns-in_err-put_line g c =
     let below : suc c.loop-lit.lit-index ≤ length c.args.lits.now = omega arith in
     each_stops g.S.Sink.written g.S.Sink.flushed g.S.Sink.faults g.S.Sink.has_room
     (λ l. spaced (literal_word l)) c.args.lits.now c.loop-lit.lit-index c.lit-item.result
-    c.args.sink.now c.args.block.now c.loop-lit.sink c.loop-lit.block c.put_words.new.sink c.put_words.new.block
-    c.literal.result.bytes _ c.from_residual.result below
+    c.args.sink.now c.args.block.now c.loop-lit.sink c.loop-lit.block c.put_line.new.sink c.put_line.new.self
+    c.literal.result _ c.from_residual.result below
     (ap (λ l. spaced (literal_word l)) (sym c.lit-item.is)
-    ∙ sym c.literal.ensures) c.loop-lit.invariant c.in_err-put_words.ensures c.from_residual.ensures.1
+    ∙ sym c.literal.ensures) c.loop-lit.invariant c.in_err-put_line.ensures c.from_residual.ensures.1

@@ -8,21 +8,21 @@ use Rattle.qdimacs_out.proofs.Lines.{text_is}
 use Rattle.blocks.proofs.Putting.{part_more, part_then, puts_err, puts_then}
 use Rattle.qdimacs_out.proofs.write.put_parts.Goals as goal
 
-pub returns-in_err-put_words : goal.returns-in_err-put_words
-returns-in_err-put_words g c =
+pub returns-in_err-put_line : goal.returns-in_err-put_line
+returns-in_err-put_line g c =
     let f = c.args.f.now in
     let header = line_text (header_line f.declared_vars f.declared_clauses) in
     let rest = flat_map scope_text f.prefix ++ flat_map clause_text f.clauses in
     subst (λ t. Puts g.S.Sink.written g.S.Sink.flushed g.S.Sink.faults g.S.Sink.has_room c.args.sink.now
     c.args.block.now
-    c.put_words.new.sink c.put_words.new.block t c.from_residual.result) (sym (text_is f))
+    c.put_line.new.sink c.put_line.new.self t c.from_residual.result) (sym (text_is f))
     (puts_err g.S.Sink.written g.S.Sink.flushed g.S.Sink.faults g.S.Sink.has_room _ c.from_residual.result
-    c.args.sink.now c.args.block.now c.put_words.new.sink c.put_words.new.block (header ++ rest)
+    c.args.sink.now c.args.block.now c.put_line.new.sink c.put_line.new.self (header ++ rest)
     c.from_residual.ensures.1
     (part_more g.S.Sink.written g.S.Sink.flushed g.S.Sink.faults g.S.Sink.has_room c.args.sink.now c.args.block.now
-    c.put_words.new.sink c.put_words.new.block header rest
+    c.put_line.new.sink c.put_line.new.self header rest
     (subst (λ t. Stops g.S.Sink.written g.S.Sink.flushed g.S.Sink.faults g.S.Sink.has_room c.args.sink.now
-    c.put_words.new.sink (c.args.block.now ++ t)) c.header.ensures c.in_err-put_words.ensures)))
+    c.put_line.new.sink (c.args.block.now ++ t)) c.header.ensures c.in_err-put_line.ensures)))
 
 pub returns-in_err-put_scopes : goal.returns-in_err-put_scopes
 returns-in_err-put_scopes g c =
@@ -39,12 +39,12 @@ returns-in_err-put_scopes g c =
     c.put_scopes.new.block
     (header ++ (scopes ++ clauses)) c.from_residual-in_err-put_scopes.ensures.1
     (part_then g.S.Sink.written g.S.Sink.flushed g.S.Sink.faults g.S.Sink.has_room c.args.sink.now c.args.block.now
-    c.put_words.new.sink c.put_words.new.block c.put_scopes.new.sink c.put_scopes.new.block header (scopes ++ clauses)
+    c.put_line.new.sink c.put_line.new.self c.put_scopes.new.sink c.put_scopes.new.block header (scopes ++ clauses)
     (subst (λ t. PassesOn g.S.Sink.written g.S.Sink.flushed g.S.Sink.faults g.S.Sink.has_room c.args.sink.now
     c.args.block.now
-    c.put_words.new.sink c.put_words.new.block t) c.header.ensures c.in_ok-put_words.ensures)
-    (part_more g.S.Sink.written g.S.Sink.flushed g.S.Sink.faults g.S.Sink.has_room c.put_words.new.sink
-    c.put_words.new.block
+    c.put_line.new.sink c.put_line.new.self t) c.header.ensures c.in_ok-put_line.ensures)
+    (part_more g.S.Sink.written g.S.Sink.flushed g.S.Sink.faults g.S.Sink.has_room c.put_line.new.sink
+    c.put_line.new.self
     c.put_scopes.new.sink c.put_scopes.new.block scopes clauses c.in_err-put_scopes.ensures)))
 
 pub returns : goal.returns
@@ -57,14 +57,14 @@ returns g c =
     c.args.block.now
     c.put_clauses.new.sink c.put_clauses.new.block t c.put_clauses.result) (sym (text_is f))
     (puts_then g.S.Sink.written g.S.Sink.flushed g.S.Sink.faults g.S.Sink.has_room c.put_clauses.result
-    c.args.sink.now c.args.block.now c.put_words.new.sink c.put_words.new.block c.put_clauses.new.sink
+    c.args.sink.now c.args.block.now c.put_line.new.sink c.put_line.new.self c.put_clauses.new.sink
     c.put_clauses.new.block header
     (scopes ++ clauses)
     (subst (λ t. PassesOn g.S.Sink.written g.S.Sink.flushed g.S.Sink.faults g.S.Sink.has_room c.args.sink.now
     c.args.block.now
-    c.put_words.new.sink c.put_words.new.block t) c.header.ensures c.in_ok-put_words.ensures)
+    c.put_line.new.sink c.put_line.new.self t) c.header.ensures c.in_ok-put_line.ensures)
     (puts_then g.S.Sink.written g.S.Sink.flushed g.S.Sink.faults g.S.Sink.has_room c.put_clauses.result
-    c.put_words.new.sink c.put_words.new.block c.put_scopes.new.sink c.put_scopes.new.block c.put_clauses.new.sink
+    c.put_line.new.sink c.put_line.new.self c.put_scopes.new.sink c.put_scopes.new.block c.put_clauses.new.sink
     c.put_clauses.new.block scopes
     clauses c.in_ok-put_scopes.ensures
     (subst (λ t. Puts g.S.Sink.written g.S.Sink.flushed g.S.Sink.faults g.S.Sink.has_room c.put_scopes.new.sink

@@ -14,17 +14,17 @@ loop-v-preserved g c =
     let below : suc c.loop-v.v-index ≤ length c.args.vars.now = omega arith in
     each_more g.S.Sink.written g.S.Sink.flushed g.S.Sink.faults g.S.Sink.has_room
     (λ v. spaced (decimal v)) c.args.vars.now c.loop-v.v-index c.v-item.result
-    c.args.sink.now c.args.block.now c.loop-v.sink c.loop-v.block c.put_words.new.sink c.put_words.new.block
-    c.variable.result.bytes below
+    c.args.sink.now c.args.block.now c.loop-v.sink c.loop-v.block c.put_line.new.sink c.put_line.new.self
+    c.variable.result below
     (ap (λ v. spaced (decimal v)) (sym c.v-item.is) ∙ sym c.variable.ensures) c.loop-v.invariant
-    c.in_ok-put_words.ensures
+    c.in_ok-put_line.ensures
 
-pub returns-in_err-put_words : goal.returns-in_err-put_words
-returns-in_err-put_words g c =
+pub returns-in_err-put_line : goal.returns-in_err-put_line
+returns-in_err-put_line g c =
     let below : suc c.loop-v.v-index ≤ length c.args.vars.now = omega arith in
     each_stops g.S.Sink.written g.S.Sink.flushed g.S.Sink.faults g.S.Sink.has_room
     (λ v. spaced (decimal v)) c.args.vars.now c.loop-v.v-index c.v-item.result
-    c.args.sink.now c.args.block.now c.loop-v.sink c.loop-v.block c.put_words.new.sink c.put_words.new.block
-    c.variable.result.bytes _ c.from_residual.result below
+    c.args.sink.now c.args.block.now c.loop-v.sink c.loop-v.block c.put_line.new.sink c.put_line.new.self
+    c.variable.result _ c.from_residual.result below
     (ap (λ v. spaced (decimal v)) (sym c.v-item.is) ∙ sym c.variable.ensures) c.loop-v.invariant
-    c.in_err-put_words.ensures c.from_residual.ensures.1
+    c.in_err-put_line.ensures c.from_residual.ensures.1

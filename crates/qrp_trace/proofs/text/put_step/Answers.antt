@@ -35,17 +35,17 @@ returns-in_err-put_literals g c =
 
 pub returns : goal.returns
 returns g c =
-    puts_then g.S.Sink.written g.S.Sink.flushed g.S.Sink.faults g.S.Sink.has_room c.put_words.result c.args.sink.now
+    puts_then g.S.Sink.written g.S.Sink.flushed g.S.Sink.faults g.S.Sink.has_room c.put_line.result c.args.sink.now
     c.args.block.now
-    c.put_number.new.sink c.put_number.new.block c.put_words.new.sink c.put_words.new.block (number_word c.args.i)
+    c.put_number.new.sink c.put_number.new.block c.put_line.new.sink c.put_line.new.self (number_word c.args.i)
     ((flat_map literal_word (row_numbered (core_rows c.args.core.now.lines) c.args.i))
     ++ (codes "0 " ++ (flat_map number_word (antecedents_of (step_numbered c.args.core.now.lines c.args.i))
     ++ codes "0\n"))) c.in_ok-put_number.ensures
-    (puts_then g.S.Sink.written g.S.Sink.flushed g.S.Sink.faults g.S.Sink.has_room c.put_words.result
-    c.put_number.new.sink c.put_number.new.block c.put_literals.new.sink c.put_literals.new.block c.put_words.new.sink
-    c.put_words.new.block
+    (puts_then g.S.Sink.written g.S.Sink.flushed g.S.Sink.faults g.S.Sink.has_room c.put_line.result
+    c.put_number.new.sink c.put_number.new.block c.put_literals.new.sink c.put_literals.new.block c.put_line.new.sink
+    c.put_line.new.self
     (flat_map literal_word (row_numbered (core_rows c.args.core.now.lines) c.args.i))
     (codes "0 " ++ (flat_map number_word (antecedents_of (step_numbered c.args.core.now.lines c.args.i))
     ++ codes "0\n"))
     (rw c.lits.ensures at c.in_ok-put_literals.ensures)
-    (rw (c.antecedents.ensures, c.step.ensures.value) at c.put_words.ensures))
+    (rw (c.antecedents.ensures, c.step.ensures.value) at c.put_line.ensures))
