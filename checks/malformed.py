@@ -14,7 +14,7 @@ import sys
 from pathlib import Path
 
 sys.dont_write_bytecode = True
-from reading import Refused, read_formula, read_script
+from reading import Refused, read_circuit, read_formula, read_script
 from rules import SECONDS, Fault, require
 
 JOBS = ("solve", "solve --qdo", "trace", "cert")
@@ -37,12 +37,14 @@ def rows():
             yield fields
 
 
-def agrees(command, text, status, error):
+def agrees(words, text, status, error):
     """Compares what a row says of a text with the readers."""
     why = None
     try:
-        if command == "script":
+        if words[0] == "script":
             _, why = read_script(text)
+        elif "--qcir" in words:
+            read_circuit(text)
         else:
             read_formula(text)
     except Refused as found:
@@ -75,7 +77,7 @@ def main():
             words = job.split()
             try:
                 if status not in (3, 7):
-                    agrees(words[0], text, status, error.decode())
+                    agrees(words, text, status, error.decode())
                 case(sys.argv[1], words, text, status, output, error)
             except (Fault, OSError, subprocess.TimeoutExpired) as why:
                 print(f"FAILED {name} ({job}): {why}")

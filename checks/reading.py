@@ -1,5 +1,6 @@
-"""Readers of the texts that the program is given, malformed ones too, by docs/QDIMACS.md and docs/SCRIPTS.md: what a
-text says, or where and why it is refused. checks/malformed.py and checks/mutants.py compare the program with them.
+"""Readers of the texts that the program is given, malformed ones too, by docs/QDIMACS.md, docs/SCRIPTS.md and
+docs/QCIR.md: what a text says, or where and why it is refused. checks/malformed.py and checks/mutants.py compare the
+program with them.
 
 They stand on nothing of the program. What they leave out are the limits of literals and of bytes, which only long texts
 pass.
@@ -253,3 +254,103 @@ def read_script(text):
     except Refused as why:
         return commands, why
     return commands, None
+
+
+# Circuits.
+
+PIECE = re.compile(rb"[(),=]|[^\s(),=]+")
+SET_WORDS = (b"exists", b"forall")
+LEFT_OUT = (b"xor", b"ite", b"free")
+
+
+def circuit_words(text):
+    """Each word of a circuit with its line. Brackets, commas and `=` are words, and a `#` hides the rest of a line."""
+    for number, line in enumerate(text.split(b"\n"), 1):
+        for word in PIECE.findall(line.split(b"#")[0]):
+            yield number, read_word(number, word)
+
+
+class CircuitReader:
+    """What has been read of a circuit."""
+
+    def __init__(self, text):
+        self.words, self.end = circuit_words(text), end_of(text)
+        self.quantifiers, self.known, self.amount = [], set(), 1
+
+    def next(self, is_allowed, left_out=LEFT_OUT):
+        line, word = next(self.words, (self.end, None))
+        if word in left_out:
+            raise refused(line, 72)
+        if word is None or not is_allowed(word):
+            raise refused(line, 70)
+        return line, word
+
+    def listed(self, take):
+        """A list of numbers in brackets."""
+        self.next(lambda word: word == b"(")
+        line, word = self.next(lambda word: word == b")" or is_number(word))
+        while word != b")":
+            take(line, word)
+            if self.next(lambda word: word in (b",", b")"))[1] == b")":
+                return
+            line, word = self.next(is_number)
+
+    def define(self, line, name):
+        if not 0 < name <= VARIABLES:
+            raise refused(line, 71)
+        if name in self.known:
+            raise refused(line, 73)
+
+    def begin_scope(self, line, quantifier):
+        if not self.quantifiers or self.quantifiers[-1] != quantifier:
+            if len(self.quantifiers) == SCOPES:
+                raise limit(line, "scopes")
+            self.quantifiers.append(quantifier)
+
+    def quantify(self, quantifier, line, name):
+        self.define(line, name)
+        self.begin_scope(line, quantifier)
+        self.known.add(name)
+
+    def count(self, line):
+        if self.amount >= CLAUSES:
+            raise limit(line, "clauses")
+        self.amount += 1
+
+    def literal(self, line, number):
+        if not 0 < abs(number) <= VARIABLES:
+            raise refused(line, 71)
+
+    def input(self, line, number):
+        self.literal(line, number)
+        if abs(number) not in self.known:
+            raise refused(line, 74)
+        self.count(line)
+
+    def gate(self, line, name):
+        self.define(line, name)
+        self.begin_scope(line, b"exists")
+        self.count(line)
+        self.next(lambda word: word == b"=")
+        self.next(lambda word: word in (b"and", b"or"), LEFT_OUT + SET_WORDS)
+        self.listed(self.input)
+        self.known.add(name)
+
+
+def read_circuit(text):
+    """Reads a circuit by docs/QCIR.md: prenex, with and/or gates and numbers as names."""
+    reader = CircuitReader(text)
+    while (word := reader.next(lambda word: word in (*SET_WORDS, b"output"))[1]) != b"output":
+        reader.listed(lambda line, name, quantifier=word: reader.quantify(quantifier, line, name))
+    reader.next(lambda word: word == b"(")
+    output, literal = reader.next(is_number)
+    reader.literal(output, literal)
+    reader.next(lambda word: word == b")")
+    for line, word in reader.words:
+        if word in LEFT_OUT:
+            raise refused(line, 72)
+        if not is_number(word):
+            raise refused(line, 70)
+        reader.gate(line, word)
+    if abs(literal) not in reader.known:
+        raise refused(output, 74)

@@ -7,7 +7,7 @@ _qbf() {
         return
     fi
     case ${COMP_WORDS[1]} in
-        solve) options="$options --qdo" ;;
+        solve) options="$options --qdo --qcir" ;;
         cert) options="$options --binary --trim" ;;
         check) options="$options --decide" ;;
         trace | script) ;;

@@ -10,11 +10,12 @@ use Rattle.clap.specs.declared.ArgMatches.{ArgMatches}
 use Rattle.clap.specs.declared.error.ErrorKind.TheVariants.{OutOfMemory}
 use Rattle.clap.specs.Walk.{rows_after}
 use Rattle.clap.proofs.OnLiterals.{clap_on_literals}
-use Rattle.command.specs.Account.{AreInput, AreValues, IsFoundAs, IsSet, has_dashes, is_set, qbf_app}
+use Rattle.command.specs.Account.{AreInput, AreValues, IsFormOf, IsFoundAs, IsSet, has_dashes, is_set, qbf_app}
 use Rattle.command.specs.Forms.{AreAlike, Asks, AsksInput, Explains, Flag, GivesInput, Setting, budget_of, cert_flags, check_flags, flag_name, flags_of, name_of, numbers_of, restarts_of, solve_flags, word_of}
-use Rattle.command.specs.Forms.Flag.{the_qdo, the_binary, the_trim, the_decide}
+use Rattle.command.specs.Forms.Flag.{the_qdo, the_qcir, the_binary, the_trim, the_decide}
 use Rattle.command.specs.Forms.Setting.{the_budget, the_restarts}
 use Rattle.command.specs.declared.command.Command.{Command}
+use Rattle.command.specs.declared.command.SolveForm.{SolveForm}
 use Rattle.command.specs.declared.command.Command.TheVariants.{Cert, Check, Demo, Gen, Script, Solve, Trace}
 use Rattle.command.specs.declared.refused.Refused.{Refused}
 use Rattle.command.specs.declared.refused.Refused.TheVariants.{Usage, NoMemory}
@@ -78,6 +79,7 @@ AreSmall numbers = AllByRecursion (λ n. n < 2 ^ 64) numbers
 -- the command of this word takes the flag
 abbrev takes : Text → Flag → Bool
 takes w the_qdo = bytes_eq w (codes "solve")
+takes w the_qcir = bytes_eq w (codes "solve")
 takes w the_binary = bytes_eq w (codes "cert")
 takes w the_trim = bytes_eq w (codes "cert")
 takes w the_decide = bytes_eq w (codes "check")
@@ -100,13 +102,15 @@ module _ (rows : List Row) where
   plain_flags : (w : Text) → bytes_eq w (codes "solve") ≡ false → bytes_eq w (codes "cert") ≡ false
       → bytes_eq w (codes "check") ≡ false → (f : Flag) → false ≡ cond (takes w f) (is_set (flag_name f) rows) false
   plain_flags w s c k the_qdo = rw s refl
+  plain_flags w s c k the_qcir = rw s refl
   plain_flags w s c k the_binary = rw c refl
   plain_flags w s c k the_trim = rw c refl
   plain_flags w s c k the_decide = rw k refl
 
-  solve_taken : (q : Bool) → q ≡ is_set (codes "qdo") rows → (f : Flag)
+  solve_taken : (q : SolveForm) → IsFormOf rows q → (f : Flag)
       → solve_flags q f ≡ cond (takes (codes "solve") f) (is_set (flag_name f) rows) false
-  solve_taken q is the_qdo = is
+  solve_taken q is the_qdo = is.0
+  solve_taken q is the_qcir = is.1
   solve_taken q is the_binary = refl
   solve_taken q is the_trim = refl
   solve_taken q is the_decide = refl
@@ -114,6 +118,7 @@ module _ (rows : List Row) where
   cert_taken : (b t : Bool) → b ≡ is_set (codes "binary") rows → t ≡ is_set (codes "trim") rows → (f : Flag)
       → cert_flags b t f ≡ cond (takes (codes "cert") f) (is_set (flag_name f) rows) false
   cert_taken b t binary trim the_qdo = refl
+  cert_taken b t binary trim the_qcir = refl
   cert_taken b t binary trim the_binary = binary
   cert_taken b t binary trim the_trim = trim
   cert_taken b t binary trim the_decide = refl
@@ -121,6 +126,7 @@ module _ (rows : List Row) where
   check_taken : (d : Bool) → d ≡ is_set (codes "decide") rows → (f : Flag)
       → check_flags d f ≡ cond (takes (codes "check") f) (is_set (flag_name f) rows) false
   check_taken d is the_qdo = refl
+  check_taken d is the_qcir = refl
   check_taken d is the_binary = refl
   check_taken d is the_trim = refl
   check_taken d is the_decide = is

@@ -6,11 +6,12 @@ use Rattle.std.specs.Str.{bytes_eq}
 use Rattle.clap.specs.Words.{Row, Rule, Text, fault_of, subcommand_of}
 use Rattle.clap.specs.Walk.{nothing_held, rows_after, with_default}
 use Rattle.clap.specs.Faults.{level_fault}
-use Rattle.command.specs.Account.{AreInput, AreValues, IsFoundAs, command_apps, has_dashes, is_set, qbf_app}
-use Rattle.command.specs.Forms.{Asks, AsksInput, Flag, GivesInput, GivesSetting, Part, Setting, all_flags, cert_flags, check_flags, default_of, flag_name, greatest_of, no_flags, solve_flags, word_of}
-use Rattle.command.specs.Forms.Flag.{the_qdo, the_binary, the_trim, the_decide}
+use Rattle.command.specs.Account.{AreInput, AreValues, IsFormOf, IsFoundAs, command_apps, has_dashes, is_set, qbf_app}
+use Rattle.command.specs.Forms.{Asks, AsksInput, Flag, GivesInput, GivesSetting, Part, Setting, all_flags, cert_flags, check_flags, default_of, flag_name, greatest_of, is_qcir, is_qdo, no_flags, solve_flags, word_of}
+use Rattle.command.specs.Forms.Flag.{the_qdo, the_qcir, the_binary, the_trim, the_decide}
 use Rattle.command.specs.Forms.Setting.{the_budget, the_restarts}
 use Rattle.command.specs.declared.command.Command.{Command}
+use Rattle.command.specs.declared.command.SolveForm.{SolveForm}
 use Rattle.command.specs.declared.command.Command.TheVariants.{Cert, Check, Demo, Gen, Script, Solve, Trace}
 use Rattle.command.proofs.Turns.{leaf, rules_of}
 use Rattle.command.proofs.WordKinds.{IsNotDashes, KnowsFlag}
@@ -135,6 +136,7 @@ module _ (c : List Rule) (taken : List Flag) (r : AreInputRules c taken) where
 
 input_refuses : (f : Flag) → KnowsFlag f input_rules → ⊥
 input_refuses the_qdo bad = absurd cc
+input_refuses the_qcir bad = absurd cc
 input_refuses the_binary bad = absurd cc
 input_refuses the_trim bad = absurd cc
 input_refuses the_decide bad = absurd cc
@@ -143,21 +145,26 @@ input_flags : (args : List Text) (a : AreRead input_rules args) (f : Flag)
     → no_flags f ≡ is_some (part_at (flag_name f) a.parts)
 input_flags args a f = one_refused input_rules [] input_are args a f (input_refuses f)
 
-solve_given : (args : List Text) (q : Bool) → q ≡ is_set (codes "qdo") (rows_after solve_rules [] args)
+solve_given : (args : List Text) (q : SolveForm) → IsFormOf (rows_after solve_rules [] args) q
     → (a : AreRead solve_rules args) (f : Flag) → solve_flags q f ≡ is_some (part_at (flag_name f) a.parts)
-solve_given args q is a the_qdo = one_taken solve_rules (the_qdo ∷ []) solve_are args a the_qdo q is
+solve_given args q is a the_qdo =
+    one_taken solve_rules (the_qdo ∷ the_qcir ∷ []) solve_are args a the_qdo (is_qdo q) is.0
+solve_given args q is a the_qcir =
+    one_taken solve_rules (the_qdo ∷ the_qcir ∷ []) solve_are args a the_qcir (is_qcir q) is.1
 solve_given args q is a the_binary =
-    one_refused solve_rules (the_qdo ∷ []) solve_are args a the_binary (λ bad. absurd cc)
+    one_refused solve_rules (the_qdo ∷ the_qcir ∷ []) solve_are args a the_binary (λ bad. absurd cc)
 solve_given args q is a the_trim =
-    one_refused solve_rules (the_qdo ∷ []) solve_are args a the_trim (λ bad. absurd cc)
+    one_refused solve_rules (the_qdo ∷ the_qcir ∷ []) solve_are args a the_trim (λ bad. absurd cc)
 solve_given args q is a the_decide =
-    one_refused solve_rules (the_qdo ∷ []) solve_are args a the_decide (λ bad. absurd cc)
+    one_refused solve_rules (the_qdo ∷ the_qcir ∷ []) solve_are args a the_decide (λ bad. absurd cc)
 
 cert_given : (args : List Text) (b t : Bool) → b ≡ is_set (codes "binary") (rows_after cert_rules [] args)
     → t ≡ is_set (codes "trim") (rows_after cert_rules [] args)
     → (a : AreRead cert_rules args) (f : Flag) → cert_flags b t f ≡ is_some (part_at (flag_name f) a.parts)
 cert_given args b t binary trim a the_qdo =
     one_refused cert_rules (the_binary ∷ the_trim ∷ []) cert_are args a the_qdo (λ bad. absurd cc)
+cert_given args b t binary trim a the_qcir =
+    one_refused cert_rules (the_binary ∷ the_trim ∷ []) cert_are args a the_qcir (λ bad. absurd cc)
 cert_given args b t binary trim a the_binary =
     one_taken cert_rules (the_binary ∷ the_trim ∷ []) cert_are args a the_binary b binary
 cert_given args b t binary trim a the_trim =
@@ -169,6 +176,8 @@ check_given : (args : List Text) (d : Bool) → d ≡ is_set (codes "decide") (r
     → (a : AreRead check_rules args) (f : Flag) → check_flags d f ≡ is_some (part_at (flag_name f) a.parts)
 check_given args d is a the_qdo =
     one_refused check_rules (the_decide ∷ []) check_are args a the_qdo (λ bad. absurd cc)
+check_given args d is a the_qcir =
+    one_refused check_rules (the_decide ∷ []) check_are args a the_qcir (λ bad. absurd cc)
 check_given args d is a the_binary =
     one_refused check_rules (the_decide ∷ []) check_are args a the_binary (λ bad. absurd cc)
 check_given args d is a the_trim =
@@ -220,19 +229,21 @@ is_plain_input : (args : List Text) (n k : ℕ) (given : Option Text) → GivesI
     → IsInput input_rules args n k no_flags given
 is_plain_input args n k given = is_input input_rules [] input_are args n k no_flags given (λ f e. absurd cc)
 
-solve_known : (q : Bool) (f : Flag) → solve_flags q f ≡ true → KnowsFlag f solve_rules
+solve_known : (q : SolveForm) (f : Flag) → solve_flags q f ≡ true → KnowsFlag f solve_rules
 solve_known q the_qdo e = refl
+solve_known q the_qcir e = refl
 solve_known q the_binary e = absurd cc
 solve_known q the_trim e = absurd cc
 solve_known q the_decide e = absurd cc
 
-is_solve_input : (args : List Text) (n k : ℕ) (q : Bool) (given : Option Text)
+is_solve_input : (args : List Text) (n k : ℕ) (q : SolveForm) (given : Option Text)
     → GivesInput args n k (solve_flags q) given → IsInput solve_rules args n k (solve_flags q) given
 is_solve_input args n k q given =
-    is_input solve_rules (the_qdo ∷ []) solve_are args n k (solve_flags q) given (solve_known q)
+    is_input solve_rules (the_qdo ∷ the_qcir ∷ []) solve_are args n k (solve_flags q) given (solve_known q)
 
 cert_known : (b t : Bool) (f : Flag) → cert_flags b t f ≡ true → KnowsFlag f cert_rules
 cert_known b t the_qdo e = absurd cc
+cert_known b t the_qcir e = absurd cc
 cert_known b t the_binary e = refl
 cert_known b t the_trim e = refl
 cert_known b t the_decide e = absurd cc
@@ -244,6 +255,7 @@ is_cert_input args n k b t given =
 
 check_known : (d : Bool) (f : Flag) → check_flags d f ≡ true → KnowsFlag f check_rules
 check_known d the_qdo e = absurd cc
+check_known d the_qcir e = absurd cc
 check_known d the_binary e = absurd cc
 check_known d the_trim e = absurd cc
 check_known d the_decide e = refl
@@ -255,6 +267,7 @@ is_check_input args n k d given =
 
 full_known : (f : Flag) → KnowsFlag f full_rules
 full_known the_qdo = refl
+full_known the_qcir = refl
 full_known the_binary = refl
 full_known the_trim = refl
 full_known the_decide = refl
@@ -272,8 +285,8 @@ any_flag_is args n k q given = flag_is full_rules all_flags full_are args n k q 
 
 pub asked : (words : List Text) (c : Command) → IsCalled words c → Asks words c
 asked words (Solve n k q g) h =
-    input_asks solve_rules (the_qdo ∷ []) solve_are (codes "solve") words h.program h.args h.words_are h.lacks h.passes
-    n k (option_map (λ s. s.now) g) h.values.0 (solve_flags q) (solve_given h.args q h.values.1)
+    input_asks solve_rules (the_qdo ∷ the_qcir ∷ []) solve_are (codes "solve") words h.program h.args h.words_are
+    h.lacks h.passes n k (option_map (λ s. s.now) g) h.values.0 (solve_flags q) (solve_given h.args q h.values.1)
 asked words (Trace n k g) h =
     input_asks input_rules [] input_are (codes "trace") words h.program h.args h.words_are h.lacks h.passes n k
     (option_map (λ s. s.now) g) h.values no_flags (input_flags h.args)
@@ -299,16 +312,15 @@ asked words (Demo s k) h =
 pub calls : (words : List Text) (c : Command) → Asks words c → IsCalled words c
 calls words (Solve n k q g) (program, args, is, form) =
     let i = is_solve_input args n k q (option_map (λ s. s.now) g) form in
+    let flags = flag_is solve_rules (the_qdo ∷ the_qcir ∷ []) solve_are args n k (solve_flags q)
+    (option_map (λ s. s.now) g) i in
     record {
       program = program;
       args = args;
       words_are = is;
       lacks = i.lacks;
       passes = i.passes;
-      values = (
-        i.values,
-        flag_is solve_rules (the_qdo ∷ []) solve_are args n k (solve_flags q) (option_map (λ s. s.now) g) i the_qdo,
-      );
+      values = (i.values, (flags the_qdo, flags the_qcir));
     }
 calls words (Trace n k g) (program, args, is, form) =
     let i = is_plain_input args n k (option_map (λ s. s.now) g) form in

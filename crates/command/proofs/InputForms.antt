@@ -13,7 +13,7 @@ use Rattle.clap.specs.Faults.{level_fault}
 use Rattle.clap.specs.Walk.{nothing_held, rows_after, with_default}
 use Rattle.command.specs.Account.{AreInput, HasNoHyphen, IsSet, default_text, is_set}
 use Rattle.command.specs.Forms.{Flag, GivesInput, GivesName, GivesSetting, Part, Setting, all_flags, default_of, flag_name, flag_parts, greatest_of, setting_name, spelled}
-use Rattle.command.specs.Forms.Flag.{the_qdo, the_binary, the_trim, the_decide}
+use Rattle.command.specs.Forms.Flag.{the_qdo, the_qcir, the_binary, the_trim, the_decide}
 use Rattle.command.specs.Forms.Part.{setting_part, joined_part, flag_part, name_part}
 use Rattle.command.specs.Forms.Setting.{the_budget, the_restarts}
 use Rattle.command.proofs.DecimalWords.{decimal_passes, decimal_word, plain_word}
@@ -275,6 +275,7 @@ module _ (flags : Flag → Bool) where
   -- a flag is among them once, or not at all
   flag_tally : (f : Flag) → tally (flag_name f) (flag_parts flags) ≡ bit (flags f)
   flag_tally the_qdo = flags_tally (codes "qdo") all_flags ∙ omega arith
+  flag_tally the_qcir = flags_tally (codes "qcir") all_flags ∙ omega arith
   flag_tally the_binary = flags_tally (codes "binary") all_flags ∙ omega arith
   flag_tally the_trim = flags_tally (codes "trim") all_flags ∙ omega arith
   flag_tally the_decide = flags_tally (codes "decide") all_flags ∙ omega arith

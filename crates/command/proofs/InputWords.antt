@@ -13,7 +13,7 @@ use Rattle.clap.specs.declared.builder.value_parser.Reading.TheVariants.{AsWritt
 use Rattle.clap.specs.declared.parser.matches.ValueSource.TheVariants.{DefaultValue}
 use Rattle.command.specs.Account.{cert_app, check_app, command_app, default_text, is_set, solve_app}
 use Rattle.command.specs.Forms.{Flag, Part, Setting, all_flags, flag_name, setting_name, spelled}
-use Rattle.command.specs.Forms.Flag.{the_qdo, the_binary, the_trim, the_decide}
+use Rattle.command.specs.Forms.Flag.{the_qdo, the_qcir, the_binary, the_trim, the_decide}
 use Rattle.command.specs.Forms.Setting.{the_budget, the_restarts}
 use Rattle.command.proofs.Turns.{leaf, no_kinds, rules_of}
 use Rattle.command.proofs.Names.{apart_name, apart_setting, same_flag, setting_apart}
@@ -194,6 +194,7 @@ own_kept id rows same = ap says_true (own_default id (codes "false") rows same) 
 
 flag_itself : (f : Flag) → bytes_eq (flag_name f) (flag_name f) ≡ true
 flag_itself the_qdo = refl
+flag_itself the_qcir = refl
 flag_itself the_binary = refl
 flag_itself the_trim = refl
 flag_itself the_decide = refl
@@ -265,20 +266,20 @@ solve_knows : (s : Setting) → KnowsSetting s solve_rules
 solve_knows the_budget = (refl, refl)
 solve_knows the_restarts = (refl, refl)
 
-pub solve_are : AreInputRules solve_rules (the_qdo ∷ [])
+pub solve_are : AreInputRules solve_rules (the_qdo ∷ the_qcir ∷ [])
 solve_are = record {
   rules = record {
     help_alone = λ x. refl;
-    long = λ n. long_of_rules solve_rules n (the_qdo ∷ []) solve_knows (refl, tt)
-        (λ b r others. rw (b, r, others.0) refl);
+    long = λ n. long_of_rules solve_rules n (the_qdo ∷ the_qcir ∷ []) solve_knows (refl, (refl, tt))
+        (λ b r others. rw (b, r, others.0, others.1.0) refl);
     left = (refl, record { found = refl; one_use = refl; one_value = refl; no_trail = refl }, refl, refl);
   };
   knows = solve_knows;
-  known = (refl, tt);
+  known = (refl, (refl, tt));
   ends = λ rows. ap (λ k. or_else k []) (harmless rows solve_rules
-      (inr refl, (inr refl, (inl refl, (inr refl, (inl refl, tt))))));
+      (inr refl, (inr refl, (inl refl, (inr refl, (inr refl, (inl refl, tt)))))));
   last = λ rows. none_by (codes "help") _
-      ∙ ap (with_flags (the_qdo ∷ [])) (none_by (codes "name") (with_settings rows));
+      ∙ ap (with_flags (the_qdo ∷ the_qcir ∷ [])) (none_by (codes "name") (with_settings rows));
 }
 
 cert_knows : (s : Setting) → KnowsSetting s cert_rules
@@ -329,14 +330,14 @@ pub full_are : AreInputRules full_rules all_flags
 full_are = record {
   rules = record {
     help_alone = λ x. refl;
-    long = λ n. long_of_rules full_rules n all_flags full_knows (refl, (refl, (refl, (refl, tt))))
-        (λ b r others. rw (b, r, others.0, others.1.0, others.1.1.0, others.1.1.1.0) refl);
+    long = λ n. long_of_rules full_rules n all_flags full_knows (refl, (refl, (refl, (refl, (refl, tt)))))
+        (λ b r others. rw (b, r, others.0, others.1.0, others.1.1.0, others.1.1.1.0, others.1.1.1.1.0) refl);
     left = (refl, record { found = refl; one_use = refl; one_value = refl; no_trail = refl }, refl, refl);
   };
   knows = full_knows;
-  known = (refl, (refl, (refl, (refl, tt))));
+  known = (refl, (refl, (refl, (refl, (refl, tt)))));
   ends = λ rows. ap (λ k. or_else k []) (harmless rows full_rules
-      (inr refl, (inr refl, (inl refl, (inr refl, (inr refl, (inr refl, (inr refl, (inl refl, tt)))))))));
+      (inr refl, (inr refl, (inl refl, (inr refl, (inr refl, (inr refl, (inr refl, (inr refl, (inl refl, tt))))))))));
   last = λ rows. none_by (codes "help") _
       ∙ ap (with_flags all_flags) (none_by (codes "name") (with_settings rows));
 }

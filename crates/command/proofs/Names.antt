@@ -4,17 +4,18 @@ use Rattle.std.specs.Prelude.{⊤}
 use Rattle.std.specs.Str.{bytes_eq}
 use Rattle.std.proofs.lemmas.Slice.Eq.{bytes_eq-Decides}
 use Rattle.command.specs.Forms.{Flag, Setting, Text, all_flags, flag_name, setting_name}
-use Rattle.command.specs.Forms.Flag.{the_qdo, the_binary, the_trim, the_decide}
+use Rattle.command.specs.Forms.Flag.{the_qdo, the_qcir, the_binary, the_trim, the_decide}
 use Rattle.command.specs.Forms.Setting.{the_budget, the_restarts}
 
 -- ---- flags by their names
 
 abbrev flag_at : Text → Flag
-flag_at n = cond (bytes_eq n (codes "qdo")) the_qdo (cond (bytes_eq n (codes "binary")) the_binary
-    (cond (bytes_eq n (codes "trim")) the_trim the_decide))
+flag_at n = cond (bytes_eq n (codes "qdo")) the_qdo (cond (bytes_eq n (codes "qcir")) the_qcir
+    (cond (bytes_eq n (codes "binary")) the_binary (cond (bytes_eq n (codes "trim")) the_trim the_decide)))
 
 named : (f : Flag) → flag_at (flag_name f) ≡ f
 named the_qdo = refl
+named the_qcir = refl
 named the_binary = refl
 named the_trim = refl
 named the_decide = refl
@@ -36,16 +37,19 @@ apart_back a b e = go (bytes_eq b a) refl (bytes_eq-Decides b a)
 
 pub setting_apart : (s : Setting) (f : Flag) → bytes_eq (setting_name s) (flag_name f) ≡ false
 setting_apart the_budget the_qdo = refl
+setting_apart the_budget the_qcir = refl
 setting_apart the_budget the_binary = refl
 setting_apart the_budget the_trim = refl
 setting_apart the_budget the_decide = refl
 setting_apart the_restarts the_qdo = refl
+setting_apart the_restarts the_qcir = refl
 setting_apart the_restarts the_binary = refl
 setting_apart the_restarts the_trim = refl
 setting_apart the_restarts the_decide = refl
 
 pub name_apart : (f : Flag) → bytes_eq (codes "name") (flag_name f) ≡ false
 name_apart the_qdo = refl
+name_apart the_qcir = refl
 name_apart the_binary = refl
 name_apart the_trim = refl
 name_apart the_decide = refl
@@ -87,4 +91,4 @@ argument_names = codes "budget" ∷ codes "restarts" ∷ codes "name" ∷ flag_n
 
 -- an argument is one of these at most
 pub one_argument : (id : Text) → times id argument_names ≤ 1
-one_argument id = once_at_most id argument_names (refl, (refl, (refl, (refl, (refl, (refl, (refl, tt)))))))
+one_argument id = once_at_most id argument_names (refl, (refl, (refl, (refl, (refl, (refl, (refl, (refl, tt))))))))

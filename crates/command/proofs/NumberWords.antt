@@ -9,7 +9,7 @@ use Rattle.clap.specs.Walk.{nothing_held, rows_after}
 use Rattle.clap.specs.Faults.{defaults_fault, level_fault}
 use Rattle.command.specs.Account.{AreDemo, AreGen, demo_app, gen_app, number_rule}
 use Rattle.command.specs.Forms.{Flag, IsBetween, Part, Setting, spelled}
-use Rattle.command.specs.Forms.Flag.{the_qdo, the_binary, the_trim, the_decide}
+use Rattle.command.specs.Forms.Flag.{the_qdo, the_qcir, the_binary, the_trim, the_decide}
 use Rattle.command.specs.Forms.Setting.{the_budget, the_restarts}
 use Rattle.command.specs.Forms.Part.{setting_part, joined_part, flag_part, name_part}
 use Rattle.command.proofs.DecimalWords.{decimal_passes, decimal_word}
@@ -47,12 +47,14 @@ demo_settings the_restarts h = let bad = h.0 in absurd cc
 
 gen_flags : (f : Flag) → KnowsFlag f gen_rules → ⊥
 gen_flags the_qdo bad = absurd cc
+gen_flags the_qcir bad = absurd cc
 gen_flags the_binary bad = absurd cc
 gen_flags the_trim bad = absurd cc
 gen_flags the_decide bad = absurd cc
 
 demo_flags : (f : Flag) → KnowsFlag f demo_rules → ⊥
 demo_flags the_qdo bad = absurd cc
+demo_flags the_qcir bad = absurd cc
 demo_flags the_binary bad = absurd cc
 demo_flags the_trim bad = absurd cc
 demo_flags the_decide bad = absurd cc

@@ -17,7 +17,7 @@ use Rattle.clap.specs.declared.parser.matches.ValueSource.{ValueSource}
 use Rattle.clap.specs.declared.parser.matches.ValueSource.TheVariants.{CommandLine}
 use Rattle.command.specs.Account.{name_rule}
 use Rattle.command.specs.Forms.{Part, flag_name, setting_name}
-use Rattle.command.specs.Forms.Flag.{the_qdo, the_binary, the_trim, the_decide}
+use Rattle.command.specs.Forms.Flag.{the_qdo, the_qcir, the_binary, the_trim, the_decide}
 use Rattle.command.specs.Forms.Part.{setting_part, joined_part, flag_part, name_part}
 use Rattle.command.specs.Forms.Setting.{the_budget, the_restarts}
 use Rattle.command.proofs.Names.{argument_names, bit}
@@ -141,6 +141,7 @@ of_itself (setting_part the_restarts t) = refl
 of_itself (joined_part the_budget t) = refl
 of_itself (joined_part the_restarts t) = refl
 of_itself (flag_part the_qdo) = refl
+of_itself (flag_part the_qcir) = refl
 of_itself (flag_part the_binary) = refl
 of_itself (flag_part the_trim) = refl
 of_itself (flag_part the_decide) = refl
@@ -340,6 +341,7 @@ own_once (joined_part the_budget t) = refl
 own_once (joined_part the_restarts t) = refl
 own_once (name_part w) = refl
 own_once (flag_part the_qdo) = refl
+own_once (flag_part the_qcir) = refl
 own_once (flag_part the_binary) = refl
 own_once (flag_part the_trim) = refl
 own_once (flag_part the_decide) = refl

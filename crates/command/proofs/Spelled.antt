@@ -6,7 +6,7 @@ use Rattle.clap.specs.Lexer.{long_of, long_of_rest, name_and_value}
 use Rattle.std.specs.Str.{bytes_eq}
 use Rattle.clap.specs.Words.{Text}
 use Rattle.command.specs.Forms.{Flag, Setting, flag_name, setting_name}
-use Rattle.command.specs.Forms.Flag.{the_qdo, the_binary, the_trim, the_decide}
+use Rattle.command.specs.Forms.Flag.{the_qdo, the_qcir, the_binary, the_trim, the_decide}
 use Rattle.command.specs.Forms.Setting.{the_budget, the_restarts}
 
 -- what stands behind a name: nothing, or `=` and the value
@@ -100,18 +100,21 @@ flag_word f = codes "--" ++ flag_name f
 
 pub flag_spelled : (f : Flag) (w : Text) → long_of w ≡ Some (flag_name f, None) → w ≡ flag_word f
 flag_spelled the_qdo w e = long_spelled w (codes "qdo") None e
+flag_spelled the_qcir w e = long_spelled w (codes "qcir") None e
 flag_spelled the_binary w e = long_spelled w (codes "binary") None e
 flag_spelled the_trim w e = long_spelled w (codes "trim") None e
 flag_spelled the_decide w e = long_spelled w (codes "decide") None e
 
 pub flag_long : (f : Flag) → long_of (flag_word f) ≡ Some (flag_name f, None)
 flag_long the_qdo = refl
+flag_long the_qcir = refl
 flag_long the_binary = refl
 flag_long the_trim = refl
 flag_long the_decide = refl
 
 pub flag_not_dashes : (f : Flag) → bytes_eq (flag_word f) (45 ∷ 45 ∷ []) ≡ false
 flag_not_dashes the_qdo = refl
+flag_not_dashes the_qcir = refl
 flag_not_dashes the_binary = refl
 flag_not_dashes the_trim = refl
 flag_not_dashes the_decide = refl

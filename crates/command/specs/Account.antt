@@ -9,9 +9,10 @@ use Rattle.clap.specs.Simple.{on_top}
 use Rattle.clap.specs.declared.builder.ArgAction.TheVariants.{SetTrue}
 use Rattle.clap.specs.declared.builder.ValueParser.TheVariants as parser
 use Rattle.command.specs.declared.command.Command.{Command}
+use Rattle.command.specs.declared.command.SolveForm.{SolveForm}
 use Rattle.command.specs.declared.command.Command.TheVariants.{Solve, Trace, Cert, Check, Script, Gen, Demo}
-use Rattle.command.specs.Forms.{Flag, IsBetween, Setting, flag_name, greatest_of, setting_name, word_of}
-use Rattle.command.specs.Forms.Flag.{the_qdo, the_binary, the_trim, the_decide}
+use Rattle.command.specs.Forms.{Flag, IsBetween, Setting, flag_name, greatest_of, is_qcir, is_qdo, setting_name, word_of}
+use Rattle.command.specs.Forms.Flag.{the_qdo, the_qcir, the_binary, the_trim, the_decide}
 use Rattle.command.specs.Forms.Setting.{the_budget, the_restarts}
 
 -- ---- what `clap` is told
@@ -51,9 +52,9 @@ input_app word =
 abbrev pub command_app : Text → List Flag → App
 command_app word flags = fold (λ app flag. with_rule app (flag_rule (flag_name flag))) (input_app word) flags
 
--- `solve [--budget N] [--restarts R] [--qdo] [NAME]`
+-- `solve [--budget N] [--restarts R] [--qdo] [--qcir] [NAME]`
 abbrev pub solve_app : App
-solve_app = command_app (codes "solve") (the_qdo ∷ [])
+solve_app = command_app (codes "solve") (the_qdo ∷ the_qcir ∷ [])
 
 -- `cert [--budget N] [--restarts R] [--binary] [--trim] [NAME]`
 abbrev pub cert_app : App
@@ -120,10 +121,14 @@ abbrev pub AreDemo : List Row → ℕ → ℕ → Type 0
 AreDemo rows seed count = IsNumberAt (codes "SEED") 0 4294967295 rows seed
     × IsNumberAt (codes "COUNT") 1 10000 rows count
 
+-- `--qdo` and `--qcir` are given as the form of `solve` has them
+abbrev pub IsFormOf : List Row → SolveForm → Type 0
+IsFormOf rows form = (is_qdo form ≡ is_set (codes "qdo") rows) × (is_qcir form ≡ is_set (codes "qcir") rows)
+
 -- the values that `clap` found are those of the command, and in form
 abbrev pub AreValues : List Row → Command → Type 0
-AreValues rows (Solve budget restarts qdo name) =
-    AreInput rows budget restarts (option_map (λ s. s.now) name) × (qdo ≡ is_set (codes "qdo") rows)
+AreValues rows (Solve budget restarts form name) = AreInput rows budget restarts (option_map (λ s. s.now) name)
+    × IsFormOf rows form
 AreValues rows (Trace budget restarts name) = AreInput rows budget restarts (option_map (λ s. s.now) name)
 AreValues rows (Cert budget restarts binary trim name) = AreInput rows budget restarts (option_map (λ s. s.now) name)
     × (binary ≡ is_set (codes "binary") rows) × (trim ≡ is_set (codes "trim") rows)

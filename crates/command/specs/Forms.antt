@@ -1,9 +1,11 @@
 -- The words that ask for a command.
-use Rattle.std.specs.Prelude.{◌≡◌, ◌≢◌, ◌⊎◌, ⊤, ℕ, ◌<◌, ◌≤◌, ◌^◌, ◌-◌, Bool, false, List, [], ◌∷◌, ◌++◌, Option, Some, None, IsPermutation, codes, filter, map, option_map, slice_get}
+use Rattle.std.specs.Prelude.{◌≡◌, ◌≢◌, ◌⊎◌, ⊤, ℕ, ◌<◌, ◌≤◌, ◌^◌, ◌-◌, Bool, true, false, List, [], ◌∷◌, ◌++◌, Option, Some, None, IsPermutation, codes, filter, map, option_map, slice_get}
 use Rattle.std.specs.Fmt.{decimal}
 use Rattle.std.specs.List.{flat_map}
 use Rattle.command.specs.declared.command.Command.{Command}
 use Rattle.command.specs.declared.command.Command.TheVariants.{Solve, Trace, Cert, Check, Script, Gen, Demo}
+use Rattle.command.specs.declared.command.SolveForm.{SolveForm}
+use Rattle.command.specs.declared.command.SolveForm.TheVariants.{Plain, Qdo, Qcir}
 use Rattle.command.specs.declared.refused.Refused.{Refused}
 use Rattle.command.specs.declared.refused.Refused.TheVariants.{Usage, NoMemory}
 
@@ -32,9 +34,10 @@ abbrev pub default_of : Setting → ℕ
 default_of the_budget = 2 ^ 64 - 1
 default_of the_restarts = 0
 
--- an option without a number: `--qdo`, `--binary`, `--trim`, or `--decide`
+-- an option without a number: `--qdo`, `--qcir`, `--binary`, `--trim`, or `--decide`
 pub data Flag : Type 0 where
   the_qdo : Flag
+  the_qcir : Flag
   the_binary : Flag
   the_trim : Flag
   the_decide : Flag
@@ -42,27 +45,41 @@ pub data Flag : Type 0 where
 -- its name
 abbrev pub flag_name : Flag → Text
 flag_name the_qdo = codes "qdo"
+flag_name the_qcir = codes "qcir"
 flag_name the_binary = codes "binary"
 flag_name the_trim = codes "trim"
 flag_name the_decide = codes "decide"
 
 abbrev pub all_flags : List Flag
-all_flags = the_qdo ∷ the_binary ∷ the_trim ∷ the_decide ∷ []
+all_flags = the_qdo ∷ the_qcir ∷ the_binary ∷ the_trim ∷ the_decide ∷ []
 
 -- none is given
 abbrev pub no_flags : Flag → Bool
 no_flags flag = false
 
--- `solve` takes `--qdo`, which is given or not
-abbrev pub solve_flags : Bool → Flag → Bool
-solve_flags qdo the_qdo = qdo
-solve_flags qdo the_binary = false
-solve_flags qdo the_trim = false
-solve_flags qdo the_decide = false
+-- whether a form of `solve` is that of `--qdo`, and whether it is that of `--qcir`
+abbrev pub is_qdo : SolveForm → Bool
+is_qdo Plain = false
+is_qdo Qdo = true
+is_qdo Qcir = false
+
+abbrev pub is_qcir : SolveForm → Bool
+is_qcir Plain = false
+is_qcir Qdo = false
+is_qcir Qcir = true
+
+-- `solve` takes `--qdo` or `--qcir`, and never both
+abbrev pub solve_flags : SolveForm → Flag → Bool
+solve_flags form the_qdo = is_qdo form
+solve_flags form the_qcir = is_qcir form
+solve_flags form the_binary = false
+solve_flags form the_trim = false
+solve_flags form the_decide = false
 
 -- `cert` takes `--binary` and `--trim`, each of which is given or not
 abbrev pub cert_flags : (binary trim : Bool) → Flag → Bool
 cert_flags binary trim the_qdo = false
+cert_flags binary trim the_qcir = false
 cert_flags binary trim the_binary = binary
 cert_flags binary trim the_trim = trim
 cert_flags binary trim the_decide = false
@@ -70,6 +87,7 @@ cert_flags binary trim the_decide = false
 -- `check` takes `--decide`, which is given or not
 abbrev pub check_flags : Bool → Flag → Bool
 check_flags decide the_qdo = false
+check_flags decide the_qcir = false
 check_flags decide the_binary = false
 check_flags decide the_trim = false
 check_flags decide the_decide = decide
@@ -128,9 +146,9 @@ abbrev pub AsksInput : Text → List Text → (budget restarts : ℕ) → (Flag 
 AsksInput word words budget restarts flags name = (program : Text) × (rest : List Text)
     × (words ≡ program ∷ word ∷ rest) × GivesInput rest budget restarts flags name
 
--- `solve [--budget N] [--restarts R] [--qdo] [NAME]`
-abbrev pub AsksSolve : List Text → (budget restarts : ℕ) → Bool → Option Text → Type 0
-AsksSolve words budget restarts qdo name = AsksInput (codes "solve") words budget restarts (solve_flags qdo) name
+-- `solve [--budget N] [--restarts R] [--qdo | --qcir] [NAME]`
+abbrev pub AsksSolve : List Text → (budget restarts : ℕ) → SolveForm → Option Text → Type 0
+AsksSolve words budget restarts form name = AsksInput (codes "solve") words budget restarts (solve_flags form) name
 
 -- `trace [--budget N] [--restarts R] [NAME]`
 abbrev pub AsksTrace : List Text → (budget restarts : ℕ) → Option Text → Type 0
@@ -174,7 +192,7 @@ AsksDemo words seed count = AsksNumbers (codes "demo") words (seed ∷ count ∷
 
 -- the words ask for the command
 abbrev pub Asks : List Text → Command → Type 0
-Asks words (Solve budget restarts qdo name) = AsksSolve words budget restarts qdo (option_map (λ s. s.now) name)
+Asks words (Solve budget restarts form name) = AsksSolve words budget restarts form (option_map (λ s. s.now) name)
 Asks words (Trace budget restarts name) = AsksTrace words budget restarts (option_map (λ s. s.now) name)
 Asks words (Cert budget restarts binary trim name) =
     AsksCert words budget restarts binary trim (option_map (λ s. s.now) name)
@@ -186,7 +204,7 @@ Asks words (Demo seed count) = AsksDemo words seed count
 
 -- the word of the command
 abbrev pub word_of : Command → Text
-word_of (Solve budget restarts qdo name) = codes "solve"
+word_of (Solve budget restarts form name) = codes "solve"
 word_of (Trace budget restarts name) = codes "trace"
 word_of (Cert budget restarts binary trim name) = codes "cert"
 word_of (Check budget restarts decide name) = codes "check"
@@ -196,7 +214,7 @@ word_of (Demo seed count) = codes "demo"
 
 -- the budget of the command: 2^64 - 1 for one that takes none
 abbrev pub budget_of : Command → ℕ
-budget_of (Solve budget restarts qdo name) = budget
+budget_of (Solve budget restarts form name) = budget
 budget_of (Trace budget restarts name) = budget
 budget_of (Cert budget restarts binary trim name) = budget
 budget_of (Check budget restarts decide name) = budget
@@ -206,7 +224,7 @@ budget_of (Demo seed count) = 2 ^ 64 - 1
 
 -- the number of restarts of the command: none for one that takes none
 abbrev pub restarts_of : Command → ℕ
-restarts_of (Solve budget restarts qdo name) = restarts
+restarts_of (Solve budget restarts form name) = restarts
 restarts_of (Trace budget restarts name) = restarts
 restarts_of (Cert budget restarts binary trim name) = restarts
 restarts_of (Check budget restarts decide name) = restarts
@@ -216,7 +234,7 @@ restarts_of (Demo seed count) = 0
 
 -- which flags are given to the command
 abbrev pub flags_of : Command → Flag → Bool
-flags_of (Solve budget restarts qdo name) = solve_flags qdo
+flags_of (Solve budget restarts form name) = solve_flags form
 flags_of (Trace budget restarts name) = no_flags
 flags_of (Cert budget restarts binary trim name) = cert_flags binary trim
 flags_of (Check budget restarts decide name) = check_flags decide
@@ -226,7 +244,7 @@ flags_of (Demo seed count) = no_flags
 
 -- the text of the name of the command's input, if it has one
 abbrev pub name_of : Command → Option Text
-name_of (Solve budget restarts qdo name) = option_map (λ s. s.now) name
+name_of (Solve budget restarts form name) = option_map (λ s. s.now) name
 name_of (Trace budget restarts name) = option_map (λ s. s.now) name
 name_of (Cert budget restarts binary trim name) = option_map (λ s. s.now) name
 name_of (Check budget restarts decide name) = option_map (λ s. s.now) name

@@ -1,15 +1,25 @@
 //! What the words ask for.
 
+/// In which form a formula is given and answered.
+#[derive(Clone, Copy, Debug, PartialEq, Eq)]
+pub enum SolveForm {
+    /// As QDIMACS, answered by a word.
+    Plain,
+    /// As QDIMACS, answered in the lines of QDIMACS's output format (`--qdo`).
+    Qdo,
+    /// As a quantified circuit in QCIR, answered by a word (`--qcir`).
+    Qcir,
+}
+
 /// A command, with the values that its words give. Without a name its text is read from standard input. There are at
 /// most 1,000,000 restarts, and none where the words give no number of them.
 #[derive(Clone, Copy, Debug, PartialEq, Eq)]
 pub enum Command<'a> {
-    /// Decide one formula, with a budget of this many steps and at most so many restarts, and reply in the lines of
-    /// QDIMACS where `qdo` asks for them.
+    /// Decide one formula, with a budget of this many steps and at most so many restarts.
     Solve {
         budget: u64,
         restarts: u32,
-        qdo: bool,
+        form: SolveForm,
         name: Option<&'a str>,
     },
     /// Write the derivation that a formula's verdict rests on, with a budget of this many steps and at most so many

@@ -48,10 +48,20 @@ fn solve<'a>(alloc: Global) -> Result<Command<'a>, AllocError>
     ensures app { IfOk result (λ c. app_of c ≡ solve_app) }
     ensures local { IfOk result (λ c. (fields_of c).has_globals ≡ false) }
 {
-    command(alloc, "solve", "Decides one formula in QDIMACS")?.arg(flag(
+    command(
+        alloc,
+        "solve",
+        "Decides one formula in QDIMACS, or one circuit in QCIR",
+    )?
+    .arg(flag(
         alloc,
         "qdo",
         "Writes the verdict and the outermost values as QDIMACS output",
+    ))?
+    .arg(flag(
+        alloc,
+        "qcir",
+        "Reads a quantified circuit in QCIR; not with --qdo",
     ))
 }
 

@@ -52,7 +52,8 @@ fn refused(alloc: Global, error: &Error) -> Refused
 // The refusal of words that `clap` takes and that are out of form.
 fn out_of_form(alloc: Global, program: &mut clap::Command<'_>) -> Refused {
     let message =
-        "a number has no sign and no needless zero, NAME begins with no '-', and '--' is no word";
+        "a number has no sign and no needless zero, NAME begins with no '-', '--' is no word, and \
+         '--qdo' and '--qcir' don't stand together";
     match program.error(ErrorKind::ValueValidation, message) {
         Ok(error) => refused(alloc, &error),
         Err(_) => Refused::NoMemory,

@@ -1,11 +1,12 @@
 //! The values that `clap` found for a command.
 ghost use Rattle.std.specs.Prelude.{◌≡◌, ◌≢◌, ◌↔◌, ℕ, Option, IsTrue, option_map, Some, IfSome, IfNone, codes};
 ghost use Rattle.clap.specs.Words.{found_of, rows_of};
-ghost use Rattle.command.specs.Account.{AreDemo, AreGen, AreInput, AreValues, HasNoHyphen, IsNumberAt, is_set};
+ghost use Rattle.command.specs.Account.{AreDemo, AreGen, AreInput, AreValues, HasNoHyphen, IsFormOf, IsNumberAt, is_set};
 ghost use Rattle.command.specs.Forms.{Text, word_of};
 ghost use Rattle.command.specs.declared.command.Command.{Command as CommandSpec};
+ghost use Rattle.command.specs.declared.command.SolveForm.{SolveForm as FormSpec};
 
-use super::command::Command;
+use super::command::{Command, SolveForm};
 use super::form::{
     GREATEST_CLAUSES, GREATEST_COUNT, GREATEST_RESTARTS, GREATEST_SEED, GREATEST_VARS, LEAST_COUNT,
     LEAST_VARS,
@@ -37,7 +38,7 @@ fn input_command<'a>(word: &str, found: &ArgMatches<'a>) -> Option<Command<'a>>
         "solve" => Some(Command::Solve {
             budget,
             restarts,
-            qdo: is_set(found, "qdo"),
+            form: form_of(found)?,
             name,
         }),
         "trace" => Some(Command::Trace {
@@ -64,6 +65,19 @@ fn input_command<'a>(word: &str, found: &ArgMatches<'a>) -> Option<Command<'a>>
             name,
         }),
         _ => None,
+    }
+}
+
+// The form of `solve` that its flags ask for, unless both are given.
+fn form_of(found: &ArgMatches<'_>) -> Option<SolveForm>
+    ensures some { IfSome result (IsFormOf (rows_of (found_of found.now))) }
+    ensures none { IfNone result ((form : FormSpec) → ¬ IsFormOf (rows_of (found_of found.now)) form) }
+{
+    match (is_set(found, "qdo"), is_set(found, "qcir")) {
+        (false, false) => Some(SolveForm::Plain),
+        (true, false) => Some(SolveForm::Qdo),
+        (false, true) => Some(SolveForm::Qcir),
+        (true, true) => None,
     }
 }
 

@@ -18,6 +18,8 @@ use Rattle.session.specs.declared.ending.Ending.TheVariants.{Done, Refused, Limi
 use Rattle.session.specs.declared.ending.Job.TheVariants.{Solve as SolveJob}
 use Rattle.ports.specs.Causes.{IsCounted}
 use Rattle.session.specs.Checks.{IsCheck, IsCheckOn, IsFinished, OfCheck, check_ending}
+use Rattle.session.specs.Inputs.{Format, Says}
+use Rattle.session.specs.Inputs.Format.{as_formula}
 use Rattle.session.specs.Jobs.{answer_with}
 use Rattle.session.specs.Solve.{HasAnswer, IsAnswerTo, IsDone, IsShort, OfAnswer, Solves, answer_status}
 use Rattle.session.specs.Terms.{Terms}
@@ -142,11 +144,13 @@ module _ (decide : Bool) (terms : Terms) (known left : Option Text) (output : Op
 
 module _ (words : List Text) (content : Content) (left : Option Text) (output : Option Text × Option Text)
     (told : List Account × List Account) (decide : Bool) (terms : Terms) (c : Command) (asks : Asks words c)
-    (of : (P : Terms → Text → Type 0) → IfSome (content (input_of c)) (P terms) → OfFormula c content P)
+    (of : (P : Format → Terms → Text → Type 0) → IfSome (content (input_of c)) (P as_formula terms)
+    → OfFormula c content P)
     (of_check : (P : Bool → Terms → Text → Type 0) → IfSome (content (input_of c)) (P decide terms)
     → OfCheckCommand c content P) where
   -- what is so of the text is so of the input that was asked for
-  asked : (P : Terms → Text → Type 0) → IfSome (content (input_of c)) (P terms) → Asked words content P
+  asked : (P : Format → Terms → Text → Type 0) → IfSome (content (input_of c)) (P as_formula terms)
+      → Asked words content P
   asked P h = (c, asks, of P h)
 
   asked_check : (P : Bool → Terms → Text → Type 0) → IfSome (content (input_of c)) (P decide terms)
@@ -178,7 +182,7 @@ module _ (words : List Text) (content : Content) (left : Option Text) (output : 
   done_verdict outcome text s end on =
       ⊎_elim (λ a. answer_verdict words content left output told SolveJob terms c asks of s (has_answer outcome s end)
       (some_map (content (input_of c)) (λ bytes. Reads bytes (parsed on.formula))
-      (λ bytes. OfAnswer s (Solves terms bytes))
+      (λ bytes. OfAnswer s (Solves as_formula terms bytes))
       (λ bytes reads. (a.0, a.1, (on.formula, reads, a.2))) on.read))
       (λ u. undecided s u.0 (asked_check IsUndecidedCheck
       (some_map (content (input_of c)) (λ bytes. Reads bytes (parsed on.formula)) (IsUndecidedCheck decide terms)
@@ -205,13 +209,15 @@ module _ (words : List Text) (content : Content) (left : Option Text) (output : 
       let out = so.output_of in done_verdict out.0 out.1 s out.2 out.3
   check_verdict (Refused number at) so =
       other_verdict words content 2 refl
-      (λ _. inl (asked (λ n text. IsRefused text)
-      (some_map _ (λ text. Reads text (refused number at)) IsRefused (λ text h. (number, at, h)) (so.unread tt))))
+      (λ _. inl (asked (λ format n text. IsRefused format text)
+      (some_map _ (λ text. Reads text (refused number at)) (IsRefused as_formula) (λ text h. (number, at, h))
+      (so.unread tt))))
       (λ e. absurd (omega (arith, e))) (λ e. absurd (omega (arith, e))) (λ none. absurd (some_form none))
   check_verdict (Limit quantity at) so =
       other_verdict words content 6 refl (λ e. absurd (omega (arith, e)))
-      (λ _. inl (inl (asked (λ n text. IsLimited text)
-      (some_map _ (λ text. Reads text (limit quantity at)) IsLimited (λ text h. (quantity, at, h)) (so.unread tt)))))
+      (λ _. inl (inl (asked (λ format n text. IsLimited format text)
+      (some_map _ (λ text. Reads text (limit quantity at)) (IsLimited as_formula) (λ text h. (quantity, at, h))
+      (so.unread tt)))))
       (λ e. absurd (omega (arith, e))) (λ none. absurd (some_form none))
   check_verdict (CheckLimit quantity) so =
       let out = so.output_of in
@@ -231,13 +237,15 @@ module _ (words : List Text) (content : Content) (left : Option Text) (output : 
   check_error (Done s) so =
       let out = so.output_of in answer_line words content s (has_answer out.0 s out.2)
   check_error (Refused number at) so = record {
-    refused = λ _. (number, at, refl, inl (asked (λ n text. Reads text (refused number at)) (so.unread tt)));
+    refused = λ _.
+        (number, at, refl, inl (asked (λ format n text. Says format text (refused number at)) (so.unread tt)));
     limit = λ h. absurd (omega (arith, h));
     other = λ n _ _. absurd (n refl);
   }
   check_error (Limit quantity at) so = record {
     refused = λ h. absurd (omega (arith, h));
-    limit = λ _. inl (quantity, at, refl, inl (asked (λ n text. Reads text (limit quantity at)) (so.unread tt)));
+    limit = λ _. inl
+        (quantity, at, refl, inl (asked (λ format n text. Says format text (limit quantity at)) (so.unread tt)));
     other = λ _ n _. absurd (n refl);
   }
   check_error (CheckLimit quantity) so =
@@ -252,8 +260,8 @@ module _ (words : List Text) (content : Content) (left : Option Text) (output : 
   check_error NoMemory so = plain_line words content 5 _ (λ e. omega (arith, e)) (λ e. omega (arith, e)) refl
 
   pub check_reads : (f : Ending) → Works f → HasAnswer (status_of (Worked f))
-      → Asked words content (λ n text. left ≡ Some [])
-  check_reads (Done s) so h = asked (λ n text. left ≡ Some []) (so.read tt)
+      → Asked words content (λ format n text. left ≡ Some [])
+  check_reads (Done s) so h = asked (λ format n text. left ≡ Some []) (so.read tt)
   check_reads (Refused number at) so h = no_answer 2 refl h
   check_reads (Limit quantity at) so h = no_answer 6 refl h
   check_reads (CheckLimit quantity) so h = no_answer 6 refl h

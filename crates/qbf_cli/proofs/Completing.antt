@@ -7,17 +7,21 @@ use Rattle.command.specs.declared.command.Command.{Command}
 use Rattle.command.specs.declared.command.Command.TheVariants.{Solve, Trace, Cert, Check, Script, Gen, Demo}
 use Rattle.qdimacs.specs.Rules.{Outcome, parsed, refused, limit}
 use Rattle.qdimacs.specs.Reads.{Reads}
+use Rattle.qcir_reader.specs.Rules.{Outcome as CircuitOutcome, parsed as circuit, refused as circuit_refused, limit as circuit_limit}
+use Rattle.qcir_reader.specs.Reads.{Reads as ReadsCircuit}
 use Rattle.qscript.specs.declared.command.Command.{Command as ScriptCommand}
 use Rattle.qscript.specs.Reads.{Ending as ScriptEnding, ReadsScript, done, limit as script_limit, refused as script_refused}
 use Rattle.session.specs.declared.answer.Answer.TheVariants.{Sat, Unsat, Unknown}
 use Rattle.session.specs.Scripts.{IsScriptEnding}
+use Rattle.session.specs.Inputs.{Format, Says, format_of}
+use Rattle.session.specs.Inputs.Format.{as_circuit, as_formula}
 use Rattle.session.specs.Solve.{HasAnswer, IsEnding}
 use Rattle.session.specs.declared.ending.Ending.{Ending}
 use Rattle.session.specs.declared.ending.Ending.TheVariants.{Done, Refused, Limit, CheckLimit, ReadFault, WriteFault, NoMemory}
 use Rattle.qbf_cli.specs.declared.ending.RunEnding.{RunEnding}
 use Rattle.qbf_cli.specs.declared.ending.RunEnding.TheVariants.{Worked, Usage}
-use Rattle.qbf_cli.specs.Asked.{OfCheckCommand, OfFormula, input_of, known_for}
-use Rattle.qbf_cli.specs.Complete.{IsComplete, IsFormula, IsScript, IsValid}
+use Rattle.qbf_cli.specs.Asked.{OfCheckCommand, OfFormula, input_of, known_for, solve_job}
+use Rattle.qbf_cli.specs.Complete.{IsComplete, IsFormula, IsOfFormat, IsScript, IsValid}
 use Rattle.qbf_cli.specs.Run.{Carried, IsCheckWork, IsMade, IsWorkOf, status_of}
 use Rattle.qbf_cli.proofs.Checking.{beyond_some, check_status}
 use Rattle.qbf_cli.proofs.Solving.{Content}
@@ -27,9 +31,12 @@ use Rattle.session.specs.Terms.{Terms, terms_of}
 abbrev pub Complete : ℕ → Type 0
 Complete n = Contains (10 ∷ 20 ∷ 0 ∷ 5 ∷ []) n
 
--- each text has one outcome, and each script one reading
+-- each text has one outcome, by either format, and each script one reading
 abbrev pub OneOutcome : Type 0
 OneOutcome = (text : Text) (o p : Outcome) → Reads text o → Reads text p → o ≡ p
+
+abbrev pub OneCircuit : Type 0
+OneCircuit = (text : Text) (o p : CircuitOutcome) → ReadsCircuit text o → ReadsCircuit text p → o ≡ p
 
 abbrev pub OneReading : Type 0
 OneReading = (text : Text) (cs ds : List ScriptCommand) (e f : ScriptEnding) → ReadsScript text cs e
@@ -51,33 +58,46 @@ sample_complete text output told ReadFault so write = absurd so.leaves
 sample_complete text output told WriteFault so write = absurd (write refl)
 sample_complete text output told NoMemory so write = (3, omega arith, refl)
 
-module _ (one : OneOutcome) (single : OneReading) where
-  unrefused : (known : Option Text) (number at : ℕ) → IsFormula known
-      → IfSome known (λ text. Reads text (refused number at)) → ⊥
-  unrefused None number at valid h = valid
-  unrefused (Some text) number at valid h =
+module _ (one : OneOutcome) (circuit_one : OneCircuit) (single : OneReading) where
+  unrefused : (format : Format) (known : Option Text) (number at : ℕ) → IsOfFormat format known
+      → IfSome known (λ text. Says format text (refused number at)) → ⊥
+  unrefused as_formula None number at valid h = valid
+  unrefused as_formula (Some text) number at valid h =
       let same : parsed valid.0 ≡ refused number at = one text _ _ valid.1 h in cc
+  unrefused as_circuit None number at valid h = valid
+  unrefused as_circuit (Some text) number at valid h =
+      let same : circuit valid.0 ≡ circuit_refused number at = circuit_one text _ _ valid.1 h in cc
 
-  unlimited : (known : Option Text) (quantity : _) (at : ℕ) → IsFormula known
-      → IfSome known (λ text. Reads text (limit quantity at)) → ⊥
-  unlimited None quantity at valid h = valid
-  unlimited (Some text) quantity at valid h =
+  unlimited : (format : Format) (known : Option Text) (quantity : _) (at : ℕ) → IsOfFormat format known
+      → IfSome known (λ text. Says format text (limit quantity at)) → ⊥
+  unlimited as_formula None quantity at valid h = valid
+  unlimited as_formula (Some text) quantity at valid h =
       let same : parsed valid.0 ≡ limit quantity at = one text _ _ valid.1 h in cc
+  unlimited as_circuit None quantity at valid h = valid
+  unlimited as_circuit (Some text) quantity at valid h =
+      let same : circuit valid.0 ≡ circuit_limit quantity at = circuit_one text _ _ valid.1 h in cc
 
-  -- a formula is answered
-  formula_complete : (terms : Terms) (known : Option Text) → IsFormula known → (f : Ending)
-      → IfSome known (λ text. IsEnding terms text f) → ((s : ℕ) → f ≡ Done s → HasAnswer s)
+  some_told : (format : Format) (known : Option Text) → IsOfFormat format known → known ≡ None → ⊥
+  some_told as_formula None valid is = valid
+  some_told as_formula (Some text) valid is = absurd (let bad : Some text ≡ None = is in cc)
+  some_told as_circuit None valid is = valid
+  some_told as_circuit (Some text) valid is = absurd (let bad : Some text ≡ None = is in cc)
+
+  -- a formula is answered, and so is a circuit
+  formula_complete : (format : Format) (terms : Terms) (known : Option Text) → IsOfFormat format known → (f : Ending)
+      → IfSome known (λ text. IsEnding format terms text f) → ((s : ℕ) → f ≡ Done s → HasAnswer s)
       → (f ≡ ReadFault → ⊥) → (f ≡ WriteFault → ⊥) → Complete (status_of (Worked f))
-  formula_complete terms known valid (Done s) ending status read write = answer_complete s (status s refl)
-  formula_complete terms known valid (Refused number at) ending status read write =
-      absurd (unrefused known number at valid ending)
-  formula_complete terms known valid (Limit quantity at) ending status read write =
-      absurd (unlimited known quantity at valid ending)
-  formula_complete terms None valid (CheckLimit quantity) ending status read write = absurd valid
-  formula_complete terms (Some text) valid (CheckLimit quantity) ending status read write = absurd ending
-  formula_complete terms known valid ReadFault ending status read write = absurd (read refl)
-  formula_complete terms known valid WriteFault ending status read write = absurd (write refl)
-  formula_complete terms known valid NoMemory ending status read write = (3, omega arith, refl)
+  formula_complete format terms known valid (Done s) ending status read write = answer_complete s (status s refl)
+  formula_complete format terms known valid (Refused number at) ending status read write =
+      absurd (unrefused format known number at valid ending)
+  formula_complete format terms known valid (Limit quantity at) ending status read write =
+      absurd (unlimited format known quantity at valid ending)
+  formula_complete format terms None valid (CheckLimit quantity) ending status read write =
+      absurd (some_told format None valid refl)
+  formula_complete format terms (Some text) valid (CheckLimit quantity) ending status read write = absurd ending
+  formula_complete format terms known valid ReadFault ending status read write = absurd (read refl)
+  formula_complete format terms known valid WriteFault ending status read write = absurd (write refl)
+  formula_complete format terms known valid NoMemory ending status read write = (3, omega arith, refl)
 
   ends_well : (known : Option Text) → IsScript known → (e : ScriptEnding)
       → IfSome known (λ text. (cs : List ScriptCommand) × ReadsScript text cs e) → done ≡ e
@@ -104,7 +124,8 @@ module _ (one : OneOutcome) (single : OneReading) where
       (told : List Account × List Account) (valid : IsValid words content) where
     -- a check comes to an answer, or to a limit of its check formula
     check_complete : (decide : Bool) (terms : Terms) (c : Command) → Asks words c
-        → (of : (P : Terms → Text → Type 0) → IfSome (content (input_of c)) (P terms) → OfFormula c content P)
+        → (of : (P : Format → Terms → Text → Type 0) → IfSome (content (input_of c)) (P as_formula terms)
+        → OfFormula c content P)
         → (of_check : (P : Bool → Terms → Text → Type 0) → IfSome (content (input_of c)) (P decide terms)
         → OfCheckCommand c content P) → IsFormula (content (input_of c)) → (f : Ending)
         → IsCheckWork decide terms (content (input_of c)) left output told f → (f ≡ ReadFault → ⊥)
@@ -112,9 +133,9 @@ module _ (one : OneOutcome) (single : OneReading) where
     check_complete decide terms c asks of of_check formula (Done s) so read write =
         inl (answer_complete s (check_status decide terms _ left output told (Done s) so s refl))
     check_complete decide terms c asks of of_check formula (Refused number at) so read write =
-        absurd (unrefused _ number at formula (so.unread tt))
+        absurd (unrefused as_formula _ number at formula (so.unread tt))
     check_complete decide terms c asks of of_check formula (Limit quantity at) so read write =
-        absurd (unlimited _ quantity at formula (so.unread tt))
+        absurd (unlimited as_formula _ quantity at formula (so.unread tt))
     check_complete decide terms c asks of of_check formula (CheckLimit quantity) so read write =
         let out = so.output_of in
         inr (refl, beyond_some words content left output told decide terms c asks of of_check quantity out.0 out.1)
@@ -125,15 +146,15 @@ module _ (one : OneOutcome) (single : OneReading) where
     -- the work of a command
     by : (c : Command) (f : Ending) → Asks words c → IsWorkOf c (known_for content c) left output told f
         → (f ≡ ReadFault → ⊥) → (f ≡ WriteFault → ⊥) → IsComplete words content (status_of (Worked f))
-    by (Solve budget restarts qdo name) f asks so read write =
-        inl (formula_complete (terms_of budget restarts) _ (valid.valid (Solve budget restarts qdo name) asks) f
-        so.ending so.status read write)
+    by (Solve budget restarts form name) f asks so read write =
+        inl (formula_complete (format_of (solve_job form)) (terms_of budget restarts) _
+        (valid.valid (Solve budget restarts form name) asks) f so.ending so.status read write)
     by (Trace budget restarts name) f asks so read write =
-        inl (formula_complete (terms_of budget restarts) _ (valid.valid (Trace budget restarts name) asks) f so.ending
-        so.status read write)
+        inl (formula_complete as_formula (terms_of budget restarts) _
+        (valid.valid (Trace budget restarts name) asks) f so.ending so.status read write)
     by (Cert budget restarts binary trim name) f asks so read write =
-        inl (formula_complete (terms_of budget restarts) _ (valid.valid (Cert budget restarts binary trim name) asks) f
-        so.ending so.status read write)
+        inl (formula_complete as_formula (terms_of budget restarts) _
+        (valid.valid (Cert budget restarts binary trim name) asks) f so.ending so.status read write)
     by (Check budget restarts decide name) f asks so read write =
         check_complete decide (terms_of budget restarts) (Check budget restarts decide name) asks (λ P h. h) (λ P h. h)
         (valid.valid (Check budget restarts decide name) asks) f so read write

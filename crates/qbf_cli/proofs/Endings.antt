@@ -95,9 +95,9 @@ module _ (words : List Text) (content : Content) (left : Option Text) (output : 
     where
       by : (c : Command) (f : Ending) → Asks words c → IsWorkOf c (known_for content c) left output told f
           → IsVerdict words content (status_of (Worked f))
-      by (Solve budget restarts qdo name) f asks so =
-          solve_verdict words content left output told (solve_job qdo) (terms_of budget restarts)
-          (Solve budget restarts qdo name) asks (λ P h. h) f so
+      by (Solve budget restarts form name) f asks so =
+          solve_verdict words content left output told (solve_job form) (terms_of budget restarts)
+          (Solve budget restarts form name) asks (λ P h. h) f so
       by (Trace budget restarts name) f asks so =
           solve_verdict words content left output told TraceJob (terms_of budget restarts)
           (Trace budget restarts name) asks (λ P h. h) f so
@@ -123,7 +123,7 @@ module _ (words : List Text) (content : Content) (left : Option Text) (output : 
     where
       by : (c : Command) (f : Ending) → IsWorkOf c (known_for content c) left output told f
           → IsOutputOf c (known_for content c) output told.1 (status_of (Worked f))
-      by (Solve budget restarts qdo name) f so = solve_output (solve_job qdo) (terms_of budget restarts) _ left
+      by (Solve budget restarts form name) f so = solve_output (solve_job form) (terms_of budget restarts) _ left
           output told empty f so
       by (Trace budget restarts name) f so = solve_output TraceJob (terms_of budget restarts) _ left output told
           empty f so
@@ -148,9 +148,9 @@ module _ (words : List Text) (content : Content) (left : Option Text) (output : 
     where
       by : (c : Command) (f : Ending) → Asks words c → IsWorkOf c (known_for content c) left output told f
           → IsErrorLine words content (status_of (Worked f)) (line_of (Worked f))
-      by (Solve budget restarts qdo name) f asks so =
-          solve_line words content left output told (solve_job qdo) (terms_of budget restarts)
-          (Solve budget restarts qdo name) asks (λ P h. h) f so
+      by (Solve budget restarts form name) f asks so =
+          solve_line words content left output told (solve_job form) (terms_of budget restarts)
+          (Solve budget restarts form name) asks (λ P h. h) f so
       by (Trace budget restarts name) f asks so =
           solve_line words content left output told TraceJob (terms_of budget restarts) (Trace budget restarts name)
           asks (λ P h. h) f so
@@ -171,7 +171,7 @@ module _ (words : List Text) (content : Content) (left : Option Text) (output : 
   error_at e c s is = subst (λ n. IsErrorLine words content n (line_of e)) (sym is) (error_line e c)
 
   abbrev Read : Type 0
-  Read = AskedAny words content (λ n text. left ≡ Some []) (λ n text. left ≡ Some [])
+  Read = AskedAny words content (λ format n text. left ≡ Some []) (λ n text. left ≡ Some [])
 
   pub whole_input : (e : RunEnding) → Carried words content left output told e → HasAnswer (status_of e) → Read
   whole_input e carried = each (λ e. HasAnswer (status_of e) → Read) (λ text none kept same h. no_answer 7 refl h)
@@ -179,9 +179,9 @@ module _ (words : List Text) (content : Content) (left : Option Text) (output : 
     where
       by : (c : Command) (f : Ending) → Asks words c → IsWorkOf c (known_for content c) left output told f
           → HasAnswer (status_of (Worked f)) → Read
-      by (Solve budget restarts qdo name) f asks so h =
-          inl (inl (solve_read words content left output told (solve_job qdo) (terms_of budget restarts)
-          (Solve budget restarts qdo name) asks (λ P h. h) f so h))
+      by (Solve budget restarts form name) f asks so h =
+          inl (inl (solve_read words content left output told (solve_job form) (terms_of budget restarts)
+          (Solve budget restarts form name) asks (λ P h. h) f so h))
       by (Trace budget restarts name) f asks so h =
           inl (inl (solve_read words content left output told TraceJob (terms_of budget restarts)
           (Trace budget restarts name) asks (λ P h. h) f so h))
@@ -200,7 +200,7 @@ module _ (words : List Text) (content : Content) (left : Option Text) (output : 
   -- what ends with an answer's status, where it ends well
   done_status : (c : Command) (f : Ending) → IsWorkOf c (known_for content c) left output told f → (s : ℕ)
       → f ≡ Done s → HasAnswer s
-  done_status (Solve budget restarts qdo name) f so = so.status
+  done_status (Solve budget restarts form name) f so = so.status
   done_status (Trace budget restarts name) f so = so.status
   done_status (Cert budget restarts binary trim name) f so = so.status
   done_status (Check budget restarts decide name) f so =

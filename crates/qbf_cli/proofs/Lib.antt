@@ -7,6 +7,7 @@ pub mod Scripting
 pub mod Solving
 pub mod Statuses
 pub mod WorkedChecks
+mod WorkedCircuits
 pub mod WorkedCommands
 mod WorkedOutputs
 pub mod WorkedVerdicts

@@ -1,17 +1,18 @@
 -- What is known of the work on a formula, by its status.
-use Rattle.std.proofs.Common.{◌≡◌, ◌≢◌, ◌⊎◌, inl, ℕ, true, false, List, [], ◌∷◌, Option, None, Some, Contains, refl, sym, subst, arith, ◌∙◌}
+use Rattle.std.proofs.Common.{◌≡◌, ◌≢◌, ◌⊎◌, inl, ℕ, Bool, true, false, List, [], ◌∷◌, Option, None, Some, Contains, refl, sym, subst, arith, ◌∙◌}
 use Rattle.std.specs.Prelude.{IfSome}
 use Rattle.std.specs.Io.KnownBytes.{Keeps}
 use Rattle.truth.specs.declared.formula.Formula.{Formula}
 use Rattle.truth.specs.Truth.{truth}
 use Rattle.trail.specs.State.{Account}
-use Rattle.qdimacs.specs.Reads.{Reads}
-use Rattle.qdimacs.specs.Rules.{refused, limit}
+use Rattle.qdimacs.specs.Rules.{parsed, refused, limit}
 use Rattle.command.specs.Forms.{Asks, HasNoForm, Text}
 use Rattle.command.specs.declared.command.Command.{Command}
 use Rattle.session.specs.declared.answer.Answer.{Answer}
 use Rattle.session.specs.declared.answer.Answer.TheVariants.{Sat, Unsat, Unknown}
 use Rattle.session.specs.Solve.{answer_status, HasAnswer, IsAnswerTo, IsShort, OfAnswer, Solves}
+use Rattle.session.specs.Inputs.{Format, Says, format_of}
+use Rattle.session.specs.Inputs.Format.{as_circuit, as_formula}
 use Rattle.session.specs.Jobs.{IsReplyOn}
 use Rattle.session.specs.declared.ending.Ending.{Ending}
 use Rattle.session.specs.declared.ending.Ending.TheVariants.{Done, Refused, Limit, CheckLimit, ReadFault, WriteFault, NoMemory}
@@ -50,23 +51,36 @@ is_short terms f Sat e at = absurd (omega (arith, at))
 is_short terms f Unsat e at = absurd (omega (arith, at))
 is_short terms f Unknown e at = e
 
-true_of : (terms : Terms) (s : ℕ) → s ≡ 10 → (text : Text) → OfAnswer s (Solves terms text) → HasTruth text true
-true_of terms s is text (a, at, (f, reads, e)) = (f, reads, is_true terms f a e (sym is ∙ at))
+-- a formula's truth is that of the text that says it, which may be a circuit
+truth_of : (format : Format) (text : Text) (f : Formula) (value : Bool) → Says format text (parsed f)
+    → truth f.prefix f.clauses ≡ value → HasTruth format text value
+truth_of as_formula text f value reads e = (f, reads, e)
+truth_of as_circuit text f value reads e = (reads.source, reads.read, sym reads.same_truth ∙ e)
 
-false_of : (terms : Terms) (s : ℕ) → s ≡ 20 → (text : Text) → OfAnswer s (Solves terms text) → HasTruth text false
-false_of terms s is text (a, at, (f, reads, e)) = (f, reads, is_false terms f a e (sym is ∙ at))
+true_of : (format : Format) (terms : Terms) (s : ℕ) → s ≡ 10 → (text : Text)
+    → OfAnswer s (Solves format terms text) → HasTruth format text true
+true_of format terms s is text (a, at, (f, reads, e)) =
+    truth_of format text f true reads (is_true terms f a e (sym is ∙ at))
 
-beyond_of : (terms : Terms) (s : ℕ) → s ≡ 0 → (text : Text) → OfAnswer s (Solves terms text) → IsBeyond terms text
-beyond_of terms s is text (a, at, (f, reads, e)) = (f, reads, (is_short terms f a e (sym is ∙ at)).limit)
+false_of : (format : Format) (terms : Terms) (s : ℕ) → s ≡ 20 → (text : Text)
+    → OfAnswer s (Solves format terms text) → HasTruth format text false
+false_of format terms s is text (a, at, (f, reads, e)) =
+    truth_of format text f false reads (is_false terms f a e (sym is ∙ at))
 
-slow_of : (terms : Terms) (s : ℕ) → s ≡ 0 → (text : Text) → OfAnswer s (Solves terms text) → IsSlow terms text
-slow_of terms s is text (a, at, (f, reads, e)) = (f, reads, (is_short terms f a e (sym is ∙ at)).propagation)
+beyond_of : (format : Format) (terms : Terms) (s : ℕ) → s ≡ 0 → (text : Text)
+    → OfAnswer s (Solves format terms text) → IsBeyond format terms text
+beyond_of format terms s is text (a, at, (f, reads, e)) = (f, reads, (is_short terms f a e (sym is ∙ at)).limit)
+
+slow_of : (format : Format) (terms : Terms) (s : ℕ) → s ≡ 0 → (text : Text)
+    → OfAnswer s (Solves format terms text) → IsSlow format terms text
+slow_of format terms s is text (a, at, (f, reads, e)) = (f, reads, (is_short terms f a e (sym is ∙ at)).propagation)
 
 -- a status that no answer has
 pub other_verdict : (words : List Text) (content : Content) (n : ℕ) → is_among answers n ≡ false
-    → (n ≡ 2 → AskedEither words content (λ terms text. IsRefused text) (λ terms text. IsRefusedScript text))
-    → (n ≡ 6 → AskedEither words content (λ terms text. IsLimited text) (λ terms text. IsLimitedScript text)
-    ⊎ AskedCheck words content IsLimitedCheck)
+    → (n ≡ 2 → AskedEither words content (λ format terms text. IsRefused format text)
+    (λ terms text. IsRefusedScript text))
+    → (n ≡ 6 → AskedEither words content (λ format terms text. IsLimited format text)
+    (λ terms text. IsLimitedScript text) ⊎ AskedCheck words content IsLimitedCheck)
     → (n ≡ 7 → HasNoForm words) → (HasNoForm words → Contains (5 ∷ 7 ∷ []) n) → IsVerdict words content n
 other_verdict words content n none two six seven unasked = record {
   sat = λ h. no_answer n none (Sat, h);
@@ -147,9 +161,11 @@ module _ (job : Job) (terms : Terms) (known left : Option Text) (output : Option
 
 module _ (words : List Text) (content : Content) (left : Option Text) (output : Option Text × Option Text)
     (told : List Account × List Account) (job : Job) (terms : Terms) (c : Command) (asks : Asks words c)
-    (of : (P : Terms → Text → Type 0) → IfSome (content (input_of c)) (P terms) → OfFormula c content P) where
+    (of : (P : Format → Terms → Text → Type 0) → IfSome (content (input_of c)) (P (format_of job) terms)
+    → OfFormula c content P) where
   -- what is so of the text is so of the input that was asked for
-  asked : (P : Terms → Text → Type 0) → IfSome (content (input_of c)) (P terms) → Asked words content P
+  asked : (P : Format → Terms → Text → Type 0) → IfSome (content (input_of c)) (P (format_of job) terms)
+      → Asked words content P
   asked P h = (c, asks, of P h)
 
   some_form : HasNoForm words → ⊥
@@ -157,13 +173,16 @@ module _ (words : List Text) (content : Content) (left : Option Text) (output : 
 
   -- an answer to the formula
   pub answer_verdict : (s : ℕ) → HasAnswer s
-      → IfSome (content (input_of c)) (λ text. OfAnswer s (Solves terms text)) → IsVerdict words content s
+      → IfSome (content (input_of c)) (λ text. OfAnswer s (Solves (format_of job) terms text))
+      → IsVerdict words content s
   answer_verdict s has ending = record {
-    sat = λ h. asked (λ n text. HasTruth text true) (some_map _ _ _ (true_of terms s h) ending);
-    unsat = λ h. asked (λ n text. HasTruth text false) (some_map _ _ _ (false_of terms s h) ending);
-    unknown = λ h. inl (inl (inl (asked IsBeyond (some_map _ _ _ (beyond_of terms s h) ending))));
-    slow = λ h. inl (inl (inl (asked IsSlow (some_map _ _ _ (slow_of terms s h) ending))));
-    solved = λ _. inl (inl (inl (asked (λ n text. OfAnswer s (Solves n text)) ending)));
+    sat = λ h. asked (λ format n text. HasTruth format text true)
+        (some_map _ _ _ (true_of (format_of job) terms s h) ending);
+    unsat = λ h. asked (λ format n text. HasTruth format text false)
+        (some_map _ _ _ (false_of (format_of job) terms s h) ending);
+    unknown = λ h. inl (inl (inl (asked IsBeyond (some_map _ _ _ (beyond_of (format_of job) terms s h) ending))));
+    slow = λ h. inl (inl (inl (asked IsSlow (some_map _ _ _ (slow_of (format_of job) terms s h) ending))));
+    solved = λ _. inl (inl (inl (asked (λ format n text. OfAnswer s (Solves format n text)) ending)));
     refused = λ h. is_answer s 2 refl has h;
     limit = λ h. is_answer s 6 refl has h;
     usage = λ h. is_answer s 7 refl has h;
@@ -175,13 +194,15 @@ module _ (words : List Text) (content : Content) (left : Option Text) (output : 
   solve_verdict (Done s) so = answer_verdict s (so.status s refl) so.ending
   solve_verdict (Refused number at) so =
       other_verdict words content 2 refl
-      (λ _. inl (asked (λ n text. IsRefused text)
-      (some_map _ (λ text. Reads text (refused number at)) IsRefused (λ text h. (number, at, h)) so.ending)))
+      (λ _. inl (asked (λ format n text. IsRefused format text)
+      (some_map _ (λ text. Says (format_of job) text (refused number at)) (IsRefused (format_of job))
+      (λ text h. (number, at, h)) so.ending)))
       (λ e. absurd (omega (arith, e))) (λ e. absurd (omega (arith, e))) (λ none. absurd (some_form none))
   solve_verdict (Limit quantity at) so =
       other_verdict words content 6 refl (λ e. absurd (omega (arith, e)))
-      (λ _. inl (inl (asked (λ n text. IsLimited text)
-      (some_map _ (λ text. Reads text (limit quantity at)) IsLimited (λ text h. (quantity, at, h)) so.ending))))
+      (λ _. inl (inl (asked (λ format n text. IsLimited format text)
+      (some_map _ (λ text. Says (format_of job) text (limit quantity at)) (IsLimited (format_of job))
+      (λ text h. (quantity, at, h)) so.ending))))
       (λ e. absurd (omega (arith, e))) (λ none. absurd (some_form none))
   solve_verdict (CheckLimit quantity) so = absurd so.output_of
   solve_verdict ReadFault so =
@@ -198,13 +219,14 @@ module _ (words : List Text) (content : Content) (left : Option Text) (output : 
       → IsErrorLine words content (status_of (Worked f)) (line_of (Worked f))
   solve_line (Done s) so = answer_line words content s (so.status s refl)
   solve_line (Refused number at) so = record {
-    refused = λ _. (number, at, refl, inl (asked (λ n text. Reads text (refused number at)) so.ending));
+    refused = λ _. (number, at, refl, inl (asked (λ format n text. Says format text (refused number at)) so.ending));
     limit = λ h. absurd (omega (arith, h));
     other = λ n _ _. absurd (n refl);
   }
   solve_line (Limit quantity at) so = record {
     refused = λ h. absurd (omega (arith, h));
-    limit = λ _. inl (quantity, at, refl, inl (asked (λ n text. Reads text (limit quantity at)) so.ending));
+    limit = λ _. inl
+        (quantity, at, refl, inl (asked (λ format n text. Says format text (limit quantity at)) so.ending));
     other = λ _ n _. absurd (n refl);
   }
   solve_line (CheckLimit quantity) so = absurd so.output_of
@@ -213,8 +235,8 @@ module _ (words : List Text) (content : Content) (left : Option Text) (output : 
   solve_line NoMemory so = plain_line words content 5 _ (λ e. omega (arith, e)) (λ e. omega (arith, e)) refl
 
   pub solve_read : (f : Ending) → IsSolved job terms (content (input_of c)) left output told f
-      → HasAnswer (status_of (Worked f)) → Asked words content (λ n text. left ≡ Some [])
-  solve_read (Done s) so h = asked (λ n text. left ≡ Some []) (so.read tt)
+      → HasAnswer (status_of (Worked f)) → Asked words content (λ format n text. left ≡ Some [])
+  solve_read (Done s) so h = asked (λ format n text. left ≡ Some []) (so.read tt)
   solve_read (Refused number at) so h = no_answer 2 refl h
   solve_read (Limit quantity at) so h = no_answer 6 refl h
   solve_read (CheckLimit quantity) so h = no_answer 6 refl h

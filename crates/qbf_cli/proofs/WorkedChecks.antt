@@ -46,7 +46,7 @@ is_check (Check budget restarts decide None) alike =
     ∙ ap (λ d. Check whole 0 d None) third
 is_check (Check budget restarts decide (Some name)) alike =
     absurd (let no : Some name.now ≡ None = alike.names in cc)
-is_check (Solve budget restarts qdo name) alike =
+is_check (Solve budget restarts form name) alike =
     absurd (let n : 111 ≡ 104 = ap (letter 1) alike.words in omega (arith, n))
 is_check (Trace budget restarts name) alike =
     absurd (let n : 114 ≡ 104 = ap (letter 1) alike.words in omega (arith, n))

@@ -5,16 +5,22 @@ use Rattle.trail.specs.State.{Account}
 use Rattle.command.specs.Forms.{Text}
 use Rattle.command.specs.declared.command.Command.{Command}
 use Rattle.command.specs.declared.command.Command.TheVariants.{Cert, Check, Demo, Solve, Trace}
+use Rattle.command.specs.declared.command.SolveForm.TheVariants.{Plain, Qcir, Qdo}
 use Rattle.samples.specs.Samples.{counts_text}
-use Rattle.session.specs.declared.ending.Job.TheVariants.{Cert as CertJob, Qdo as QdoJob, Solve as SolveJob, Trace as TraceJob}
+use Rattle.session.specs.declared.ending.Job.TheVariants.{Cert as CertJob, Qcir as QcirJob, Qdo as QdoJob, Solve as SolveJob, Trace as TraceJob}
 use Rattle.session.specs.Checks.{RoomForCheck}
+use Rattle.session.specs.Inputs.{Format}
+use Rattle.session.specs.Inputs.Format.{as_circuit, as_formula}
 use Rattle.session.specs.Jobs.{RoomForJob}
 use Rattle.session.specs.Terms.{Terms, terms_of}
 use Rattle.qbf_cli.specs.Asked.{IsSample, OfCheckCommand, OfFormula, OfScript, RoomForCommand, SteadyFor, known_for, solve_job}
 use Rattle.qbf_cli.specs.Told.{IsCheckOutput, IsJobOutput, IsOutputOf, IsSampleOutput}
 
 abbrev qdo : Command
-qdo = Solve 7 1 true None
+qdo = Solve 7 1 Qdo None
+
+abbrev circuit : Command
+circuit = Solve 7 1 Qcir None
 
 abbrev trace : Command
 trace = Trace 7 1 None
@@ -32,39 +38,55 @@ abbrev seven : Terms
 seven = terms_of 7 1
 
 -- the jobs of `solve`
-pub with_qdo : solve_job true ≡ QdoJob
+pub with_qdo : solve_job Qdo ≡ QdoJob
 with_qdo = refl
 
-pub without_qdo : solve_job false ≡ SolveJob
-without_qdo = refl
+pub with_qcir : solve_job Qcir ≡ QcirJob
+with_qcir = refl
 
--- each reads the formula of its input
-module _ (content : Text → Option Text) (P : Terms → Text → Type 0) where
-  pub of_qdo : OfFormula qdo content P → IfSome (content (codes "-")) (P seven)
+pub without_flag : solve_job Plain ≡ SolveJob
+without_flag = refl
+
+-- each reads the formula of its input, and one of them a circuit
+module _ (content : Text → Option Text) (P : Format → Terms → Text → Type 0) where
+  pub of_qdo : OfFormula qdo content P → IfSome (content (codes "-")) (P as_formula seven)
   of_qdo h = h
 
-  pub of_trace : OfFormula trace content P → IfSome (content (codes "-")) (P seven)
+  pub of_circuit : OfFormula circuit content P → IfSome (content (codes "-")) (P as_circuit seven)
+  of_circuit h = h
+
+  pub of_trace : OfFormula trace content P → IfSome (content (codes "-")) (P as_formula seven)
   of_trace h = h
 
-  pub of_cert : OfFormula cert content P → IfSome (content (codes "-")) (P seven)
+  pub of_cert : OfFormula cert content P → IfSome (content (codes "-")) (P as_formula seven)
   of_cert h = h
 
-  pub of_check : OfFormula check content P → IfSome (content (codes "-")) (P seven)
+  pub of_check : OfFormula check content P → IfSome (content (codes "-")) (P as_formula seven)
   of_check h = h
 
-  pub to_qdo : IfSome (content (codes "-")) (P seven) → OfFormula qdo content P
+  pub to_qdo : IfSome (content (codes "-")) (P as_formula seven) → OfFormula qdo content P
   to_qdo h = h
 
-  pub to_trace : IfSome (content (codes "-")) (P seven) → OfFormula trace content P
+  pub to_circuit : IfSome (content (codes "-")) (P as_circuit seven) → OfFormula circuit content P
+  to_circuit h = h
+
+  pub to_trace : IfSome (content (codes "-")) (P as_formula seven) → OfFormula trace content P
   to_trace h = h
 
-  pub to_cert : IfSome (content (codes "-")) (P seven) → OfFormula cert content P
+  pub to_cert : IfSome (content (codes "-")) (P as_formula seven) → OfFormula cert content P
   to_cert h = h
 
-  pub to_check : IfSome (content (codes "-")) (P seven) → OfFormula check content P
+  pub to_check : IfSome (content (codes "-")) (P as_formula seven) → OfFormula check content P
   to_check h = h
 
-  -- and no script, and `demo` has none
+  pub no_formula_of_demo : OfFormula demo content P → ⊥
+  no_formula_of_demo h = h
+
+-- and no script, and `demo` has none
+module _ (content : Text → Option Text) (P : Terms → Text → Type 0) where
+  pub no_script_of_circuit : OfScript circuit content P → ⊥
+  no_script_of_circuit h = h
+
   pub no_script_of_trace : OfScript trace content P → ⊥
   no_script_of_trace h = h
 
@@ -76,9 +98,6 @@ module _ (content : Text → Option Text) (P : Terms → Text → Type 0) where
 
   pub no_script_of_demo : OfScript demo content P → ⊥
   no_script_of_demo h = h
-
-  pub no_formula_of_demo : OfFormula demo content P → ⊥
-  no_formula_of_demo h = h
 
   pub known_of_trace : known_for content trace ≡ content (codes "-")
   known_of_trace = refl
@@ -103,6 +122,9 @@ module _ (content : Text → Option Text) (P : Bool → Terms → Text → Type 
   pub no_check_of_qdo : OfCheckCommand qdo content P → ⊥
   no_check_of_qdo h = h
 
+  pub no_check_of_circuit : OfCheckCommand circuit content P → ⊥
+  no_check_of_circuit h = h
+
   pub no_check_of_trace : OfCheckCommand trace content P → ⊥
   no_check_of_trace h = h
 
@@ -126,6 +148,10 @@ module _ (known : Option Text) (written : Option Text × Option Text) (stops : L
   pub qdo_leaves : IsOutputOf qdo known written stops status → IsJobOutput QdoJob seven known written stops status
   qdo_leaves h = h
 
+  pub circuit_leaves : IsOutputOf circuit known written stops status
+      → IsJobOutput QcirJob seven known written stops status
+  circuit_leaves h = h
+
   pub trace_leaves : IsOutputOf trace known written stops status → IsJobOutput TraceJob seven known written stops status
   trace_leaves h = h
 
@@ -144,6 +170,9 @@ module _ (known : Option Text) (has_room : ℕ → Type 0) where
   pub room_for_qdo : RoomForJob QdoJob seven known has_room → RoomForCommand qdo known has_room
   room_for_qdo h = h
 
+  pub room_for_circuit : RoomForJob QcirJob seven known has_room → RoomForCommand circuit known has_room
+  room_for_circuit h = h
+
   pub room_for_trace : RoomForJob TraceJob seven known has_room → RoomForCommand trace known has_room
   room_for_trace h = h
 
@@ -158,6 +187,9 @@ module _ (known : Option Text) (has_room : ℕ → Type 0) where
 
 -- nor a desk that is steady for more than its input
 module _ (steady : Text → Type 0) where
+  pub steady_for_circuit : steady (codes "-") → SteadyFor circuit steady
+  steady_for_circuit h = h
+
   pub steady_for_trace : steady (codes "-") → SteadyFor trace steady
   steady_for_trace h = h
 

@@ -23,9 +23,12 @@ use Rattle.qscript.specs.Reads.{Ending as ScriptEnding, ReadsScript, done, limit
 use Rattle.qscript.proofs.Outcomes.{computed_reading, one_reading}
 use Rattle.command.specs.Forms.{Text}
 use Rattle.command.specs.declared.command.Command.TheVariants.{Cert, Check, Demo, Solve, Trace}
+use Rattle.command.specs.declared.command.SolveForm.TheVariants.{Qdo}
 use Rattle.session.specs.declared.answer.Answer.TheVariants.{Sat, Unknown, Unsat}
 use Rattle.session.specs.declared.ending.Ending.{Ending}
 use Rattle.session.specs.declared.ending.Ending.TheVariants.{CheckLimit, Done, Limit, NoMemory, ReadFault, Refused, WriteFault}
+use Rattle.session.specs.Inputs.{Says}
+use Rattle.session.specs.Inputs.Format.{as_formula}
 use Rattle.session.specs.Solve.{OfAnswer, Solves}
 use Rattle.session.specs.Worked.{anything_fits, nothing_fits}
 use Rattle.session.proofs.JobValues.{bare, bare_is, bare_reads}
@@ -75,11 +78,11 @@ not_limited quantity at reads =
     absurd (let same : parsed anything_fits ≡ limit quantity at =
     one_outcome bare (parsed anything_fits) (limit quantity at) bare_reads reads in cc)
 
-true_is : (value : Bool) → HasTruth bare value → value ≡ true
+true_is : (value : Bool) → HasTruth as_formula bare value → value ≡ true
 true_is value (f, reads, is) =
     sym (subst (λ (g : Formula). truth g.prefix g.clauses ≡ value) (bare_is f reads) is)
 
-false_truth : (value : Bool) → HasTruth false_text value → value ≡ false
+false_truth : (value : Bool) → HasTruth as_formula false_text value → value ≡ false
 false_truth value (f, reads, is) =
     sym (subst (λ (g : Formula). truth g.prefix g.clauses ≡ value) (false_is f reads) is)
 
@@ -106,11 +109,11 @@ ends_badly e (commands, reads) =
 -- a true formula has status 10
 pub answered_true : IsVerdict solve_words (holds bare) 10
 answered_true = record {
-  sat = λ _. to_solve (holds bare) (λ terms text. HasTruth text true) (anything_fits, bare_reads, refl);
+  sat = λ _. to_solve (holds bare) (λ format terms text. HasTruth format text true) (anything_fits, bare_reads, refl);
   unsat = λ e. absurd (omega (arith, e));
   unknown = λ e. absurd (omega (arith, e));
   slow = λ e. absurd (omega (arith, e));
-  solved = λ _. inl (inl (inl (to_solve (holds bare) (λ terms text. OfAnswer 10 (Solves terms text))
+  solved = λ _. inl (inl (inl (to_solve (holds bare) (λ format terms text. OfAnswer 10 (Solves format terms text))
       (Sat, refl, (anything_fits, bare_reads, refl)))));
   refused = λ e. absurd (omega (arith, e));
   limit = λ e. absurd (omega (arith, e));
@@ -121,12 +124,12 @@ answered_true = record {
 -- a malformed text 2, one beyond a limit 6, and no words 7
 pub answered_refused : IsVerdict solve_words (holds bad_text) 2
 answered_refused = other_verdict solve_words (holds bad_text) 2 refl
-    (λ _. inl (to_solve (holds bad_text) (λ terms text. IsRefused text) (11, 1, bad_reads)))
+    (λ _. inl (to_solve (holds bad_text) (λ format terms text. IsRefused format text) (11, 1, bad_reads)))
     (λ e. absurd (omega (arith, e))) (λ e. absurd (omega (arith, e))) (λ none. absurd (none solve asks_solve))
 
 pub answered_limit : IsVerdict solve_words (holds great_text) 6
 answered_limit = other_verdict solve_words (holds great_text) 6 refl (λ e. absurd (omega (arith, e)))
-    (λ _. inl (inl (to_solve (holds great_text) (λ terms text. IsLimited text) (Variables, 1, great_reads))))
+    (λ _. inl (inl (to_solve (holds great_text) (λ format terms text. IsLimited format text) (Variables, 1, great_reads))))
     (λ e. absurd (omega (arith, e))) (λ none. absurd (none solve asks_solve))
 
 pub answered_usage : IsVerdict [] (holds bare) 7
@@ -163,12 +166,12 @@ answered_sample = record {
 -- a false formula hasn't status 10, nor a true one 20
 pub false_as_true : IsVerdict solve_words (holds false_text) 10 → ⊥
 false_as_true h =
-    absurd (let is : true ≡ false = false_truth true (of_solve (holds false_text) (λ terms text. HasTruth text true)
+    absurd (let is : true ≡ false = false_truth true (of_solve (holds false_text) (λ format terms text. HasTruth format text true)
     (h.sat refl)) in cc)
 
 pub true_as_false : IsVerdict solve_words (holds bare) 20 → ⊥
 true_as_false h =
-    absurd (let is : false ≡ true = true_is false (of_solve (holds bare) (λ terms text. HasTruth text false)
+    absurd (let is : false ≡ true = true_is false (of_solve (holds bare) (λ format terms text. HasTruth format text false)
     (h.unsat refl)) in cc)
 
 -- nor does one that is decided within the budget have 0
@@ -191,37 +194,37 @@ refuted_as_unknown h =
     omega (arith, low)
 
 -- an answer is one to the formula, whichever it is
-answer_of_true : OfAnswer 20 (Solves plain bare) → ⊥
+answer_of_true : OfAnswer 20 (Solves as_formula plain bare) → ⊥
 answer_of_true (Sat, at, solves) = absurd (let no : 20 ≡ 10 = at in omega (arith, no))
 answer_of_true (Unsat, at, (f, reads, is)) =
     absurd (let no : false ≡ true = true_is false (f, reads, is) in cc)
 answer_of_true (Unknown, at, solves) = absurd (let no : 20 ≡ 0 = at in omega (arith, no))
 
 pub true_solved : IsVerdict solve_words (holds bare) 20 → ⊥
-true_solved h = answer_of_true (any_of_solve (holds bare) (λ terms text. OfAnswer 20 (Solves terms text))
+true_solved h = answer_of_true (any_of_solve (holds bare) (λ format terms text. OfAnswer 20 (Solves format terms text))
     (λ terms text. (20 ≡ 0) × EndsIn text done)
     (first_one (h.solved (Unsat, refl)) (λ c. no_check (holds bare) IsUndecidedCheck c.1)))
 
 -- a formula isn't refused, nor a script that ends well; and neither goes beyond a limit
 pub true_as_refused : IsVerdict solve_words (holds bare) 2 → ⊥
 true_as_refused h =
-    let is = either_of_solve (holds bare) (λ terms text. IsRefused text) (λ terms text. IsRefusedScript text)
+    let is = either_of_solve (holds bare) (λ format terms text. IsRefused format text) (λ terms text. IsRefusedScript text)
     (h.refused refl) in not_refused is.0 is.1 is.2
 
 pub script_as_refused : IsVerdict script_words (holds header) 2 → ⊥
 script_as_refused h =
-    let is = either_of_script (holds header) (λ terms text. IsRefused text) (λ terms text. IsRefusedScript text)
+    let is = either_of_script (holds header) (λ format terms text. IsRefused format text) (λ terms text. IsRefusedScript text)
     (h.refused refl) in
     absurd (let no : script_refused is.0 is.1 ≡ done = ends_well (script_refused is.0 is.1) is.2 in cc)
 
 pub true_as_limit : IsVerdict solve_words (holds bare) 6 → ⊥
 true_as_limit h =
-    let is = either_of_solve (holds bare) (λ terms text. IsLimited text) (λ terms text. IsLimitedScript text)
+    let is = either_of_solve (holds bare) (λ format terms text. IsLimited format text) (λ terms text. IsLimitedScript text)
     (first_one (h.limit refl) (no_check (holds bare) IsLimitedCheck)) in not_limited is.0 is.1 is.2
 
 pub script_as_limit : IsVerdict script_words (holds header) 6 → ⊥
 script_as_limit h =
-    let is = either_of_script (holds header) (λ terms text. IsLimited text) (λ terms text. IsLimitedScript text)
+    let is = either_of_script (holds header) (λ format terms text. IsLimited format text) (λ terms text. IsLimitedScript text)
     (first_one (h.limit refl) (no_check_of_script (holds header) IsLimitedCheck)) in
     absurd (let no : script_limit is.0 ≡ done = ends_well (script_limit is.0) is.1 in cc)
 
@@ -243,7 +246,7 @@ unasked_true h = absent (5 ∷ 7 ∷ []) 10 refl (h.unasked no_words)
 pub refused_says : IsErrorLine solve_words (holds bad_text) 2 (codes "qbf: line 1: refused 11\n")
 unfolding digits
 refused_says = record {
-  refused = λ _. (11, 1, refl, inl (to_solve (holds bad_text) (λ terms text. Reads text (refused 11 1)) bad_reads));
+  refused = λ _. (11, 1, refl, inl (to_solve (holds bad_text) (λ format terms text. Says format text (refused 11 1)) bad_reads));
   limit = λ e. absurd (omega (arith, e));
   other = λ n _ _. absurd (n refl);
 }
@@ -256,7 +259,7 @@ limit_says = record {
     Variables,
     1,
     refl,
-    inl (to_solve (holds great_text) (λ terms text. Reads text (limit Variables 1))
+    inl (to_solve (holds great_text) (λ format terms text. Says format text (limit Variables 1))
         great_reads),
   );
   other = λ _ n _. absurd (n refl);
@@ -272,7 +275,7 @@ says_nothing = record {
 pub true_says_refused : (line : Text) → IsErrorLine solve_words (holds bare) 2 line → ⊥
 true_says_refused line h =
     let is = h.refused refl in
-    not_refused is.0 is.1 (either_of_solve (holds bare) (λ terms text. Reads text (refused is.0 is.1))
+    not_refused is.0 is.1 (either_of_solve (holds bare) (λ format terms text. Says format text (refused is.0 is.1))
     (λ terms text. EndsIn text (script_refused is.0 is.1)) is.3)
 
 pub no_refusal : IsErrorLine solve_words (holds bad_text) 2 [] → ⊥
@@ -282,7 +285,7 @@ no_refusal h =
 pub true_says_limit : (line : Text) → IsErrorLine solve_words (holds bare) 6 line → ⊥
 true_says_limit line h =
     let is = first_one (h.limit refl) (λ c. no_check (holds bare) (IsCheckBeyond c.0) c.2) in
-    not_limited is.0 is.1 (either_of_solve (holds bare) (λ terms text. Reads text (limit is.0 is.1))
+    not_limited is.0 is.1 (either_of_solve (holds bare) (λ format terms text. Says format text (limit is.0 is.1))
     (λ terms text. (is.0 ≡ Bytes) × EndsIn text (script_limit is.1)) is.3)
 
 pub other_fault : IsErrorLine solve_words (holds bare) 4 (codes "qbf: read fault\n") → ⊥
@@ -356,7 +359,7 @@ bad_formula (f, reads) =
     absurd (let same : refused 11 1 ≡ parsed f = one_outcome bad_text (refused 11 1) (parsed f) bad_reads reads in cc)
 
 pub all_valid : AllByRecursion (λ c. IsValidFor c (holds bare))
-    (Solve 7 1 true None ∷ Trace 7 1 None ∷ Cert 7 1 true true None ∷ Check 7 1 true None ∷ gen ∷ Demo 0 1 ∷ [])
+    (Solve 7 1 Qdo None ∷ Trace 7 1 None ∷ Cert 7 1 true true None ∷ Check 7 1 true None ∷ gen ∷ Demo 0 1 ∷ [])
 all_valid = (
   (anything_fits, bare_reads),
   (
@@ -369,7 +372,7 @@ all_valid = (
 )
 
 pub none_valid : AllByRecursion (λ c. IsValidFor c (holds bad_text) → ⊥)
-    (Solve 7 1 true None ∷ Trace 7 1 None ∷ Cert 7 1 true true None ∷ Check 7 1 true None ∷ [])
+    (Solve 7 1 Qdo None ∷ Trace 7 1 None ∷ Cert 7 1 true true None ∷ Check 7 1 true None ∷ [])
 none_valid = (bad_formula, (bad_formula, (bad_formula, (bad_formula, tt))))
 
 pub bad_script_invalid : IsValid script_words (holds bad_script) → ⊥

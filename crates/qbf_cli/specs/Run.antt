@@ -15,6 +15,8 @@ use Rattle.aig.specs.declared.strategy.Strategy.{Strategy}
 use Rattle.certcheck.specs.Building.{limit_of}
 use Rattle.session.specs.Checks.{HasCircuit, IsFinished, LeavesCheck, OfCheck, check_of}
 use Rattle.session.specs.Endings.{IsUnread}
+use Rattle.session.specs.Inputs.{Format, Says, format_of}
+use Rattle.session.specs.Inputs.Format.{as_circuit, as_formula}
 use Rattle.session.specs.Jobs.{LeavesOutput}
 use Rattle.session.specs.Scripts.{AreAnswered, IsScriptEnding}
 use Rattle.session.specs.Terms.{Terms, terms_of}
@@ -30,6 +32,10 @@ use Rattle.qdimacs.specs.Rules.{parsed, refused, limit}
 use Rattle.qdimacs.specs.Reads.{Reads}
 use Rattle.qdimacs.specs.declared.refusal.Quantity.{Quantity}
 use Rattle.qdimacs.specs.declared.refusal.Quantity.TheVariants.{Variables, Scopes, Clauses, Literals, Bytes}
+use Rattle.qcir.specs.declared.circuit.Circuit.{Circuit}
+use Rattle.qcir.specs.Truth.{circuit_truth}
+use Rattle.qcir_reader.specs.Rules.{parsed as circuit}
+use Rattle.qcir_reader.specs.Reads.{Reads as ReadsCircuit}
 use Rattle.qscript.specs.declared.command.Command.{Command as ScriptCommand}
 use Rattle.qscript.specs.Reads.{Ending as ScriptEnding, ReadsScript, done, limit as script_limit, refused as script_refused}
 use Rattle.generate.specs.Made.{made}
@@ -39,29 +45,30 @@ use Rattle.qbf_cli.specs.Asked.{Asked, AskedAny, AskedCheck, AskedEither, known_
 use Rattle.qbf_cli.specs.declared.ending.RunEnding.{RunEnding}
 use Rattle.qbf_cli.specs.declared.ending.RunEnding.TheVariants.{Worked, Usage}
 
--- The text is a formula with this truth.
-abbrev pub HasTruth : Text → Bool → Type 0
-HasTruth text value = (f : Formula) × Reads text (parsed f) × (truth f.prefix f.clauses ≡ value)
+-- The text is a formula with this truth, or a circuit with this truth.
+abbrev pub HasTruth : Format → Text → Bool → Type 0
+HasTruth as_formula text value = (f : Formula) × Reads text (parsed f) × (truth f.prefix f.clauses ≡ value)
+HasTruth as_circuit text value = (c : Circuit) × ReadsCircuit text (circuit c) × (circuit_truth c ≡ value)
 
--- The text is a formula, and the budget is below the step limit of its variables, for a search that may begin anew so
--- often.
-abbrev pub IsBeyond : Terms → Text → Type 0
-IsBeyond terms text = (f : Formula) × Reads text (parsed f) ×
+-- The text says a formula, which may be that of a circuit, and the budget is below the step limit of its variables, for
+-- a search that may begin anew so often.
+abbrev pub IsBeyond : Format → Terms → Text → Type 0
+IsBeyond format terms text = (f : Formula) × Says format text (parsed f) ×
     (terms.budget < step_limit terms.restarts (size_of f.prefix))
 
--- The text is a formula, and where propagation alone refutes its clauses, the budget is below the limit of propagation
--- of its variables.
-abbrev pub IsSlow : Terms → Text → Type 0
-IsSlow terms text = (f : Formula) × Reads text (parsed f)
+-- The text says a formula, and where propagation alone refutes its clauses, the budget is below the limit of
+-- propagation of its variables.
+abbrev pub IsSlow : Format → Terms → Text → Type 0
+IsSlow format terms text = (f : Formula) × Says format text (parsed f)
     × (IsRefuted f.prefix f.clauses [] → terms.budget < propagation_limit (size_of f.prefix))
 
 -- The text is malformed.
-abbrev pub IsRefused : Text → Type 0
-IsRefused text = (number at : ℕ) × Reads text (refused number at)
+abbrev pub IsRefused : Format → Text → Type 0
+IsRefused format text = (number at : ℕ) × Says format text (refused number at)
 
 -- The text goes beyond a limit.
-abbrev pub IsLimited : Text → Type 0
-IsLimited text = (quantity : Quantity) × (at : ℕ) × Reads text (limit quantity at)
+abbrev pub IsLimited : Format → Text → Type 0
+IsLimited format text = (quantity : Quantity) × (at : ℕ) × Says format text (limit quantity at)
 
 -- The text is a script with this ending.
 abbrev pub EndsIn : Text → ScriptEnding → Type 0
@@ -89,22 +96,23 @@ IsCheckBeyond quantity decide terms text = (f : Formula) × Reads text (parsed f
 abbrev pub IsLimitedCheck : Bool → Terms → Text → Type 0
 IsLimitedCheck decide terms text = (quantity : Quantity) × IsCheckBeyond quantity decide terms text
 
--- What the status says of the words and the input: a true formula, a false one, one for which the budget may be too
--- low, or too low for the check formula of its certificate, a script that ends well or no input at all, a malformed
--- text, one beyond a limit, or one whose check formula is, or words that ask for no command.
+-- What the status says of the words and the input: a true formula or circuit, a false one, one for which the budget may
+-- be too low, or too low for the check formula of its certificate, a script that ends well or no input at all, a
+-- malformed text, one beyond a limit, or one whose check formula is, or words that ask for no command.
 pub record IsVerdict (words : List Text) (content : Text → Option Text) (status : ℕ) : Type 0 where
-  pub sat : status ≡ 10 → Asked words content (λ terms text. HasTruth text true)
-  pub unsat : status ≡ 20 → Asked words content (λ terms text. HasTruth text false)
+  pub sat : status ≡ 10 → Asked words content (λ format terms text. HasTruth format text true)
+  pub unsat : status ≡ 20 → Asked words content (λ format terms text. HasTruth format text false)
   pub unknown : status ≡ 0 → AskedAny words content IsBeyond (λ terms text. EndsIn text done)
       ⊎ AskedCheck words content IsUndecidedCheck
   pub slow : status ≡ 0 → AskedAny words content IsSlow (λ terms text. EndsIn text done)
       ⊎ AskedCheck words content IsUndecidedCheck
-  pub solved : HasAnswer status → AskedAny words content (λ terms text. OfAnswer status (Solves terms text))
+  pub solved : HasAnswer status
+      → AskedAny words content (λ format terms text. OfAnswer status (Solves format terms text))
       (λ terms text. (status ≡ 0) × EndsIn text done)
       ⊎ ((status ≡ 0) × AskedCheck words content IsUndecidedCheck)
-  pub refused : status ≡ 2 → AskedEither words content (λ terms text. IsRefused text)
+  pub refused : status ≡ 2 → AskedEither words content (λ format terms text. IsRefused format text)
       (λ terms text. IsRefusedScript text)
-  pub limit : status ≡ 6 → AskedEither words content (λ terms text. IsLimited text)
+  pub limit : status ≡ 6 → AskedEither words content (λ format terms text. IsLimited format text)
       (λ terms text. IsLimitedScript text) ⊎ AskedCheck words content IsLimitedCheck
   pub usage : status ≡ 7 → HasNoForm words
   pub unasked : HasNoForm words → Contains (5 ∷ 7 ∷ []) status
@@ -163,7 +171,7 @@ fixed_line status =
 -- It tells a limit of the input, with its line.
 abbrev pub IsInputLimit : (words : List Text) (content : Text → Option Text) (line : Text) → Type 0
 IsInputLimit words content line = (quantity : Quantity) × (at : ℕ) × (line ≡ limit_line quantity at)
-    × AskedEither words content (λ terms text. Reads text (limit quantity at))
+    × AskedEither words content (λ format terms text. Says format text (limit quantity at))
     (λ terms text. (quantity ≡ Bytes) × EndsIn text (script_limit at))
 
 -- It tells a limit of the check formula.
@@ -175,7 +183,7 @@ IsCheckLimit words content line =
 -- formula does, and any text where the words ask for no command.
 pub record IsErrorLine (words : List Text) (content : Text → Option Text) (status : ℕ) (line : Text) : Type 0 where
   pub refused : status ≡ 2 → (number at : ℕ) × (line ≡ refused_line number at)
-      × AskedEither words content (λ terms text. Reads text (refused number at))
+      × AskedEither words content (λ format terms text. Says format text (refused number at))
       (λ terms text. EndsIn text (script_refused number at))
   pub limit : status ≡ 6 → IsInputLimit words content line ⊎ IsCheckLimit words content line
   pub other : status ≢ 2 → status ≢ 6 → status ≢ 7 → line ≡ fixed_line status
@@ -188,11 +196,11 @@ pub record IsErrorOutput (words : List Text) (content : Text → Option Text) (f
   pub front : AppendsFront old new line
   pub whole : ¬ Rose faults.0 faults.1 → Appends old new line
 
--- What is known of the work of a job on a formula that an input holds. `output` is what stood on the output and stands
--- on it, `told` the list of stopped searches before and after.
+-- What is known of the work of a job on a formula, or on a circuit, that an input holds. `output` is what stood on the
+-- output and stands on it, `told` the list of stopped searches before and after.
 pub record IsSolved (job : Job) (terms : Terms) (known left : Option Text) (output : Option Text × Option Text)
     (told : List Account × List Account) (e : Ending) : Type 0 where
-  pub ending : IfSome known (λ text. IsEnding terms text e)
+  pub ending : IfSome known (λ text. IsEnding (format_of job) terms text e)
   pub status : (s : ℕ) → e ≡ Done s → HasAnswer s
   pub read : IsDone e → IfSome known (λ text. left ≡ Some [])
   pub output_of : LeavesOutput job terms known output told e
@@ -200,7 +208,7 @@ pub record IsSolved (job : Job) (terms : Terms) (known left : Option Text) (outp
 -- What is known of the check of a certificate of the formula that an input holds.
 pub record IsCheckWork (decide : Bool) (terms : Terms) (known left : Option Text) (output : Option Text × Option Text)
     (told : List Account × List Account) (e : Ending) : Type 0 where
-  pub unread : IsUnread e → IfSome known (λ text. IsEnding terms text e)
+  pub unread : IsUnread e → IfSome known (λ text. IsEnding as_formula terms text e)
   pub read : IsFinished e → IfSome known (λ text. left ≡ Some [])
   pub output_of : LeavesCheck decide terms known output told e
 
@@ -221,7 +229,7 @@ pub record IsMade (text : Text) (output : Option Text × Option Text) (told : Li
 -- what is known of the work of a command
 abbrev pub IsWorkOf : Command → (known left : Option Text) (output : Option Text × Option Text)
     (told : List Account × List Account) → Ending → Type 0
-IsWorkOf (Solve budget restarts qdo name) known left output told e = IsSolved (solve_job qdo)
+IsWorkOf (Solve budget restarts form name) known left output told e = IsSolved (solve_job form)
     (terms_of budget restarts) known left output told e
 IsWorkOf (Trace budget restarts name) known left output told e = IsSolved TraceJob (terms_of budget restarts) known
     left output told e

@@ -79,8 +79,8 @@ pub record IsSampleOutput (text : Text) (written : Option Text × Option Text) (
 -- what a command leaves on the output and tells, whose input is this text, where it is told
 abbrev pub IsOutputOf : Command → (known : Option Text) (written : Option Text × Option Text)
     (stops : List Account) → ℕ → Type 0
-IsOutputOf (Solve budget restarts qdo name) known written stops status =
-    IsJobOutput (solve_job qdo) (terms_of budget restarts) known written stops status
+IsOutputOf (Solve budget restarts form name) known written stops status =
+    IsJobOutput (solve_job form) (terms_of budget restarts) known written stops status
 IsOutputOf (Trace budget restarts name) known written stops status = IsJobOutput TraceJob (terms_of budget restarts)
     known written stops status
 IsOutputOf (Cert budget restarts binary trim name) known written stops status =

@@ -15,8 +15,9 @@ ghost use Rattle.qbf_cli.specs.Run.{Carried, IsAnswered, IsCheckWork, IsErrorOut
 ghost use Rattle.qbf_cli.specs.Told.{IsOutput};
 
 use super::ending::RunEnding;
-use command::{Command, Refused, read_command};
+use command::{Command, Refused, SolveForm, read_command};
 use ports::{Desk, Sink};
+use qcir_reader::each_text_has_one_outcome as each_circuit_has_one_outcome;
 use qdimacs::each_text_has_one_outcome;
 use qscript::each_script_has_one_reading;
 use samples::{count_samples, write_sample};
@@ -25,9 +26,10 @@ use std::alloc::Global;
 use trail::Stopped;
 
 /// Carries out the command that the words ask for, the program's name first:
-/// - `solve [--budget N] [--restarts R] [--qdo] [NAME]` decides the formula of the file NAME, or of standard input, by
-///   search with a budget of N steps, which may begin anew R times, and writes `SAT`, `UNSAT` or `UNKNOWN` to `out`;
-///   with `--qdo` the lines of QDIMACS 1.1's output format.
+/// - `solve [--budget N] [--restarts R] [--qdo | --qcir] [NAME]` decides the formula of the file NAME, or of standard
+///   input, by search with a budget of N steps, which may begin anew R times, and writes `SAT`, `UNSAT` or `UNKNOWN` to
+///   `out`; with `--qdo` the lines of QDIMACS 1.1's output format. With `--qcir` the input is a quantified circuit
+///   (QCIR-14), which is decided by its formula (`qcir::translate`).
 /// - `trace [--budget N] [--restarts R] [NAME]` writes in the place of `SAT` and `UNSAT` the trace of the verdict's proof
 ///   (QRP).
 /// - `cert [--budget N] [--restarts R] [--binary] [--trim] [NAME]` writes there the circuit by which the verdict's winner
@@ -44,10 +46,11 @@ use trail::Stopped;
 /// What else happens is said on `err`. With each `UNKNOWN` and `UNDECIDED` what the search that stopped tells is put
 /// into `stops`, which is empty at first.
 ///
-/// Answers the exit status: 10 for a true formula, 20 for a false one, and 0 where the budget was spent; 0 too where a
-/// script ends well, and of `gen` and `demo`; 2 where the input is malformed and 6 where it goes beyond a limit, each
-/// with its line; 6 too where the check formula goes beyond one, and then the circuit is written in its place; 3 for a read fault; 4 for a write fault of `out`; 5 for want of memory, which may come at any time; 7
-/// for other words. The first of these events decides. A failing `err` changes none.
+/// Answers the exit status: 10 for a true formula or circuit, 20 for a false one, and 0 where the budget was spent; 0
+/// too where a script ends well, and of `gen` and `demo`; 2 where the input is malformed and 6 where it goes beyond a
+/// limit, each with its line; 6 too where the check formula goes beyond one, and then the circuit is written in its
+/// place; 3 for a read fault; 4 for a write fault of `out`; 5 for want of memory, which may come at any time; 7 for other
+/// words. The first of these events decides. A failing `err` changes none.
 pub fn run<D: Desk, O: Sink, E: Sink>(
     alloc: Global,
     words: &[String],
@@ -63,7 +66,7 @@ pub fn run<D: Desk, O: Sink, E: Sink>(
 
     // an answer comes after the whole input was read
     ensures whole_input { HasAnswer result
-        → AskedAny (map string_bytes words.now) (D.content desk.old) (λ _ _. D.left desk.new ≡ Some [])
+        → AskedAny (map string_bytes words.now) (D.content desk.old) (λ _ _ _. D.left desk.new ≡ Some [])
         (λ _ _. D.left desk.new ≡ Some []) }
 
     // faults come from outside alone, and an answer only where there was none
@@ -88,6 +91,7 @@ pub fn run<D: Desk, O: Sink, E: Sink>(
         (E.written err.old) (E.written err.new) result }
 {
     each_text_has_one_outcome();
+    each_circuit_has_one_outcome();
     each_script_has_one_reading();
     let ending = ending_of(alloc, words, desk, out, stops);
     report(err, &ending)
@@ -153,9 +157,18 @@ fn carry_out<D: Desk, O: Sink>(
         Command::Solve {
             budget,
             restarts,
-            qdo,
+            form,
             name,
-        } => work(alloc, job_of(qdo), budget, restarts, name, desk, out, stops),
+        } => work(
+            alloc,
+            job_of(form),
+            budget,
+            restarts,
+            name,
+            desk,
+            out,
+            stops,
+        ),
         Command::Trace {
             budget,
             restarts,
@@ -197,14 +210,18 @@ fn carry_out<D: Desk, O: Sink>(
     }
 }
 
-// The job of `solve`, with `--qdo` or without.
-fn job_of(qdo: bool) -> Job
-    ensures { result ≡ solve_job qdo }
+// The job of `solve`, without a flag, with `--qdo` or with `--qcir`.
+fn job_of(form: SolveForm) -> Job
+    ensures { result ≡ solve_job form }
 {
-    if qdo { Job::Qdo } else { Job::Solve }
+    match form {
+        SolveForm::Plain => Job::Solve,
+        SolveForm::Qdo => Job::Qdo,
+        SolveForm::Qcir => Job::Qcir,
+    }
 }
 
-// Does a job on the formula of an input.
+// Does a job on the formula, or the circuit, of an input.
 fn work<D: Desk, O: Sink>(
     alloc: Global,
     job: Job,

@@ -3,6 +3,7 @@ ghost use Rattle.std.specs.Prelude.{◌<◌};
 
 mod calls;
 mod check;
+mod circuits;
 mod devices;
 mod jobs;
 mod limits;

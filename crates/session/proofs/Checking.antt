@@ -1,5 +1,5 @@
 -- Certificates that are checked.
-use Rattle.std.proofs.Common.{◌≡◌, ◌≤◌, ℕ, ◌-◌, Bool, true, false, List, [], ◌∷◌, ◌++◌, length, Contains, Option, Some, None, Result, Ok, Err, refl, sym, ap, subst, ◌∙◌, arith, append-nil, ⊎_elim}
+use Rattle.std.proofs.Common.{◌≡◌, ◌≤◌, ℕ, ◌-◌, Bool, true, false, List, [], ◌∷◌, length, Contains, Option, Some, None, Result, Ok, Err, refl, sym, ap, subst, ◌∙◌, arith, append-nil, ⊎_elim}
 use Rattle.std.specs.Prelude.{◌≢◌, ◌↔◌, IfErr, IfOk, IfSome, IsErrOf, IsOk, OnOk}
 use Rattle.std.specs.List.{AllByRecursion}
 use Rattle.std.specs.Io.KnownBytes.{Appends, Keeps}
@@ -7,7 +7,6 @@ use Rattle.std.proofs.KnownBytes.{Appends-kept}
 use Rattle.ports.specs.Bytes.{AllFlushed}
 use Rattle.ports.specs.Causes.{IsCounted, Rose}
 use Rattle.ports.specs.Writing.{Stops, Wrote}
-use Rattle.prefix.specs.declared.quant.Quant.{Quant}
 use Rattle.prefix.specs.Literal.{Literal}
 use Rattle.prefix.specs.Scopes.{Scope, all_variables, is_among}
 use Rattle.prefix.specs.Sides.{opposite}
@@ -18,7 +17,6 @@ use Rattle.calculus.specs.Limits.{weight_bound}
 use Rattle.calculus.specs.Plays.{Wins}
 use Rattle.calculus.specs.Rows.{AreOverPrefix, Row}
 use Rattle.calculus.proofs.Lists.{among_at, contains_cons, contains_nil}
-use Rattle.frames.specs.State.{OpenFormula}
 use Rattle.search.specs.Counting.{size_of}
 use Rattle.engine.specs.Refusals.{winner_of}
 use Rattle.engine.specs.State.{EngineState}
@@ -30,9 +28,8 @@ use Rattle.qdimacs.specs.Rules.{parsed}
 use Rattle.aig.specs.declared.strategy.Strategy.{Strategy}
 use Rattle.aig.specs.Strategies.{IsStrategy, values_of}
 use Rattle.aiger_out.specs.Aag.{IsAagText}
-use Rattle.certcheck.specs.Building.{IsAnswer, limit_of}
+use Rattle.certcheck.specs.Building.{limit_of}
 use Rattle.certcheck.specs.Theorems.{IsFor}
-use Rattle.certcheck.specs.declared.fault.CheckFault.{CheckFault}
 use Rattle.session.specs.declared.answer.Answer.{Answer}
 use Rattle.session.specs.declared.answer.Answer.TheVariants.{Sat, Unsat, Unknown as Unanswered}
 use Rattle.session.specs.declared.check.Outcome.{Outcome}
@@ -40,17 +37,18 @@ use Rattle.session.specs.declared.check.Outcome.TheVariants.{Unknown, Checked, U
 use Rattle.session.specs.declared.ending.Ending.{Ending}
 use Rattle.session.specs.declared.ending.Ending.TheVariants.{Done, Refused, Limit, CheckLimit, ReadFault, WriteFault, NoMemory}
 use Rattle.session.specs.declared.reply.Reply.{Reply}
-use Rattle.session.specs.Checks.{HasCircuit, HasDecided, IsCheck, IsCheckOn, IsCheckReply, IsCheckText, IsFinished, IsFound, IsUndecided, IsUnknown, LeavesCheck, OfCheck, RoomForCheck, SendsOutcome, WritesOutcome, check_ending, check_line, check_of, check_text, ending_after, judged}
+use Rattle.session.specs.Checks.{HasCircuit, HasDecided, IsCheck, IsCheckOn, IsCheckReply, IsCheckText, IsFinished, IsFound, IsUndecided, LeavesCheck, OfCheck, RoomForCheck, SendsOutcome, WritesOutcome, check_ending, check_line, check_of, check_text, ending_after, judged}
 use Rattle.session.specs.Endings.{IsUnread}
-use Rattle.session.specs.Jobs.{Delivers, Fails, HasVerdictFor, IsAnsweredBy, IsUntouched, answer_with, built, gates_for, opened, unassumed}
+use Rattle.session.specs.Jobs.{IsAnsweredBy, answer_with, built, gates_for, opened, unassumed}
 use Rattle.session.specs.Replies.{Certifies, Text, gates_after, variables_with}
-use Rattle.session.specs.Solve.{IsAnswerTo, IsDone, IsEnding, IsShort, answer_line}
+use Rattle.session.specs.Inputs.Format.{as_formula}
+use Rattle.session.specs.Solve.{IsAnswerTo, IsEnding}
 use Rattle.session.specs.Standing.{IsWitness, Standing}
 use Rattle.session.specs.State.{Holds}
-use Rattle.session.specs.Steps.{IsDecided, answered, told_by}
+use Rattle.session.specs.Steps.{IsDecided}
 use Rattle.session.specs.Stops.{AddsEntry, IsStopAt}
 use Rattle.session.specs.Terms.{Terms}
-use Rattle.session.proofs.Jobs.{Decided, decided}
+use Rattle.session.proofs.Jobs.{decided}
 use Rattle.session.proofs.Scripting.{flushed_kept, front_all, some_map}
 
 -- the certificate of a verdict
@@ -302,7 +300,7 @@ module _ {S : Type 0} (written flushed : S → Option (List ℕ)) (faults : S �
     on outcome text is = record { formula = f; read = reads; is = is }
 
     pub check_ended : (r : Result Outcome Ending) → Came r
-        → IfErr r (λ e. ¬ IsFinished e × (IsUnread e → IfSome known (λ text. IsEnding terms text e)))
+        → IfErr r (λ e. ¬ IsFinished e × (IsUnread e → IfSome known (λ text. IsEnding as_formula terms text e)))
     check_ended (Ok outcome) came = tt
     check_ended (Err WriteFault) came = (λ h. h, λ unread. absurd unread)
     check_ended (Err NoMemory) came = (λ h. h, λ unread. some_map known _ _ (λ text read. tt) reads)

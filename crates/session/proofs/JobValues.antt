@@ -5,8 +5,6 @@ use Rattle.steps.specs.Counter.{step_limit}
 use Rattle.truth.specs.declared.formula.Formula.{Formula}
 use Rattle.truth.specs.Truth.{truth}
 use Rattle.calculus.specs.Derivations.Reason.{Input as ByInput}
-use Rattle.calculus.specs.Verdicts.{IsProof}
-use Rattle.calculus.proofs.Lists.{contains_nil}
 use Rattle.search.specs.Counting.{size_of}
 use Rattle.qdimacs.specs.Reads.{Reads}
 use Rattle.qdimacs.specs.Rules.{parsed}
@@ -14,11 +12,12 @@ use Rattle.qdimacs.proofs.Before.{one_outcome}
 use Rattle.qdimacs.proofs.Outcomes.{computed_reads}
 use Rattle.session.specs.declared.answer.Answer.{Answer}
 use Rattle.session.specs.declared.answer.Answer.TheVariants.{Sat, Unknown, Unsat}
-use Rattle.session.specs.declared.ending.Job.TheVariants.{Solve}
+use Rattle.session.specs.declared.ending.Job.TheVariants.{Solve, Qcir}
 use Rattle.session.specs.Jobs.{IsJobText}
 use Rattle.session.specs.Solve.{IsAnswerTo}
 use Rattle.session.specs.Terms.{Terms, terms_of}
 use Rattle.session.specs.Worked.{anything_fits, nothing_fits}
+use Rattle.session.specs.WorkedInputs.{negated}
 use Rattle.session.proofs.NoGates.{empty_cube}
 use Rattle.session.proofs.Working.{empty_proof}
 
@@ -28,6 +27,14 @@ unsat terms text is = record {
   witness = record { proof = record { row = []; reason = ByInput } ∷ []; values = [] };
   is_witness = record { proof = empty_proof; values = λ e. absurd (let f : None ≡ Some Forall = e in cc) };
   says = is;
+}
+
+-- that of a circuit's job
+pub unsat_circuit : (terms : Terms) → IsJobText Qcir terms nothing_fits Unsat (codes "UNSAT\n")
+unsat_circuit terms = record {
+  witness = record { proof = record { row = []; reason = ByInput } ∷ []; values = [] };
+  is_witness = record { proof = empty_proof; values = λ e. absurd (let f : None ≡ Some Forall = e in cc) };
+  says = refl;
 }
 
 pub sat : (terms : Terms) → IsJobText Solve terms anything_fits Sat (codes "SAT\n")
@@ -68,4 +75,15 @@ true_length f Unsat text is right h =
     absurd (let no : true ≡ false = subst (λ (g : Formula). truth g.prefix g.clauses ≡ false) is right in cc)
 true_length f Unknown text is right h =
     absurd (let low : 16 < 16 = subst (λ (g : Formula). 16 < step_limit 0 (size_of g.prefix)) is right.limit in
+    omega (arith, low))
+
+-- the line of a true circuit, with a budget that suffices for its one variable
+pub circuit_length : (f : Formula) (a : Answer) (text : List ℕ) → f ≡ negated Exists → IsAnswerTo (terms_of 64 0) f a
+    → IsJobText Qcir (terms_of 64 0) f a text → length text ≤ 4
+circuit_length f Sat text is right h =
+    subst (λ (t : List ℕ). length t ≤ 4) (sym h.says) (let z : 4 ≤ 4 = omega arith in z)
+circuit_length f Unsat text is right h =
+    absurd (let no : true ≡ false = subst (λ (g : Formula). truth g.prefix g.clauses ≡ false) is right in cc)
+circuit_length f Unknown text is right h =
+    absurd (let low : 64 < 64 = subst (λ (g : Formula). 64 < step_limit 0 (size_of g.prefix)) is right.limit in
     omega (arith, low))

@@ -5,7 +5,6 @@ use Rattle.std.specs.Io.KnownBytes.{Appends, Keeps}
 use Rattle.std.proofs.KnownBytes.{Appends-kept}
 use Rattle.ports.specs.Bytes.{AllFlushed}
 use Rattle.ports.specs.Causes.{IsCounted, Rose}
-use Rattle.qdimacs.specs.Reads.{Reads}
 use Rattle.qdimacs.specs.Rules.{parsed}
 use Rattle.truth.specs.declared.formula.Formula.{Formula}
 use Rattle.truth.specs.Truth.{truth, truth_under}
@@ -34,6 +33,7 @@ use Rattle.session.specs.declared.reply.SessionStop.{SessionStop}
 use Rattle.session.specs.declared.reply.SessionStop.TheVariants.{WriteFault as Unwritten, NoMemory as NoRoomLeft}
 use Rattle.session.specs.Endings.{IsUnread, ending_at, ending_with}
 use Rattle.session.specs.Feeding.{HoldsFormula}
+use Rattle.session.specs.Inputs.{Says, format_of}
 use Rattle.session.specs.Jobs.{HasVerdictFor, HasVerdictText, IsAnsweredBy, IsJobText, IsReplyTo, IsUntouched, IsVerdict, LeavesOutput, RepliesTo, RoomForJob, WritesJob, answer_with, built, gates_for, opened, solution_line, unassumed, value_lines}
 use Rattle.session.specs.Replies.{AllReached, Certifies, Decides, Denotes, GivesUp, IsAccepted, IsReply, IsReplyWith, IsTraceText, Output, Text, gates_after, no_verdict, says, verdict_text}
 use Rattle.session.specs.Solve.{IsAnswerTo, IsDone, IsEnding, Solves, answer_line}
@@ -387,8 +387,8 @@ module _ {S : Type 0} (written flushed : S → Option (List ℕ)) (faults : S �
 
 -- What the work on an input comes to, of which this formula was read.
 module _ {S : Type 0} (written flushed : S → Option (List ℕ)) (faults : S → ℕ) (has_room : S → ℕ → Type 0) (job : Job)
-    (terms : Terms) (known : Option Text) (f : Formula) (reads : IfSome known (λ bytes. Reads bytes (parsed f)))
-    (old new : S) (before after : List Account) where
+    (terms : Terms) (known : Option Text) (f : Formula)
+    (reads : IfSome known (λ bytes. Says (format_of job) bytes (parsed f))) (old new : S) (before after : List Account) where
   abbrev pub Came : Result Answer Ending → Type 0
   Came r = RepliesTo written flushed faults has_room job terms f old new (before, after) r
 
@@ -396,12 +396,12 @@ module _ {S : Type 0} (written flushed : S → Option (List ℕ)) (faults : S �
   known_as P Q by h = some_map known P Q by h
 
   pub answers_known : (r : Result Answer Ending) → Came r
-      → IfOk r (λ a. IfSome known (λ text. Solves terms text a))
+      → IfOk r (λ a. IfSome known (λ text. Solves (format_of job) terms text a))
   answers_known (Ok a) came = known_as _ _ (λ text read. (f, read, came.1.right)) reads
   answers_known (Err e) came = tt
 
   pub ending_known : (r : Result Answer Ending) → Came r
-      → IfErr r (λ e. ¬ IsDone e × IfSome known (λ text. IsEnding terms text e))
+      → IfErr r (λ e. ¬ IsDone e × IfSome known (λ text. IsEnding (format_of job) terms text e))
   ending_known (Ok a) came = tt
   ending_known (Err WriteFault) came = (λ h. h, known_as _ _ (λ text read. tt) reads)
   ending_known (Err NoMemory) came = (λ h. h, known_as _ _ (λ text read. tt) reads)

@@ -9,6 +9,7 @@ pub mod Deciding
 pub mod Accepting
 pub mod Gates
 pub mod Going
+pub mod InputValues
 pub mod JobValues
 pub mod Jobs
 pub mod Leaving

@@ -1,5 +1,5 @@
 -- The circuit of no gates, for the formula of no clause.
-use Rattle.std.proofs.Common.{[], ◌∷◌, ◌≡◌, ◌<◌, true, None, Some, refl, arith}
+use Rattle.std.proofs.Common.{[], ◌∷◌, ◌≡◌, true, None, Some, refl, arith}
 use Rattle.prefix.specs.declared.quant.Quant.TheVariants.{Exists, Forall}
 use Rattle.calculus.specs.Derivations.Reason.{Input}
 use Rattle.calculus.specs.Verdicts.{IsProof}

@@ -2,6 +2,8 @@
 use Rattle.std.specs.Prelude.{Result, Ok, Err}
 use Rattle.qdimacs.specs.declared.refusal.ReadRefusal.{ReadRefusal}
 use Rattle.qdimacs.specs.declared.refusal.ReadRefusal.TheVariants.{Refused as Rejected, Limit as Beyond, ReadFault as Unreadable, NoMemory as NoRoom}
+use Rattle.qcir_reader.specs.declared.refusal.QcirRefusal.{QcirRefusal}
+use Rattle.qcir_reader.specs.declared.refusal.QcirRefusal.TheVariants.{Refused as NoCircuit, Limit as GreatCircuit, ReadFault as UnreadableCircuit, NoMemory as NoRoomForCircuit}
 use Rattle.session.specs.declared.answer.Answer.{Answer}
 use Rattle.session.specs.declared.ending.Ending.{Ending}
 use Rattle.session.specs.declared.ending.Ending.TheVariants.{Done, Refused, Limit, CheckLimit, ReadFault, WriteFault, NoMemory}
@@ -15,6 +17,13 @@ ending_for (Rejected number line) = Refused number line
 ending_for (Beyond quantity line) = Limit quantity line
 ending_for Unreadable = ReadFault
 ending_for NoRoom = NoMemory
+
+-- The ending where a text is no circuit, or can't be read.
+abbrev pub circuit_ending_for : QcirRefusal → Ending
+circuit_ending_for (NoCircuit number line) = Refused number line
+circuit_ending_for (GreatCircuit quantity line) = Limit quantity line
+circuit_ending_for UnreadableCircuit = ReadFault
+circuit_ending_for NoRoomForCircuit = NoMemory
 
 -- The ending where a reply can't be written, or there is no memory for it.
 abbrev pub ending_at : SessionStop → Ending

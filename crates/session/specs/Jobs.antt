@@ -16,7 +16,6 @@ use Rattle.frames.specs.Fold.{Given}
 use Rattle.frames.specs.State.{OpenFormula}
 use Rattle.engine.specs.Refusals.{winner_of}
 use Rattle.qdimacs.specs.Rules.{parsed}
-use Rattle.qdimacs.specs.Reads.{Reads}
 use Rattle.ports.specs.Writing.{Stops, Wrote}
 use Rattle.session.specs.declared.answer.Answer.{Answer}
 use Rattle.session.specs.declared.answer.Answer.TheVariants.{Sat, Unsat, Unknown}
@@ -24,8 +23,9 @@ use Rattle.session.specs.declared.ending.Ending.{Ending}
 use Rattle.session.specs.declared.ending.Ending.TheVariants.{Done, Refused, Limit, CheckLimit, ReadFault, WriteFault, NoMemory}
 use Rattle.session.specs.declared.ending.Job.{Job}
 use Rattle.session.specs.declared.file.Header.{Header}
-use Rattle.session.specs.declared.ending.Job.TheVariants.{Solve, Qdo, Trace, Cert}
+use Rattle.session.specs.declared.ending.Job.TheVariants.{Solve, Qdo, Qcir, Trace, Cert}
 use Rattle.session.specs.Feeding.{formula_with}
+use Rattle.session.specs.Inputs.{Says, format_of}
 use Rattle.session.specs.Replies.{IsCertificate, IsTraceText, Text, literal_number, verdict_text}
 use Rattle.session.specs.Solve.{IsAnswerTo, OfAnswer, answer_line}
 use Rattle.session.specs.Standing.{IsWitness, Standing, Witness}
@@ -83,6 +83,7 @@ abbrev pub IsVerdictText : Job → Terms → Formula → Bool → Witness → Te
 IsVerdictText Solve terms f truth witness text = text ≡ verdict_text truth
 IsVerdictText Qdo terms f truth witness text =
     text ≡ solution_line (answer_with truth) f ++ value_lines f.prefix truth witness.values
+IsVerdictText Qcir terms f truth witness text = text ≡ verdict_text truth
 IsVerdictText Trace terms f truth witness text = IsTraceText f.prefix truth witness.proof text
 IsVerdictText (Cert binary trim) terms f truth witness text =
     IsCertificate binary trim (opened f) (unassumed truth) witness.values (gates_for terms f) text
@@ -97,6 +98,7 @@ pub record HasVerdictText (job : Job) (terms : Terms) (f : Formula) (truth : Boo
 abbrev pub unknown_text : Job → Formula → Text
 unknown_text Solve f = answer_line Unknown
 unknown_text Qdo f = solution_line Unknown f
+unknown_text Qcir f = answer_line Unknown
 unknown_text Trace f = answer_line Unknown
 unknown_text (Cert binary trim) f = answer_line Unknown
 
@@ -118,7 +120,7 @@ pub record IsReplyTo (job : Job) (terms : Terms) (f : Formula) (stops : List Acc
 pub record IsReplyOn (job : Job) (terms : Terms) (known : Option Text) (stops : List Account × List Account)
     (answer : Answer) (text : Text) : Type 0 where
   pub formula : Formula
-  pub read : IfSome known (λ bytes. Reads bytes (parsed formula))
+  pub read : IfSome known (λ bytes. Says (format_of job) bytes (parsed formula))
   pub reply : IsReplyTo job terms formula stops answer text
 
 -- What the work on an input leaves: its reply on the output, or after a write fault a front of that, and else nothing.
@@ -140,8 +142,8 @@ LeavesOutput job terms known written stops NoMemory = Keeps written.0 written.1 
 -- The output has room for each text that a job may write for the formula of an input.
 abbrev pub RoomForJob : Job → Terms → Option Text → (ℕ → Type 0) → Type 0
 RoomForJob job terms known has_room = (f : Formula) (answer : Answer) (text : Text)
-    → IfSome known (λ bytes. Reads bytes (parsed f)) → IsAnswerTo terms f answer → IsJobText job terms f answer text
-    → has_room (length text)
+    → IfSome known (λ bytes. Says (format_of job) bytes (parsed f)) → IsAnswerTo terms f answer
+    → IsJobText job terms f answer text → has_room (length text)
 
 -- the verdict of an answer to a formula, with its witness; an unknown one has none
 abbrev pub HasVerdictFor : Formula → Answer → Standing → Type 0

@@ -1,6 +1,7 @@
 pub mod Checks
 pub mod Endings
 pub mod Feeding
+pub mod Inputs
 pub mod Jobs
 pub mod Replies
 pub mod Scripts
@@ -11,5 +12,6 @@ pub mod Steps
 pub mod Stops
 pub mod Terms
 pub mod Worked
+pub mod WorkedInputs
 pub mod WorkedScripts
 pub mod WorkedSteps

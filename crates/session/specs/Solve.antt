@@ -7,7 +7,7 @@ use Rattle.calculus.specs.Limits.{propagation_limit}
 use Rattle.calculus.specs.Search.{IsRefuted}
 use Rattle.search.specs.Counting.{size_of}
 use Rattle.qdimacs.specs.Rules.{parsed, refused, limit}
-use Rattle.qdimacs.specs.Reads.{Reads}
+use Rattle.session.specs.Inputs.{Format, Says}
 use Rattle.session.specs.Terms.{Terms}
 use Rattle.session.specs.declared.answer.Answer.{Answer}
 use Rattle.session.specs.declared.answer.Answer.TheVariants.{Sat, Unsat, Unknown}
@@ -26,9 +26,9 @@ IsAnswerTo terms f Sat = truth f.prefix f.clauses ≡ true
 IsAnswerTo terms f Unsat = truth f.prefix f.clauses ≡ false
 IsAnswerTo terms f Unknown = IsShort terms f
 
--- The text is a formula with this answer.
-abbrev pub Solves : Terms → List ℕ → Answer → Type 0
-Solves terms text answer = (f : Formula) × Reads text (parsed f) × IsAnswerTo terms f answer
+-- The text says a formula with this answer.
+abbrev pub Solves : Format → Terms → List ℕ → Answer → Type 0
+Solves format terms text answer = (f : Formula) × Says format text (parsed f) × IsAnswerTo terms f answer
 
 -- The exit status of an answer.
 abbrev pub answer_status : Answer → ℕ
@@ -51,14 +51,14 @@ abbrev pub OfAnswer : ℕ → (Answer → Type 0) → Type 0
 OfAnswer status P = (answer : Answer) × (status ≡ answer_status answer) × P answer
 
 -- The ending is what the text says. Faults and want of memory say nothing of it.
-abbrev pub IsEnding : Terms → List ℕ → Ending → Type 0
-IsEnding terms text (Done status) = OfAnswer status (Solves terms text)
-IsEnding terms text (Refused number line) = Reads text (refused number line)
-IsEnding terms text (Limit quantity line) = Reads text (limit quantity line)
-IsEnding terms text (CheckLimit quantity) = ⊥
-IsEnding terms text ReadFault = Unit {0}
-IsEnding terms text WriteFault = Unit {0}
-IsEnding terms text NoMemory = Unit {0}
+abbrev pub IsEnding : Format → Terms → List ℕ → Ending → Type 0
+IsEnding format terms text (Done status) = OfAnswer status (Solves format terms text)
+IsEnding format terms text (Refused number line) = Says format text (refused number line)
+IsEnding format terms text (Limit quantity line) = Says format text (limit quantity line)
+IsEnding format terms text (CheckLimit quantity) = ⊥
+IsEnding format terms text ReadFault = Unit {0}
+IsEnding format terms text WriteFault = Unit {0}
+IsEnding format terms text NoMemory = Unit {0}
 
 -- The answer is written.
 abbrev pub IsDone : Ending → Type 0

@@ -15,7 +15,7 @@ use Rattle.qdimacs.specs.declared.refusal.Quantity.TheVariants.{Variables}
 use Rattle.qscript.specs.declared.command.Command.TheVariants.{Assume, Clause, Pop, Solve, Trace, Value}
 use Rattle.session.specs.declared.answer.Answer.TheVariants.{Sat, Unsat, Unknown}
 use Rattle.session.specs.declared.ending.Ending.TheVariants.{CheckLimit, Done, NoMemory, Refused}
-use Rattle.session.specs.declared.ending.Job.TheVariants.{Solve as SolveJob, Qdo as QdoJob, Trace as TraceJob, Cert as CertJob}
+use Rattle.session.specs.declared.ending.Job.TheVariants.{Solve as SolveJob, Qdo as QdoJob, Qcir as QcirJob, Trace as TraceJob, Cert as CertJob}
 use Rattle.session.specs.declared.check.Outcome.TheVariants.{Unknown as Stopped, Checked, Undecided, Beyond}
 use Rattle.session.specs.Checks.{IsCheck, IsCheckReply, LeavesCheck, check_ending}
 use Rattle.session.specs.Feeding.{formula_with}
@@ -26,6 +26,7 @@ use Rattle.session.specs.Solve.{IsAnswerTo}
 use Rattle.session.specs.Standing.{Standing, start}
 use Rattle.session.specs.Stops.{AddsEntry, IsStopAt}
 use Rattle.session.specs.Terms.{terms_of, with_restarts}
+use Rattle.session.specs.WorkedInputs.{one_text}
 
 -- 2 differs from 1, with these quantifiers of 1 and 2 in that order
 abbrev pub differs : Quant → Quant → Formula
@@ -141,6 +142,11 @@ pub record WorkedJobs : Type 0 where
   -- a line for a solve, and no other
   pub solved : IsJobText SolveJob (terms_of 0 0) nothing_fits Unsat (codes "UNSAT\n")
   pub not_solved : IsJobText SolveJob (terms_of 0 0) nothing_fits Unsat (codes "SAT\n") → ⊥
+  -- the same for a circuit, by its formula
+  pub circuit_solved : IsJobText QcirJob (terms_of 0 0) nothing_fits Unsat (codes "UNSAT\n")
+  pub circuit_not_solved : IsJobText QcirJob (terms_of 0 0) nothing_fits Unsat (codes "SAT\n") → ⊥
+  pub circuit_unknown : IsJobText QcirJob (terms_of 0 0) nothing_fits Unknown (codes "UNKNOWN\n")
+  pub circuit_not_silent : IsJobText QcirJob (terms_of 0 0) nothing_fits Unknown [] → ⊥
   -- the trace of the empty clause, which no line of an answer is
   pub traced : IsJobText TraceJob (terms_of 0 0) nothing_fits Unsat trace_text
   pub not_traced : IsJobText TraceJob (terms_of 0 0) nothing_fits Unsat (codes "UNSAT\n") → ⊥
@@ -186,6 +192,9 @@ pub record WorkedJobs : Type 0 where
   pub no_room : RoomForJob SolveJob (terms_of 0 0) None (λ n. n ≤ 5) → ⊥
   pub room_for_one : RoomForJob SolveJob (terms_of 16 0) (Some (codes "p cnf 0 0\n")) (λ n. n ≤ 4)
   pub no_room_for_one : RoomForJob SolveJob (terms_of 16 0) (Some (codes "p cnf 0 0\n")) (λ n. n ≤ 3) → ⊥
+  -- a circuit that is true wants room for its own line alone, where it is known
+  pub room_for_circuit : RoomForJob QcirJob (terms_of 64 0) (Some one_text) (λ n. n ≤ 4)
+  pub no_room_for_circuit : RoomForJob QcirJob (terms_of 64 0) None (λ n. n ≤ 4) → ⊥
   -- after an ending without an answer nothing more is written
   pub kept : LeavesOutput SolveJob (terms_of 12 0) None (Some [], Some []) ([], []) NoMemory
   pub not_kept : LeavesOutput SolveJob (terms_of 12 0) None (Some [], Some (codes "SAT\n")) ([], []) NoMemory → ⊥

@@ -15,6 +15,7 @@ ghost use Rattle.qdimacs_out.specs.Texts.{formula_text};
 ghost use Rattle.session.specs.Checks.{HasDecided, IsCheck, IsCheckReply, IsFinished, IsFound, LeavesCheck, RoomForCheck, SendsOutcome, WritesOutcome, check_line, ending_after, judged as outcome_of};
 ghost use Rattle.session.specs.Endings.{IsUnread};
 ghost use Rattle.session.specs.Feeding.{HoldsFormula};
+ghost use Rattle.session.specs.Inputs.Format.{as_formula};
 ghost use Rattle.session.specs.Jobs.{answer_with};
 ghost use Rattle.session.specs.Solve.{IsEnding};
 ghost use Rattle.session.specs.Stops.{AddsEntry, IsStopAt};
@@ -86,7 +87,7 @@ pub fn run_check<D: Desk, S: Sink>(
 ) -> Ending
     // Where no formula was read, the ending is what the text says, where the desk tells what it holds.
     ensures unread { IsUnread result → IfSome (D.left desk.old)
-        (λ text. IsEnding (terms_of budget restarts) text result) }
+        (λ text. IsEnding as_formula (terms_of budget restarts) text result) }
     // A text whose formula was checked was read to its end.
     ensures read { IsFinished result → IfSome (D.left desk.old) (λ _. D.left desk.new ≡ Some []) }
     // Faults come from outside alone, and a check comes to its end only where there was none.
@@ -136,7 +137,7 @@ fn check<D: Desk, S: Sink>(
     stops: &mut Vec<Stopped>,
 ) -> Result<Outcome, Ending>
     ensures ending { IfErr result (λ e. ¬ IsFinished e × (IsUnread e → IfSome (D.left desk.old)
-        (λ text. IsEnding (terms_of request.budget request.restarts) text e))) }
+        (λ text. IsEnding as_formula (terms_of request.budget request.restarts) text e))) }
     ensures read { OnOk result (IfSome (D.left desk.old) (λ _. D.left desk.new ≡ Some [])) }
     ensures read_fault { IsCounted (IsErrOf result Ending.ReadFault) (IsOk result) (D.faults desk.old)
         (D.faults desk.new) }
@@ -160,7 +161,7 @@ fn load<D: Desk>(alloc: Global, desk: &mut D) -> Result<(Engine, Formula), Endin
     ensures formula { IfOk result (λ loaded. HoldsFormula loaded.1.prefix loaded.1.clauses loaded.0
         × IsFormed loaded.1 × IfSome (D.left desk.old) (λ text. Reads text (parsed loaded.1))) }
     ensures ending { IfErr result (λ e. IsUnread e
-        × ((terms : Terms) → IfSome (D.left desk.old) (λ text. IsEnding terms text e))) }
+        × ((terms : Terms) → IfSome (D.left desk.old) (λ text. IsEnding as_formula terms text e))) }
     ensures read { OnOk result (IfSome (D.left desk.old) (λ _. D.left desk.new ≡ Some [])) }
     ensures read_fault { IsCounted (IsErrOf result Ending.ReadFault) (IsOk result) (D.faults desk.old)
         (D.faults desk.new) }

@@ -1,10 +1,11 @@
 //! What is asked of a file, and how it ends.
 ghost use Rattle.std.specs.Prelude.{◌≡◌};
 ghost use Rattle.session.specs.declared.ending.Ending.TheVariants.{Refused, Limit, ReadFault, WriteFault, NoMemory as NoRoom};
-ghost use Rattle.session.specs.Endings.{ending_at, ending_for};
+ghost use Rattle.session.specs.Endings.{circuit_ending_for, ending_at, ending_for};
 
 use crate::reply::SessionStop;
 use ports::Failed;
+use qcir_reader::QcirRefusal;
 use qdimacs::{Quantity, ReadRefusal};
 use std::alloc::AllocError;
 use steps::NoMemory;
@@ -17,6 +18,8 @@ pub enum Job {
     /// The same as a solution line, with the values of the outermost variables where their quantifier wins (QDIMACS
     /// 1.1, output format).
     Qdo,
+    /// Whether the quantified circuit is true that stands there in a formula's place, as QCIR-14.
+    Qcir,
     /// The trace of the verdict's proof, as QRP.
     Trace,
     /// The circuit by which the verdict's winner wins, as AIGER 1.9: in ASCII or in the binary form, and as it is or
@@ -53,6 +56,20 @@ impl From<ReadRefusal> for Ending {
             ReadRefusal::Limit { quantity, line } => Self::Limit { quantity, line },
             ReadRefusal::ReadFault => Self::ReadFault,
             ReadRefusal::NoMemory => Self::NoMemory,
+        }
+    }
+}
+
+// The ending where a text is no circuit, or can't be read.
+impl From<QcirRefusal> for Ending {
+    ghost from_gives = { λ e ending. ending ≡ circuit_ending_for e };
+
+    fn from(e: QcirRefusal) -> Self {
+        match e {
+            QcirRefusal::Refused { number, line } => Self::Refused { number, line },
+            QcirRefusal::Limit { quantity, line } => Self::Limit { quantity, line },
+            QcirRefusal::ReadFault => Self::ReadFault,
+            QcirRefusal::NoMemory => Self::NoMemory,
         }
     }
 }

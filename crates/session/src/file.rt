@@ -1,9 +1,8 @@
-//! One formula, read from the chosen input and decided.
+//! One formula, or that of a circuit, read from the chosen input and decided.
 ghost use Rattle.std.specs.Prelude.{◌≡◌, ◌≢◌, ◌≤◌, ◌++◌, ◌^◌, ◌-◌, ℕ, Bool, true, length, flat_map, List, IfOk, IfErr, IfSome, IsErrOf, IsOk, OnOk, [], None, Some};
 ghost use Rattle.aig.specs.Strategies.{IsStrategy};
 ghost use Rattle.ports.specs.Bytes.{AllFlushed};
 ghost use Rattle.ports.specs.Causes.{IsCounted};
-ghost use Rattle.qdimacs.specs.Reads.{Reads};
 ghost use Rattle.qdimacs.specs.Rules.{parsed};
 ghost use Rattle.session.specs.Feeding.{HoldsFormula};
 ghost use Rattle.ports.specs.Writing.{Writes};
@@ -15,6 +14,7 @@ ghost use Rattle.engine.specs.State.{VerdictState};
 ghost use Rattle.prefix.specs.Scopes.{quantifier_at};
 ghost use Rattle.prefix.specs.Sides.{is_of};
 ghost use Rattle.qdimacs.specs.Formed.{IsFormed};
+ghost use Rattle.session.specs.Inputs.{Says, format_of};
 ghost use Rattle.session.specs.Jobs.{IsAnsweredBy, IsHeaderOf, LeavesOutput, RepliesTo, RoomForJob, WritesJob, answer_with, opened, solution_line, unassumed, value_line as line_of_value, value_lines};
 ghost use Rattle.session.specs.Replies.{AllReached, Certifies, gates_after};
 ghost use Rattle.session.specs.Solve.{HasAnswer, IsAnswerTo, IsDone, IsEnding, Solves};
@@ -26,6 +26,7 @@ ghost use Rattle.truth.specs.declared.formula.Formula.{Formula as AnyFormula};
 use crate::answer::Answer;
 use crate::ending::{Ending, Job};
 use crate::feed::feed;
+use crate::input::read_input;
 use crate::lines::{put_outermost, put_solution, write_answer, write_circuit, write_solution};
 use crate::script::put_told;
 use crate::session::{decide, tell_trace};
@@ -34,7 +35,6 @@ use blocks::Block;
 use engine::Engine;
 use ports::{Desk, Failed, Sink};
 use prefix::{Prefix, Quant};
-use qdimacs::read_formula;
 use std::alloc::Global;
 use steps::NoMemory;
 use trail::Stopped;
@@ -48,11 +48,12 @@ pub(crate) struct Header {
     pub clauses: u32,
 }
 
-/// Reads the formula that is left of the chosen input, decides it by search with a budget of that many steps, which may
-/// begin anew so often, and writes what the job asks for: the answer's line, `SAT` or `UNSAT`; its solution line with
-/// the values of outermost variables (QDIMACS 1.1, output format); the trace of the verdict's proof (QRP); or the
-/// circuit by which its winner wins (AIGER 1.9, in ASCII or binary, trimmed or not). Where the budget was spent first,
-/// it writes `UNKNOWN`, or the solution line of that.
+/// Reads the formula that is left of the chosen input, or the circuit for `Job::Qcir`, decides it by search with a
+/// budget of that many steps, which may begin anew so often, and writes what the job asks for: the answer's line, `SAT`
+/// or `UNSAT`; its solution line with the values of outermost variables (QDIMACS 1.1, output format); the trace of the
+/// verdict's proof (QRP); or the circuit by which its winner wins (AIGER 1.9, in ASCII or binary, trimmed or not). A
+/// circuit is decided by its formula (`qcir::translate`), and its own variables and gates are the formula's. Where the
+/// budget was spent first, it writes `UNKNOWN`, or the solution line of that.
 ///
 /// UNKNOWN comes only where the budget is below the step limit of the formula's variables and of so many restarts, and
 /// where propagation alone refutes the clauses only where it is below 2 * n * (n + 3), for n variables. What the search
@@ -67,7 +68,8 @@ pub fn run_file<D: Desk, S: Sink>(
     stops: &mut Vec<Stopped>,
 ) -> Ending
     // The ending is what the text says, where the desk tells what it holds.
-    ensures ending { IfSome (D.left desk.old) (λ text. IsEnding (terms_of budget restarts) text result) }
+    ensures ending { IfSome (D.left desk.old)
+        (λ text. IsEnding (format_of job) (terms_of budget restarts) text result) }
     ensures status { (s : ℕ) → result ≡ Ending.Done s → HasAnswer s }
     // A text that is decided was read to its end.
     ensures read { IsDone result → IfSome (D.left desk.old) (λ _. D.left desk.new ≡ Some []) }
@@ -103,9 +105,10 @@ fn answer<D: Desk, S: Sink>(
     sink: &mut S,
     stops: &mut Vec<Stopped>,
 ) -> Result<Answer, Ending>
-    ensures answer { IfOk result (λ a. IfSome (D.left desk.old) (λ text. Solves (terms_of budget restarts) text a)) }
+    ensures answer { IfOk result (λ a. IfSome (D.left desk.old)
+        (λ text. Solves (format_of job) (terms_of budget restarts) text a)) }
     ensures ending { IfErr result (λ e. ¬ IsDone e × IfSome (D.left desk.old)
-        (λ text. IsEnding (terms_of budget restarts) text e)) }
+        (λ text. IsEnding (format_of job) (terms_of budget restarts) text e)) }
     ensures read { OnOk result (IfSome (D.left desk.old) (λ _. D.left desk.new ≡ Some [])) }
     ensures read_fault { IsCounted (IsErrOf result Ending.ReadFault) (IsOk result) (D.faults desk.old)
         (D.faults desk.new) }
@@ -121,16 +124,16 @@ fn answer<D: Desk, S: Sink>(
     ensures content { (n : List ℕ) → D.content desk.new n ≡ D.content desk.old n }
     ensures stays { (n : List ℕ) → D.steady desk.old n → D.steady desk.new n }
 {
-    let (mut engine, header) = load(alloc, desk)?;
+    let (mut engine, header) = load(alloc, job, desk)?;
     reply(&mut engine, header, job, budget, restarts, sink, stops)
 }
 
 // An engine that holds the formula of the chosen input, and the numbers of its header.
-fn load<D: Desk>(alloc: Global, desk: &mut D) -> Result<(Engine, Header), Ending>
+fn load<D: Desk>(alloc: Global, job: Job, desk: &mut D) -> Result<(Engine, Header), Ending>
     ensures formula { IfOk result (λ loaded. (f : AnyFormula) × HoldsFormula f.prefix f.clauses loaded.0
-        × IsHeaderOf f loaded.1 × IfSome (D.left desk.old) (λ text. Reads text (parsed f))) }
+        × IsHeaderOf f loaded.1 × IfSome (D.left desk.old) (λ text. Says (format_of job) text (parsed f))) }
     ensures ending { IfErr result (λ e. IsUnread e
-        × ((terms : Terms) → IfSome (D.left desk.old) (λ text. IsEnding terms text e))) }
+        × ((terms : Terms) → IfSome (D.left desk.old) (λ text. IsEnding (format_of job) terms text e))) }
     ensures read { OnOk result (IfSome (D.left desk.old) (λ _. D.left desk.new ≡ Some [])) }
     ensures read_fault { IsCounted (IsErrOf result Ending.ReadFault) (IsOk result) (D.faults desk.old)
         (D.faults desk.new) }
@@ -138,7 +141,7 @@ fn load<D: Desk>(alloc: Global, desk: &mut D) -> Result<(Engine, Header), Ending
     ensures content { (n : List ℕ) → D.content desk.new n ≡ D.content desk.old n }
     ensures stays { (n : List ℕ) → D.steady desk.old n → D.steady desk.new n }
 {
-    let f = read_formula(alloc, desk)?;
+    let f = read_input(alloc, job, desk)?;
     let engine = engine_with(alloc, &f)?;
     let header = Header {
         vars: f.declared_vars,
@@ -243,7 +246,7 @@ fn write_verdict<S: Sink>(
         sink.new result }
 {
     match job {
-        Job::Solve => Ok(write_answer(answer, sink)?),
+        Job::Solve | Job::Qcir => Ok(write_answer(answer, sink)?),
         Job::Qdo => Ok(write_result(engine, header, answer, sink)?),
         Job::Trace => {
             let _trace = tell_trace(engine, sink)?;

@@ -1,7 +1,8 @@
-//! Files of formulas, decided, and scripts of commands, replied to.
+//! Files of formulas or circuits, decided, and scripts of commands, replied to.
 //!
-//! A formula is read, fed to an engine and solved. `specs/Terms` says on what terms, `specs/Solve` what the answer to a
-//! text is, `specs/Jobs` what is written for it, and `specs/Stops` what is told of a search that stopped.
+//! A formula, or the one of a circuit, is read, fed to an engine and solved. `specs/Inputs` says which formula a text
+//! says, `specs/Terms` on what terms it is solved, `specs/Solve` what the answer to a text is, `specs/Jobs` what is
+//! written for it, and `specs/Stops` what is told of a search that stopped.
 //! `specs/Checks` says what is written where its certificate is checked.
 //! `specs/Replies` says what the commands of a script may reply, `specs/Scripts` what the work on a script comes to.
 #![tactic(auto)]
@@ -11,6 +12,7 @@ mod check;
 mod ending;
 mod feed;
 mod file;
+mod input;
 mod lines;
 mod reply;
 mod script;
@@ -25,6 +27,6 @@ pub use reply::{Reply, SessionStop};
 pub use script::run_script;
 pub use session::Session;
 pub use worked::{
-    worked_answers, worked_certificates, worked_checks, worked_jobs, worked_replies,
+    worked_answers, worked_certificates, worked_checks, worked_inputs, worked_jobs, worked_replies,
     worked_scripts, worked_steps,
 };

@@ -1,5 +1,6 @@
 //! Worked values of the definitions, each proved.
 ghost use Rattle.session.specs.Worked.{WorkedAnswers, WorkedCertificates, WorkedChecks, WorkedJobs, WorkedReplies};
+ghost use Rattle.session.specs.WorkedInputs.{WorkedInputs};
 ghost use Rattle.session.specs.WorkedScripts.{WorkedScripts};
 ghost use Rattle.session.specs.WorkedSteps.{WorkedSteps};
 
@@ -23,6 +24,11 @@ pub fn worked_steps()
 /// What the work on a script comes to.
 pub fn worked_scripts()
     ensures { WorkedScripts }
+{}
+
+/// What texts of formulas and circuits say, and answers to circuits.
+pub fn worked_inputs()
+    ensures { WorkedInputs }
 {}
 
 /// What jobs write for formulas, and what they leave where there is no answer.

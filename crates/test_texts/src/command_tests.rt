@@ -1,5 +1,5 @@
 //! Command lines, and what the refusals of others say.
-use command::{Command, Refused, read_command};
+use command::{Command, Refused, SolveForm, read_command};
 use std::alloc::Global;
 use std::test::Fail;
 
@@ -8,11 +8,11 @@ type Want<'a> = Result<Command<'a>, &'a str>;
 
 const GREATEST: u64 = u64::MAX;
 
-fn solve(budget: u64, qdo: bool, name: Option<&str>) -> Want<'_> {
+fn solve(budget: u64, form: SolveForm, name: Option<&str>) -> Want<'_> {
     Ok(Command::Solve {
         budget,
         restarts: 0,
-        qdo,
+        form,
         name,
     })
 }
@@ -92,28 +92,31 @@ fn comes_to(alloc: Global, line: &str, want: Want<'_>) -> Result<bool, Fail> {
 #[test]
 fn commands_with_an_input_are_read(rt: HostRuntime) -> Result<(), Fail> {
     for (line, want) in [
-        ("qbf solve", solve(GREATEST, false, None)),
-        ("qbf solve f", solve(GREATEST, false, Some("f"))),
-        ("qbf solve ", solve(GREATEST, false, Some(""))),
-        ("qbf solve script", solve(GREATEST, false, Some("script"))),
-        ("qbf solve --budget 0", solve(0, false, None)),
-        ("qbf solve --budget=32 f", solve(32, false, Some("f"))),
-        ("qbf solve f --budget 7", solve(7, false, Some("f"))),
+        ("qbf solve", solve(GREATEST, SolveForm::Plain, None)),
+        ("qbf solve f", solve(GREATEST, SolveForm::Plain, Some("f"))),
+        ("qbf solve ", solve(GREATEST, SolveForm::Plain, Some(""))),
+        ("qbf solve script", solve(GREATEST, SolveForm::Plain, Some("script"))),
+        ("qbf solve --budget 0", solve(0, SolveForm::Plain, None)),
+        ("qbf solve --budget=32 f", solve(32, SolveForm::Plain, Some("f"))),
+        ("qbf solve f --budget 7", solve(7, SolveForm::Plain, Some("f"))),
         (
             "qbf solve --budget 18446744073709551615",
-            solve(GREATEST, false, None),
+            solve(GREATEST, SolveForm::Plain, None),
         ),
-        ("qbf solve --qdo", solve(GREATEST, true, None)),
-        ("qbf solve --qdo f", solve(GREATEST, true, Some("f"))),
-        ("qbf solve f --qdo", solve(GREATEST, true, Some("f"))),
-        ("qbf solve --qdo --budget 7", solve(7, true, None)),
-        ("qbf solve --budget=7 --qdo", solve(7, true, None)),
-        ("qbf solve --qdo --budget 7 f", solve(7, true, Some("f"))),
-        ("qbf solve --budget 7 --qdo f", solve(7, true, Some("f"))),
-        ("qbf solve --budget=7 f --qdo", solve(7, true, Some("f"))),
-        ("qbf solve --qdo f --budget=7", solve(7, true, Some("f"))),
-        ("qbf solve f --qdo --budget 7", solve(7, true, Some("f"))),
-        ("qbf solve f --budget 7 --qdo", solve(7, true, Some("f"))),
+        ("qbf solve --qdo", solve(GREATEST, SolveForm::Qdo, None)),
+        ("qbf solve --qdo f", solve(GREATEST, SolveForm::Qdo, Some("f"))),
+        ("qbf solve f --qdo", solve(GREATEST, SolveForm::Qdo, Some("f"))),
+        ("qbf solve --qdo --budget 7", solve(7, SolveForm::Qdo, None)),
+        ("qbf solve --budget=7 --qdo", solve(7, SolveForm::Qdo, None)),
+        ("qbf solve --qdo --budget 7 f", solve(7, SolveForm::Qdo, Some("f"))),
+        ("qbf solve --budget 7 --qdo f", solve(7, SolveForm::Qdo, Some("f"))),
+        ("qbf solve --budget=7 f --qdo", solve(7, SolveForm::Qdo, Some("f"))),
+        ("qbf solve --qdo f --budget=7", solve(7, SolveForm::Qdo, Some("f"))),
+        ("qbf solve f --qdo --budget 7", solve(7, SolveForm::Qdo, Some("f"))),
+        ("qbf solve f --budget 7 --qdo", solve(7, SolveForm::Qdo, Some("f"))),
+        ("qbf solve --qcir", solve(GREATEST, SolveForm::Qcir, None)),
+        ("qbf solve --budget=7 f --qcir", solve(7, SolveForm::Qcir, Some("f"))),
+        ("qbf solve --qcir --budget 7 f", solve(7, SolveForm::Qcir, Some("f"))),
         ("qbf trace", trace(GREATEST, None)),
         ("qbf trace f --budget=7", trace(7, Some("f"))),
         ("qbf cert", cert(GREATEST, None)),
@@ -216,14 +219,14 @@ fn with_restarts(want: Want<'_>, restarts: u32) -> Want<'_> {
         Ok(
             Command::Solve {
                 budget,
-                qdo,
+                form,
                 name,
                 ..
             },
         ) => Ok(Command::Solve {
             budget,
             restarts,
-            qdo,
+            form,
             name,
         }),
         Ok(Command::Trace { budget, name, .. }) => Ok(Command::Trace {
@@ -258,31 +261,31 @@ fn with_restarts(want: Want<'_>, restarts: u32) -> Want<'_> {
 #[test]
 fn restarts_are_read(rt: HostRuntime) -> Result<(), Fail> {
     for (line, restarts, want) in [
-        ("qbf solve --restarts 0", 0, solve(GREATEST, false, None)),
+        ("qbf solve --restarts 0", 0, solve(GREATEST, SolveForm::Plain, None)),
         (
             "qbf solve --restarts 1000000",
             1_000_000,
-            solve(GREATEST, false, None),
+            solve(GREATEST, SolveForm::Plain, None),
         ),
         (
             "qbf solve --restarts=2 f",
             2,
-            solve(GREATEST, false, Some("f")),
+            solve(GREATEST, SolveForm::Plain, Some("f")),
         ),
         (
             "qbf solve f --restarts 2",
             2,
-            solve(GREATEST, false, Some("f")),
+            solve(GREATEST, SolveForm::Plain, Some("f")),
         ),
         (
             "qbf solve --restarts 2 --budget 7 --qdo f",
             2,
-            solve(7, true, Some("f")),
+            solve(7, SolveForm::Qdo, Some("f")),
         ),
         (
             "qbf solve --qdo --budget=7 f --restarts=2",
             2,
-            solve(7, true, Some("f")),
+            solve(7, SolveForm::Qdo, Some("f")),
         ),
         ("qbf trace --restarts 2", 2, trace(GREATEST, None)),
         ("qbf cert f --restarts 2", 2, cert(GREATEST, Some("f"))),
@@ -375,6 +378,7 @@ fn other_words_are_refused(rt: HostRuntime) -> Result<(), Fail> {
         ("qbf -h", "Usage: qbf <COMMAND>"),
         ("qbf help", "Usage: qbf <COMMAND>"),
         ("qbf solve --help", "--qdo "),
+        ("qbf solve --help", "--qcir "),
         ("qbf cert --help", "--restarts <R>"),
         ("qbf trace --help", "Usage: qbf trace [OPTIONS] [NAME]"),
         ("qbf cert -h", "Usage: qbf cert [OPTIONS] [NAME]"),
@@ -400,6 +404,11 @@ fn other_words_are_refused(rt: HostRuntime) -> Result<(), Fail> {
         ("qbf solve --qdo f --qdo", "multiple times"),
         ("qbf solve --qdo=true", "unexpected value 'true'"),
         ("qbf solve --qd", "unexpected argument '--qd'"),
+        ("qbf solve --qdo --qcir", "'--qdo' and '--qcir' don't stand together"),
+        ("qbf solve --qcir f --qdo", "'--qdo' and '--qcir' don't stand together"),
+        ("qbf solve --qcir --qcir", "multiple times"),
+        ("qbf trace --qcir", "unexpected argument '--qcir'"),
+        ("qbf check --qcir", "unexpected argument '--qcir'"),
         ("qbf trace --qdo", "unexpected argument '--qdo'"),
         ("qbf cert f --qdo", "unexpected argument '--qdo'"),
         ("qbf script --qdo", "unexpected argument '--qdo'"),

@@ -46,7 +46,8 @@ returns-clause-error g c = record {
 
 pub returns-clause-complete : goal.returns-clause-complete
 returns-clause-complete g c valid reads writes = subst (IsComplete _ _) (sym c.report.ensures.status)
-    (complete c.each_text_has_one_outcome.ensures.one c.each_script_has_one_reading.ensures.one _ _ _ _ _ valid
+    (complete c.each_text_has_one_outcome.ensures.one c.each_text_has_one_outcome-2.ensures.one
+    c.each_script_has_one_reading.ensures.one _ _ _ _ _ valid
     c.ending_of-ending.result c.ending_of-ending.ensures.carried
     (λ is. reads (c.ending_of-ending.ensures.read_fault.rose is))
     (λ is. writes (c.ending_of-ending.ensures.write_fault.rose is)))

@@ -6,5 +6,5 @@ returns-clause-formula g c = (
   c.in_ok-f.f,
   c.in_ok-engine.ensures,
   record { vars = refl; clauses = refl },
-  c.in_ok-f.ensures.outcome,
+  c.in_ok-f.ensures.formula,
 )

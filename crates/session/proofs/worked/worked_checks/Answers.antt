@@ -1,10 +1,10 @@
-use Rattle.std.proofs.Common.{◌≡◌, ◌<◌, ℕ, true, false, List, [], ◌∷◌, codes, Some, None, refl, sym, ap, ◌∙◌, arith, lit<}
+use Rattle.std.proofs.Common.{◌≡◌, ◌<◌, ℕ, true, false, List, [], ◌∷◌, codes, Some, None, refl, ap, arith, lit<}
 use Rattle.std.proofs.lemmas.Bool.{true≢false}
 use Rattle.std.specs.Prelude.{slice_index_or}
 use Rattle.std.specs.Fmt.{digits}
 use Rattle.prefix.specs.declared.quant.Quant.TheVariants.{Exists}
 use Rattle.calculus.specs.Derivations.Reason.{Input}
-use Rattle.session.specs.Checks.{HasCircuit, IsCheckText, OfCheck, check_text}
+use Rattle.session.specs.Checks.{HasCircuit}
 use Rattle.session.specs.Terms.{terms_of}
 use Rattle.session.specs.Worked.{anything_fits, at_nineteen}
 use Rattle.session.proofs.NoGates.{empty_cube, no_gates, no_gates_certify}

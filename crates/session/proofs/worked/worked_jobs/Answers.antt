@@ -1,20 +1,18 @@
-use Rattle.std.proofs.Common.{◌≡◌, ◌<◌, ◌≤◌, ℕ, Bool, true, false, List, [], ◌∷◌, codes, Some, None, refl, ap, arith, lit<}
+use Rattle.std.proofs.Common.{◌≡◌, ◌<◌, ◌≤◌, ℕ, Bool, false, List, [], ◌∷◌, codes, Some, None, refl, ap, arith, lit<}
 use Rattle.std.proofs.lemmas.Bool.{false≢true, true≢false}
 use Rattle.std.specs.Prelude.{slice_index_or}
 use Rattle.std.specs.Fmt.{digits}
 use Rattle.prefix.specs.declared.quant.Quant.TheVariants.{Exists, Forall}
 use Rattle.calculus.specs.Derivations.{Inference, is_input}
 use Rattle.calculus.specs.Derivations.Reason.{Input as ByInput}
-use Rattle.calculus.proofs.Lists.{contains_nil}
-use Rattle.aig.specs.Circuits.{AreDistinct}
-use Rattle.aig.specs.declared.strategy.Strategy.{Strategy}
-use Rattle.session.specs.Jobs.{IsJobText, gates_for, opened, unassumed}
-use Rattle.session.specs.Replies.{Certifies}
+use Rattle.session.specs.Jobs.{IsJobText}
 use Rattle.session.specs.Worked.{anything_fits, at_nineteen, nothing_fits, trace_text}
 use Rattle.session.specs.declared.answer.Answer.TheVariants.{Sat, Unsat}
 use Rattle.session.specs.declared.ending.Job.TheVariants.{Trace}
 use Rattle.session.specs.Terms.{terms_of}
-use Rattle.session.proofs.JobValues.{bare_is, bare_reads, line_length, sat, true_length, unsat}
+use Rattle.session.specs.WorkedInputs.{negated, one_text}
+use Rattle.session.proofs.InputValues.{is_formula, one_says}
+use Rattle.session.proofs.JobValues.{bare_is, bare_reads, circuit_length, line_length, sat, true_length, unsat, unsat_circuit}
 use Rattle.session.proofs.TraceValues.{other_prefix, other_proof, other_winner, trace_is, unused_step}
 use Rattle.session.proofs.NoGates.{empty_cube, no_gates, no_gates_certify, none}
 use Rattle.session.proofs.Working.{empty_proof}
@@ -42,6 +40,10 @@ unfolding first_byte second_byte begins_with_input digits
 returns c = record {
   solved = unsat (terms_of 0 0) (codes "UNSAT\n") refl;
   not_solved = λ h. absurd (let f : 83 ≡ 85 = ap first_byte h.says in omega (arith, f));
+  circuit_solved = unsat_circuit (terms_of 0 0);
+  circuit_not_solved = λ h. absurd (let f : 83 ≡ 85 = ap first_byte h.says in omega (arith, f));
+  circuit_unknown = refl;
+  circuit_not_silent = λ e. absurd (let f : [] ≡ codes "UNKNOWN\n" = e in cc);
   traced = trace;
   trace_is = trace_is;
   other_winner = other_winner;
@@ -119,6 +121,10 @@ returns c = record {
   no_room_for_one = λ room. absurd (let few : 4 ≤ 3 = room anything_fits Sat (codes "SAT\n") bare_reads refl
       (sat (terms_of 16 0)) in
       omega (arith, few));
+  room_for_circuit = λ f a text read right says.
+      circuit_length f a text (is_formula one_text f (negated Exists) read one_says) right says;
+  no_room_for_circuit = λ room. absurd (let few : 6 ≤ 4 = room nothing_fits Unsat (codes "UNSAT\n") tt refl
+      (unsat_circuit (terms_of 64 0)) in omega (arith, few));
   kept = (refl, refl);
   not_kept = λ h. absurd (let f : codes "SAT\n" ≡ [] = h.0 in cc);
 }
