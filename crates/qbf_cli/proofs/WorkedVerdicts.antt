@@ -129,7 +129,8 @@ answered_refused = other_verdict solve_words (holds bad_text) 2 refl
 
 pub answered_limit : IsVerdict solve_words (holds great_text) 6
 answered_limit = other_verdict solve_words (holds great_text) 6 refl (λ e. absurd (omega (arith, e)))
-    (λ _. inl (inl (to_solve (holds great_text) (λ format terms text. IsLimited format text) (Variables, 1, great_reads))))
+    (λ _. inl (inl (to_solve (holds great_text) (λ format terms text. IsLimited format text)
+    (Variables, 1, great_reads))))
     (λ e. absurd (omega (arith, e))) (λ none. absurd (none solve asks_solve))
 
 pub answered_usage : IsVerdict [] (holds bare) 7
@@ -166,13 +167,13 @@ answered_sample = record {
 -- a false formula hasn't status 10, nor a true one 20
 pub false_as_true : IsVerdict solve_words (holds false_text) 10 → ⊥
 false_as_true h =
-    absurd (let is : true ≡ false = false_truth true (of_solve (holds false_text) (λ format terms text. HasTruth format text true)
-    (h.sat refl)) in cc)
+    absurd (let is : true ≡ false = false_truth true (of_solve (holds false_text)
+    (λ format terms text. HasTruth format text true) (h.sat refl)) in cc)
 
 pub true_as_false : IsVerdict solve_words (holds bare) 20 → ⊥
 true_as_false h =
-    absurd (let is : false ≡ true = true_is false (of_solve (holds bare) (λ format terms text. HasTruth format text false)
-    (h.unsat refl)) in cc)
+    absurd (let is : false ≡ true = true_is false (of_solve (holds bare)
+    (λ format terms text. HasTruth format text false) (h.unsat refl)) in cc)
 
 -- nor does one that is decided within the budget have 0
 pub true_as_unknown : IsVerdict solve_words (holds bare) 0 → ⊥
@@ -208,23 +209,25 @@ true_solved h = answer_of_true (any_of_solve (holds bare) (λ format terms text.
 -- a formula isn't refused, nor a script that ends well; and neither goes beyond a limit
 pub true_as_refused : IsVerdict solve_words (holds bare) 2 → ⊥
 true_as_refused h =
-    let is = either_of_solve (holds bare) (λ format terms text. IsRefused format text) (λ terms text. IsRefusedScript text)
-    (h.refused refl) in not_refused is.0 is.1 is.2
+    let is = either_of_solve (holds bare) (λ format terms text. IsRefused format text)
+    (λ terms text. IsRefusedScript text) (h.refused refl) in not_refused is.0 is.1 is.2
 
 pub script_as_refused : IsVerdict script_words (holds header) 2 → ⊥
 script_as_refused h =
-    let is = either_of_script (holds header) (λ format terms text. IsRefused format text) (λ terms text. IsRefusedScript text)
-    (h.refused refl) in
+    let is = either_of_script (holds header) (λ format terms text. IsRefused format text)
+    (λ terms text. IsRefusedScript text) (h.refused refl) in
     absurd (let no : script_refused is.0 is.1 ≡ done = ends_well (script_refused is.0 is.1) is.2 in cc)
 
 pub true_as_limit : IsVerdict solve_words (holds bare) 6 → ⊥
 true_as_limit h =
-    let is = either_of_solve (holds bare) (λ format terms text. IsLimited format text) (λ terms text. IsLimitedScript text)
+    let is = either_of_solve (holds bare) (λ format terms text. IsLimited format text)
+    (λ terms text. IsLimitedScript text)
     (first_one (h.limit refl) (no_check (holds bare) IsLimitedCheck)) in not_limited is.0 is.1 is.2
 
 pub script_as_limit : IsVerdict script_words (holds header) 6 → ⊥
 script_as_limit h =
-    let is = either_of_script (holds header) (λ format terms text. IsLimited format text) (λ terms text. IsLimitedScript text)
+    let is = either_of_script (holds header) (λ format terms text. IsLimited format text)
+    (λ terms text. IsLimitedScript text)
     (first_one (h.limit refl) (no_check_of_script (holds header) IsLimitedCheck)) in
     absurd (let no : script_limit is.0 ≡ done = ends_well (script_limit is.0) is.1 in cc)
 
@@ -246,7 +249,13 @@ unasked_true h = absent (5 ∷ 7 ∷ []) 10 refl (h.unasked no_words)
 pub refused_says : IsErrorLine solve_words (holds bad_text) 2 (codes "qbf: line 1: refused 11\n")
 unfolding digits
 refused_says = record {
-  refused = λ _. (11, 1, refl, inl (to_solve (holds bad_text) (λ format terms text. Says format text (refused 11 1)) bad_reads));
+  refused = λ _. (
+    11,
+    1,
+    refl,
+    inl (to_solve (holds bad_text)
+        (λ format terms text. Says format text (refused 11 1)) bad_reads),
+  );
   limit = λ e. absurd (omega (arith, e));
   other = λ n _ _. absurd (n refl);
 }

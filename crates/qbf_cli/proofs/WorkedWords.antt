@@ -174,7 +174,8 @@ is_gen (Gen seed vars clauses) alike =
     let second : vars ≡ 3 = cc in
     let third : clauses ≡ 1 = cc in
     ap (λ x. Gen x vars clauses) first ∙ ap (λ x. Gen 0 x clauses) second ∙ ap (λ x. Gen 0 3 x) third
-is_gen (Solve budget restarts form name) alike = absurd (let n : 111 ≡ 101 = ap (letter 1) alike.words in omega (arith, n))
+is_gen (Solve budget restarts form name) alike =
+    absurd (let n : 111 ≡ 101 = ap (letter 1) alike.words in omega (arith, n))
 is_gen (Trace budget restarts name) alike = absurd (let n : 114 ≡ 101 = ap (letter 1) alike.words in omega (arith, n))
 is_gen (Cert budget restarts binary trim name) alike =
     absurd (let n : 99 ≡ 103 = ap (letter 0) alike.words in omega (arith, n))
