@@ -12,7 +12,7 @@ The same circuits are then translated here, by the clauses that docs/QCIR.md has
 installed, DepQBF are to find the same verdict of the formula. DepQBF is the command depqbf of Debian's package of this
 name; without it all else is checked, and a line says so.
 
-Prints a line that counts, one a case that failed, and ends with status 1 if a case failed. It takes some ten seconds.
+Prints a line that counts, one a case that failed, and ends with status 1 if a case failed. It takes some seconds.
 """
 
 import random

@@ -95,28 +95,67 @@ fn commands_with_an_input_are_read(rt: HostRuntime) -> Result<(), Fail> {
         ("qbf solve", solve(GREATEST, SolveForm::Plain, None)),
         ("qbf solve f", solve(GREATEST, SolveForm::Plain, Some("f"))),
         ("qbf solve ", solve(GREATEST, SolveForm::Plain, Some(""))),
-        ("qbf solve script", solve(GREATEST, SolveForm::Plain, Some("script"))),
+        (
+            "qbf solve script",
+            solve(GREATEST, SolveForm::Plain, Some("script")),
+        ),
         ("qbf solve --budget 0", solve(0, SolveForm::Plain, None)),
-        ("qbf solve --budget=32 f", solve(32, SolveForm::Plain, Some("f"))),
-        ("qbf solve f --budget 7", solve(7, SolveForm::Plain, Some("f"))),
+        (
+            "qbf solve --budget=32 f",
+            solve(32, SolveForm::Plain, Some("f")),
+        ),
+        (
+            "qbf solve f --budget 7",
+            solve(7, SolveForm::Plain, Some("f")),
+        ),
         (
             "qbf solve --budget 18446744073709551615",
             solve(GREATEST, SolveForm::Plain, None),
         ),
         ("qbf solve --qdo", solve(GREATEST, SolveForm::Qdo, None)),
-        ("qbf solve --qdo f", solve(GREATEST, SolveForm::Qdo, Some("f"))),
-        ("qbf solve f --qdo", solve(GREATEST, SolveForm::Qdo, Some("f"))),
+        (
+            "qbf solve --qdo f",
+            solve(GREATEST, SolveForm::Qdo, Some("f")),
+        ),
+        (
+            "qbf solve f --qdo",
+            solve(GREATEST, SolveForm::Qdo, Some("f")),
+        ),
         ("qbf solve --qdo --budget 7", solve(7, SolveForm::Qdo, None)),
         ("qbf solve --budget=7 --qdo", solve(7, SolveForm::Qdo, None)),
-        ("qbf solve --qdo --budget 7 f", solve(7, SolveForm::Qdo, Some("f"))),
-        ("qbf solve --budget 7 --qdo f", solve(7, SolveForm::Qdo, Some("f"))),
-        ("qbf solve --budget=7 f --qdo", solve(7, SolveForm::Qdo, Some("f"))),
-        ("qbf solve --qdo f --budget=7", solve(7, SolveForm::Qdo, Some("f"))),
-        ("qbf solve f --qdo --budget 7", solve(7, SolveForm::Qdo, Some("f"))),
-        ("qbf solve f --budget 7 --qdo", solve(7, SolveForm::Qdo, Some("f"))),
+        (
+            "qbf solve --qdo --budget 7 f",
+            solve(7, SolveForm::Qdo, Some("f")),
+        ),
+        (
+            "qbf solve --budget 7 --qdo f",
+            solve(7, SolveForm::Qdo, Some("f")),
+        ),
+        (
+            "qbf solve --budget=7 f --qdo",
+            solve(7, SolveForm::Qdo, Some("f")),
+        ),
+        (
+            "qbf solve --qdo f --budget=7",
+            solve(7, SolveForm::Qdo, Some("f")),
+        ),
+        (
+            "qbf solve f --qdo --budget 7",
+            solve(7, SolveForm::Qdo, Some("f")),
+        ),
+        (
+            "qbf solve f --budget 7 --qdo",
+            solve(7, SolveForm::Qdo, Some("f")),
+        ),
         ("qbf solve --qcir", solve(GREATEST, SolveForm::Qcir, None)),
-        ("qbf solve --budget=7 f --qcir", solve(7, SolveForm::Qcir, Some("f"))),
-        ("qbf solve --qcir --budget 7 f", solve(7, SolveForm::Qcir, Some("f"))),
+        (
+            "qbf solve --budget=7 f --qcir",
+            solve(7, SolveForm::Qcir, Some("f")),
+        ),
+        (
+            "qbf solve --qcir --budget 7 f",
+            solve(7, SolveForm::Qcir, Some("f")),
+        ),
         ("qbf trace", trace(GREATEST, None)),
         ("qbf trace f --budget=7", trace(7, Some("f"))),
         ("qbf cert", cert(GREATEST, None)),
@@ -261,7 +300,11 @@ fn with_restarts(want: Want<'_>, restarts: u32) -> Want<'_> {
 #[test]
 fn restarts_are_read(rt: HostRuntime) -> Result<(), Fail> {
     for (line, restarts, want) in [
-        ("qbf solve --restarts 0", 0, solve(GREATEST, SolveForm::Plain, None)),
+        (
+            "qbf solve --restarts 0",
+            0,
+            solve(GREATEST, SolveForm::Plain, None),
+        ),
         (
             "qbf solve --restarts 1000000",
             1_000_000,
@@ -404,8 +447,14 @@ fn other_words_are_refused(rt: HostRuntime) -> Result<(), Fail> {
         ("qbf solve --qdo f --qdo", "multiple times"),
         ("qbf solve --qdo=true", "unexpected value 'true'"),
         ("qbf solve --qd", "unexpected argument '--qd'"),
-        ("qbf solve --qdo --qcir", "'--qdo' and '--qcir' don't stand together"),
-        ("qbf solve --qcir f --qdo", "'--qdo' and '--qcir' don't stand together"),
+        (
+            "qbf solve --qdo --qcir",
+            "'--qdo' and '--qcir' don't stand together",
+        ),
+        (
+            "qbf solve --qcir f --qdo",
+            "'--qdo' and '--qcir' don't stand together",
+        ),
         ("qbf solve --qcir --qcir", "multiple times"),
         ("qbf trace --qcir", "unexpected argument '--qcir'"),
         ("qbf check --qcir", "unexpected argument '--qcir'"),
