@@ -39,7 +39,8 @@ compared_by f (Some m) None = refl
 compared_by f (Some m) (Some n) = ap Some (lifted_compared f m n)
 
 -- the quantifier of a scope, by its place from 0
-pub quantifier_from : (ss : List Scope) (k : ℕ) → quantifier_at ss (suc k) ≡ option_map (λ (s : Scope). s.quantifier) (slice_get ss k)
+pub quantifier_from : (ss : List Scope) (k : ℕ) → quantifier_at ss (suc k) ≡ option_map (λ (s : Scope). s.quantifier)
+    (slice_get ss k)
 quantifier_from ss k =
     let back : suc k - 1 ≡ k = omega arith in
     cond-false (suc k == 0) None (option_map (λ (s : Scope). s.quantifier) (slice_get ss (suc k - 1))) (ne_eqb (suc k) 0 (λ e. absurd (omega arith))) ∙ ap (λ j. option_map (λ (s : Scope). s.quantifier) (slice_get ss j)) back
@@ -71,7 +72,9 @@ quantifier-insert ss i (suc k) s h l = ⊎_elim below above (cases_lt k i)
         let moves : lifted (i + 1) (suc k) ≡ suc (suc k) = cond-true _ _ _ (le-leb (i + 1) (suc k) (omega arith)) ∙ omega arith in
         ap (quantifier_at (insert ss i s)) moves ∙ quantifier_from (insert ss i s) (suc k) ∙ ap (option_map (λ (t : Scope). t.quantifier)) (slice_get-insert_above ss i k s b l) ∙ sym (quantifier_from ss k)
 
-pub quantifier_by : (ss : List Scope) (i m : ℕ) (s : Scope) (o : Option ℕ) → IfSome o (λ n. (1 ≤ n) × (n ≤ m)) → i ≤ length ss → option_and_then (quantifier_at (insert ss i s)) (option_map (lifted (i + 1)) o) ≡ option_and_then (quantifier_at ss) o
+pub quantifier_by : (ss : List Scope) (i m : ℕ) (s : Scope) (o : Option ℕ) → IfSome o (λ n. (1 ≤ n) × (n ≤ m))
+    → i ≤ length ss → option_and_then (quantifier_at (insert ss i s)) (option_map (lifted (i + 1)) o) ≡
+    option_and_then (quantifier_at ss) o
 quantifier_by ss i m s None h l = refl
 quantifier_by ss i m s (Some n) h l = quantifier-insert ss i n s h.0 l
 

@@ -189,23 +189,30 @@ home_cleared [] i = refl
 home_cleared (h ∷ hs) zero = refl
 home_cleared (h ∷ hs) (suc i) = home_cleared hs i
 
-kept_for-cleared : (hs : List (Option ℕ)) (i w : ℕ) → kept_for (set hs i None) w ≡ cond (w == suc i) None (kept_for hs w)
+kept_for-cleared : (hs : List (Option ℕ)) (i w : ℕ) → kept_for (set hs i None) w ≡ cond (w == suc i) None (kept_for hs
+    w)
 kept_for-cleared hs i zero = sym (cond-false (0 == suc i) None None (ne_eqb 0 (suc i) (λ e. cc)))
 kept_for-cleared hs i (suc w) =
     ⊎_elim
-    (λ (e : w ≡ i). ap (λ n. kept_for (set hs i None) (suc n)) e ∙ (home_cleared hs i ∙ sym (cond-true (suc w == suc i) None (kept_for hs (suc w)) (eq-eqb (suc w) (suc i) (ap suc e)))))
-    (λ n. ap (λ o. unwrap_or o None) (slice_get-set_other hs i w None n) ∙ sym (cond-false (suc w == suc i) None (kept_for hs (suc w)) (ne_eqb (suc w) (suc i) (λ e. n (omega arith)))))
+    (λ (e : w ≡ i). ap (λ n. kept_for (set hs i None) (suc n)) e ∙ (home_cleared hs i ∙ sym (cond-true (suc w == suc
+    i) None (kept_for hs (suc w)) (eq-eqb (suc w) (suc i) (ap suc e)))))
+    (λ n. ap (λ o. unwrap_or o None) (slice_get-set_other hs i w None n) ∙ sym (cond-false (suc w == suc i) None
+    (kept_for hs (suc w)) (ne_eqb (suc w) (suc i) (λ e. n (omega arith)))))
     (cases_eq w i)
 
-count-cleared : (hs : List (Option ℕ)) (i id : ℕ) → i < length hs → kept_for hs (suc i) ≡ Some id → count_by is_some (set hs i None) + 1 ≡ count_by is_some hs
+count-cleared : (hs : List (Option ℕ)) (i id : ℕ) → i < length hs → kept_for hs (suc i) ≡ Some id
+    → count_by is_some (set hs i None) + 1 ≡ count_by is_some hs
 count-cleared hs i id h e =
     let one : cond {A = ℕ} (is_some (get_or hs i None)) 1 0 ≡ 1 = rw (sym (home_is hs i) ∙ e) refl in
     omega (arith, one, sum_by-set (λ (o : Option ℕ). cond {A = ℕ} (is_some o) 1 0) hs i None None h)
 
-pub table_without : (ss : List Scope) (ids ns : List ℕ) (hs : List (Option ℕ)) (k i id n : ℕ) → IsTable ss ids ns hs k → level_of ss (suc i) ≡ Some n → kept_for hs (suc i) ≡ Some id → i < length hs → is_among (suc i) (all_variables ss) ≡ true → IsTable (without_variable (suc i) ss) ids ns (set hs i None) (k - 1)
+pub table_without : (ss : List Scope) (ids ns : List ℕ) (hs : List (Option ℕ)) (k i id n : ℕ) → IsTable ss ids ns hs k
+    → level_of ss (suc i) ≡ Some n → kept_for hs (suc i) ≡ Some id → i < length hs → is_among (suc i) (all_variables
+    ss) ≡ true → IsTable (without_variable (suc i) ss) ids ns (set hs i None) (k - 1)
 table_without ss ids ns hs k i id n t level home within stands =
     record {
-      found = λ w. level-without ss v w ∙ (split (w == v) (level_of ss w) (kept_for hs w) (t.found w) ∙ ap (option_and_then (slice_get ns)) (sym (kept_for-cleared hs i w)));
+      found = λ w. level-without ss v w ∙ (split (w == v) (level_of ss w) (kept_for hs w) (t.found w)
+          ∙ ap (option_and_then (slice_get ns)) (sym (kept_for-cleared hs i w)));
       home_in = λ w. rw (kept_for-cleared hs i w) (fits (w == v) (kept_for hs w) (t.home_in w));
       numbered = t.numbered;
       bounded = t.bounded;

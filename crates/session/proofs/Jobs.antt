@@ -388,7 +388,8 @@ module _ {S : Type 0} (written flushed : S → Option (List ℕ)) (faults : S �
 -- What the work on an input comes to, of which this formula was read.
 module _ {S : Type 0} (written flushed : S → Option (List ℕ)) (faults : S → ℕ) (has_room : S → ℕ → Type 0) (job : Job)
     (terms : Terms) (known : Option Text) (f : Formula)
-    (reads : IfSome known (λ bytes. Says (format_of job) bytes (parsed f))) (old new : S) (before after : List Account) where
+    (reads : IfSome known (λ bytes. Says (format_of job) bytes (parsed f))) (old new : S) (before after : List
+    Account) where
   abbrev pub Came : Result Answer Ending → Type 0
   Came r = RepliesTo written flushed faults has_room job terms f old new (before, after) r
 

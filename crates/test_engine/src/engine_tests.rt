@@ -1,5 +1,6 @@
 //! Tests of `engine`: formulas that are decided, under assumptions and frames.
 mod asks;
+mod forgets;
 mod limits;
 mod play;
 mod saves;

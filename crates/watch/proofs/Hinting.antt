@@ -23,9 +23,12 @@ module _ (pivot : Quant) (old new : Arena) (id : ℕ) (value : Option ℕ) (w : 
   pub hint_owner : (base i : ℕ) → base < 7 → owner pivot new base i ≡ owner pivot old base i
   hint_owner base i low = ap₂ (λ b o. cond b o None) (hint_attached i) (hint_links i base low)
 
-  pub hint_linked : (base : ℕ) (heads : List (Option ℕ)) → base + 2 < 7 → IsLinked pivot heads old base → IsLinked pivot heads new base
+  pub hint_linked : (base : ℕ) (heads : List (Option ℕ)) → base + 2 < 7 → IsLinked pivot heads old base
+      → IsLinked pivot heads new base
   hint_linked base heads low linked =
-      Linked-same (first_of heads) (owner pivot old base) (λ i. link_at old i (base + 1)) (λ i. link_at old i (base + 2)) (first_of heads) (owner pivot new base) (λ i. link_at new i (base + 1)) (λ i. link_at new i (base + 2)) linked (λ n. refl)
+      Linked-same (first_of heads) (owner pivot old base) (λ i. link_at old i (base + 1)) (λ i. link_at old i (base +
+      2)) (first_of heads) (owner pivot new base) (λ i. link_at new i (base + 1)) (λ i. link_at new i (base + 2))
+      linked (λ n. refl)
       (λ i. hint_owner base i (omega arith))
       (λ i n e. hint_links i (base + 1) (omega arith))
       (λ i n e. hint_links i (base + 2) (omega arith))
@@ -48,10 +51,12 @@ module _ (pivot : Quant) (old new : Arena) (id : ℕ) (value : Option ℕ) (w : 
 
   -- what moves then, moved from where it was
   module _ (last : Arena) where
-    pub hint_moves : (base : ℕ) (name : Option ℕ) → base < 7 → Moves pivot base new last id name → Moves pivot base old last id name
+    pub hint_moves : (base : ℕ) (name : Option ℕ) → base < 7 → Moves pivot base new last id name
+        → Moves pivot base old last id name
     hint_moves base name low m i = m i ∙ ap (cond (nat_eq i id) name) (hint_owner base i low)
 
-    pub hint_elsewhere : (base : ℕ) → base + 2 < 7 → LeadsOnElsewhere base new last id → LeadsOnElsewhere base old last id
+    pub hint_elsewhere : (base : ℕ) → base + 2 < 7 → LeadsOnElsewhere base new last id → LeadsOnElsewhere base old
+        last id
     hint_elsewhere base low leads i differs apart =
         leads i differs (λ e. apart (sym (hint_links id (base + 1) (omega arith)) ∙ e)) ∙ hint_links i (base + 2) low
 

@@ -13,13 +13,13 @@ use steps::Steps;
 
 // How a solve within so many steps ended: with a truth, or stopped after so many restarts.
 #[derive(Debug, Clone, Copy, PartialEq, Eq)]
-enum Ended {
+pub(crate) enum Ended {
     Answered(bool),
     Stopped(u64),
 }
 
 // Solves within so many steps.
-fn solve(engine: &mut Engine, budget: u64) -> Result<Ended, Fail> {
+pub(crate) fn solve(engine: &mut Engine, budget: u64) -> Result<Ended, Fail> {
     match engine.solve(&mut Steps::new(budget)) {
         Ok(verdict) => Ok(Ended::Answered(verdict.truth)),
         Err(SolveStop::Spent(stopped)) => Ok(Ended::Stopped(stopped.restarts())),
@@ -118,7 +118,7 @@ fn put_drawn(engine: &mut Engine, alloc: Global, random: &mut Random, vars: u32)
 }
 
 // Puts in so many of them.
-fn put_many(
+pub(crate) fn put_many(
     engine: &mut Engine,
     alloc: Global,
     seed: u32,

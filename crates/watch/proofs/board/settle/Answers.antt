@@ -3,22 +3,29 @@ use Rattle.watch.proofs.Hinting.{hint_attached, hint_board, hint_elsewhere, hint
 use Rattle.watch.proofs.board.settle.Goals as goal
 
 pub place-requires-clause-board : goal.place-requires-clause-board
-place-requires-clause-board g c = hint_board g.S.Side.PIVOT c.args.rows.now c.write.new.rows c.args.id (Some c.args.found) c.write.ensures c.args.first.now c.args.second.now c.requires.board
+place-requires-clause-board g c = hint_board g.S.Side.PIVOT c.args.rows.now c.write.new.rows c.args.id (Some
+    c.args.found) c.write.ensures c.args.first.now c.args.second.now c.requires.board
 
 pub place-requires-clause-attached : goal.place-requires-clause-attached
-place-requires-clause-attached g c = hint_attached g.S.Side.PIVOT c.args.rows.now c.write.new.rows c.args.id (Some c.args.found) c.write.ensures c.args.id ∙ c.requires.attached
+place-requires-clause-attached g c = hint_attached g.S.Side.PIVOT c.args.rows.now c.write.new.rows c.args.id (Some
+    c.args.found) c.write.ensures c.args.id ∙ c.requires.attached
 
 pub returns-clause-ones : goal.returns-clause-ones
-returns-clause-ones g c = hint_moves g.S.Side.PIVOT c.args.rows.now c.write.new.rows c.args.id (Some c.args.found) c.write.ensures c.place.new.rows 0 (Some c.args.one) (omega arith) c.place.ensures.ones
+returns-clause-ones g c = hint_moves g.S.Side.PIVOT c.args.rows.now c.write.new.rows c.args.id (Some c.args.found)
+    c.write.ensures c.place.new.rows 0 (Some c.args.one) (omega arith) c.place.ensures.ones
 
 pub returns-clause-twos : goal.returns-clause-twos
-returns-clause-twos g c = hint_moves g.S.Side.PIVOT c.args.rows.now c.write.new.rows c.args.id (Some c.args.found) c.write.ensures c.place.new.rows 3 (Some c.args.two) (omega arith) c.place.ensures.twos
+returns-clause-twos g c = hint_moves g.S.Side.PIVOT c.args.rows.now c.write.new.rows c.args.id (Some c.args.found)
+    c.write.ensures c.place.new.rows 3 (Some c.args.two) (omega arith) c.place.ensures.twos
 
 pub returns-clause-other_ones : goal.returns-clause-other_ones
-returns-clause-other_ones g c = hint_elsewhere g.S.Side.PIVOT c.args.rows.now c.write.new.rows c.args.id (Some c.args.found) c.write.ensures c.place.new.rows 0 (omega arith) c.place.ensures.other_ones
+returns-clause-other_ones g c = hint_elsewhere g.S.Side.PIVOT c.args.rows.now c.write.new.rows c.args.id (Some
+    c.args.found) c.write.ensures c.place.new.rows 0 (omega arith) c.place.ensures.other_ones
 
 pub returns-clause-other_twos : goal.returns-clause-other_twos
-returns-clause-other_twos g c = hint_elsewhere g.S.Side.PIVOT c.args.rows.now c.write.new.rows c.args.id (Some c.args.found) c.write.ensures c.place.new.rows 3 (omega arith) c.place.ensures.other_twos
+returns-clause-other_twos g c = hint_elsewhere g.S.Side.PIVOT c.args.rows.now c.write.new.rows c.args.id (Some
+    c.args.found) c.write.ensures c.place.new.rows 3 (omega arith) c.place.ensures.other_twos
 
 pub returns-clause-kept : goal.returns-clause-kept
-returns-clause-kept g c = hint_rows g.S.Side.PIVOT c.args.rows.now c.write.new.rows c.args.id (Some c.args.found) c.write.ensures c.place.new.rows c.requires.attached c.place.ensures.kept
+returns-clause-kept g c = hint_rows g.S.Side.PIVOT c.args.rows.now c.write.new.rows c.args.id (Some c.args.found)
+    c.write.ensures c.place.new.rows c.requires.attached c.place.ensures.kept

@@ -19,11 +19,17 @@ step_live (Some n) h = refl
 pub returns-then-is_reduced-clause-ok : goal.returns-then-is_reduced-clause-ok
 returns-then-is_reduced-clause-ok c =
     let s = c.args.self.now in
-    removes_none s c.args.a _ _ c.requires.rows (step_live (note_at s c.args.a) c.requires.step) (c.is_reduced.ensures.0 c.if-is_reduced.true)
+    removes_none s c.args.a _ _ c.requires.rows (step_live (note_at s c.args.a) c.requires.step)
+    (c.is_reduced.ensures.0 c.if-is_reduced.true)
 
 pub returns-then-is_reduced-clause-step : goal.returns-then-is_reduced-clause-step
 returns-then-is_reduced-clause-step c =
-    record { step = c.requires.step; has_side = refl; has_row = sym (c.is_reduced.ensures.0 c.if-is_reduced.true); has_tag = refl }
+    record {
+      step = c.requires.step;
+      has_side = refl;
+      has_row = sym (c.is_reduced.ensures.0 c.if-is_reduced.true);
+      has_tag = refl;
+    }
 
 pub returns-then-is_reduced-clause-counted : goal.returns-then-is_reduced-clause-counted
 returns-then-is_reduced-clause-counted c = inl (c.is_reduced.ensures.0 c.if-is_reduced.true, refl)

@@ -11,16 +11,21 @@ returns-in_default-clause-value c = without_absent c.args.v c.args.self.now (sym
 pub index_mut-requires : goal.index_mut-requires
 index_mut-requires c =
     let level : level_of (scopes_of c.self.inside.blocks.items) c.args.v ≡ Some c.in-Some.scope = ap (λ ss. level_of ss c.args.v) c.self.view_is ∙ sym c.in-Some.ensures.value in
-    rw c.self.inside.homes.ok.0 (index_within (scopes_of c.self.inside.blocks.items) (ids_of c.self.inside.blocks.items) c.self.inside.numbers.items c.self.inside.homes.items c.self.inside.count c.index.result c.args.v c.in-Some.scope c.index.ensures.place c.self.invariant.0 level)
+    rw c.self.inside.homes.ok.0 (index_within (scopes_of c.self.inside.blocks.items) (ids_of
+    c.self.inside.blocks.items) c.self.inside.numbers.items c.self.inside.homes.items c.self.inside.count
+    c.index.result c.args.v c.in-Some.scope c.index.ensures.place c.self.invariant.0 level)
 
 pub invariant_of-self : goal.invariant_of-self
 invariant_of-self c =
     let level : level_of (scopes_of c.self.inside.blocks.items) c.args.v ≡ Some c.in-Some.scope = ap (λ ss. level_of ss c.args.v) c.self.view_is ∙ sym c.in-Some.ensures.value in
     let among : is_among c.args.v (all_variables (scopes_of c.self.inside.blocks.items)) ≡ true = ap (λ ss. is_among c.args.v (all_variables ss)) c.self.view_is ∙ sym c.in-Some.ensures.found in
     let table =
-    table_taken (scopes_of c.self.inside.blocks.items) (ids_of c.self.inside.blocks.items) c.self.inside.numbers.items c.self.inside.homes.items c.self.inside.count c.index.result c.args.v c.in-Some.scope c.index.ensures.place c.self.invariant.0 level
+    table_taken (scopes_of c.self.inside.blocks.items) (ids_of c.self.inside.blocks.items) c.self.inside.numbers.items
+    c.self.inside.homes.items c.self.inside.count c.index.result c.args.v c.in-Some.scope c.index.ensures.place
+    c.self.invariant.0 level
     (scopes_of c.take_out.new.blocks.items) (ids_of c.take_out.new.blocks.items) among
-    (without_is (scopes_of c.self.inside.blocks.items) (scopes_of c.take_out.new.blocks.items) c.in-Some.scope c.args.v c.self.invariant.0.distinct level c.in-Some.ensures.within.0 c.take_out.ensures.scopes)
+    (without_is (scopes_of c.self.inside.blocks.items) (scopes_of c.take_out.new.blocks.items) c.in-Some.scope
+    c.args.v c.self.invariant.0.distinct level c.in-Some.ensures.within.0 c.take_out.ensures.scopes)
     c.take_out.ensures.ids in
     let next : c.index-2.result + 1 ≡ c.args.v = c.index-2.ensures.place in
     let is_next : c.args.v ≡ suc c.index-2.result = omega arith in
@@ -45,7 +50,9 @@ index_mut-requires-2 c =
 pub returns-clause-value : goal.returns-clause-value
 returns-clause-value c =
     let level : level_of (scopes_of c.self.inside.blocks.items) c.args.v ≡ Some c.in-Some.scope = ap (λ ss. level_of ss c.args.v) c.self.view_is ∙ sym c.in-Some.ensures.value in
-    without_is (scopes_of c.self.inside.blocks.items) (scopes_of c.take_out.new.blocks.items) c.in-Some.scope c.args.v c.self.invariant.0.distinct level c.in-Some.ensures.within.0 c.take_out.ensures.scopes ∙ ap (without_variable c.args.v) c.self.view_is
+    without_is (scopes_of c.self.inside.blocks.items) (scopes_of c.take_out.new.blocks.items) c.in-Some.scope c.args.v
+    c.self.invariant.0.distinct level c.in-Some.ensures.within.0 c.take_out.ensures.scopes
+    ∙ ap (without_variable c.args.v) c.self.view_is
 
 pub returns-clause-levels : goal.returns-clause-levels
 returns-clause-levels c = λ w. ap (λ ss. level_of ss w) (returns-clause-value c) ∙ level-without c.args.self.now c.args.v w
