@@ -1,4 +1,5 @@
 pub mod Numerals
+pub mod Words
 pub mod Reading
 pub mod Parts
 pub mod Same

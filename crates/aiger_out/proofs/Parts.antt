@@ -11,7 +11,8 @@ use Rattle.aig.specs.declared.edge.And.{And}
 use Rattle.aig.specs.declared.strategy.Output.{Output}
 use Rattle.aig.specs.declared.strategy.Strategy.{Strategy}
 use Rattle.aig.proofs.Numbers.{edge_same}
-use Rattle.aiger_out.specs.Text.{Line, numeral, text_of}
+use Rattle.aiger_out.specs.Text.{numeral}
+use Rattle.blocks.specs.Lines.{Line, text_of}
 use Rattle.aiger_out.specs.Aag.{AreLiteralsOf, EachAt, IsInputSymbol, IsOutputLine, IsOutputSymbol, comment_lines, header_line, literal_line, symbol_line}
 use Rattle.aiger_out.specs.Theorems.{AreOneGate, HaveOneCircuit}
 use Rattle.aiger_out.proofs.Numerals.{IsPlain, plain_numeral, same_numeral}

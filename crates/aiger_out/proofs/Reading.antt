@@ -1,8 +1,8 @@
 -- How a text is cut into lines and words, which can be done in one way.
 use Rattle.std.proofs.Common.{◌≡◌, ℕ, ◌+◌, ◌<◌, ◌≤◌, List, [], ◌∷◌, ◌++◌, length, refl, sym, ap, ap₂, ◌∙◌, arith, append_assoc, length-append}
 use Rattle.std.specs.Prelude.{⊤}
-use Rattle.std.specs.List.{AllZip}
-use Rattle.aiger_out.specs.Text.{Line, line_text, text_of}
+use Rattle.std.specs.List.{AllZip, join_with_byte}
+use Rattle.blocks.specs.Lines.{Line, line_text, text_of}
 use Rattle.aiger_out.specs.Aag.{EachAt}
 use Rattle.aiger_out.proofs.Numerals.{IsPlain}
 
@@ -24,6 +24,13 @@ IsPlainLine [] = ⊥
 IsPlainLine (w ∷ []) = IsPlain w
 IsPlainLine (w ∷ v ∷ ws) = IsPlain w × IsPlainLine (v ∷ ws)
 
+-- the first of more words, with what is behind the line
+words_on : (w v : List ℕ) (ws : Line) (r : List ℕ)
+    → line_text (w ∷ v ∷ ws) ++ r ≡ w ++ 32 ∷ (line_text (v ∷ ws) ++ r)
+words_on w v ws r =
+    ap (λ t. t ++ r) (append_assoc w (32 ∷ join_with_byte 32 (v ∷ ws)) (10 ∷ []))
+    ∙ append_assoc w (32 ∷ line_text (v ∷ ws)) r
+
 pub line_cut : (l m : Line) (r s : List ℕ) → IsPlainLine l → IsPlainLine m → line_text l ++ r ≡ line_text m ++ s
     → (l ≡ m) × (r ≡ s)
 line_cut [] m r s p q e = absurd p
@@ -35,22 +42,20 @@ line_cut (w ∷ []) (v ∷ []) r s p q e =
     (ap (λ (z : List ℕ). z ∷ []) c.0, c.2)
 line_cut (w ∷ []) (v ∷ v' ∷ vs) r s p q e =
     let c = cut w v 10 32 r (line_text (v' ∷ vs) ++ s) p q.0 (omega arith) (omega arith)
-    (sym (append_assoc w (10 ∷ []) r) ∙ e ∙ append_assoc v (32 ∷ line_text (v' ∷ vs)) s) in
+    (sym (append_assoc w (10 ∷ []) r) ∙ e ∙ words_on v v' vs s) in
     absurd (omega (arith, c.1))
 line_cut (w ∷ w' ∷ ws) (v ∷ []) r s p q e =
     let c = cut w v 32 10 (line_text (w' ∷ ws) ++ r) s p.0 q (omega arith) (omega arith)
-    (sym (append_assoc w (32 ∷ line_text (w' ∷ ws)) r) ∙ e ∙ append_assoc v (10 ∷ []) s) in
+    (sym (words_on w w' ws r) ∙ e ∙ append_assoc v (10 ∷ []) s) in
     absurd (omega (arith, c.1))
 line_cut (w ∷ w' ∷ ws) (v ∷ v' ∷ vs) r s p q e =
     let c = cut w v 32 32 (line_text (w' ∷ ws) ++ r) (line_text (v' ∷ vs) ++ s) p.0 q.0 (omega arith) (omega arith)
-    (sym (append_assoc w (32 ∷ line_text (w' ∷ ws)) r) ∙ e ∙ append_assoc v (32 ∷ line_text (v' ∷ vs)) s) in
+    (sym (words_on w w' ws r) ∙ e ∙ words_on v v' vs s) in
     let rest = line_cut (w' ∷ ws) (v' ∷ vs) r s p.1 q.1 c.2 in
     (ap₂ (λ (z : List ℕ) zs. z ∷ zs) c.0 rest.0, rest.1)
 
 line_has : (l : Line) → 0 < length (line_text l)
-line_has [] = omega arith
-line_has (w ∷ []) = omega (arith, length-append w (10 ∷ []))
-line_has (w ∷ v ∷ ws) = omega (arith, length-append w (32 ∷ line_text (v ∷ ws)))
+line_has l = omega (arith, length-append (join_with_byte 32 l) (10 ∷ []))
 
 no_line : (l : Line) (r : List ℕ) → [] ≡ line_text l ++ r → ⊥
 no_line l r e = let n : 0 ≡ length (line_text l ++ r) = ap length e in

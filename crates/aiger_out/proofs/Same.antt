@@ -4,7 +4,8 @@ use Rattle.std.specs.Prelude.{codes}
 use Rattle.std.specs.List.{AllZip}
 use Rattle.aig.specs.declared.edge.And.{And}
 use Rattle.aig.specs.declared.strategy.Strategy.{Strategy}
-use Rattle.aiger_out.specs.Text.{Line, numeral, text_of}
+use Rattle.aiger_out.specs.Text.{numeral}
+use Rattle.blocks.specs.Lines.{Line, text_of}
 use Rattle.aiger_out.specs.Aag.{AreLiteralsOf, EachAt, IsAagText, IsGateLine, IsInputLine, IsOutputLine, header_line}
 use Rattle.aiger_out.specs.Theorems.{AreOneGate, HaveOneCircuit}
 use Rattle.aiger_out.proofs.Numerals.{plain_numeral, same_numeral}

@@ -4,7 +4,7 @@ use Rattle.std.specs.Prelude.{codes}
 use Rattle.std.specs.List.{AllZip}
 use Rattle.aig.specs.declared.edge.And.{And}
 use Rattle.aig.specs.declared.strategy.Strategy.{Strategy}
-use Rattle.aiger_out.specs.Text.{Line, line_text, text_of}
+use Rattle.blocks.specs.Lines.{Line, line_text, text_of}
 use Rattle.aiger_out.specs.Aag.{AreLiteralsOf, EachAt, IsOutputLine, header_line}
 use Rattle.aiger_out.specs.Binary.{IsAigBytes, IsDelta, IsGateBytes, joined}
 use Rattle.aiger_out.specs.Theorems.{AreOneGate, HaveOneCircuit}

@@ -6,7 +6,7 @@ use Rattle.aig.specs.Circuits.{AreDistinct, IsGate, edge_number}
 use Rattle.aig.specs.declared.edge.And.{And}
 use Rattle.aig.specs.declared.edge.Node.TheVariants.{Gate}
 use Rattle.aig.specs.declared.strategy.Strategy.{Strategy}
-use Rattle.aiger_out.specs.Text.{Line, line_text, text_of}
+use Rattle.blocks.specs.Lines.{Line, line_text, text_of}
 use Rattle.aiger_out.specs.Aag.{AreLiteralsOf, EachAt, IsInputSymbol, IsOutputLine, IsOutputSymbol, comment_lines, header_line}
 
 -- the number that groups of 7 bits stand for, the lowest first; the high bit of a byte doesn't count

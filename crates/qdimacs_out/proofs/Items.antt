@@ -9,7 +9,7 @@ use Rattle.lexer.specs.declared.token.Comments.TheVariants.{Dimacs}
 use Rattle.lexer.specs.declared.token.Token.{Token}
 use Rattle.lexer.specs.declared.token.Word.{Word}
 use Rattle.lexer.specs.Words.{Item, begins_comment, byte, ending, is_line_end, item_of, items_from, items_of_lines, last_line, lines_of, outside_comment, parts_lines, seen, the_end, too_long, word, words_of}
-use Rattle.qdimacs_out.specs.Texts.{Line, line_text, text_of}
+use Rattle.blocks.specs.Lines.{Line, line_text, text_of}
 use Rattle.qdimacs_out.proofs.Parting.{IsPlain, NonePart, all_seen, row, row_plain, row_words, text_rows}
 use Rattle.qdimacs_out.proofs.Spelling.{Spells, item_is}
 

@@ -9,8 +9,9 @@ use Rattle.prefix.specs.declared.quant.Quant.TheVariants.{Exists, Forall}
 use Rattle.prefix.specs.Literal.{Literal, signed_number}
 use Rattle.prefix.specs.Scopes.{Scope, all_variables}
 use Rattle.truth.specs.declared.formula.Formula.{Formula}
-use Rattle.qdimacs_out.specs.Pieces.{clause_text, closing, scope_text, spaced}
-use Rattle.qdimacs_out.specs.Texts.{formula_text, header_line, line_text, literal_word, quantifier_word}
+use Rattle.qdimacs_out.specs.Pieces.{clause_text, closing, scope_text}
+use Rattle.blocks.specs.Lines.{line_text, spaced}
+use Rattle.qdimacs_out.specs.Texts.{formula_text, header_line, literal_word, quantifier_word}
 use Rattle.qdimacs_out.specs.Writable.{IsWritable}
 use Rattle.qdimacs_out.proofs.Lines.{clause_is, scope_is, text_is}
 use Rattle.qdimacs_out.proofs.ReadBack.{Fits, LiteralFits, literals_fit, scopes_fit}

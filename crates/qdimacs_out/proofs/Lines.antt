@@ -7,8 +7,9 @@ use Rattle.std.proofs.lemmas.List.Concat.{flat_map-append}
 use Rattle.prefix.specs.declared.quant.Quant.{Quant}
 use Rattle.prefix.specs.Literal.{Literal}
 use Rattle.truth.specs.declared.formula.Formula.{Formula}
-use Rattle.qdimacs_out.specs.Pieces.{clause_pieces, clause_text, closing, scope_pieces, scope_text, spaced}
-use Rattle.qdimacs_out.specs.Texts.{Line, clause_line, ended, formula_text, header_line, line_text, literal_word, quantifier_word, scope_line, text_of}
+use Rattle.qdimacs_out.specs.Pieces.{clause_pieces, clause_text, closing, scope_pieces, scope_text}
+use Rattle.blocks.specs.Lines.{Line, line_text, spaced, text_of}
+use Rattle.qdimacs_out.specs.Texts.{clause_line, ended, formula_text, header_line, literal_word, quantifier_word, scope_line}
 
 -- a line that 0 ends, in pieces
 one_more : (w joined pieces : List ℕ) → joined ++ 10 ∷ [] ≡ pieces ++ closing

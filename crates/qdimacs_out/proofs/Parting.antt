@@ -6,7 +6,7 @@ use Rattle.std.proofs.lemmas.Bool.Decides.{nat_tests}
 use Rattle.std.proofs.lemmas.List.{append-nil, append_assoc, drop_all, map-append, take_all}
 use Rattle.lexer.specs.declared.token.Comments.TheVariants.{Dimacs}
 use Rattle.lexer.specs.Words.{Seen, as_seen, byte, is_plain, is_some_word, lines_of, parts_lines, parts_words, pieces, seen, with_front, words_of}
-use Rattle.qdimacs_out.specs.Texts.{Line, text_of}
+use Rattle.blocks.specs.Lines.{Line, text_of}
 
 -- none of these parts
 abbrev pub NonePart : (Seen → Bool) → List Seen → Type 0

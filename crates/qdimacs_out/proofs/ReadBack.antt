@@ -20,7 +20,8 @@ use Rattle.qdimacs.specs.Formula.{QuantSet, declared as declared_in, formula_of,
 use Rattle.qdimacs.specs.Reads.{AreAllowed, IsAllowed, Reads, Spells as SpellsFront, clause_words, header_words, line_of, quant_word, set_words, variable_words, whole_words, words_of}
 use Rattle.qdimacs.specs.Rules.{Front, Header, Outcome, between, end_rules, first_of, headed, limit, max_clauses, max_scopes, max_vars, parsed, refused, whole_rules}
 use Rattle.qdimacs.specs.declared.refusal.Quantity.TheVariants.{Clauses, Scopes, Variables}
-use Rattle.qdimacs_out.specs.Texts.{Line, clause_line, formula_lines, formula_text, header_line, literal_word, quantifier_word, scope_line}
+use Rattle.qdimacs_out.specs.Texts.{clause_line, formula_lines, formula_text, header_line, literal_word, quantifier_word, scope_line}
+use Rattle.blocks.specs.Lines.{Line}
 use Rattle.qdimacs_out.specs.Theorems.{IsShort}
 use Rattle.qdimacs_out.specs.Writable.{IsWritable}
 use Rattle.qdimacs_out.proofs.All.{all_flat, all_joined, all_kept, all_mapped, all_parts, all_taken, at_among, flat_over, zip_joined, zip_mapped}

@@ -1,15 +1,12 @@
 -- The pieces in which the text of a formula is written.
-use Rattle.std.specs.Prelude.{ℕ, List, [], ◌∷◌, ◌++◌, codes}
+use Rattle.std.specs.Prelude.{ℕ, List, ◌++◌, codes}
 use Rattle.std.specs.List.{flat_map}
 use Rattle.std.specs.Fmt.{decimal}
 use Rattle.prefix.specs.declared.quant.Quant.{Quant}
 use Rattle.prefix.specs.Literal.{Literal}
 use Rattle.prefix.specs.Scopes.{Scope}
-use Rattle.qdimacs_out.specs.Texts.{clause_line, line_text, literal_word, quantifier_word, scope_line}
-
--- a word with the blank behind it
-abbrev pub spaced : List ℕ → List ℕ
-spaced word = word ++ 32 ∷ []
+use Rattle.qdimacs_out.specs.Texts.{clause_line, literal_word, quantifier_word, scope_line}
+use Rattle.blocks.specs.Lines.{line_text, spaced}
 
 -- what ends a scope or a clause
 abbrev pub closing : List ℕ

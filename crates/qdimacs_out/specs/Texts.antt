@@ -1,24 +1,12 @@
 -- Formulas as texts, as QDIMACS 1.1 writes them (input format: preamble, prefix, matrix).
 use Rattle.std.specs.Prelude.{ℕ, List, [], ◌∷◌, ◌++◌, codes, map}
-use Rattle.std.specs.List.{flat_map, join_with_byte}
 use Rattle.std.specs.Fmt.{decimal, signed_decimal}
 use Rattle.prefix.specs.declared.quant.Quant.{Quant}
 use Rattle.prefix.specs.declared.quant.Quant.TheVariants.{Exists, Forall}
 use Rattle.prefix.specs.Literal.{Literal, signed_number}
 use Rattle.prefix.specs.Scopes.{Scope}
 use Rattle.truth.specs.declared.formula.Formula.{Formula}
-
--- a line, as the list of its words
-abbrev pub Line : Type 0
-Line = List (List ℕ)
-
--- the bytes of a line: its words with one blank between two, and the line's end
-abbrev pub line_text : Line → List ℕ
-line_text words = join_with_byte 32 words ++ 10 ∷ []
-
--- the bytes of lines
-abbrev pub text_of : List Line → List ℕ
-text_of lines = flat_map line_text lines
+use Rattle.blocks.specs.Lines.{Line, text_of}
 
 -- `p cnf VARS CLAUSES` (problem_line)
 abbrev pub header_line : ℕ → ℕ → Line

@@ -7,7 +7,8 @@ use Rattle.generate.specs.Worked.{minus, plus, smallest, two_clauses}
 use Rattle.prefix.specs.Scopes.{Scope}
 use Rattle.qdimacs.specs.Reads.{Reads}
 use Rattle.qdimacs.specs.Rules.{parsed, refused}
-use Rattle.qdimacs_out.specs.Texts.{clause_line, formula_text, header_line, line_text, literal_word, scope_line}
+use Rattle.qdimacs_out.specs.Texts.{clause_line, formula_text, header_line, literal_word, scope_line}
+use Rattle.blocks.specs.Lines.{line_text}
 use Rattle.qdimacs_out.specs.Writable.{IsWritable}
 
 -- words and lines with their bytes

@@ -1,8 +1,8 @@
 //! Words of the text of a formula.
 ghost use Rattle.std.specs.Prelude.{◌≡◌};
 ghost use Rattle.std.specs.Fmt.{decimal};
-ghost use Rattle.qdimacs_out.specs.Pieces.{spaced};
-ghost use Rattle.qdimacs_out.specs.Texts.{header_line, line_text, literal_word};
+ghost use Rattle.blocks.specs.Lines.{line_text, spaced};
+ghost use Rattle.qdimacs_out.specs.Texts.{header_line, literal_word};
 
 use blocks::LineText;
 use prefix::{Lit, Var};

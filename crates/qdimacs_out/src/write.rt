@@ -5,8 +5,9 @@ ghost use Rattle.std.specs.Io.KnownBytes.{Appends, Keeps};
 ghost use Rattle.std.specs.Fmt.{decimal};
 ghost use Rattle.ports.specs.Bytes.{AppendsFront};
 ghost use Rattle.ports.specs.Causes.{HasCause};
-ghost use Rattle.qdimacs_out.specs.Pieces.{clause_text, closing, scope_text, spaced};
-ghost use Rattle.qdimacs_out.specs.Texts.{formula_text, header_line, line_text, literal_word, quantifier_word};
+ghost use Rattle.qdimacs_out.specs.Pieces.{clause_text, closing, scope_text};
+ghost use Rattle.blocks.specs.Lines.{line_text, spaced};
+ghost use Rattle.qdimacs_out.specs.Texts.{formula_text, header_line, literal_word, quantifier_word};
 ghost use Rattle.ports.specs.Writing.{Writes};
 ghost use Rattle.blocks.specs.Held.{Puts};
 

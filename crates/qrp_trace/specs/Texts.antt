@@ -6,6 +6,7 @@ use Rattle.prefix.specs.declared.quant.Quant.{Quant}
 use Rattle.prefix.specs.declared.quant.Quant.TheVariants.{Exists, Forall}
 use Rattle.prefix.specs.Literal.{Literal}
 use Rattle.prefix.specs.Scopes.{Scope, all_variables}
+use Rattle.blocks.specs.Lines.{spaced}
 use Rattle.qrp_trace.specs.declared.listing.Line.{Line}
 use Rattle.qrp_trace.specs.declared.listing.CoreStep.{CoreStep}
 use Rattle.qrp_trace.specs.declared.listing.CoreStep.TheVariants.{Input, One, Two}
@@ -22,7 +23,7 @@ greatest (x ∷ xs) = max x (greatest xs)
 
 -- a number with the blank behind it
 abbrev pub number_word : ℕ → Text
-number_word n = decimal n ++ codes " "
+number_word n = spaced (decimal n)
 
 -- a literal with the blank behind it: the number of its variable, with a minus sign for a negation
 abbrev pub literal_word : Literal → Text

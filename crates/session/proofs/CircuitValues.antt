@@ -15,7 +15,7 @@ use Rattle.aig.specs.declared.edge.Edge.{Edge}
 use Rattle.aig.specs.declared.edge.Node.TheVariants.{Input}
 use Rattle.aig.specs.declared.strategy.Strategy.{Strategy}
 use Rattle.aiger_out.specs.Aag.{IsAagText, comment_lines, header_line, literal_line, symbol_line}
-use Rattle.aiger_out.specs.Text.{text_of}
+use Rattle.blocks.specs.Lines.{text_of}
 use Rattle.aiger_out.specs.Theorems.{HaveOneCircuit}
 use Rattle.session.specs.Worked.{either, true_text}
 

@@ -1,5 +1,5 @@
 use Rattle.std.proofs.Common.{◌≤◌, [], suc, length, sym, arith}
-use Rattle.aiger_out.specs.Text.{line_text}
+use Rattle.blocks.specs.Lines.{line_text}
 use Rattle.aiger_out.specs.Written.{section_lines}
 use Rattle.blocks.proofs.Putting.{nothing, each_more, each_stops}
 use Rattle.aiger_out.proofs.write.put_lines.Goals as goal

@@ -1,7 +1,7 @@
 use Rattle.std.proofs.Common.{take}
 use Rattle.std.specs.List.{flat_map}
 use Rattle.blocks.specs.Held.{PassesOn}
-use Rattle.aiger_out.specs.Text.{line_text}
+use Rattle.blocks.specs.Lines.{line_text}
 use Rattle.aiger_out.specs.Written.{section_lines}
 use Rattle.aiger_out.proofs.write.put_lines.Given as goal
 

@@ -1,6 +1,7 @@
 use Rattle.std.proofs.Common.{◌++◌}
 use Rattle.std.specs.List.{flat_map}
-use Rattle.qdimacs_out.specs.Pieces.{closing, spaced}
+use Rattle.qdimacs_out.specs.Pieces.{closing}
+use Rattle.blocks.specs.Lines.{spaced}
 use Rattle.qdimacs_out.specs.Texts.{literal_word}
 use Rattle.qdimacs_out.proofs.Lines.{clause_is}
 use Rattle.blocks.proofs.Putting.{part_more, puts_err, puts_then}

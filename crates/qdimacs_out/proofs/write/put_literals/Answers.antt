@@ -1,5 +1,5 @@
 use Rattle.std.proofs.Common.{◌≤◌, suc, length, ap, sym, ◌∙◌, arith}
-use Rattle.qdimacs_out.specs.Pieces.{spaced}
+use Rattle.blocks.specs.Lines.{spaced}
 use Rattle.qdimacs_out.specs.Texts.{literal_word}
 use Rattle.blocks.proofs.Putting.{nothing, each_more, each_stops}
 use Rattle.qdimacs_out.proofs.write.put_literals.Goals as goal

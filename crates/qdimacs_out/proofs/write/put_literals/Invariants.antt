@@ -1,6 +1,6 @@
 use Rattle.std.proofs.Common.{take}
 use Rattle.std.specs.List.{flat_map}
-use Rattle.qdimacs_out.specs.Pieces.{spaced}
+use Rattle.blocks.specs.Lines.{spaced}
 use Rattle.qdimacs_out.specs.Texts.{literal_word}
 use Rattle.blocks.specs.Held.{PassesOn}
 use Rattle.qdimacs_out.proofs.write.put_literals.Given as goal

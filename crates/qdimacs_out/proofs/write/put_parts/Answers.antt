@@ -1,7 +1,8 @@
 use Rattle.std.proofs.Common.{◌++◌, ap, subst, sym}
 use Rattle.std.specs.List.{flat_map}
 use Rattle.qdimacs_out.specs.Pieces.{clause_text, scope_text}
-use Rattle.qdimacs_out.specs.Texts.{header_line, line_text}
+use Rattle.qdimacs_out.specs.Texts.{header_line}
+use Rattle.blocks.specs.Lines.{line_text}
 use Rattle.ports.specs.Writing.{Stops}
 use Rattle.blocks.specs.Held.{PassesOn, Puts}
 use Rattle.qdimacs_out.proofs.Lines.{text_is}

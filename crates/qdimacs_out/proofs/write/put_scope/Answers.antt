@@ -1,7 +1,8 @@
 use Rattle.std.proofs.Common.{◌++◌}
 use Rattle.std.specs.Fmt.{decimal}
 use Rattle.std.specs.List.{flat_map}
-use Rattle.qdimacs_out.specs.Pieces.{closing, spaced}
+use Rattle.qdimacs_out.specs.Pieces.{closing}
+use Rattle.blocks.specs.Lines.{spaced}
 use Rattle.qdimacs_out.specs.Texts.{quantifier_word}
 use Rattle.qdimacs_out.proofs.Lines.{scope_is}
 use Rattle.blocks.proofs.Putting.{part_more, part_then, puts_err, puts_then}

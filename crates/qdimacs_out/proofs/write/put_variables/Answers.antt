@@ -1,6 +1,6 @@
 use Rattle.std.proofs.Common.{◌≤◌, suc, length, ap, sym, ◌∙◌, arith}
 use Rattle.std.specs.Fmt.{decimal}
-use Rattle.qdimacs_out.specs.Pieces.{spaced}
+use Rattle.blocks.specs.Lines.{spaced}
 use Rattle.blocks.proofs.Putting.{nothing, each_more, each_stops}
 use Rattle.qdimacs_out.proofs.write.put_variables.Goals as goal
 

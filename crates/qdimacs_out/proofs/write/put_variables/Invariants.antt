@@ -1,7 +1,7 @@
 use Rattle.std.proofs.Common.{take}
 use Rattle.std.specs.List.{flat_map}
 use Rattle.std.specs.Fmt.{decimal}
-use Rattle.qdimacs_out.specs.Pieces.{spaced}
+use Rattle.blocks.specs.Lines.{spaced}
 use Rattle.blocks.specs.Held.{PassesOn}
 use Rattle.qdimacs_out.proofs.write.put_variables.Given as goal
 
