@@ -7,5 +7,6 @@ pub mod Keeping
 pub mod Marking
 pub mod Opening
 pub mod Placing
+pub mod Spotting
 pub mod Tables
 pub mod Tallies

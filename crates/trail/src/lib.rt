@@ -4,6 +4,7 @@
 mod allowed;
 mod entry;
 mod finished;
+mod spots;
 mod stopped;
 mod tally;
 mod trail;

@@ -18,6 +18,7 @@ ghost use Rattle.trail.specs.State.{new_trail, without_last, with_room, with_pla
 use super::allowed::Allowed;
 use super::entry::{Entry, Spot, last_floor};
 use super::finished::Finished;
+use super::spots::Spots;
 use super::tally::{count_down, count_up, widen};
 use super::{Stopped, Why};
 use prefix::{Lit, Prefix, Var};
@@ -35,7 +36,7 @@ use steps::{NoMemory, Spent, Steps};
 pub struct Trail {
     entries: Vec<Entry>,
     // Where each variable stands, at its number less 1.
-    spots: Vec<Option<Spot>>,
+    spots: Spots,
     // How many entries are of each scope, at its number less 1; scopes of greater numbers than its length aren't
     // counted.
     tallies: Vec<usize>,
@@ -61,14 +62,14 @@ impl Model for Trail {
       finished = t.finished;
       assigned = t.assigned;
       restarts = t.restarts;
-      room = length t.spots.items;
+      room = length t.spots;
       allowed = t.allowed;
     } };
 
     ghost invariant = { λ t.
-        IsTable t.entries.items t.spots.items (vec_capacity t.entries)
+        IsTable t.entries.items t.spots (vec_capacity t.entries)
         × IsTallied t.entries.items t.tallies.items
-        × HavePlaces (length t.spots.items) t.tallies.items t.finished };
+        × HavePlaces (length t.spots) t.tallies.items t.finished };
 }
 
 impl Trail {
@@ -79,7 +80,7 @@ impl Trail {
     {
         Self {
             entries: Vec::new(alloc),
-            spots: Vec::new(alloc),
+            spots: Spots::new(alloc),
             tallies: Vec::new(alloc),
             finished: Finished::new(alloc),
             assigned: 0,
@@ -95,13 +96,15 @@ impl Trail {
         ensures err { OnErr result (self.new ≡ self.old) }
         ensures kept { (scopes : List Scope) → IsTrailFor scopes self.old → IsTrailFor scopes self.new }
     {
-        if self.spots.len() < vars {
+        let room = self.spots.len();
+        if room < vars {
             self.entries.reserve(vars - self.entries.len())?;
             widen(&mut self.tallies, &self.entries, vars)?;
-            self.spots.reserve(vars - self.spots.len())?;
-            self.finished.widen(vars)?;
-            // There is room for them.
-            let _ = self.spots.resize(vars, None);
+            self.spots.widen(vars)?;
+            if let Err(e) = self.finished.widen(vars) {
+                self.spots.truncate(room);
+                return Err(e.into());
+            }
         }
         Ok(())
     }
@@ -110,7 +113,7 @@ impl Trail {
     pub fn value(&self, v: Var) -> Option<bool>
         ensures { result ≡ value_on self.now.placed v }
     {
-        Some(self.spot(v)?.value)
+        self.spots.value(v.index())
     }
 
     /// The place of a variable on the trail, from 0; none exactly where it is unassigned.
@@ -466,7 +469,7 @@ impl Trail {
     fn spot(&self, v: Var) -> Option<Spot>
         ensures { result ≡ spot_on self.now.placed v }
     {
-        *self.spots.get(v.index())?
+        self.spots.get(v.index())
     }
 
     // Puts a literal on the trail, with the number less 1 of its scope.
@@ -491,7 +494,7 @@ impl Trail {
         };
         // There is room for it.
         let _ = self.entries.push(entry);
-        self.spots[lit.var().index()] = Some(spot);
+        self.spots.set(lit.var().index(), spot);
         count_up(&mut self.tallies, scope);
         self.assigned = self.assigned.saturating_add(1);
         self.allowed = Allowed::Anything;
@@ -517,7 +520,7 @@ impl Trail {
         ensures { self.new ≡ without_last self.old }
     {
         if let Some(entry) = self.entries.pop() {
-            self.spots[entry.lit.var().index()] = None;
+            self.spots.clear(entry.lit.var().index());
             count_down(&mut self.tallies, entry.scope);
             self.finished.take_out(entry.scope);
             self.allowed = Allowed::NoDecision;

@@ -6,16 +6,19 @@ use Rattle.trail.proofs.Blocks.{wider_in}
 use Rattle.trail.proofs.Keeping.{kept_wider}
 use Rattle.trail.proofs.trail.Trail.reserve.Goals as goal
 
-pub returns-in_ok-widen-2-clause-kept : goal.returns-in_ok-widen-2-clause-kept
-returns-in_ok-widen-2-clause-kept c =
+pub returns-in_default-clause-kept : goal.returns-in_default-clause-kept
+returns-in_default-clause-kept c =
     let t = c.args.self.now in
     let is = c.self.view_is in
     let old = c.self.inside.finished in
-    λ scopes kept. kept_wider scopes t (trail_of c.reserve.new.self.items) (depths_of c.reserve.new.self.items) (marks_of c.reserve.new.self.items) c.widen-then-len-vars.new.self c.self.inside.assigned c.self.inside.restarts (length c.resize.new.self.items) c.self.inside.allowed
+    λ scopes kept. kept_wider scopes t (trail_of c.reserve.new.self.items) (depths_of c.reserve.new.self.items)
+    (marks_of c.reserve.new.self.items) c.widen-then-room-vars-2.new.self c.self.inside.assigned c.self.inside.restarts
+    (length c.widen-then-room-vars.new.self) c.self.inside.allowed
     (ap trail_of c.reserve.ensures.items ∙ ap (λ (s : TrailState). s.placed) is)
     (ap depths_of c.reserve.ensures.items ∙ ap (λ (s : TrailState). s.depths) is)
     (ap marks_of c.reserve.ensures.items ∙ ap (λ (s : TrailState). s.marks) is)
-    (λ i. ap (λ fs. is_in fs i) c.in_ok-widen-2.ensures.ok ∙ (wider_in old (c.args.vars - length old) i ∙ ap (λ (s : TrailState). is_in s.finished i) is))
+    (λ i. ap (λ fs. is_in fs i) c.in_default.ensures.ok
+    ∙ (wider_in old (c.args.vars - length old) i ∙ ap (λ (s : TrailState). is_in s.finished i) is))
     (ap (λ (s : TrailState). s.assigned) is)
     (ap (λ (s : TrailState). s.restarts) is)
     (ap (λ (s : TrailState). s.allowed) is)

@@ -36,14 +36,14 @@ marked c =
 pub invariant_of-self : goal.invariant_of-self
 invariant_of-self c =
     let items = c.self.inside.entries.items in
-    let both = table_marked items (entries c) c.self.inside.spots.items c.self.inside.tallies.items (vec_capacity c.self.inside.entries) c.args.v c.args.reason c.in-Some.place c.requires.propagated.0
+    let both = table_marked items (entries c) c.self.inside.spots c.self.inside.tallies.items (vec_capacity c.self.inside.entries) c.args.v c.args.reason c.in-Some.place c.requires.propagated.0
     (ap (λ (t : Trail). cause_on t c.args.v) (same c) ∙ c.requires.propagated.1)
     (length-set items c.in-Some.place (cleaned c.index_mut-entry.result.now c.args.reason))
     (marked c)
     (c.self.invariant.0, c.self.invariant.1) in
     (both.0, both.1, c.self.invariant.2)
 
-is_value : (c : goal.After-self-1) → record { placed = trail_of (entries c); depths = depths_of (entries c); marks = marks_of (entries c); finished = c.self.inside.finished; assigned = c.self.inside.assigned; restarts = c.self.inside.restarts; room = length c.self.inside.spots.items; allowed = c.self.inside.allowed } ≡ with_clean c.args.self.now c.args.v c.args.reason
+is_value : (c : goal.After-self-1) → record { placed = trail_of (entries c); depths = depths_of (entries c); marks = marks_of (entries c); finished = c.self.inside.finished; assigned = c.self.inside.assigned; restarts = c.self.inside.restarts; room = length c.self.inside.spots; allowed = c.self.inside.allowed } ≡ with_clean c.args.self.now c.args.v c.args.reason
 is_value c =
     let t = c.args.self.now in
     let is = marked c in
@@ -53,7 +53,7 @@ is_value c =
     let finished : c.self.inside.finished ≡ t.finished = ap (λ (s : TrailState). s.finished) c.self.view_is in
     let assigned : c.self.inside.assigned ≡ t.assigned = ap (λ (s : TrailState). s.assigned) c.self.view_is in
     let restarts : c.self.inside.restarts ≡ t.restarts = ap (λ (s : TrailState). s.restarts) c.self.view_is in
-    let room : length c.self.inside.spots.items ≡ t.room = ap (λ (s : TrailState). s.room) c.self.view_is in
+    let room : length c.self.inside.spots ≡ t.room = ap (λ (s : TrailState). s.room) c.self.view_is in
     let allowed : c.self.inside.allowed ≡ t.allowed = ap (λ (s : TrailState). s.allowed) c.self.view_is in
     λ i. record { placed = placed i; depths = depths i; marks = marks i; finished = finished i; assigned = assigned i; restarts = restarts i; room = room i; allowed = allowed i }
 
