@@ -2,8 +2,8 @@
 """Runs qbf on scripts that grow, and prints processor seconds, microseconds a command, and memory.
 
 Each script opens a frame, puts ten clauses into it, solves and drops the frame, again and again: `small` over an empty
-formula, `base` over one of so many clauses that stay. The time is to be linear in the number of commands; what a round
-costs over a base is the detaching and attaching of its rows, which a change asks for.
+formula, `base` over one of so many clauses that stay. The time is to be linear in the number of commands; a round over
+a base decides its variables.
 
 usage: scripts.py        QBF=COMMAND in the environment: another command than bin/qbf script
 """

@@ -1,5 +1,5 @@
 -- A clause with its reduction comes in.
-use Rattle.std.proofs.Common.{◌≡◌, ◌≢◌, ℕ, ◌<◌, Bool, true, false, List, [], ◌∷◌, ◌++◌, map, filter, Contains, Some, None, is_some, sym, refl, ap, ap₂, subst, ◌∙◌, ⊎_elim}
+use Rattle.std.proofs.Common.{◌≡◌, ◌≢◌, ℕ, ◌<◌, Bool, true, false, List, [], ◌∷◌, ◌++◌, map, filter, Contains, IsTrue, Some, None, is_some, sym, refl, ap, ap₂, subst, ◌∙◌, ⊎_elim}
 use Rattle.std.specs.List.{cons_option}
 use Rattle.std.proofs.lemmas.Bool.{false≢true, cond-true}
 use Rattle.std.proofs.lemmas.List.{map_push, append-nil}
@@ -17,6 +17,7 @@ use Rattle.calculus.proofs.StepLemmas.{kept_derivation, one_more_step}
 use Rattle.calculus.proofs.Changes.{changed_derivation, extends_itself}
 use Rattle.calculus.proofs.RowLaws.{reduce_row}
 use Rattle.derive.specs.State.{Note, Notes, State, SameStep, arena_of, IsStepOf, OpenClause, note_in, note_at, next_id, row_of, side_in, tag_in, side_at, is_live, may_be_antecedent, is_step, steps_of, clause_with, clauses_of, open_clauses, IsLegalFor}
+use Rattle.derive.specs.Antecedents.{AreSupported}
 use Rattle.derive.specs.Adding.{Adds, AddsClause, InputsClause, note_over, clause_note}
 use Rattle.derive.specs.Dropping.{Falls, Drops, is_cube}
 use Rattle.derive.specs.Cubes.{misses}
@@ -24,7 +25,7 @@ use Rattle.derive.specs.Dropping.Falls.{root, rests}
 use Rattle.derive.proofs.Legality.{stands_at, contains_last, given_input}
 use Rattle.derive.proofs.Additions.{pushed_old}
 use Rattle.derive.proofs.Drops.{clauses_same, given_root, closed_left, left_hits}
-use Rattle.derive.proofs.Missed.{cube_missing}
+use Rattle.derive.proofs.Missed.{cube_missing, misses_same}
 
 -- the clauses that are open then
 no_clause_over : (id : ℕ) (row : Row) (tag : ℕ) (side : Quant) (a : ℕ) → clause_with id row tag side (ReducedFrom a) ≡ None
@@ -175,6 +176,32 @@ module _ (scopes : List Scope) (old new : State) (first second frame : ℕ) (row
       let live = stays id note (both.note ∙ there) side in
       let final = cubes.others id (ap is_some live) in
       record { note = final.note ∙ both.note; row = final.row ∙ both.row }
+
+  -- what was live is there with the clause
+  there_still : (id : ℕ) → IsTrue (is_live old id) → SameStep old added id
+  there_still id live =
+      let input = adds.input.others id live in
+      ⊎_elim (λ same. rw same.2 input)
+      (λ more.
+      let last = more.1.others id (ap is_some input.note ∙ live) in
+      record { note = last.note ∙ input.note; row = last.row ∙ input.row })
+      adds.reduction.cases
+
+  -- it falls where it would have fallen before
+  falls_before : AreSupported old.notes → (id : ℕ) → IsTrue (is_live old id) → Falls (misses row (arena_of added)) added.notes id → Falls (misses row (arena_of old)) old.notes id
+  falls_before supported id live (root j note there r) =
+      let same = there_still id live in
+      root id note (sym same.note ∙ there) (sym (misses_same row (arena_of old) (arena_of added) id note (ap literals_of same.row)) ∙ r)
+  falls_before supported id live (rests j on note there r falls) =
+      let was : note_at old id ≡ Some note = sym (there_still id live).note ∙ there in
+      let a = (supported id note was).antecedents on r in
+      rests id on note was r (falls_before supported on (ap is_some a.there) falls)
+
+  pub stays_live : AreSupported old.notes → (id : ℕ) → IsTrue (is_live old id) → (Falls (misses row (arena_of old)) old.notes id → ⊥) → IsTrue (is_live new id)
+  stays_live supported id live stands =
+      ⊎_elim (λ f. absurd (stands (falls_before supported id live f.0)))
+      (λ k. ap is_some (k.1 ∙ (there_still id live).note) ∙ live)
+      (cubes.exactly.steps id)
 
   module _ (is_row : IsRow scopes row) (legal : IsLegalFor scopes old) where
     old_kept : IsDerivation scopes (open_clauses new) (filter keep (steps_of old))

@@ -12,8 +12,10 @@ use Rattle.calculus.specs.Derivations.{Hits, Why}
 use Rattle.calculus.specs.Derivations.Why.{Given, ReducedFrom, ResolvedFrom, FinishedFrom}
 use Rattle.calculus.proofs.Lists.{any_at, any_from, contains_cons, contains_nil, filter_from}
 use Rattle.calculus.proofs.Merging.{same_literal_true}
-use Rattle.derive.specs.State.{Note, Notes, note_in}
-use Rattle.derive.specs.Dropping.{is_cube}
+use Rattle.derive.specs.State.{Note, Notes, note_in, side_in}
+use Rattle.derive.specs.Antecedents.{AreSupported}
+use Rattle.derive.specs.Dropping.{Falls, is_cube}
+use Rattle.derive.specs.Dropping.Falls.{rests, root}
 use Rattle.derive.specs.Cubes.{AreListed, hits_clause, is_cube_in, misses, misses_in, stands_in}
 
 -- a literal that stands in a row is in it
@@ -105,3 +107,15 @@ none_all clause rows notes ids n first all listed none id note there below =
 
 pub listed_left : (notes : Notes) (ids left : List ℕ) → left ≡ filter (λ id. is_cube_in (note_in notes id)) ids → AreListed notes ids → AreListed notes left
 listed_left notes ids left is listed id cube = rw is (filter_from (λ k. is_cube_in (note_in notes k)) ids id (listed id cube) cube)
+
+-- what falls with initial cubes is a cube
+cube_side : (side : Quant) (why : Why) → is_cube side why ≡ true → side ≡ Forall
+cube_side Exists why e = absurd (false≢true e)
+cube_side Forall why e = refl
+
+pub falls_as_cube : (clause : Row) (rows : Arena) (notes : Notes) → AreSupported notes → (id : ℕ) → Falls (misses clause rows) notes id → side_in (note_in notes id) ≡ Forall
+falls_as_cube clause rows notes supported id (root j note there m) =
+    ap side_in there ∙ cube_side note.side note.why (cube_missing clause rows id note m)
+falls_as_cube clause rows notes supported id (rests j on note there r falls) =
+    let a = (supported id note there).antecedents on r in
+    ap side_in there ∙ sym a.one_side ∙ sym (ap side_in a.there) ∙ falls_as_cube clause rows notes supported on falls

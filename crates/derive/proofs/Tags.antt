@@ -1,12 +1,15 @@
 -- The tag of a step is the greatest frame in its support.
-use Rattle.std.proofs.Common.{◌≡◌, ℕ, zero, suc, ◌<◌, ◌≤◌, ◌⊎◌, true, [], ◌∷◌, get_or, is_some, Option, Some, sym, refl, ap, ◌∙◌, inl, inr, ⊎_elim, arith}
-use Rattle.std.proofs.lemmas.Bool.{cases_lt, false≢true}
+use Rattle.std.proofs.Common.{◌≡◌, ℕ, zero, suc, ◌<◌, ◌≤◌, ◌⊎◌, true, false, [], ◌∷◌, get_or, is_some, Option, Some, sym, refl, ap, ◌∙◌, inl, inr, ⊎_elim, arith}
+use Rattle.std.proofs.lemmas.Bool.{cases_Bool, cases_lt, eqb-true, false≢true}
 use Rattle.prefix.specs.declared.quant.Quant.TheVariants.{Forall}
 use Rattle.calculus.specs.Derivations.{Why, RestsOn}
 use Rattle.calculus.specs.Derivations.Why.{Given, ReducedFrom, ResolvedFrom, FinishedFrom}
 use Rattle.derive.specs.State.{Note, Notes, note_in, tag_in}
 use Rattle.derive.specs.Antecedents.{AreSupported, HasTag, Supports, IsGreatestFrame}
 use Rattle.derive.specs.Antecedents.Supports.{itself, through}
+use Rattle.derive.specs.Dropping.{Falls, StepTest, has_tag}
+use Rattle.derive.specs.Kept.{AreFrom}
+use Rattle.derive.specs.Dropping.Falls.{rests, root}
 
 module _ (notes : Notes) where
   -- two notes under an id are one
@@ -94,3 +97,31 @@ pub cube_tag : (notes : Notes) → AreSupported notes → (id : ℕ) (note : Not
 cube_tag notes supported id note tag there is side =
     let g = greatest notes supported id note tag there is in
     sym g.reached.2 ∙ cube_support notes supported id g.reached.0 g.reached.1 note there side
+
+-- a step has at least the tag of what it rests on
+tag_over : (notes : Notes) (note : Note) (why : Why) (on : ℕ) → HasTag notes note.side note.tag why → RestsOn why on → tag_in (note_in notes on) ≤ note.tag
+tag_over notes note Given on has r = absurd r
+tag_over notes note (ReducedFrom a) on has r = let e : tag_in (note_in notes a) ≡ tag_in (note_in notes on) = ap (λ i. tag_in (note_in notes i)) r in omega arith
+tag_over notes note (ResolvedFrom a b x) on has r =
+    ⊎_elim
+    (λ s. let e : tag_in (note_in notes a) ≡ tag_in (note_in notes on) = ap (λ i. tag_in (note_in notes i)) s in omega arith)
+    (λ s. let e : tag_in (note_in notes b) ≡ tag_in (note_in notes on) = ap (λ i. tag_in (note_in notes i)) s in omega arith)
+    r
+tag_over notes note (FinishedFrom a) on has r = let e : tag_in (note_in notes a) ≡ tag_in (note_in notes on) = ap (λ i. tag_in (note_in notes i)) r in omega arith
+
+-- what falls with a frame has it or a later one as its tag
+pub frame_below : (frame : ℕ) (notes : Notes) → AreSupported notes → (id : ℕ) → Falls (has_tag frame) notes id → frame ≤ tag_in (note_in notes id)
+frame_below frame notes supported id (root j note there test) =
+    let e : note.tag ≡ frame = eqb-true note.tag frame test in
+    let t : tag_in (note_in notes id) ≡ note.tag = ap tag_in there in
+    omega arith
+frame_below frame notes supported id (rests j on note there r falls) =
+    let below = frame_below frame notes supported on falls in
+    let over = tag_over notes note note.why on (supported id note there).tag r in
+    let t : tag_in (note_in notes id) ≡ note.tag = ap tag_in there in
+    omega arith
+
+-- below where steps of a sort stand there is none of them
+pub none_from : (sort : StepTest) (notes : Notes) (from : ℕ) → AreFrom sort notes from → (id : ℕ) (note : Note) → note_in notes id ≡ Some note → id < from → sort id note ≡ false
+none_from sort notes from is id note there low =
+    ⊎_elim (λ t. let above = is.above id note there t in absurd (omega arith)) (λ f. f) (cases_Bool (sort id note))

@@ -46,7 +46,12 @@ pub(crate) fn drop_missing(
 }
 
 // The least id of an initial cube that misses a clause, and else the id that comes next.
-fn first_missing(cubes: &[StepId], notes: &Vec<Option<Note>>, rows: &Rows, clause: &[Lit]) -> StepId
+pub(crate) fn first_missing(
+    cubes: &[StepId],
+    notes: &Vec<Option<Note>>,
+    rows: &Rows,
+    clause: &[Lit],
+) -> StepId
     requires fits { Fits notes.now.items rows.now }
     requires listed { AreListed notes.now.items cubes.now }
     ensures { (id : ℕ) (note : Kept) → note_in notes.now.items id ≡ Some note → id < result →

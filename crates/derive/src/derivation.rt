@@ -1,5 +1,5 @@
 //! Derivations.
-ghost use Rattle.std.specs.Prelude.{◌≡◌, ◌≢◌, ◌↔◌, ◌<◌, ◌⊎◌, ℕ, false, IsTrue, IsFalse, Some, None, IfOk, OnOk, OnErr, Err, List, [], ◌∷◌, ◌++◌, filter, max, not, nat_lt, ◌==◌, if◌then◌else◌, length, slice_index_or, slice_set, Contains};
+ghost use Rattle.std.specs.Prelude.{◌≡◌, ◌≢◌, ◌↔◌, ◌<◌, ◌≤◌, ◌⊎◌, ℕ, false, IsTrue, IsFalse, Some, None, IfOk, OnOk, OnErr, Err, List, [], ◌∷◌, ◌++◌, filter, max, not, nat_lt, ◌==◌, if◌then◌else◌, length, slice_index_or, slice_set, Contains};
 ghost use Rattle.prefix.specs.Scopes.{Scope, IsAscending};
 ghost use Rattle.prefix.specs.declared.quant.Quant.TheVariants.{Exists as exists, Forall as forall};
 ghost use Rattle.rows.specs.Arena.{Arena, literals_at};
@@ -13,12 +13,12 @@ ghost use Rattle.derive.specs.State.{State, arena_of, IsStepOf, SameStep, OpenCl
 ghost use Rattle.derive.specs.Antecedents.{Fits, IsAntecedentIn, AreSupported, IsSupportedAt, IsGreatestFrame};
 ghost use Rattle.derive.specs.Adding.{clause_note, Adds, AddsBoth, AddsClause, AreResolvable, CountsRemoval, InputsClause, IsOver, IsReductionOf, Removes, cube_note, finish_at, reduction_at, resolvent_at, resolvent_note};
 ghost use Rattle.derive.specs.Growing.{AreUnlinked, GainsSteps};
-ghost use Rattle.derive.specs.Dropping.{Drops, StepTest, is_that, mentions, names, has_tag, finishes, is_from, is_root, unless_finish};
+ghost use Rattle.derive.specs.Dropping.{Drops, Falls, StepTest, is_that, mentions, names, has_tag, finishes, is_from, is_root, unless_finish};
 ghost use Rattle.derive.specs.Cubes.{is_cube_in, misses};
 ghost use Rattle.derive.specs.Sweeping.{Sweeps};
 ghost use Rattle.derive.specs.Told.{told, why_of};
 
-use super::cubes::{drop_missing, list_cube, retain_cubes};
+use super::cubes::{drop_missing, first_missing, list_cube, retain_cubes};
 use super::dropping::{Roots, drop_roots};
 use super::new_step::NewStep;
 use super::note::Note;
@@ -154,6 +154,8 @@ impl Derivation {
             (record { id = ids.0; frame = frame; row = lits.now }) ids.1) }
         ensures kept { OnOk result ((id : ℕ) (note : Kept) → note_at self.old id ≡ Some note → note.side ≡ exists →
             SameStep self.old self.new id) }
+        ensures stays { OnOk result ((id : ℕ) → IsTrue (is_live self.old id) →
+            (Falls (misses lits.now (arena_of self.old)) self.old.notes id → ⊥) → IsTrue (is_live self.new id)) }
         ensures others { OnOk result ((id : ℕ) → IsTrue (is_live self.old id) → IsTrue (is_live self.new id) →
             SameStep self.old self.new id) }
         ensures unlinked { OnOk result (AreUnlinked self.old self.new) }
@@ -164,6 +166,8 @@ impl Derivation {
             IsLegalFor prefix.now self.new) }
         ensures err { OnErr result (self.new ≡ self.old) }
     {
+        // Each step rests on live ones.
+        let _ids = self.notes.len();
         let ids = self.add_clause(prefix, lits, frame)?;
         self.drop_cubes_missing(lits);
         Ok(ids)
@@ -298,6 +302,20 @@ impl Derivation {
         self.add_removal(row, Step::Finished(row), finish.as_slice())
     }
 
+    /// The id from which on steps of a frame can stand. What goes where the frame is dropped has this id or a later
+    /// one, and the frame or a later one as its tag.
+    pub fn frame_from(&self, frame: usize) -> StepId
+        ensures above { (id : ℕ) (note : Kept) → note_at self.now id ≡ Some note → id < result →
+            has_tag frame id note ≡ false }
+        ensures falls { (id : ℕ) → Falls (has_tag frame) self.now.notes id →
+            (result ≤ id) × (frame ≤ tag_at self.now id) }
+    {
+        self.frames_from
+            .get(frame)
+            .copied()
+            .unwrap_or(self.notes.len())
+    }
+
     /// Drops the steps with this tag, with all that rests on them. This takes no memory.
     pub fn drop_frame(&mut self, frame: usize)
         requires { IsTrue (has_rows self.old) }
@@ -308,6 +326,16 @@ impl Derivation {
     {
         self.drop_all(self.frame_from(frame), Roots::Frame(frame));
         put_from(&mut self.frames_from, frame, self.notes.len());
+    }
+
+    /// The id from which on steps can go where the initial cubes go that hold no literal of a clause. Cubes alone go
+    /// then. This compares the literals of each initial cube with the clause's.
+    pub fn missing_from(&self, clause: &[Lit]) -> StepId
+        requires { IsTrue (has_rows self.now) }
+        ensures { (id : ℕ) → Falls (misses clause.now (arena_of self.now)) self.now.notes id →
+            (result ≤ id) × (side_at self.now id ≡ forall) }
+    {
+        first_missing(self.cubes.as_slice(), &self.notes, self.rows(), clause)
     }
 
     /// Drops the initial cubes that hold no literal of a clause, with all that rests on them; the others stay. This
@@ -461,17 +489,6 @@ impl Derivation {
         let id = self.rows.as_mut().unwrap().add(lits)?;
         let _ = self.notes.push(Some(note));
         Ok(id)
-    }
-
-    // The id from which on steps of a frame can stand.
-    fn frame_from(&self, frame: usize) -> StepId
-        ensures { (id : ℕ) (note : Kept) → note_at self.now id ≡ Some note → id < result →
-            has_tag frame id note ≡ false }
-    {
-        self.frames_from
-            .get(frame)
-            .copied()
-            .unwrap_or(self.notes.len())
     }
 
     // Adds a step whose row is that of another one without some literals, if there are any.

@@ -1,5 +1,5 @@
 -- Steps that nothing kept rests on are dropped while a search goes on.
-use Rattle.std.proofs.Common.{◌≡◌, ◌≤◌, ◌+◌, ◌⊎◌, Bool, cond, length, ℕ, ◌++◌, true, List, Option, Some, None, Contains, IsTrue, is_some, refl, sym, ap, subst, ◌∙◌, inl, inr, ⊎_elim, arith}
+use Rattle.std.proofs.Common.{◌≡◌, ◌≤◌, ◌+◌, ◌⊎◌, Bool, cond, length, ℕ, ◌++◌, true, List, Some, Contains, IsTrue, is_some, refl, sym, ap, subst, ◌∙◌, inl, inr, ⊎_elim, arith}
 use Rattle.std.proofs.lemmas.Bool.{cond-true, false≢true}
 use Rattle.std.proofs.lemmas.List.Elements.{Contains-append_left, Contains-append_right}
 use Rattle.prefix.specs.declared.quant.Quant.{Quant}
@@ -12,27 +12,22 @@ use Rattle.calculus.specs.Search.{IsCleanBut, IsUnitIn, before_on, cause_on, val
 use Rattle.calculus.specs.Search.Cause.{Propagated}
 use Rattle.calculus.specs.Derivations.{RestsOn}
 use Rattle.calculus.specs.Derivations.Why.{ReducedFrom}
-use Rattle.derive.specs.State.{IsLegalFor, Note, State, SameStep, clauses_of, is_live, note_at, row_of, side_at, why_at, why_in}
+use Rattle.derive.specs.State.{IsLegalFor, State, SameStep, clauses_of, is_live, note_at, row_of, side_at, why_at, why_in}
 use Rattle.derive.specs.Dropping.{Drops, StepTest}
 use Rattle.derive.specs.Sweeping.{Stays, Sweeps}
 use Rattle.derive.specs.Sweeping.Stays.{under}
 use Rattle.trail.specs.State.{TrailState}
 use Rattle.watch.specs.Laws.{AgreeingLaws, HoldingLaws}
 use Rattle.clean.specs.Reasons.{HaveReasons, IsReason}
-use Rattle.search.specs.Forgetting.{Clears, Forgets, HasFewLong, HaveAllReasons, Thins, left_long, many_long, without_detached}
+use Rattle.search.specs.Forgetting.{AreLive, Clears, Forgets, HasFewLong, HaveAllReasons, Thins, left_long, many_long, without_detached}
 use Rattle.search.specs.Counting.{size_of}
 use Rattle.search.specs.Long.{is_input}
 use Rattle.search.specs.State.{IsAttached, IsSearching, SearchState}
-use Rattle.search.proofs.Dropping.{attached_on, attached_still, attached_was, intact_rederived, rederived, tally_left, watched_left}
-use Rattle.search.proofs.Listing.{attached_live}
+use Rattle.search.proofs.Dropping.{attached_on, attached_still, attached_was, intact_rederived, note_of, rederived, tally_left, watched_left}
 use Rattle.search.proofs.Marks.{reduced_by, step_live}
 use Rattle.search.proofs.Reducing.{reductions_left, reductions_same}
 
 -- the input clauses that reductions rest on stay
-note_of : (o : Option Note) → is_some o ≡ true → (note : Note) × (o ≡ Some note)
-note_of None h = absurd (false≢true h)
-note_of (Some note) h = (note, refl)
-
 module _ (keep : List ℕ) (old new : State) (sweeps : Sweeps keep old new) where
   stays_live : (id : ℕ) → is_live new id ≡ true → Stays keep old.notes id × (note_at new id ≡ note_at old id)
   stays_live id live =
@@ -64,7 +59,8 @@ reasons_kept side scopes old new t kept have l id pivot is_bad cause =
     }
 
 module _ (holding : HoldingLaws) (agreeing : AgreeingLaws) (scopes : List Scope) (s : SearchState) (d : State)
-    (ids keep : List ℕ) (searching : IsSearching scopes s) (all : keep ≡ ids ++ s.watched)
+    (ids keep : List ℕ) (searching : IsSearching scopes s)
+    (alive : AreLive s.derivation s.watched) (all : keep ≡ ids ++ s.watched)
     (reasons : HaveAllReasons s.derivation s.trail.placed ids) (sweeps : Sweeps keep s.derivation d)
     (is_root : StepTest) (drops : Drops is_root s.derivation d)
     (kept : (id : ℕ) → Contains keep id → SameStep s.derivation d id)
@@ -77,8 +73,7 @@ module _ (holding : HoldingLaws) (agreeing : AgreeingLaws) (scopes : List Scope)
 
   watched_live : (id : ℕ) → Contains s.watched id → IsTrue (is_live d id)
   watched_live id at =
-      ap is_some (watched_same id at).note
-      ∙ attached_live scopes s searching.paused.intact searching.paused.attached id at
+      ap is_some (watched_same id at).note ∙ alive id at
 
   attached_same : (side : Quant) (id : ℕ) → IsAttached s side id → IsTrue (is_live d id)
   attached_same side id a = watched_live id (searching.paused.intact.watched.listed side id a)

@@ -13,6 +13,7 @@ use Rattle.derive.proofs.Listing.{listed_note, listed_row}
 use Rattle.watch.specs.Events.{AreQuiet}
 use Rattle.watch.specs.Links.{is_attached}
 use Rattle.clean.proofs.Keeping.{step_row}
+use Rattle.search.proofs.Marks.{step_live}
 use Rattle.search.specs.State.{IsPaused, SearchState, rows_of}
 
 -- an open clause with its row
@@ -38,7 +39,7 @@ pub attached_clause : (scopes : List Scope) (s : SearchState) (row : Row) → Is
 attached_clause scopes s row paused i =
     let c = clause_in (clauses_of s.derivation) row i in
     let r = paused.intact.watched.clauses c.0 c.1 in
-    let a = paused.attached r.0 r.1 in
+    let a = paused.attached r.0 r.1 (step_live _ r.2.step) in
     let side : a.0 ≡ Exists = sym (paused.intact.watched.sides a.0 r.0 a.1).of_side ∙ r.2.of_side in (
       subst (IsRow scopes) c.2 (clause_row scopes s.derivation c.0 paused.intact.legal c.1),
       (r.0, subst (λ q. IsTrue (is_attached q (rows_of s) r.0)) side a.1, r.2.literals ∙ ap (reduce Exists scopes) c.2),

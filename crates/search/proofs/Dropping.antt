@@ -1,6 +1,6 @@
 -- Searches at rest in which steps are dropped.
 use Rattle.std.proofs.Common.{◌≡◌, ℕ, ◌<◌, ◌⊎◌, Bool, true, false, not, List, filter, Option, Some, None, Contains, IsTrue, is_some, nat_eq, get_or, refl, sym, ap, subst, ◌∙◌, inl, inr, ⊎_elim, arith}
-use Rattle.std.proofs.lemmas.Bool.{cases_Bool, cond-false, false≢true}
+use Rattle.std.proofs.lemmas.Bool.{cases_Bool, cond-false, eq-eqb, false≢true}
 use Rattle.calculus.proofs.Lists.{filter_at}
 use Rattle.prefix.specs.declared.quant.Quant.{Quant}
 use Rattle.prefix.specs.declared.quant.Quant.TheVariants.{Exists, Forall}
@@ -15,14 +15,15 @@ use Rattle.derive.specs.Dropping.Falls.{rests, root}
 use Rattle.derive.specs.Theorems.{ClausesAreListed}
 use Rattle.derive.specs.Sweeping.{is_input_clause}
 use Rattle.watch.specs.Links.{is_at, is_attached, mark_of}
-use Rattle.watch.specs.State.{Holds, IsUnattached, WatchState}
+use Rattle.watch.specs.State.{Holds, WatchState}
 use Rattle.watch.specs.Laws.{AgreeingLaws, HoldingLaws}
 use Rattle.clean.specs.Reasons.{IsReducedStep}
-use Rattle.search.specs.State.{AreAttached, AreAttachedIf, AreMarked, AreWatched, IsAttached, IsIntact, IsResting, SearchState, rows_of, watch_of}
+use Rattle.search.specs.State.{AreAttached, AreMarked, AreWatched, IsAtRest, IsAttached, IsIntact, IsResting, IsTallied, SearchState, rows_of, watch_of}
+use Rattle.search.specs.Watching.{NoneFalls, Sheds}
 use Rattle.search.specs.Long.{is_input, is_kept_long, long_in}
 use Rattle.search.specs.Forcing.{HasNoCubes}
 use Rattle.search.proofs.Tallying.{kept_detached, kept_same, kept_unlinked, same_count}
-use Rattle.search.proofs.Marks.{marked_as_was, not_attached, reduced_by, reduction_by, same_mark, step_live}
+use Rattle.search.proofs.Marks.{live_same, marked_as_was, not_attached, reduced_by, reduction_by, same_mark, step_live}
 
 -- with another derivation, and another list of rows to watch
 abbrev pub rederived : SearchState → State → List ℕ → SearchState
@@ -58,23 +59,27 @@ intact_rederived holding agreeing scopes s d ids intact rows legal watched same 
 }
 
 pub resting_rederived : HoldingLaws → AgreeingLaws
-    → (scopes : List Scope) (s : SearchState) (d : State) (ids : List ℕ) → IsResting scopes s
-    → IsTrue (is_some d.rows) → IsLegalFor scopes d → AreWatched scopes (rederived s d ids)
+    → (scopes : List Scope) (s : SearchState) (d : State) (ids : List ℕ) → IsAtRest s.trail → IsIntact scopes s
+    → IsTallied s → IsTrue (is_some d.rows) → IsLegalFor scopes d → AreWatched scopes (rederived s d ids)
     → ((side : Quant) (id : ℕ) → IsAttached s side id → stored_at (arena_of d) id ≡ stored_at (rows_of s) id)
     → ((side : Quant) (id : ℕ) → IsAttached (rederived s d ids) side id → IsAttached s side id)
-    → AreAttachedIf s.joined (rederived s d ids) → long_in d ≡ long_in s.derivation
+    → (s.joined ≡ true → AreAttached (rederived s d ids)) → long_in d ≡ long_in s.derivation
     → IsResting scopes (rederived s d ids)
-resting_rederived holding agreeing scopes s d ids resting rows legal watched same was attached count =
+resting_rederived holding agreeing scopes s d ids rest intact tallied rows legal watched same was attached count =
     record {
-      rest = resting.rest;
-      intact = intact_rederived holding agreeing scopes s d ids resting.intact rows legal watched same was;
+      rest = rest;
+      intact = intact_rederived holding agreeing scopes s d ids intact rows legal watched same was;
       attached = attached;
-      tallied = resting.tallied ∙ sym count;
+      tallied = tallied ∙ sym count;
     }
+
+pub note_of : (o : Option Note) → is_some o ≡ true → (note : Note) × (o ≡ Some note)
+note_of None h = absurd (false≢true h)
+note_of (Some note) h = (note, refl)
 
 module _ (scopes : List Scope) (s : SearchState) (d : State) (is_root : StepTest)
     (drops : Drops is_root s.derivation d) where
-  stays_live : (id : ℕ) → IsTrue (is_live d id) → IsTrue (is_live s.derivation id)
+  pub stays_live : (id : ℕ) → IsTrue (is_live d id) → IsTrue (is_live s.derivation id)
   stays_live id live = ap is_some (sym (drops.others id live).note) ∙ live
 
   mark_left : (id : ℕ) → (link_at (arena_of d) id 6 ≡ link_at (rows_of s) id 6 × IsTrue (is_live d id)) ⊎
@@ -93,9 +98,6 @@ module _ (scopes : List Scope) (s : SearchState) (d : State) (is_root : StepTest
       (λ kept. (sym (same_mark side (rows_of s) (arena_of d) id kept.0) ∙ a, kept.1))
       (λ none. absurd (false≢true (sym (not_attached side (arena_of d) id none) ∙ a)))
       (mark_left id)
-
-  pub detached_left : ((id : ℕ) → IsUnattached (rows_of s) id) → (id : ℕ) → IsUnattached (arena_of d) id
-  detached_left none id = ⊎_elim (λ kept. kept.0 ∙ none id) (λ gone. gone) (mark_left id)
 
   kept_gone : (id : ℕ) → is_attached (side_at s.derivation id) (rows_of s) id ≡ false → is_kept_long d id ≡ false
   kept_gone id free =
@@ -125,7 +127,7 @@ module _ (scopes : List Scope) (s : SearchState) (d : State) (is_root : StepTest
         (drops.others id (stay side id a)).row ∙ a
 
     pub attached_still : AreAttached s → AreAttached (rederived s d s.watched)
-    attached_still h id at = let a = h id at in (a.0, attached_on a.0 id a.1)
+    attached_still h id at live = let a = h id at (stays_live id live) in (a.0, attached_on a.0 id a.1)
 
     -- nor an input clause that a reduction rests on
     pub tally_left : ((id a : ℕ) → IsAttached s (side_at s.derivation id) id → why_at s.derivation id ≡ ReducedFrom a
@@ -168,28 +170,76 @@ module _ (scopes : List Scope) (s : SearchState) (d : State) (is_root : StepTest
           );
     }
 
-    -- where no attached row goes
-    module _ (holding : HoldingLaws) (agreeing : AgreeingLaws) (resting : IsResting scopes s)
-        (legal : IsLegalFor scopes d) (stay : (side : Quant) (id : ℕ) → IsAttached s side id → IsTrue (is_live d id))
+    -- where no attached row goes, and each that is left is attached
+    module _ (holding : HoldingLaws) (agreeing : AgreeingLaws) (rest : IsAtRest s.trail) (intact : IsIntact scopes s)
+        (tallied : IsTallied s) (legal : IsLegalFor scopes d)
+        (stay : (side : Quant) (id : ℕ) → IsAttached s side id → IsTrue (is_live d id))
         (inputs : (id a : ℕ) → IsAttached s (side_at s.derivation id) id → why_at s.derivation id ≡ ReducedFrom a
-        → is_input (note_at d a) ≡ is_input (note_at s.derivation a)) where
-      attached_left : (b : Bool) → AreAttachedIf b s → AreAttachedIf b (rederived s d s.watched)
-      attached_left true h = attached_still stay h
-      attached_left false h = detached_left h
-
+        → is_input (note_at d a) ≡ is_input (note_at s.derivation a))
+        (attached : s.joined ≡ true → (id : ℕ) → Contains s.watched id → IsTrue (is_live d id)
+        → (side : Quant) × IsAttached s side id) where
       pub resting_left : IsResting scopes (rederived s d s.watched)
       resting_left =
-          resting_rederived holding agreeing scopes s d s.watched resting drops.has_rows legal
-          (watched_left resting.intact.watched)
+          resting_rederived holding agreeing scopes s d s.watched rest intact tallied drops.has_rows legal
+          (watched_left intact.watched)
           (λ side id a. (drops.others id (stay side id a)).row)
           (λ side id a. (attached_was side id a).0)
-          (attached_left s.joined resting.attached)
+          (λ joined id at live. let a = attached joined id at live in (a.0, attached_on stay a.0 id a.1))
           (tally_left stay inputs)
 
   pub no_cubes_left : HasNoCubes s → HasNoCubes (rederived s d s.watched)
   no_cubes_left none id at live = ap side_in (drops.others id live).note ∙ none id at (stays_live id live)
 
+-- where such rows were detached before as go
+module _ (scopes : List Scope) (start s : SearchState) (d : State) (is_root : StepTest)
+    (drops : Drops is_root s.derivation d) (goes : ℕ → Type 0) (sheds : Sheds scopes goes start s)
+    (none : NoneFalls is_root s) where
+  pub shed_stay : (side : Quant) (id : ℕ) → IsAttached s side id → IsTrue (is_live d id)
+  shed_stay side id a =
+      ⊎_elim
+      (λ gone. absurd (none side id a gone.0))
+      (λ kept. ap is_some kept.1 ∙ step_live (note_at s.derivation id) (sheds.intact.watched.sides side id a).step)
+      (drops.exactly.steps id)
+
+  pub shed_inputs : (id a : ℕ) → IsAttached s (side_at s.derivation id) id → why_at s.derivation id ≡ ReducedFrom a
+      → is_input (note_at d a) ≡ is_input (note_at s.derivation a)
+  shed_inputs id a at why =
+      let side = side_at s.derivation id in
+      let n = note_of (note_at s.derivation id)
+      (step_live (note_at s.derivation id) (sheds.intact.watched.sides side id at).step) in
+      let is : n.0.why ≡ ReducedFrom a = sym (ap why_in n.1) ∙ why in
+      let on : RestsOn n.0.why a = subst (λ w. RestsOn w a) (sym is) refl in
+      ⊎_elim
+      (λ gone. absurd (none side id at (rests id a n.0 n.1 on gone.0)))
+      (λ kept. ap is_input kept.1)
+      (drops.exactly.steps a)
+
+  pub shed_attached : IsResting scopes start
+      → ((id : ℕ) → goes id → IsTrue (is_live s.derivation id) → Falls is_root s.derivation.notes id)
+      → s.joined ≡ true → (id : ℕ) → Contains s.watched id → IsTrue (is_live d id)
+      → (side : Quant) × IsAttached s side id
+  shed_attached resting falls joined id at live =
+      let now = stays_live scopes s d is_root drops id live in
+      let a = resting.attached (sheds.joined joined) id (subst (λ ids. Contains ids id) sheds.watched at)
+      (sym (live_same start.derivation s.derivation sheds.steps id) ∙ now) in
+      ⊎_elim
+      (λ still. (a.0, still))
+      (λ gone.
+      ⊎_elim
+      (λ fell. absurd (false≢true (sym (ap is_some fell.1) ∙ live)))
+      (λ kept. absurd (kept.0 (falls id gone now)))
+      (drops.exactly.steps id))
+      (sheds.stays joined a.0 id a.1)
+
 -- a frame goes
+
+-- the live steps with its tag fall
+pub frame_falls : (frame : ℕ) (d : State) (id : ℕ) → tag_at d id ≡ frame → IsTrue (is_live d id)
+    → Falls (has_tag frame) d.notes id
+frame_falls frame d id tag live =
+    let n = note_of (note_at d id) live in
+    let is : n.0.tag ≡ frame = sym (ap tag_in n.1) ∙ tag in
+    root id n.0 n.1 (eq-eqb n.0.tag frame is)
 
 -- the reduction of a clause of another frame doesn't fall with a frame
 falls_not : (frame : ℕ) (d : State) (c : OpenClause) (id : ℕ)

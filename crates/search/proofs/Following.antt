@@ -63,6 +63,31 @@ due_unit scopes level s cut kept new side row literal undoes keeps step is_unit 
           (sym literals) is_unit));
     }
 
+-- the literal was assigned then
+pub advances_undone : (scopes : List Scope) (level : ℕ) (s cut kept new : SearchState) (before now : Counter)
+    → Undoes scopes level s cut → Keeps scopes cut kept → Advances scopes 0 kept new before now
+    → Advances scopes (lesson_cost (size_of scopes)) s new before now
+advances_undone scopes level s cut kept new before now undoes keeps goes = record {
+  searching = goes.searching;
+  clauses = goes.clauses ∙ (keeps.steps.clauses ∙ ap clauses_of undoes.derivation);
+  assumed = λ assumptions h. goes.assumed assumptions
+      (subst (λ (t : TrailState). AreTheAssumptions t.placed assumptions) (sym keeps.trail)
+      (undoes.assumed assumptions h));
+  allowed = goes.allowed;
+  budget = goes.budget;
+  rises = goes.rises;
+  counted =
+      λ start is.
+      let r = goes.counted start (subst (λ (t : TrailState). IsCounted (size_of scopes) 0 start t before)
+      (sym keeps.trail) (undoes.paid start before is)) in
+      let assigned = ap (λ (t : TrailState). t.assigned) keeps.trail in
+      let restarts = ap (λ (t : TrailState). t.restarts) keeps.trail in
+      let assigned_cut = undoes.assigned in
+      let restarts_cut = undoes.restarts in
+      let more = r.1 in
+      (r.0, omega (arith, assigned, restarts, assigned_cut, restarts_cut, more));
+}
+
 -- after an analysis
 module _ (scopes : List Scope) (s between new : SearchState) (before now end : Counter)
     (analyses : Analyses scopes s between before now) where

@@ -1,5 +1,5 @@
 -- Searches at rest: at first, with more room, and under a larger prefix.
-use Rattle.std.proofs.Common.{◌≡◌, ℕ, ◌≤◌, ◌++◌, Bool, true, false, List, [], length, replicate, length-append, Option, Some, None, Contains, get_or, refl, sym, ap, subst, ◌∙◌, inl, arith}
+use Rattle.std.proofs.Common.{◌≡◌, ℕ, ◌≤◌, ◌++◌, List, [], length, replicate, length-append, Option, Some, None, Contains, get_or, refl, sym, ap, subst, ◌∙◌, inl, arith}
 use Rattle.std.proofs.lemmas.Bool.{false≢true}
 use Rattle.std.proofs.lemmas.List.{get_or_past}
 use Rattle.calculus.proofs.Lists.{contains_nil}
@@ -20,7 +20,7 @@ use Rattle.watch.specs.State.{GoesOnHolding, Holds, IsFront, IsUnattached, Watch
 use Rattle.watch.specs.Laws.{HoldingLaws}
 use Rattle.clean.specs.Reasons.{IsReducedStep}
 use Rattle.clean.proofs.Keeping.{step_row}
-use Rattle.search.specs.State.{AreAttachedIf, AreWatched, IsAttached, IsResting, SearchState, rows_of, watch_of}
+use Rattle.search.specs.State.{AreAttached, AreWatched, IsAttached, IsResting, SearchState, rows_of, watch_of}
 use Rattle.search.specs.Changing.{RestingGrows}
 use Rattle.search.proofs.Tallying.{tally_none}
 use Rattle.search.proofs.Turning.{tally_moved}
@@ -43,7 +43,6 @@ pub record IsNew (s : SearchState) : Type 0 where
   pub kept : (scopes : List Scope) → IsTrailFor scopes s.trail
   pub watches : (side : Quant) → watch_of side s ≡ new_watch
   pub watched : s.watched ≡ []
-  pub joined : s.joined ≡ false
   pub long : s.long ≡ 0
 
 module _ (laws : HoldingLaws) (s : SearchState) (new : IsNew s) where
@@ -96,7 +95,7 @@ module _ (laws : HoldingLaws) (s : SearchState) (new : IsNew s) where
       watching = record { holds = new_holds; front = new_front; room = new_room };
       room = record { trail = λ x at. absurd (contains_nil x at); signs = λ x at. absurd (contains_nil x at) };
     };
-    attached = subst (λ b. AreAttachedIf b s) (sym new.joined) (λ id. no_links s.derivation new.derivation id);
+    attached = λ joined id at live. absurd (none_listed id at);
     tallied = new.long ∙ sym (tally_none s.derivation (no_links s.derivation new.derivation));
   }
 
@@ -190,9 +189,8 @@ module _ (scopes : List Scope) (old new : SearchState) (widens : Widens old new)
   wide_front : (side : Quant) → IsFront (looked (watch_of side new)) (literals_on new.trail.placed)
   wide_front side = rw ((widens.watches side).looked, widens.trail.placed) (resting.intact.watching.front side)
 
-  attached_wide : (b : Bool) → AreAttachedIf b old → AreAttachedIf b new
-  attached_wide true h = rw (widens.derivation, widens.watched) h
-  attached_wide false h = rw widens.derivation h
+  attached_wide : AreAttached old → AreAttached new
+  attached_wide h = rw (widens.derivation, widens.watched) h
 
   pub resting_wide : IsResting scopes new
   resting_wide = record {
@@ -219,7 +217,7 @@ module _ (scopes : List Scope) (old new : SearchState) (widens : Widens old new)
         signs = λ x at. let h = resting.intact.room.signs x at in let w = widens.signs in omega arith;
       };
     };
-    attached = subst (λ b. AreAttachedIf b new) (sym widens.joined) (attached_wide old.joined resting.attached);
+    attached = λ joined. attached_wide (resting.attached (sym widens.joined ∙ joined));
     tallied = tally_moved old new widens.derivation widens.long resting.tallied;
   }
 

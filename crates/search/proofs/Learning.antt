@@ -1,5 +1,5 @@
 -- Searches whose derivation gets more steps, and whose reasons are made clean.
-use Rattle.std.proofs.Common.{◌≡◌, ℕ, suc, cond, nat_eq, ◌+◌, ◌*◌, ◌≤◌, ◌<◌, Bool, true, false, List, [], ◌∷◌, length, Option, Some, None, Result, Ok, Err, IfOk, OnOk, OnErr, Contains, IsTrue, refl, sym, ap, subst, ◌∙◌, inl, inr, ⊎_elim, arith}
+use Rattle.std.proofs.Common.{◌≡◌, ℕ, suc, cond, nat_eq, ◌+◌, ◌*◌, ◌≤◌, ◌<◌, true, List, [], ◌∷◌, length, Option, Some, None, Result, Ok, Err, IfOk, OnOk, OnErr, Contains, IsTrue, refl, sym, ap, subst, ◌∙◌, inl, inr, ⊎_elim, arith}
 use Rattle.std.specs.Prelude.{slice_index_or}
 use Rattle.std.specs.Option.{option_map}
 use Rattle.std.proofs.lemmas.Bool.{cases_Bool, false≢true}
@@ -17,13 +17,13 @@ use Rattle.derive.specs.State.{State, OpenClause, IsLegalFor, SameStep, arena_of
 use Rattle.derive.specs.Adding.{IsReductionOf}
 use Rattle.derive.specs.Growing.{GainsSteps}
 use Rattle.watch.specs.Links.{is_at, is_attached, mark_of}
-use Rattle.watch.specs.State.{AgreesOn, Holds, IsFront, IsUnattached, WatchState, looked}
+use Rattle.watch.specs.State.{AgreesOn, Holds, IsFront, WatchState, looked}
 use Rattle.watch.specs.Laws.{AgreeingLaws, HoldingLaws}
 use Rattle.clean.specs.Marks.{CleansReasons, KeepsReasons, MarksMore, StopsCleaning, kind_of, kinds_on, marks_left}
 use Rattle.clean.specs.Reasons.{IsReducedStep}
 use Rattle.clean.proofs.Circling.{same_placed}
 use Rattle.clean.proofs.Keeping.{reasons_stay, reduced_stays, step_lives}
-use Rattle.search.specs.State.{AreAttached, AreAttachedIf, AreMarked, AreWatched, IsIntact, IsResting, IsSearching, IsTallied, SearchState, rows_of, watch_of}
+use Rattle.search.specs.State.{AreAttached, AreMarked, AreWatched, IsIntact, IsResting, IsSearching, IsTallied, SearchState, rows_of, watch_of}
 use Rattle.analyse.specs.Lessons.{NeedsResolution}
 use Rattle.search.specs.Counting.{size_of}
 use Rattle.search.specs.Moves.{Analyses, Halts, KeepsAssumptions, WasDue}
@@ -91,15 +91,6 @@ module _ (scopes : List Scope) (old new : State) (gains : GainsSteps old new) wh
       subst (λ q. IsReducedStep q scopes new id) same
       (reduced_stays (side_at old id) scopes old new id gains.grows (step was))
 
--- what isn't attached isn't then
-detached_gained : (old new : State) → GainsSteps old new → (id : ℕ) → IsUnattached (arena_of old) id
-    → IsUnattached (arena_of new) id
-detached_gained old new gains id none =
-    ⊎_elim
-    (λ live. mark_live [] old new gains id live ∙ none)
-    (λ dead. gains.unlinked id 6 dead)
-    (cases_Bool (is_live old id))
-
 module _ (scopes : List Scope) (s new : SearchState) (gains : GainsSteps s.derivation new.derivation)
     (watched : new.watched ≡ s.watched) where
   pub watched_gained : AreWatched scopes s → AreWatched scopes new
@@ -120,7 +111,9 @@ module _ (scopes : List Scope) (s new : SearchState) (gains : GainsSteps s.deriv
   }
 
   pub attached_gained : AreWatched scopes s → AreAttached s → AreAttached new
-  attached_gained h attached id i = let r = attached id (subst (λ ws. Contains ws id) watched i) in
+  attached_gained h attached id i live =
+      let j = subst (λ ws. Contains ws id) watched i in
+      let r = attached id j (sym (gains.grows.given id (h.given id j)) ∙ live) in
       (r.0, attached_stays scopes s.derivation new.derivation gains h.sides r.0 id r.1)
 
   pub intact_gained : HoldingLaws → AgreeingLaws → IsIntact scopes s → IsLegalFor scopes new.derivation
@@ -167,13 +160,6 @@ searching_gained scopes s new holding agreeing searching gains legal watched cla
       (searching.reasons side));
 }
 
-attached_if_gained : (scopes : List Scope) (s new : SearchState) (joined : Bool)
-    → GainsSteps s.derivation new.derivation → new.watched ≡ s.watched → AreWatched scopes s → AreAttachedIf joined s
-    → AreAttachedIf joined new
-attached_if_gained scopes s new true gains watched is attached = attached_gained scopes s new gains watched is attached
-attached_if_gained scopes s new false gains watched is detached =
-    λ id. detached_gained s.derivation new.derivation gains id (detached id)
-
 pub resting_gained : (scopes : List Scope) (s new : SearchState) → HoldingLaws → AgreeingLaws → IsResting scopes s
     → GainsSteps s.derivation new.derivation → IsLegalFor scopes new.derivation → new.watched ≡ s.watched
     → new.clauses ≡ s.clauses → new.cubes ≡ s.cubes → new.signs ≡ s.signs → new.trail ≡ s.trail
@@ -183,8 +169,8 @@ resting_gained scopes s new holding agreeing resting gains legal watched clauses
   intact = intact_gained scopes s new gains watched holding agreeing resting.intact legal clauses cubes signs
       (ap (λ (t : TrailState). t.room) trail) (rw trail resting.intact.trail)
       (ap (λ (t : TrailState). literals_on t.placed) trail);
-  attached = subst (λ b. AreAttachedIf b new) (sym joined)
-      (attached_if_gained scopes s new s.joined gains watched resting.intact.watched resting.attached);
+  attached = λ now. attached_gained scopes s new gains watched resting.intact.watched
+      (resting.attached (sym joined ∙ now));
   tallied = tallied_gained scopes s new gains resting.intact long resting.tallied;
 }
 

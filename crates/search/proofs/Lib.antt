@@ -15,6 +15,7 @@ pub mod Looking
 pub mod Marks
 pub mod Reducing
 pub mod Rows
+pub mod Shedding
 pub mod Starting
 pub mod Tallying
 pub mod Thinning

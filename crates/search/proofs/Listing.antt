@@ -1,5 +1,5 @@
 -- The list of rows to watch: one more, those of live steps alone, and one row after the other.
-use Rattle.std.proofs.Common.{◌≡◌, ℕ, ◌+◌, ◌<◌, ◌≤◌, ◌⊎◌, Bool, true, false, List, [], ◌∷◌, ◌++◌, filter, length, get_or, Contains, IsTrue, refl, sym, ap, subst, ◌∙◌, inl, inr, ⊎_elim, arith}
+use Rattle.std.proofs.Common.{◌≡◌, ℕ, ◌+◌, ◌<◌, ◌≤◌, ◌⊎◌, Bool, List, [], ◌∷◌, ◌++◌, filter, length, get_or, Contains, IsTrue, refl, sym, ap, subst, ◌∙◌, inl, inr, ⊎_elim, arith}
 use Rattle.std.proofs.lemmas.Bool.{cases_lt}
 use Rattle.std.proofs.lemmas.List.{get_or_default}
 use Rattle.std.proofs.lemmas.List.Elements.{Contains-append_cases, Contains-append_left, Contains-append_right}
@@ -11,10 +11,9 @@ use Rattle.derive.specs.State.{is_live, side_at}
 use Rattle.derive.proofs.Additions.{live_below}
 use Rattle.watch.specs.State.{Holds, WatchState}
 use Rattle.clean.specs.Reasons.{IsReducedStep}
-use Rattle.search.specs.State.{AreAttached, AreAttachedIf, AreDetached, AreWatched, IsAtRest, IsAttached, IsIntact, IsPaused, IsResting, IsSearching, IsTallied, SearchState, rows_of, watch_of, with_long}
+use Rattle.search.specs.State.{AreWatched, IsAttached, IsIntact, IsPaused, IsSearching, IsTallied, SearchState, rows_of, watch_of}
 use Rattle.search.specs.Moves.{SameSteps}
-use Rattle.search.specs.Watching.{Joins, Keeps, Parts}
-use Rattle.search.proofs.Tallying.{intact_counted, tally_none}
+use Rattle.search.specs.Watching.{Joins, Keeps}
 use Rattle.search.proofs.Marks.{live_same, reasons_same, step_live, steps_then}
 
 -- with another list of rows to watch, and another flag
@@ -96,9 +95,12 @@ module _ (scopes : List Scope) (s : SearchState) (ids : List ℕ) (id : ℕ) (mo
       paused = record {
         intact = joins.intact;
         attached =
-            λ i at.
+            λ i at live.
             ⊎_elim
-            (λ was. let a = searching.paused.attached i was in (a.0, joins.stays a.0 i a.1))
+            (λ was.
+            let a = searching.paused.attached i was
+            (sym (live_same s.derivation new.derivation joins.steps i) ∙ live) in
+            (a.0, joins.stays a.0 i a.1))
             (λ e. subst (λ j. (side : Quant) × IsAttached new side j) e joins.here)
             (was_or_is i (subst (λ ws. Contains ws i) joins.watched at));
         tallied = tallied;
@@ -137,7 +139,7 @@ pub each_by_place : (ids : List ℕ) (P : ℕ → Type 0) → ((j : ℕ) → j <
     → Contains ids id → P id
 each_by_place ids P all id i = subst P (get_or_default ids i.0 0 id i.1 ∙ i.2) (all i.0 i.1)
 
--- one row after the other: some were attached, or detached, and nothing else changed
+-- one row after the other: some were attached, and nothing else changed
 pub record GoesOver (scopes : List Scope) (start s : SearchState) : Type 0 where
   pub intact : IsIntact scopes s
   pub steps : SameSteps start.derivation s.derivation
@@ -171,19 +173,11 @@ module _ (scopes : List Scope) (start s new : SearchState) (over : GoesOver scop
   pub over_joins : (id : ℕ) → Joins scopes s new id → GoesOver scopes start new
   over_joins id joins = over_more joins.intact joins.steps joins.trail joins.watched
 
-  pub over_parts : (id : ℕ) → Parts scopes s new id → GoesOver scopes start new
-  over_parts id parts = over_more parts.intact parts.steps parts.trail parts.watched
-
 -- so many rows to watch are attached
 pub record HasJoined (scopes : List Scope) (start s : SearchState) (k : ℕ) : Type 0 where
   pub over : GoesOver scopes start s
   pub tallied : IsTallied s
   pub attached : (j : ℕ) → j < k → (side : Quant) × IsAttached s side (get_or s.watched j 0)
-
--- so many are attached to no watch
-pub record HasParted (scopes : List Scope) (start s : SearchState) (k : ℕ) : Type 0 where
-  pub over : GoesOver scopes start s
-  pub gone : (j : ℕ) → j < k → (side : Quant) → IsAttached s side (get_or s.watched j 0) → ⊥
 
 -- what holds below a number holds below the next one
 below_next : (P : ℕ → Type 0) (k : ℕ) → ((j : ℕ) → j < k → P j) → P k → (j : ℕ) → j < k + 1 → P j
@@ -207,58 +201,14 @@ joined_more scopes start s new k has joins tallied = record {
       (λ j h. let a = has.attached j h in (a.0, joins.stays a.0 (get_or s.watched j 0) a.1)) joins.here);
 }
 
-pub parted_none : (scopes : List Scope) (s : SearchState) → IsIntact scopes s
-    → ((id : ℕ) → Contains s.watched id → IsTrue (is_live s.derivation id)) → HasParted scopes s s 0
-parted_none scopes s intact live = record { over = over_none scopes s intact live; gone = λ j h. absurd (omega arith) }
-
-pub parted_more : (scopes : List Scope) (start s new : SearchState) (k : ℕ) → HasParted scopes start s k
-    → Parts scopes s new (get_or s.watched k 0) → HasParted scopes start new (k + 1)
-parted_more scopes start s new k has parts = record {
-  over = over_parts scopes start s new has.over (get_or s.watched k 0) parts;
-  gone =
-      subst (λ ids. (j : ℕ) → j < k + 1 → (side : Quant) → IsAttached new side (get_or ids j 0) → ⊥) (sym parts.watched)
-      (below_next (λ j. (side : Quant) → IsAttached new side (get_or s.watched j 0) → ⊥) k
-      (λ j h side a. has.gone j h side (parts.stays side (get_or s.watched j 0) a)) parts.gone);
-}
-
 -- at the end all are attached
 pub joined_all : (scopes : List Scope) (start s : SearchState) (joined : Bool) (k : ℕ) → HasJoined scopes start s k
     → length start.watched ≤ k → IsPaused scopes (record s { joined = joined })
 joined_all scopes start s joined k has past = record {
   intact = intact_flagged scopes s joined has.over.intact;
-  attached = each_by_place s.watched (λ id. (side : Quant) × IsAttached s side id)
-      (λ j h. has.attached j (let e = ap length has.over.watched in omega arith));
+  attached =
+      λ id at live.
+      each_by_place s.watched (λ id. (side : Quant) × IsAttached s side id)
+      (λ j h. has.attached j (let e = ap length has.over.watched in omega arith)) id at;
   tallied = has.tallied;
-}
-
--- or none
-pub parted_all : (scopes : List Scope) (start s : SearchState) (k : ℕ) → HasParted scopes start s k
-    → length start.watched ≤ k → AreDetached s
-parted_all scopes start s k has past id =
-    ⊎_elim (λ none. none)
-    (λ a. absurd (each_by_place s.watched (λ i. (side : Quant) → IsAttached s side i → ⊥)
-    (λ j h. has.gone j (let e = ap length has.over.watched in omega arith)) id
-    (has.over.intact.watched.listed a.0 id a.1) a.0 a.1))
-    (has.over.intact.watched.marked id)
-
--- at rest
-
-pub attached_live : (scopes : List Scope) (s : SearchState) → IsIntact scopes s → AreAttached s → (id : ℕ)
-    → Contains s.watched id → IsTrue (is_live s.derivation id)
-attached_live scopes s intact attached id at = let a = attached id at in
-    step_live _ (intact.watched.sides a.0 id a.1).step
-
-pub resting_attached : (scopes : List Scope) (s : SearchState) → IsResting scopes s → s.joined ≡ true → AreAttached s
-resting_attached scopes s resting joined = subst (λ b. AreAttachedIf b s) joined resting.attached
-
-pub resting_detached : (scopes : List Scope) (s : SearchState) → IsResting scopes s → s.joined ≡ false → AreDetached s
-resting_detached scopes s resting joined = subst (λ b. AreAttachedIf b s) joined resting.attached
-
-pub parted_rest : (scopes : List Scope) (start s : SearchState) (k : ℕ) → IsAtRest start.trail
-    → HasParted scopes start s k → length start.watched ≤ k → IsResting scopes (record s { joined = false; long = 0 })
-parted_rest scopes start s k rest has past = record {
-  rest = subst IsAtRest (sym has.over.trail) rest;
-  intact = intact_flagged scopes (with_long s 0) false (intact_counted scopes s 0 has.over.intact);
-  attached = parted_all scopes start s k has past;
-  tallied = sym (tally_none s.derivation (parted_all scopes start s k has past));
 }

@@ -17,7 +17,7 @@ use Rattle.clean.specs.Reasons.{HaveReasons}
 use Rattle.search.specs.State.{IsIntact, IsSearching, SearchState, rows_of, watch_of}
 use Rattle.search.specs.Watching.{KeepsMarks, Looks, Touches}
 use Rattle.search.proofs.Tallying.{tally_marks}
-use Rattle.search.proofs.Marks.{intact_stays, marked_as_was, reasons_same, same_mark}
+use Rattle.search.proofs.Marks.{intact_stays, live_same, marked_as_was, reasons_same, same_mark}
 
 -- a list is a front of itself
 whole : {A : Type 0} (xs : List A) → take (length xs) xs ≡ xs
@@ -70,8 +70,9 @@ module _ (laws : HoldingLaws) (pivot : Quant) (scopes : List Scope) (old new : S
       paused = record {
         intact = still_intact;
         attached =
-            λ id i.
-            let a = searching.paused.attached id (subst (λ ids. Contains ids id) looks.watched i) in
+            λ id i live.
+            let a = searching.paused.attached id (subst (λ ids. Contains ids id) looks.watched i)
+            (sym (live_same old.derivation new.derivation looks.touches.steps id) ∙ live) in
             (a.0, same_attached a.0 id ∙ a.1);
         tallied = looks.long ∙ (searching.paused.tallied
             ∙ sym (tally_marks old.derivation new.derivation looks.touches.steps looks.marks));

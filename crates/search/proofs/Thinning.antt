@@ -25,8 +25,8 @@ use Rattle.search.specs.Forgetting.{AreLive, HaveAllReasons, Thins, is_from, is_
 use Rattle.search.specs.State.{IsAttached, IsIntact, IsSearching, IsTallied, SearchState, rows_of}
 use Rattle.search.specs.Watching.{Parts}
 use Rattle.search.proofs.Joining.{same_or_not}
-use Rattle.search.proofs.Listing.{attached_live, each_by_place, intact_relisted}
-use Rattle.search.proofs.Marks.{live_same, note_same, reasons_same, reduction_by, same_mark, steps_then}
+use Rattle.search.proofs.Listing.{each_by_place, intact_relisted}
+use Rattle.search.proofs.Marks.{note_same, reasons_same, reduction_by, same_mark, step_live, steps_then}
 use Rattle.search.proofs.Tallying.{count_agree, count_none, count_point, count_to, long_same}
 
 not_not : (b : Bool) → not b ≡ false → b ≡ true
@@ -131,7 +131,6 @@ stays_reason s id may kept =
 pub record HasThinned (scopes : List Scope) (start s : SearchState) (k most : ℕ) : Type 0 where
   pub thins : Thins scopes start s
   pub enough : most ≤ start.long → most ≤ s.long
-  pub live : (id : ℕ) → Contains s.watched id → IsTrue (is_live s.derivation id)
   pub seen : (s.long ≤ most) ⊎ ((j : ℕ) → j < k → is_kept_long s.derivation (get_or s.watched j 0) ≡ true
       → is_reason s (get_or s.watched j 0) ≡ true)
 
@@ -140,7 +139,6 @@ pub thinned_none : (scopes : List Scope) (s : SearchState) (most : ℕ) → IsSe
 thinned_none scopes s most searching = record {
   thins = thins_none scopes s searching.paused.intact searching.paused.tallied;
   enough = λ most. most;
-  live = attached_live scopes s searching.paused.intact searching.paused.attached;
   seen = inr (λ j low kept. absurd (omega arith));
 }
 
@@ -176,8 +174,6 @@ module _ (scopes : List Scope) (start s new : SearchState) (k most : ℕ) (has :
   thinned_more enough seen = record {
     thins = thins_then scopes start s new has.thins thins;
     enough = λ most. enough (has.enough most);
-    live = λ id at. live_same s.derivation new.derivation thins.steps id
-        ∙ has.live id (subst (λ ids. Contains ids id) thins.watched at);
     seen = ⊎_elim
         (λ (few : s.long ≤ most). inl (omega arith))
         (λ all. ⊎_elim inl (λ here. inr (seen_next all here)) seen)
@@ -330,7 +326,7 @@ module _ (scopes : List Scope) (start s : SearchState) (listed : ClausesAreListe
         clauses =
             λ c at.
             let r = searching.paused.intact.watched.clauses c (subst (λ cs. Contains cs c) thins.steps.clauses at) in
-            let a = searching.paused.attached r.0 r.1 in
+            let a = searching.paused.attached r.0 r.1 (step_live _ r.2.step) in
             let still = thins.lets.stays a.0 r.0 a.1 (reduction_short c
             (subst (λ cs. Contains cs c) thins.steps.clauses at) r.0 r.2) in (
               r.0,
@@ -340,16 +336,24 @@ module _ (scopes : List Scope) (start s : SearchState) (listed : ClausesAreListe
             );
       })
 
+  -- those that are left are attached
+  held_attached : (id : ℕ) → Contains (without_detached s).watched id → (side : Quant) × IsAttached s side id
+  held_attached id at =
+      ⊎_elim
+      (λ none. absurd (false≢true (sym (ap is_some none) ∙ (was_listed id at).1)))
+      (λ a. a)
+      (thins.intact.watched.marked id)
+
+  pub left_live : AreLive s.derivation (without_detached s).watched
+  left_live id at =
+      let a = held_attached id at in step_live (note_at s.derivation id) (thins.intact.watched.sides a.0 id a.1).step
+
   pub left_searching : IsSearching scopes (without_detached s)
   left_searching = record {
     paused = record {
       intact = left_intact;
       attached =
-          λ id at.
-          ⊎_elim
-          (λ none. absurd (false≢true (sym (ap is_some none) ∙ (was_listed id at).1)))
-          (λ a. a)
-          (thins.intact.watched.marked id);
+          λ id at live. held_attached id at;
       tallied = thins.tallied;
     };
     reasons = λ side. subst (HaveReasons side scopes s.derivation) (sym thins.trail)

@@ -1,5 +1,5 @@
 -- Searches that are undone, to a level or to rest.
-use Rattle.std.proofs.Common.{◌≡◌, ℕ, ◌-◌, ◌≤◌, ◌<◌, Bool, true, List, [], ◌∷◌, length, take, refl, sym, ap, subst, ◌∙◌}
+use Rattle.std.proofs.Common.{◌≡◌, ℕ, ◌-◌, ◌≤◌, ◌<◌, Bool, List, [], ◌∷◌, length, take, refl, sym, ap, subst, ◌∙◌}
 use Rattle.std.proofs.lemmas.List.{length-set}
 use Rattle.prefix.specs.declared.quant.Quant.{Quant}
 use Rattle.prefix.specs.declared.quant.Quant.TheVariants.{Exists, Forall}
@@ -17,7 +17,7 @@ use Rattle.watch.specs.State.{Holds, IsFront, WatchState, looked, undone_to as w
 use Rattle.watch.specs.Laws.{HoldingLaws, LookingLaws}
 use Rattle.clean.specs.Reasons.{HaveReasons}
 use Rattle.clean.proofs.Reasoning.{cut_have}
-use Rattle.search.specs.State.{AreAttachedIf, IsAtRest, IsIntact, IsPaused, IsResting, IsSearching, SearchState, rows_of, watch_of}
+use Rattle.search.specs.State.{IsAtRest, IsIntact, IsPaused, IsResting, IsSearching, SearchState, rows_of, watch_of}
 use Rattle.search.specs.Counting.{size_of}
 use Rattle.search.specs.Moves.{BeginsAnew, Undoes}
 use Rattle.search.proofs.Counting.{counted_back}
@@ -181,13 +181,12 @@ anew scopes keep s new holding looking searching below changes is trail keeps =
 
 -- to rest
 pub rests : (scopes : List Scope) (s new : SearchState) → HoldingLaws → LookingLaws → IsPaused scopes s
-    → new.joined ≡ true → CutChanges s new 0 → IsAtRest new.trail → IsResting scopes new
-rests scopes s new holding looking paused joined changes rest =
+    → CutChanges s new 0 → IsAtRest new.trail → IsResting scopes new
+rests scopes s new holding looking paused changes rest =
     record {
       rest = rest;
       intact = intact_cut scopes s new 0 holding changes paused.intact (rest.kept scopes)
           (λ side. rw rest.empty (looking.cleared (watch_of side s)));
-      attached = subst (λ b. AreAttachedIf b new) (sym joined)
-          (rw (changes.derivation, changes.watched) paused.attached);
+      attached = λ joined. rw (changes.derivation, changes.watched) paused.attached;
       tallied = tally_moved s new changes.derivation changes.long paused.tallied;
     }

@@ -14,8 +14,8 @@ use Rattle.prefix.specs.Sides.{bad_of, opposite}
 use Rattle.trail.specs.Open.{is_assigned}
 use Rattle.trail.specs.State.{TrailState}
 use Rattle.trail.specs.declared.allowed.Allowed.TheVariants.{Anything, NoDecision}
-use Rattle.derive.specs.State.{OpenClause, side_at}
-use Rattle.calculus.proofs.Lists.{contains_cons, contains_nil}
+use Rattle.derive.specs.State.{OpenClause, is_live, side_at}
+use Rattle.calculus.proofs.Lists.{contains_cons, contains_head, contains_nil}
 use Rattle.calculus.specs.Rows.{Row, depth_of}
 use Rattle.calculus.specs.Search.{Trail, is_decision, value_on}
 use Rattle.calculus.specs.Search.Cause.{Assumed, Decided}
@@ -28,7 +28,7 @@ use Rattle.decide.specs.Decision.{IsDecision}
 use Rattle.rows.specs.Arena.{link_at}
 use Rattle.watch.specs.Links.{is_attached}
 use Rattle.search.specs.Finishes.{IsFinishId}
-use Rattle.search.specs.State.{AreMarked, rows_of}
+use Rattle.search.specs.State.{AreAttached, AreMarked, rows_of}
 use Rattle.search.specs.Worked.{WorkedCounts, WorkedDue, WorkedFinds, WorkedFinishes, all_bad, all_true, attached_to, covered, detached, no_steps, once, search_of, search_over, three_of, trail_of, two_bad}
 
 -- the row has no mark of the other side
@@ -87,6 +87,13 @@ first q = record {
       (not_below 2) y i l);
 }
 
+only_listed : (q : Quant) → AreAttached (search_over q (attached_to q) [])
+only_listed q id at live = (
+  q,
+  only (λ i. is_attached q (rows_of (search_over q (attached_to q) [])) i ≡ true) 0 (ours q)
+      id at,
+)
+
 pub finds : (pivot : Quant) → WorkedFinds pivot
 finds pivot = record {
   unit = (ours pivot, (units pivot).unit);
@@ -104,8 +111,11 @@ finds pivot = record {
   attached = marked pivot;
   not_attached = λ id. inl (no_link pivot [] id);
   elsewhere = λ m. ⊎_elim (some_none 2) (λ p. false≢true (sym (no_mark pivot p.0) ∙ p.1)) (m 0);
-  detached_rows = no_link pivot [];
-  attached_row = λ d. some_none _ (d 0);
+  attached_row = only_listed pivot;
+  detached_row = λ a. let d = a 0 (contains_head 0 []) refl in
+      false≢true (sym (none_attached pivot d.0 [] 0) ∙ d.1);
+  dropped_row = λ id at live. absurd (false≢true (subst (λ i. is_live (three_of pivot detached) i ≡ true)
+      (only (λ i. i ≡ 1) 1 refl id at) live));
 }
 
 -- with no steps only a decision may be due

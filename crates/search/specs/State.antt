@@ -1,5 +1,5 @@
 -- A search, as contracts see it, and what holds of it.
-use Rattle.std.specs.Prelude.{◌≡◌, ℕ, ◌<◌, ◌≤◌, ◌⊎◌, Bool, true, false, IsTrue, List, [], length, Contains}
+use Rattle.std.specs.Prelude.{◌≡◌, ℕ, ◌<◌, ◌≤◌, ◌⊎◌, Bool, true, IsTrue, List, [], length, Contains}
 use Rattle.prefix.specs.declared.quant.Quant.{Quant}
 use Rattle.prefix.specs.declared.quant.Quant.TheVariants.{Exists, Forall}
 use Rattle.prefix.specs.Scopes.{Scope, all_variables}
@@ -16,8 +16,8 @@ use Rattle.clean.specs.Reasons.{HaveReasons, IsReducedStep}
 use Rattle.search.specs.Long.{long_in}
 
 -- a derivation and a trail; the watches of clauses and of cubes; the signs that variables had last; the ids of the
--- rows to watch, which may be of steps that were dropped; whether these are attached to the watches; and how many of
--- them are long learned rows that are attached
+-- rows to watch, which may be of steps that were dropped; whether those of live steps are known to be attached to the
+-- watches; and how many of them are long learned rows that are attached
 pub record SearchState : Type 0 where
   pub derivation : State
   pub trail : TrailState
@@ -78,18 +78,10 @@ pub record IsIntact (scopes : List Scope) (s : SearchState) : Type 0 where
   pub watching : AreWatching scopes s
   pub room : HasRoom scopes s
 
--- all rows to watch are attached
+-- all rows to watch are attached that are live
 abbrev pub AreAttached : SearchState → Type 0
-AreAttached s = (id : ℕ) → Contains s.watched id → (side : Quant) × IsAttached s side id
-
--- no row is attached
-abbrev pub AreDetached : SearchState → Type 0
-AreDetached s = (id : ℕ) → IsUnattached (rows_of s) id
-
--- all of them are, or none, as is told
-abbrev pub AreAttachedIf : Bool → SearchState → Type 0
-AreAttachedIf true s = AreAttached s
-AreAttachedIf false s = AreDetached s
+AreAttached s = (id : ℕ) → Contains s.watched id → IsTrue (is_live s.derivation id)
+    → (side : Quant) × IsAttached s side id
 
 -- with another count
 abbrev pub with_long : SearchState → ℕ → SearchState
@@ -122,5 +114,5 @@ pub record IsAtRest (t : TrailState) : Type 0 where
 pub record IsResting (scopes : List Scope) (s : SearchState) : Type 0 where
   pub rest : IsAtRest s.trail
   pub intact : IsIntact scopes s
-  pub attached : AreAttachedIf s.joined s
+  pub attached : s.joined ≡ true → AreAttached s
   pub tallied : IsTallied s

@@ -1,13 +1,14 @@
 -- What calls of a watch leave.
-use Rattle.std.specs.Prelude.{◌≡◌, ◌≢◌, ℕ, ◌⊎◌, IsFalse, List, None}
+use Rattle.std.specs.Prelude.{◌≡◌, ◌≢◌, ◌≤◌, ℕ, ◌⊎◌, ◌++◌, ◌∷◌, [], true, IsFalse, IsTrue, List, None, Contains}
 use Rattle.prefix.specs.declared.quant.Quant.{Quant}
 use Rattle.prefix.specs.Scopes.{Scope}
-use Rattle.rows.specs.Arena.{Arena, is_live, link_at, literals_at, next_id}
-use Rattle.derive.specs.State.{State, IsLegalFor, arena_of}
+use Rattle.rows.specs.Arena.{Arena, is_live as is_stored, link_at, literals_at, next_id}
+use Rattle.derive.specs.State.{State, IsLegalFor, arena_of, is_live}
+use Rattle.derive.specs.Dropping.{Falls, StepTest}
 use Rattle.watch.specs.Links.{is_attached}
 use Rattle.watch.specs.State.{AgreesOn}
 use Rattle.search.specs.Moves.{SameSteps}
-use Rattle.search.specs.State.{IsAttached, IsIntact, IsSearching, SearchState, rows_of}
+use Rattle.search.specs.State.{IsAttached, IsIntact, IsSearching, IsTallied, SearchState, rows_of}
 
 -- each row is attached as it was
 abbrev pub KeepsMarks : Arena → Arena → Type 0
@@ -20,7 +21,7 @@ AgreesElsewhere pivot old new = (other : Quant) → pivot ≢ other → AgreesOn
 -- the same ids are live with the same literals
 pub record KeepsRows (old new : Arena) : Type 0 where
   pub same_next : next_id new ≡ next_id old
-  pub same_live : (id : ℕ) → is_live new id ≡ is_live old id
+  pub same_live : (id : ℕ) → is_stored new id ≡ is_stored old id
   pub same_literals : (id : ℕ) → literals_at new id ≡ literals_at old id
 
 -- the same steps, which are as legal as they were, and the rows of other watches as they were
@@ -76,3 +77,36 @@ pub record Looks (scopes : List Scope) (old new : SearchState) : Type 0 where
   pub trail : new.trail ≡ old.trail
   pub marks : KeepsMarks (rows_of old) (rows_of new)
   pub long : new.long ≡ old.long
+
+-- Some rows were detached, and nothing else changed. Where all that were live are known to be attached still, those
+-- that aren't are such as go.
+pub record Sheds (scopes : List Scope) (goes : ℕ → Type 0) (old new : SearchState) : Type 0 where
+  pub intact : IsIntact scopes new
+  pub tallied : IsTallied new
+  pub steps : SameSteps old.derivation new.derivation
+  pub trail : new.trail ≡ old.trail
+  pub watched : new.watched ≡ old.watched
+  pub fewer : new.long ≤ old.long
+  pub was : (side : Quant) (id : ℕ) → IsAttached new side id → IsAttached old side id
+  pub joined : new.joined ≡ true → old.joined ≡ true
+  pub stays : new.joined ≡ true → (side : Quant) (id : ℕ) → IsAttached old side id → IsAttached new side id ⊎ goes id
+
+-- a row is attached to no watch
+abbrev pub IsFree : SearchState → ℕ → Type 0
+IsFree s id = (side : Quant) → IsAttached s side id → ⊥
+
+-- no row is attached that falls with some steps
+abbrev pub NoneFalls : StepTest → SearchState → Type 0
+NoneFalls is_root s = (side : Quant) (id : ℕ) → IsAttached s side id → Falls is_root s.derivation.notes id → ⊥
+
+-- a clause came in, with this reduction to watch, which isn't attached yet; what was attached is so still
+pub record TakesIn (scopes : List Scope) (old new : SearchState) (id : ℕ) : Type 0 where
+  pub intact : IsIntact scopes new
+  pub tallied : IsTallied new
+  pub live : IsTrue (is_live new.derivation id)
+  pub trail : new.trail ≡ old.trail
+  pub joined : new.joined ≡ old.joined
+  pub watched : new.watched ≡ old.watched ++ id ∷ []
+  pub stays : (side : Quant) (i : ℕ) → IsAttached old side i → IsAttached new side i
+  pub was_live : (i : ℕ) → Contains old.watched i → IsTrue (is_live new.derivation i)
+      → IsTrue (is_live old.derivation i)

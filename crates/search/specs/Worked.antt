@@ -26,7 +26,7 @@ use Rattle.search.specs.Counting.{IsBounded, IsCounted, ReducesFew, size_of}
 use Rattle.search.specs.Finishes.{GainsNoFinish, HasNoFinish, IsFinishId, finishes_in}
 use Rattle.search.specs.Forcing.{HasNoCubes, IsForced}
 use Rattle.search.specs.Moves.{IsDue, IsFound, IsInitialCube, IsMatrix}
-use Rattle.search.specs.State.{AreMarked, AreDetached, IsAtRest, SearchState, rows_of}
+use Rattle.search.specs.State.{AreAttached, AreMarked, IsAtRest, SearchState, rows_of}
 use Rattle.search.specs.Stops.{IsQuickStop, IsSpent}
 
 -- the links of a row that is attached to the watch of a side, and of one that is attached to none
@@ -120,8 +120,10 @@ pub record WorkedFinds (pivot : Quant) : Type 0 where
   pub attached : AreMarked (rows_of (search_over pivot (attached_to pivot) []))
   pub not_attached : AreMarked (rows_of (search_over pivot detached []))
   pub elsewhere : AreMarked (rows_of (search_over pivot (replicate 6 None ++ Some 2 ∷ None ∷ []) [])) → ⊥
-  pub detached_rows : AreDetached (search_over pivot detached [])
-  pub attached_row : AreDetached (search_over pivot (attached_to pivot) []) → ⊥
+  -- a live row to watch is attached, or isn't; one that was dropped need not be
+  pub attached_row : AreAttached (search_over pivot (attached_to pivot) [])
+  pub detached_row : AreAttached (search_over pivot detached []) → ⊥
+  pub dropped_row : AreAttached (record (search_over pivot detached []) { watched = 1 ∷ [] })
 
 -- a derivation of no steps
 abbrev pub no_steps : State

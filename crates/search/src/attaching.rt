@@ -1,19 +1,22 @@
 //! Rows that are attached to the watches, and detached.
 ghost use Rattle.std.specs.Prelude.{◌≡◌, ◌<◌, ℕ, IsTrue, Contains, length, slice_index, true, false, filter, ◌+◌, ◌-◌, ◌≤◌, if◌then◌else◌, OnOk};
-ghost use Rattle.derive.specs.State.{has_rows, is_live, next_id, side_at};
+ghost use Rattle.derive.specs.State.{has_rows, is_live, next_id, side_at, tag_at};
+ghost use Rattle.prefix.specs.declared.quant.Quant.TheVariants.{Forall as forall};
+ghost use Rattle.derive.specs.Cubes.{misses};
+ghost use Rattle.derive.specs.Dropping.{has_tag};
 ghost use Rattle.watch.specs.Links.{is_attached};
 ghost use Rattle.clean.specs.Reasons.{IsReducedStep};
 ghost use Rattle.search.specs.State.{IsAttached, IsIntact, IsPaused, IsResting, IsSearching, IsTallied, rows_of, with_long};
 ghost use Rattle.search.specs.Long.{is_long};
 ghost use Rattle.search.specs.Moves.{SameSteps};
 ghost use Rattle.search.specs.Forcing.{HasNoCubes, NoCubeAttached};
-ghost use Rattle.search.specs.Watching.{Joins, Keeps, Parts};
+ghost use Rattle.search.specs.Watching.{IsFree, Joins, Keeps, NoneFalls, Parts, Sheds};
 
 use crate::forgetting::is_long;
 use crate::search::Search;
 use crate::watching::{attach_to, detach_from, has_row};
 use derive::{Derivation, StepId};
-use prefix::{Prefix, Quant};
+use prefix::{Lit, Prefix, Quant};
 use steps::NoMemory;
 use watch::holding_laws;
 
@@ -60,7 +63,7 @@ impl Search {
     }
 
     // Attaches a row to watch, unless it is attached, and counts it where it is a long learned one.
-    fn join(&mut self, prefix: &Prefix, id: StepId)
+    pub(crate) fn join(&mut self, prefix: &Prefix, id: StepId)
         requires intact { IsIntact prefix.now self.old }
         requires tallied { IsTallied self.old }
         requires live { IsTrue (is_live self.old.derivation id) }
@@ -116,8 +119,8 @@ impl Search {
         }
     }
 
-    // Attaches every row to watch, and forgets those of steps that were dropped. Where all are attached, this takes
-    // constant time.
+    // Attaches every live row to watch. Where all are known to be attached, this takes constant time, but for each time
+    // that the list has grown by a quarter: then it forgets the rows of steps that were dropped.
     pub(crate) fn attach_all(&mut self, prefix: &Prefix)
         requires { IsResting prefix.now self.old }
         ensures paused { IsPaused prefix.now self.new }
@@ -125,12 +128,12 @@ impl Search {
         ensures steps { SameSteps self.old.derivation self.new.derivation }
         ensures cubes { HasNoCubes self.old → NoCubeAttached self.new }
     {
-        if !self.joined {
+        if !self.joined || self.watched.len() >= self.tidy_at {
             self.join_all(prefix);
         }
     }
 
-    // The same where none is attached.
+    // The same by a look at each of them.
     fn join_all(&mut self, prefix: &Prefix)
         requires intact { IsIntact prefix.now self.old }
         requires tallied { IsTallied self.old }
@@ -140,6 +143,7 @@ impl Search {
         ensures part { (id : ℕ) → Contains self.new.watched id → Contains self.old.watched id }
     {
         forget_dropped(&mut self.watched, &self.derivation);
+        self.tidy_at = self.watched.len().saturating_add(self.watched.len() / 4);
         for k in 0..self.watched.len() {
             self.join_at(prefix, k);
         }
@@ -158,48 +162,73 @@ impl Search {
         self.join(prefix, id);
     }
 
-    // Detaches every row. Where none is attached, this takes constant time.
-    pub(crate) fn detach_all(&mut self, prefix: &Prefix)
+    // Detaches the rows that fall with a frame. Where rows of later frames are there too, these are detached as well,
+    // and the next solve attaches those that are left.
+    pub(crate) fn part_frame(&mut self, prefix: &Prefix, frame: usize)
         requires { IsResting prefix.now self.old }
-        ensures resting { IsResting prefix.now self.new }
-        ensures steps { SameSteps self.old.derivation self.new.derivation }
-        ensures trail { self.new.trail ≡ self.old.trail }
-        ensures watched { self.new.watched ≡ self.old.watched }
-        ensures joined { self.new.joined ≡ false }
-        ensures fewer { self.new.long ≤ self.old.long }
+        ensures sheds { Sheds prefix.now (λ id. tag_at self.old.derivation id ≡ frame) self.old self.new }
+        ensures none { NoneFalls (has_tag frame) self.new }
     {
-        if self.joined {
-            self.part_all(prefix);
+        let next = self.derivation.next_id();
+        for id in self.derivation.frame_from(frame)..next {
+            self.part_later(prefix, id, frame);
         }
     }
 
-    // The same where all are attached.
-    fn part_all(&mut self, prefix: &Prefix)
-        requires resting { IsResting prefix.now self.old }
-        requires joined { self.old.joined ≡ true }
-        ensures resting { IsResting prefix.now self.new }
-        ensures steps { SameSteps self.old.derivation self.new.derivation }
-        ensures trail { self.new.trail ≡ self.old.trail }
-        ensures watched { self.new.watched ≡ self.old.watched }
-        ensures joined { self.new.joined ≡ false }
-        ensures fewer { self.new.long ≤ self.old.long }
-    {
-        for k in 0..self.watched.len() {
-            self.detach_at(prefix, k);
-        }
-        self.joined = false;
-        self.long = 0;
-    }
-
-    // Detaches the row to watch with this place on the list.
-    fn detach_at(&mut self, prefix: &Prefix, k: usize)
+    // Detaches the row of a step of a frame or a later one.
+    fn part_later(&mut self, prefix: &Prefix, id: StepId, frame: usize)
         requires intact { IsIntact prefix.now self.old }
-        requires within { k < length self.old.watched }
-        requires live { IsTrue (is_live self.old.derivation (slice_index self.old.watched k)) }
-        ensures { Parts prefix.now self.old self.new (slice_index self.old.watched k) }
+        requires tallied { IsTallied self.old }
+        ensures sheds { Sheds prefix.now (λ i. tag_at self.old.derivation i ≡ frame) self.old self.new }
+        ensures gone { frame ≤ tag_at self.old.derivation id → IsFree self.new id }
     {
-        let id = self.watched[k];
-        self.detach(prefix, id);
+        if !self.derivation.is_live(id) {
+            return;
+        }
+        let tag = self.derivation.tag(id);
+        if tag < frame {
+            return;
+        }
+        self.shed(prefix, id, tag == frame);
+    }
+
+    // Detaches the cubes that fall where the initial cubes fall that miss a clause. Cubes that came later than the
+    // first of these are detached too, and the next solve attaches those that are left.
+    pub(crate) fn part_missing(&mut self, prefix: &Prefix, clause: &[Lit])
+        requires { IsResting prefix.now self.old }
+        ensures sheds { Sheds prefix.now (λ id. ⊥) self.old self.new }
+        ensures none { NoneFalls (misses clause.now (rows_of self.new)) self.new }
+    {
+        let next = self.derivation.next_id();
+        for id in self.derivation.missing_from(clause)..next {
+            self.part_cube(prefix, id);
+        }
+    }
+
+    // Detaches the row of a cube.
+    fn part_cube(&mut self, prefix: &Prefix, id: StepId)
+        requires intact { IsIntact prefix.now self.old }
+        requires tallied { IsTallied self.old }
+        ensures sheds { Sheds prefix.now (λ i. ⊥) self.old self.new }
+        ensures gone { side_at self.old.derivation id ≡ forall → IsFree self.new id }
+    {
+        if self.derivation.is_live(id) && self.derivation.side(id) == Quant::Forall {
+            self.shed(prefix, id, false);
+        }
+    }
+
+    // Detaches a row, if it is attached. Where it doesn't go, the next solve attaches it again.
+    fn shed(&mut self, prefix: &Prefix, id: StepId, goes: bool)
+        requires intact { IsIntact prefix.now self.old }
+        requires tallied { IsTallied self.old }
+        requires live { IsTrue (is_live self.old.derivation id) }
+        ensures sheds { Sheds prefix.now (λ i. (i ≡ id) × IsTrue goes) self.old self.new }
+        ensures gone { IsFree self.new id }
+    {
+        if self.has(id) {
+            self.joined &= goes;
+            self.part(prefix, id);
+        }
     }
 
     // Keeps a row that was learned: it is watched from now on, and attached, unless it is attached already.

@@ -1,18 +1,20 @@
 //! Changes of the formula, between solves.
-ghost use Rattle.std.specs.Prelude.{◌≡◌, ◌≤◌, ◌+◌, ◌==◌, ℕ, IsTrue, false, not, filter, OnOk, OnErr};
+ghost use Rattle.std.specs.Prelude.{◌≡◌, ◌≤◌, ◌+◌, ◌==◌, ℕ, IsTrue, not, filter, IfOk, OnOk, OnErr};
 ghost use Rattle.calculus.specs.Rows.{IsRow};
+ghost use Rattle.derive.specs.Cubes.{misses};
 ghost use Rattle.derive.specs.Dropping.{unless_finish};
 ghost use Rattle.derive.specs.State.{OpenClause, SameStep, clauses_of, is_live, note_at};
 ghost use Rattle.clean.specs.Turns.{reductions_in};
-ghost use Rattle.search.specs.State.{IsResting};
+ghost use Rattle.search.specs.State.{IsIntact, IsResting, IsTallied, rows_of};
 ghost use Rattle.search.specs.Finishes.{GainsNoFinish, HasNoFinish};
 ghost use Rattle.search.specs.Forcing.{HasNoCubes};
 ghost use Rattle.search.specs.Moves.{SameSteps};
+ghost use Rattle.search.specs.Watching.{NoneFalls, TakesIn};
 ghost use Rattle.search.specs.Changing.{AddsClause, IsRoomy, RestingGrows, StaysResting, WatchesMore, room_of};
 
 use crate::search::Search;
 use calculus::reductions_stay;
-use derive::{Derivation, clauses_are_listed, growth_laws, prefixes_may_grow};
+use derive::{Derivation, StepId, clauses_are_listed, growth_laws, prefixes_may_grow};
 use prefix::{Lit, Prefix, Var};
 use steps::NoMemory;
 use watch::{agreeing_laws, holding_laws};
@@ -72,23 +74,23 @@ impl Search {
         ensures finishes { GainsNoFinish self.old.derivation self.new.derivation }
         ensures reductions { reductions_in self.new.derivation ≤ reductions_in self.old.derivation + 1 }
     {
-        self.detach_all(prefix);
-        self.input(prefix, lits, frame)
+        self.part_missing(prefix, lits);
+        let id = self.input(prefix, lits, frame)?;
+        self.join(prefix, id);
+        Ok(())
     }
 
-    // Puts in a clause of a frame where nothing is attached.
-    fn input(&mut self, prefix: &Prefix, lits: &[Lit], frame: usize) -> Result<(), NoMemory>
-        requires resting { IsResting prefix.now self.old }
-        requires joined { self.old.joined ≡ false }
+    // Puts in a clause of a frame with which no attached row falls, and answers the id of its reduction.
+    fn input(&mut self, prefix: &Prefix, lits: &[Lit], frame: usize) -> Result<StepId, NoMemory>
+        requires intact { IsIntact prefix.now self.old }
+        requires tallied { IsTallied self.old }
         requires row { IsRow prefix.now lits.now }
+        requires none { NoneFalls (misses lits.now (rows_of self.old)) self.old }
         ensures ok { OnOk result (AddsClause frame lits.now (clauses_of self.old.derivation)
             (clauses_of self.new.derivation)) }
-        ensures err { OnErr result (SameSteps self.old.derivation self.new.derivation) }
-        ensures more { OnOk result (WatchesMore self.old.watched self.new.watched) }
-        ensures watched { OnErr result (self.new.watched ≡ self.old.watched) }
-        ensures fewer { OnErr result (self.new.long ≤ self.old.long) }
-        ensures resting { IsResting prefix.now self.new }
-        ensures cubes { HasNoCubes self.old → HasNoCubes self.new }
+        ensures err { OnErr result (self.new ≡ self.old) }
+        ensures takes { IfOk result (TakesIn prefix.now self.old self.new) }
+        ensures cubes { OnOk result (HasNoCubes self.old → HasNoCubes self.new) }
         ensures finishes { GainsNoFinish self.old.derivation self.new.derivation }
         ensures reductions { reductions_in self.new.derivation ≤ reductions_in self.old.derivation + 1 }
     {
@@ -99,7 +101,7 @@ impl Search {
         let (_, id) = self.derivation.input_clause(prefix, lits, frame)?;
         self.decider.count(lits);
         let _ = self.watched.push(id);
-        Ok(())
+        Ok(id)
     }
 
     /// Drops the clauses of a frame, with all that rests on them. This takes no memory.
@@ -113,7 +115,7 @@ impl Search {
         ensures finishes { GainsNoFinish self.old.derivation self.new.derivation }
         ensures reductions { reductions_in self.new.derivation ≤ reductions_in self.old.derivation }
     {
-        self.detach_all(prefix);
+        self.part_frame(prefix, frame);
         holding_laws();
         agreeing_laws();
         clauses_are_listed();

@@ -121,7 +121,6 @@ impl Search {
         requires intact { IsIntact prefix.now self.old }
         requires tallied { IsTallied self.old }
         requires within { k < length self.old.watched }
-        requires live { IsTrue (is_live self.old.derivation (slice_index self.old.watched k)) }
         ensures thins { Thins prefix.now self.old self.new }
         ensures seen { (self.new.long ≤ most)
             ⊎ (IsTrue (is_kept_long self.new.derivation (slice_index self.old.watched k)) →
@@ -130,7 +129,7 @@ impl Search {
         ensures enough { most ≤ self.old.long → most ≤ self.new.long }
     {
         let id = self.watched[k];
-        if self.long > most && self.may_go(id) {
+        if self.long > most && self.derivation.is_live(id) && self.may_go(id) {
             self.part(prefix, id);
         }
     }
@@ -156,6 +155,7 @@ impl Search {
     // is due again once a quarter more ids were given.
     fn clear(&mut self, prefix: &Prefix, keep: &mut Vec<StepId>)
         requires searching { IsSearching prefix.now self.old }
+        requires watched { AreLive self.old.derivation self.old.watched }
         requires live { AreLive self.old.derivation keep.old.items }
         requires reasons { HaveAllReasons self.old.derivation self.old.trail.placed keep.old.items }
         requires room { length keep.old.items + length self.old.watched ≤ vec_capacity keep.old }

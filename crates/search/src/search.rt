@@ -17,7 +17,8 @@ use watch::{Watch, holding_laws};
 pub(crate) const LESSONS: u8 = 64;
 
 /// A search with what it learned so far. Contracts see it as the derivation, the trail, both watches, the signs that
-/// variables had last, the ids of the rows to watch, whether these are attached, and how many long learned rows are.
+/// variables had last, the ids of the rows to watch, whether the live ones are attached, and how many long learned rows
+/// are.
 ///
 /// Between its public calls it is at rest: nothing is assigned, and each live step is legal for the prefix that the
 /// calls are given, which may grow between them.
@@ -28,12 +29,14 @@ pub struct Search {
     pub(crate) clauses: Watch<Clauses>,
     pub(crate) cubes: Watch<Cubes>,
     pub(crate) decider: Decider,
-    // The ids of the rows to watch. Those of steps that were dropped go before rows are attached.
+    // The ids of the rows to watch. Those of steps that were dropped go once the list has grown by a quarter.
     pub(crate) watched: Vec<StepId>,
-    // Whether the rows to watch are attached; else none is.
+    // Whether the rows to watch that are live are known to be attached.
     pub(crate) joined: bool,
     // How many long learned rows are attached.
     pub(crate) long: usize,
+    // How many rows are listed to watch before those of steps that were dropped go again; contracts don't see it.
+    pub(crate) tidy_at: usize,
     // How many ids are given before steps that are forgotten are dropped again; contracts don't see it.
     pub(crate) sweep_at: usize,
     // How many lessons come before the next restart is due; contracts don't see it.
@@ -74,8 +77,9 @@ impl Search {
             cubes: Watch::new(alloc),
             decider: Decider::new(alloc),
             watched: Vec::new(alloc),
-            joined: false,
+            joined: true,
             long: 0,
+            tidy_at: 0,
             sweep_at: 0,
             lessons_left: LESSONS,
         }

@@ -3,7 +3,7 @@ use Rattle.clean.specs.Turns.{reductions_in}
 use Rattle.search.specs.State.{SearchState}
 use Rattle.search.specs.Moves.{Undoes}
 use Rattle.search.specs.contracts.search.Search.{the_view}
-use Rattle.search.proofs.Following.{bumped_same, due_unit}
+use Rattle.search.proofs.Following.{advances_undone, bumped_same, due_unit}
 use Rattle.search.proofs.Reducing.{reductions_same}
 use Rattle.search.proofs.search.Search.backjump.Goals as goal
 
@@ -22,3 +22,25 @@ returns-in_err-propagate-clause-due c = λ is.
     due_unit c.args.prefix.now c.args.level c.args.self.now c.undo.new.self c.keep.new.self c.propagate.new.self
     c.args.side c.args.row c.args.lit undoes c.keep.ensures.keeps c.requires.row c.requires.unit.unit
     c.in_err-propagate.ensures.same
+
+pub returns-in_err-keep-clause-reductions : goal.returns-in_err-keep-clause-reductions
+returns-in_err-keep-clause-reductions c =
+    reductions_same c.undo.new.self.derivation c.keep.new.self.derivation c.keep.ensures.keeps.steps
+    ∙ (ap reductions_in c.undo.ensures.derivation
+    ∙ ap (λ (s : SearchState). reductions_in s.derivation) c.self.view_is)
+
+pub returns-in_err-propagate-clause-reductions : goal.returns-in_err-propagate-clause-reductions
+returns-in_err-propagate-clause-reductions c =
+    ap (λ (s : SearchState). reductions_in s.derivation) c.in_err-propagate.ensures.same
+    ∙ (reductions_same c.undo.new.self.derivation c.keep.new.self.derivation c.keep.ensures.keeps.steps
+    ∙ (ap reductions_in c.undo.ensures.derivation
+    ∙ ap (λ (s : SearchState). reductions_in s.derivation) c.self.view_is))
+
+pub returns-clause-ok : goal.returns-clause-ok
+returns-clause-ok c =
+    let same = bumped_same (the_view c.self.inside) c.args.self.now _ c.bump.ensures c.self.view_is in
+    let undoes = subst (λ (s : SearchState). Undoes c.args.prefix.now c.args.level s c.undo.new.self) same
+    c.undo.ensures in
+    advances_undone c.args.prefix.now c.args.level c.args.self.now c.undo.new.self c.keep.new.self
+    c.propagate.new.self c.args.steps.now c.propagate.new.steps undoes c.keep.ensures.keeps
+    c.in_ok-propagate.ensures.ok

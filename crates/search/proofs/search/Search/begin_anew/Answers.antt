@@ -1,7 +1,9 @@
-use Rattle.std.proofs.Common.{◌≡◌, List, subst}
+use Rattle.std.proofs.Common.{◌≡◌, List, ap, subst, ◌∙◌}
 use Rattle.clean.proofs.Rounds.{on_err}
 use Rattle.prefix.specs.Scopes.{Scope}
 use Rattle.decide.specs.Memory.{Memory}
+use Rattle.clean.specs.Turns.{reductions_in}
+use Rattle.search.proofs.Reducing.{reductions_same}
 use Rattle.search.specs.State.{SearchState}
 use Rattle.search.specs.Moves.{BeginsAnew}
 use Rattle.search.specs.contracts.search.Search.{the_view}
@@ -43,3 +45,15 @@ returns-in_err-keep-clause-restarts c =
     (began c.args.prefix.now (the_view c.self.inside) c.args.self.now c.restart.new.self _ c.bump.ensures c.self.view_is
     c.restart.ensures)
     c.keep.ensures.keeps c.requires.small
+
+pub returns-clause-reductions : goal.returns-clause-reductions
+returns-clause-reductions c =
+    reductions_same c.restart.new.self.derivation c.keep.new.self.derivation c.keep.ensures.keeps.steps
+    ∙ (ap reductions_in c.restart.ensures.derivation
+    ∙ ap (λ (s : SearchState). reductions_in s.derivation) c.self.view_is)
+
+pub returns-in_err-keep-clause-reductions : goal.returns-in_err-keep-clause-reductions
+returns-in_err-keep-clause-reductions c =
+    reductions_same c.restart.new.self.derivation c.keep.new.self.derivation c.keep.ensures.keeps.steps
+    ∙ (ap reductions_in c.restart.ensures.derivation
+    ∙ ap (λ (s : SearchState). reductions_in s.derivation) c.self.view_is)

@@ -4,13 +4,11 @@ use Rattle.search.specs.Forgetting.{AreLive, Clears, HaveAllReasons}
 use Rattle.search.specs.State.{IsSearching, SearchState}
 use Rattle.search.specs.contracts.search.Search.{the_view}
 use Rattle.search.proofs.Clearing.{cleared, extended}
-use Rattle.search.proofs.Listing.{attached_live}
 use Rattle.search.proofs.search.Search.clear.Goals as goal
 
 pub sweep-requires-clause-live : goal.sweep-requires-clause-live
 sweep-requires-clause-live c = λ id at.
     let s = the_view c.self.inside in
-    let searching = subst (IsSearching c.args.prefix.now) (sym c.self.view_is) c.requires.searching in
     let same = ap (λ (s : SearchState). length s.watched) c.self.view_is in
     let room = c.requires.room in
     let have = c.deref.ensures.len in
@@ -20,7 +18,7 @@ sweep-requires-clause-live c = λ id at.
     ⊎_elim
     (λ one. subst (λ (t : SearchState). AreLive t.derivation c.args.keep.now.items) (sym c.self.view_is)
     c.requires.live id one)
-    (λ two. attached_live c.args.prefix.now s searching.paused.intact searching.paused.attached id two)
+    (λ two. subst (λ (t : SearchState). AreLive t.derivation t.watched) (sym c.self.view_is) c.requires.watched id two)
     (Contains-append_cases c.args.keep.now.items s.watched id
     (subst (λ (ids : List ℕ). Contains ids id) (c.deref-2.ensures.value ∙ is) at))
 
@@ -37,7 +35,9 @@ returns c =
     let searching = subst (IsSearching c.args.prefix.now) (sym c.self.view_is) c.requires.searching in
     subst (λ (t : SearchState). Clears c.args.prefix.now t (record s { derivation = c.sweep.new.self })) c.self.view_is
     (cleared c.holding_laws.ensures c.agreeing_laws.ensures c.args.prefix.now s c.sweep.new.self
-    c.args.keep.now.items c.deref-2.result.now searching (c.deref-2.ensures.value ∙ is)
+    c.args.keep.now.items c.deref-2.result.now searching
+    (subst (λ (t : SearchState). AreLive t.derivation t.watched) (sym c.self.view_is) c.requires.watched)
+    (c.deref-2.ensures.value ∙ is)
     (subst (λ (t : SearchState). HaveAllReasons t.derivation t.trail.placed c.args.keep.now.items)
     (sym c.self.view_is) c.requires.reasons)
     e.sweeps e.drops.0 e.drops.1 e.kept e.clauses

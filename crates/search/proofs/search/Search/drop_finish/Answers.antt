@@ -6,7 +6,7 @@ use Rattle.search.specs.Forcing.{HasNoCubes}
 use Rattle.clean.specs.Turns.{reductions_in}
 use Rattle.search.specs.State.{IsResting, SearchState}
 use Rattle.search.specs.contracts.search.Search.{the_view}
-use Rattle.search.proofs.Dropping.{no_cubes_left, resting_left, step_unfinished, input_unfinished}
+use Rattle.search.proofs.Dropping.{no_cubes_left, resting_left, stays_live, step_unfinished, input_unfinished}
 use Rattle.search.proofs.Reducing.{reductions_alike}
 use Rattle.search.proofs.search.Search.drop_finish.Goals as goal
 
@@ -22,11 +22,13 @@ returns-clause-resting c =
       λ id i r.
           step_unfinished s.derivation d c.drop_finish.ensures.exactly id r.step,
     ))
-    c.holding_laws.ensures c.agreeing_laws.ensures resting
+    c.holding_laws.ensures c.agreeing_laws.ensures resting.rest resting.intact resting.tallied
     (c.drop_finish.ensures.legal scopes resting.intact.legal)
     (λ side id a. step_unfinished s.derivation d c.drop_finish.ensures.exactly id
     (resting.intact.watched.sides side id a).step)
     (λ id a attached why. ap is_input (c.drop_finish.ensures.exactly a) ∙ input_unfinished (note_at s.derivation a))
+    (λ joined id at live. resting.attached joined id at (stays_live scopes s d finishes c.drop_finish.ensures.drops id
+    live))
 
 pub returns-clause-cubes : goal.returns-clause-cubes
 returns-clause-cubes c = λ none.

@@ -1,9 +1,9 @@
 use Rattle.std.proofs.Common.{length, arith, ap, sym, subst}
 use Rattle.std.proofs.lemmas.List.Sums.{count_by-le-length, length-filter}
-use Rattle.search.specs.Forgetting.{Clears, is_held, without_detached}
+use Rattle.search.specs.Forgetting.{AreLive, Clears, is_held, without_detached}
 use Rattle.search.specs.State.{IsSearching, SearchState, rows_of}
 use Rattle.search.proofs.Clearing.{clears_none, forgets}
-use Rattle.search.proofs.Thinning.{left_searching}
+use Rattle.search.proofs.Thinning.{left_live, left_searching}
 use Rattle.search.proofs.search.Search.forget_oldest.Goals as goal
 
 pub returns-then-next_id-self-clause-ok : goal.returns-then-next_id-self-clause-ok
@@ -21,6 +21,12 @@ pub clear-requires-clause-searching : goal.clear-requires-clause-searching
 clear-requires-clause-searching c =
     subst (IsSearching c.args.prefix.now) (sym c.leave_out-2.ensures)
     (left_searching c.args.prefix.now c.args.self.now c.thin-2.new.self c.clauses_are_listed.ensures
+    c.requires.searching c.thin-2.ensures.thins)
+
+pub clear-requires-clause-watched : goal.clear-requires-clause-watched
+clear-requires-clause-watched c =
+    subst (λ (s : SearchState). AreLive s.derivation s.watched) (sym c.leave_out-2.ensures)
+    (left_live c.args.prefix.now c.args.self.now c.thin-2.new.self c.clauses_are_listed.ensures
     c.requires.searching c.thin-2.ensures.thins)
 
 pub clear-requires-clause-room : goal.clear-requires-clause-room

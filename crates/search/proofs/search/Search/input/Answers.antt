@@ -2,13 +2,15 @@ use Rattle.std.proofs.Common.{◌≡◌, ◌<◌, ◌≤◌, ◌+◌, ◌∷◌,
 use Rattle.std.proofs.lemmas.Bool.{cond-true}
 use Rattle.decide.specs.Memory.{Memory}
 use Rattle.search.specs.Forcing.{HasNoCubes}
-use Rattle.search.specs.State.{IsResting, SearchState}
+use Rattle.search.specs.State.{IsIntact, IsTallied, SearchState, rows_of}
+use Rattle.search.specs.Watching.{NoneFalls, TakesIn}
+use Rattle.derive.specs.Cubes.{misses}
 use Rattle.search.specs.contracts.search.Search.{the_view}
 use Rattle.search.specs.Finishes.{GainsNoFinish}
 use Rattle.search.proofs.Finishing.{finishes_input}
 use Rattle.search.proofs.Reducing.{reductions_input}
 use Rattle.clean.specs.Turns.{reductions_in}
-use Rattle.search.proofs.Inputs.{Inputs, no_cubes_input, resting_input}
+use Rattle.search.proofs.Inputs.{Inputs, no_cubes_input, takes_input}
 use Rattle.search.proofs.search.Search.input.Goals as goal
 
 more : (c : goal.After-push) → c.push.new.self.items ≡ c.self.inside.watched.items ++ c.in_ok-id.id ∷ []
@@ -28,16 +30,27 @@ inputs c = record {
   reduction = c.in_ok-id.ensures.reduction;
   kept = c.in_ok-id.ensures.kept;
   others = c.in_ok-id.ensures.others;
+  stays = c.in_ok-id.ensures.stays;
   unlinked = c.in_ok-id.ensures.unlinked;
   clauses = c.in_ok-id.ensures.clauses;
 }
 
-pub returns-clause-resting : goal.returns-clause-resting
-returns-clause-resting c =
+pub returns-clause-takes : goal.returns-clause-takes
+returns-clause-takes c =
     let s = the_view c.self.inside in
     let scopes = c.args.prefix.now in
-    let resting = subst (IsResting scopes) (sym c.self.view_is) c.requires.resting in
-    subst (λ (signs : Memory). IsResting scopes (record {
+    let intact = subst (IsIntact scopes) (sym c.self.view_is) c.requires.intact in
+    subst (λ (old : SearchState). TakesIn scopes old (record {
+      derivation = c.input_clause.new.self;
+      trail = s.trail;
+      clauses = s.clauses;
+      cubes = s.cubes;
+      signs = c.count.new.self;
+      watched = c.push.new.self.items;
+      joined = s.joined;
+      long = s.long;
+    }) c.in_ok-id.id) c.self.view_is
+    (subst (λ (signs : Memory). TakesIn scopes s (record {
       derivation = c.input_clause.new.self;
       trail = s.trail;
       clauses = s.clauses;
@@ -46,21 +59,22 @@ returns-clause-resting c =
       watched = c.push.new.self.items;
       joined = s.joined;
       long = s.long;
-    })) (sym c.count.ensures)
-    (resting_input c.growth_laws.ensures scopes s c.input_clause.new.self c.in_ok-id.field-0-0 c.in_ok-id.id
-    c.args.frame c.args.lits.now (inputs c) c.push.new.self.items (more c) resting.intact.watched
-    c.holding_laws.ensures c.agreeing_laws.ensures resting
-    (ap (λ (t : SearchState). t.joined) c.self.view_is ∙ c.requires.joined)
+    }) c.in_ok-id.id) (sym c.count.ensures)
+    (takes_input c.growth_laws.ensures scopes s c.input_clause.new.self c.in_ok-id.field-0-0 c.in_ok-id.id
+    c.args.frame c.args.lits.now (inputs c) c.push.new.self.items (more c) intact.watched intact
+    (subst (λ (t : SearchState). NoneFalls (misses c.args.lits.now (rows_of t)) t) (sym c.self.view_is) c.requires.none)
+    c.holding_laws.ensures c.agreeing_laws.ensures
+    (subst IsTallied (sym c.self.view_is) c.requires.tallied)
     c.input_clause.ensures.rows
-    (c.in_ok-id.ensures.legal c.requires.row resting.intact.legal))
+    (c.in_ok-id.ensures.legal c.requires.row intact.legal)))
 
 pub returns-clause-cubes : goal.returns-clause-cubes
 returns-clause-cubes c = λ none.
     let s = the_view c.self.inside in
     let scopes = c.args.prefix.now in
-    let resting = subst (IsResting scopes) (sym c.self.view_is) c.requires.resting in
+    let intact = subst (IsIntact scopes) (sym c.self.view_is) c.requires.intact in
     no_cubes_input c.growth_laws.ensures scopes s c.input_clause.new.self c.in_ok-id.field-0-0 c.in_ok-id.id
-    c.args.frame c.args.lits.now (inputs c) c.push.new.self.items (more c) resting.intact.watched
+    c.args.frame c.args.lits.now (inputs c) c.push.new.self.items (more c) intact.watched
     (subst HasNoCubes (sym c.self.view_is) none)
 
 pub returns-clause-finishes : goal.returns-clause-finishes

@@ -14,6 +14,5 @@ returns-clause-resting c = resting_new c.holding_laws.ensures _ (record {
   watches = λ side. elim side as (λ p. watch_of p _ ≡ new_watch)
       [ Exists ↦ c.new-3.ensures | Forall ↦ c.new-4.ensures ];
   watched = c.new-6.ensures.items;
-  joined = refl;
   long = refl;
 })
