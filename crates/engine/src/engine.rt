@@ -16,7 +16,7 @@ use crate::tied::{decide, forget_outcome};
 use crate::verdict::{Held, Verdict};
 use calculus::{end_rows_give_proofs, proofs_decide};
 use derive::steps_are_listed;
-use frames::Frames;
+use frames::{Assumptions, Frames};
 use prefix::{Lit, LitList, Prefix};
 use search::{Search, SolveStop};
 use std::alloc::Global;
@@ -128,7 +128,13 @@ impl Engine {
         forget_outcome(&mut self.search, &self.frames);
         let assumed = copied(self.alloc, self.frames.assumptions())?;
         let mut relevant = copied(self.alloc, self.frames.assumptions())?;
-        let verdict = decide(&mut self.search, &self.frames, self.restarts, steps)?;
+        let verdict = decide(
+            &mut self.search,
+            &self.frames,
+            &assumed,
+            self.restarts,
+            steps,
+        )?;
         end_rows_give_proofs();
         proofs_decide();
         steps_are_listed();
@@ -145,8 +151,8 @@ impl Engine {
 }
 
 // A list of these literals.
-fn copied(alloc: Global, lits: &[Lit]) -> Result<Vec<Lit>, NoMemory>
-    ensures { IfOk result (λ list. list.items ≡ lits.now) }
+fn copied(alloc: Global, assumptions: &Assumptions) -> Result<Vec<Lit>, NoMemory>
+    ensures { IfOk result (λ list. list.items ≡ assumptions.now) }
 {
-    Ok(Vec::from_slice(alloc, lits)?)
+    Ok(assumptions.to_vec(alloc)?)
 }

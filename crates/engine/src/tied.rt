@@ -20,6 +20,7 @@ ghost use Rattle.engine.specs.Verdicts.{IsStopFor};
 
 use crate::verdict::{Verdict, truth_against};
 use frames::{FrameRefusal, Frames};
+use prefix::Lit;
 use search::{Search, SolveStop};
 use steps::{NoMemory, Steps};
 
@@ -38,14 +39,16 @@ pub(crate) fn forget_outcome(search: &mut Search, frames: &Frames)
     let _next = search.derivation().next_id();
 }
 
-// Decides the open formula under its assumptions.
+// Decides the open formula under its assumptions, of which this is a list.
 pub(crate) fn decide(
     search: &mut Search,
     frames: &Frames,
+    assumed: &[Lit],
     restarts: u32,
     steps: &mut Steps,
 ) -> Result<Verdict, SolveStop>
-    requires { AreTied frames.now.formula search.old }
+    requires tied { AreTied frames.now.formula search.old }
+    requires assumed { assumed.now ≡ frames.now.formula.assumptions }
     ensures tied { AreTied frames.now.formula search.new }
     ensures found { IfOk result (IsFound frames.now.formula search.new.derivation frames.now.formula.assumptions) }
     ensures finishes { IfOk result (λ v. (id : ℕ) → IsFinishId search.new.derivation id → id ≡ v.end) }
@@ -63,13 +66,9 @@ pub(crate) fn decide(
     ensures rises { steps.old.spent ≤ steps.new.spent }
 {
     let matrix = frames.open_clauses();
-    let found = search.solve(
-        frames.prefix(),
-        matrix,
-        frames.assumptions(),
-        restarts,
-        steps,
-    );
+    // They are of the first scope, and ascend.
+    let _assumptions = frames.assumptions();
+    let found = search.solve(frames.prefix(), matrix, assumed, restarts, steps);
     // The counter is within its budget, and ids are fewer than 2 ^ 64.
     let _budget = steps.budget();
     let _next = search.derivation().next_id();

@@ -1,5 +1,5 @@
 -- The fields belong together after each command.
-use Rattle.std.proofs.Common.{◌≡◌, ◌≢◌, ℕ, ◌+◌, ◌-◌, ◌<◌, ◌≤◌, Bool, true, false, List, [], ◌∷◌, ◌++◌, length, take, drop, Option, Some, None, refl, sym, ap, ◌∙◌, arith, length-append}
+use Rattle.std.proofs.Common.{◌≡◌, ◌≢◌, ℕ, ◌+◌, ◌-◌, ◌<◌, ◌≤◌, Bool, true, false, List, [], ◌∷◌, ◌++◌, length, take, drop, Some, refl, sym, ap, ◌∙◌, arith, length-append}
 use Rattle.std.specs.Prelude.{◌==◌, if◌then◌else◌, is_some, ℤ, ◌||◌, nat_le, nat_lt}
 use Rattle.std.specs.List.{AllByRecursion, flat_map}
 use Rattle.std.proofs.lemmas.Bool.{ne_eqb, eqb-true, ltb-false, leb-false}
@@ -16,10 +16,10 @@ use Rattle.calculus.specs.Rows.{variables_in}
 use Rattle.clauses.specs.Clause.{is_tautology, as_row}
 use Rattle.frames.specs.State.{literals_in, put_assumption, settled, popped, depth, with_row}
 use Rattle.frames.specs.Commands.{max_pushed, max_clauses, max_literals, with_clause, is_beyond}
-use Rattle.frames.specs.Kept.{AreStarts, AreFrames, AreAssumptions, sign_at, state_of, frames_from}
+use Rattle.frames.specs.Kept.{AreStarts, AreFrames, AreAssumptions, state_of, frames_from}
 use Rattle.frames.proofs.Starts.{starts_more, starts_pushed, starts_popped, literals_more, all_more, all_taken, all_but_last, frames_popped, frames_with_row, depth_is}
 use Rattle.frames.proofs.Knowing.{rows_kept}
-use Rattle.frames.proofs.Assuming.{put_ascends, put_outer, put_value, put_again}
+use Rattle.frames.proofs.Assuming.{put_again}
 
 pub grown : (old new : List Scope) (starts : List ℕ) (rows : List Row) (n : ℕ) (latest : Latest) → ((v : ℕ) → is_some (level_of old v) ≡ true → is_some (level_of new v) ≡ true)
     → AreFrames old starts rows n latest → AreFrames new starts rows n Other
@@ -110,9 +110,9 @@ depth_above starts news rows s e =
 pub depth_short : (starts : List ℕ) (rows : List Row) → length starts ≢ 65536 → (depth (frames_from 0 starts rows) == max_pushed) ≡ false
 depth_short starts rows few = ne_eqb (depth (frames_from 0 starts rows)) 65536 (λ q. few (sym (depth_is 0 starts rows) ∙ q))
 
-pub none_there : (ls : List Literal) (n : ℕ) → n ≡ length ls → (n == 0) ≡ true → ls ≡ []
-none_there [] n e t = refl
-none_there (l ∷ ls) n e t = let zero_is : n ≡ 0 = eqb-true n 0 t in absurd (omega (arith, e, zero_is))
+pub none_there : (ls : List Literal) → (length ls == 0) ≡ true → ls ≡ []
+none_there [] t = refl
+none_there (l ∷ ls) t = let zero_is : length (l ∷ ls) ≡ 0 = eqb-true (length (l ∷ ls)) 0 t in absurd (omega (arith, zero_is))
 
 pub view_again : (scopes : List Scope) (starts : List ℕ) (rows : List Row) (ls : List Literal) (l : Literal) (b : Bool) → IsAscending (variables_in ls) → assumed_value ls l.variable ≡ Some b
     → state_of scopes starts rows ls Other ≡ settled (record { scopes = scopes; frames = frames_from 0 starts rows; assumptions = put_assumption l ls })
@@ -161,20 +161,6 @@ added_row scopes starts rows n latest r m row few fits is f =
       latest = (some, starts_more 0 starts (length rows) (length (rows ++ r ∷ []) - 1) (omega (arith, back)) f.ascending);
     }
 
-pub none_assumed : (old new : List Scope) (ls : List Literal) (signs : List (Option Bool)) → ls ≡ [] → AreAssumptions old ls signs → AreAssumptions new ls signs
-none_assumed old new [] signs e a = record { outer = tt; ascending = tt; found = a.found }
-none_assumed old new (l ∷ ls) signs e a = absurd (cc)
-
-pub all_forgotten : (scopes : List Scope) (signs : List (Option Bool)) → ((v : ℕ) → sign_at signs v ≡ None) → AreAssumptions scopes [] signs
-all_forgotten scopes signs h = record { outer = tt; ascending = tt; found = h }
-
-pub assumed_more : (scopes : List Scope) (ls more : List Literal) (signs after : List (Option Bool)) (l : Literal) → level_of scopes l.variable ≡ Some 1 → assumed_value ls l.variable ≡ None
-    → more ≡ put_assumption l ls → ((v : ℕ) → sign_at after v ≡ (if v == l.variable then Some l.positive else sign_at signs v)) → AreAssumptions scopes ls signs → AreAssumptions scopes more after
-assumed_more scopes ls more signs after l level free is told a = rw is (record {
-  outer = put_outer scopes l ls level a.outer;
-  ascending = put_ascends l ls a.ascending;
-  found = λ v. told v ∙ ap (λ o. if v == l.variable then Some l.positive else o) (a.found v) ∙ sym (put_value l ls free v);
-})
-
-pub same_signs : (scopes : List Scope) (ls more : List Literal) (signs after : List (Option Bool)) → more ≡ ls → ((v : ℕ) → sign_at after v ≡ sign_at signs v) → AreAssumptions scopes ls signs → AreAssumptions scopes more after
-same_signs scopes ls more signs after is same a = rw is (record { outer = a.outer; ascending = a.ascending; found = λ v. same v ∙ a.found v })
+pub none_assumed : (new : List Scope) (ls : List Literal) → ls ≡ [] → AreAssumptions new ls
+none_assumed new [] e = tt
+none_assumed new (l ∷ ls) e = absurd (cc)

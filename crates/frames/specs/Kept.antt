@@ -1,10 +1,9 @@
 -- How `Frames` is kept: the clauses of all open frames in one list, and for each pushed frame how many came before it.
-use Rattle.std.specs.Prelude.{◌≡◌, ℕ, zero, suc, ◌-◌, ◌≤◌, Bool, List, [], ◌∷◌, length, take, drop, slice_index_or, Option, Some, None, ⊤}
+use Rattle.std.specs.Prelude.{◌≡◌, ℕ, ◌-◌, ◌≤◌, Bool, List, [], ◌∷◌, length, take, drop, map, Option, Some, None, ⊤}
 use Rattle.std.specs.List.{AllByRecursion}
 use Rattle.prefix.specs.Literal.{Literal}
-use Rattle.prefix.specs.Scopes.{Scope, level_of, IsAscending}
-use Rattle.truth.specs.Truth.{assumed_value}
-use Rattle.calculus.specs.Rows.{Row, IsRow, variables_in}
+use Rattle.prefix.specs.Scopes.{Scope, level_of}
+use Rattle.calculus.specs.Rows.{Row, IsRow}
 use Rattle.frames.specs.declared.frames.Latest.{Latest}
 use Rattle.frames.specs.declared.frames.Latest.TheVariants.{Other, LeftOut, Kept}
 use Rattle.frames.specs.State.{Frame, OpenFormula, FramesState, literals_in}
@@ -21,10 +20,9 @@ abbrev pub AreStarts : ℕ → List ℕ → ℕ → Type 0
 AreStarts base [] end = base ≤ end
 AreStarts base (start ∷ starts) end = (base ≤ start) × AreStarts start starts end
 
--- the assumed sign of a variable, kept at its number less 1
-abbrev pub sign_at : List (Option Bool) → ℕ → Option Bool
-sign_at signs zero = None
-sign_at signs (suc i) = slice_index_or signs i None
+-- the literals of assumed signs by variable
+abbrev pub literals_of : List (ℕ × Bool) → List Literal
+literals_of signs = map (λ (s : ℕ × Bool). record { variable = s.0; positive = s.1 }) signs
 
 -- the formula before the last command, where that was an accepted clause
 abbrev pub before_of : Latest → OpenFormula → List ℕ → List Row → Option OpenFormula
@@ -62,8 +60,7 @@ pub record AreFrames (scopes : List Scope) (starts : List ℕ) (clauses : List R
   pub rows : AllByRecursion (IsRow scopes) clauses
   pub latest : LeavesStarts last starts (length clauses)
 
-pub record AreAssumptions (scopes : List Scope) (assumptions : List Literal) (signs : List (Option Bool))
-    : Type 0 where
-  pub outer : AllByRecursion (λ (l : Literal). level_of scopes l.variable ≡ Some 1) assumptions
-  pub ascending : IsAscending (variables_in assumptions)
-  pub found : (v : ℕ) → sign_at signs v ≡ assumed_value assumptions v
+-- the assumptions are over variables of the first scope
+abbrev pub AreAssumptions : List Scope → List Literal → Type 0
+AreAssumptions scopes assumptions =
+    AllByRecursion (λ (l : Literal). level_of scopes l.variable ≡ Some 1) assumptions

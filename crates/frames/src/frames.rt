@@ -7,7 +7,7 @@ ghost use Rattle.calculus.specs.Verdicts.{AreOuter};
 ghost use Rattle.frames.specs.State.{empty_formula, settled, clauses_in, depth as depth_of};
 ghost use Rattle.frames.specs.Commands.{AddScope, AddVariable, AddClause, Push, Pop, Assume, refusal_of, formula_after};
 
-use crate::assumptions::{forget, put_signed, sign_of};
+use crate::assumptions::Assumptions;
 use crate::lists::{are_known, cut, known, put_row, refusal_without_row};
 use crate::refusal::FrameRefusal;
 use clauses::row_of;
@@ -41,9 +41,7 @@ pub struct Frames {
     starts: Vec<usize>,
     // How many literals the rows have.
     literals: usize,
-    assumptions: Vec<Lit>,
-    // The sign of each assumed variable.
-    signs: Vec<Option<bool>>,
+    assumptions: Assumptions,
     latest: Latest,
 }
 
@@ -54,10 +52,10 @@ impl Model for Frames {
 
     ghost use Rattle.frames.specs.Kept.{state_of, AreFrames, AreAssumptions};
 
-    ghost view = { λ f. state_of f.prefix f.starts.items f.rows.items f.assumptions.items f.latest };
+    ghost view = { λ f. state_of f.prefix f.starts.items f.rows.items f.assumptions f.latest };
 
     ghost invariant = { λ f. AreFrames f.prefix f.starts.items f.rows.items f.literals f.latest
-        × AreAssumptions f.prefix f.assumptions.items f.signs.items };
+        × AreAssumptions f.prefix f.assumptions };
 }
 
 /// What a formula is decided by: its prefix, the clauses of all open frames, and the assumptions.
@@ -68,7 +66,7 @@ pub struct OpenParts<'a> {
     /// The clauses, those of frame 0 first.
     pub clauses: &'a [LitList],
     /// The assumptions, ascending by variable.
-    pub assumptions: &'a [Lit],
+    pub assumptions: &'a Assumptions,
 }
 
 impl Frames {
@@ -90,8 +88,7 @@ impl Frames {
             rows: Vec::new(alloc),
             starts: Vec::new(alloc),
             literals: 0,
-            assumptions: Vec::new(alloc),
-            signs: Vec::new(alloc),
+            assumptions: Assumptions::new(alloc),
             latest: Latest::Other,
         }
     }
@@ -213,9 +210,8 @@ impl Frames {
     /// Assumes a literal for the next verdict, given as QDIMACS 1.1 writes it. Assuming it again changes nothing.
     ///
     /// Refused, in this order, with UnknownVar where the number's variable isn't in the prefix, with AssumeScope where
-    /// it isn't in the first scope, with AssumeClash where the negation is assumed, and with NoMemory. The variable's
-    /// sign is looked up in constant time; a literal above all assumed variables is put in in constant time on the
-    /// average.
+    /// it isn't in the first scope, with AssumeClash where the negation is assumed, and with NoMemory. It takes the
+    /// logarithm of how many assumptions stand, in whatever order they come.
     pub fn assume(&mut self, lit: i64) -> Result<(), FrameRefusal>
         ensures ok { OnOk result (self.new ≡ settled (formula_after self.old.formula (Assume lit))) }
         ensures refused { MatchOption (refusal_of self.old.formula (Assume lit))
@@ -229,7 +225,7 @@ impl Frames {
             return Err(FrameRefusal::AssumeScope);
         }
         let positive = lit > 0;
-        match sign_of(&self.signs, v) {
+        match self.assumptions.sign(v) {
             Some(assumed) => {
                 if assumed != positive {
                     return Err(FrameRefusal::AssumeClash);
@@ -238,11 +234,7 @@ impl Frames {
                 Ok(())
             }
             None => {
-                put_signed(
-                    &mut self.assumptions,
-                    &mut self.signs,
-                    Lit::new(v, positive),
-                )?;
+                self.assumptions.put(Lit::new(v, positive))?;
                 self.latest = Latest::Other;
                 Ok(())
             }
@@ -253,7 +245,6 @@ impl Frames {
     pub fn clear_assumptions(&mut self)
         ensures { self.new ≡ settled (record self.old.formula { assumptions = [] }) }
     {
-        forget(&mut self.signs, &self.assumptions);
         self.assumptions.clear();
         self.latest = Latest::Other;
     }
@@ -276,11 +267,12 @@ impl Frames {
     }
 
     /// The assumptions, ascending by variable.
-    pub fn assumptions(&self) -> &[Lit]
+    pub fn assumptions(&self) -> &Assumptions
         ensures value { result.now ≡ self.now.formula.assumptions }
         ensures outer { AreOuter self.now.formula.scopes self.now.formula.assumptions }
         ensures ascending { IsAscending (variables_in self.now.formula.assumptions) }
     {
+        let _ = self.assumptions.len();
         &self.assumptions
     }
 

@@ -11,6 +11,7 @@ mod lists;
 mod refusal;
 mod worked;
 
+pub use assumptions::Assumptions;
 pub use frames::{Frames, OpenParts};
 pub use laws::refused_commands_change_nothing;
 pub use refusal::FrameRefusal;

@@ -41,7 +41,7 @@ returns-in-Ok-put_row-clause-ok c =
     let lits = c.args.lits.now in
     let made = unmade {X = List Literal} (is_tautology lits) (as_row lits) c.in-Some.row (sym c.in-Some.is ∙ c.in-Ok.ensures) in
     let more : c.put_row.new.rows.items ≡ c.self.inside.rows.items ++ as_row lits ∷ [] = c.in-Ok-put_row.ensures.ok ∙ ap (λ (r : Row). c.self.inside.rows.items ++ r ∷ []) made.1 in
-    rw (← c.self.view_is) (view_kept c.self.inside.prefix c.self.inside.starts.items c.self.inside.rows.items c.put_row.new.rows.items c.self.inside.assumptions.items lits made.0 more c.self.invariant.0.ascending)
+    rw (← c.self.view_is) (view_kept c.self.inside.prefix c.self.inside.starts.items c.self.inside.rows.items c.put_row.new.rows.items c.self.inside.assumptions lits made.0 more c.self.invariant.0.ascending)
 
 pub returns-in-Ok-put_row-clause-refused : goal.returns-in-Ok-put_row-clause-refused
 returns-in-Ok-put_row-clause-refused c =

@@ -12,7 +12,7 @@ invariant_of-self-2 c = (
 )
 
 pub returns-clause-ok : goal.returns-clause-ok
-returns-clause-ok c = rw (← c.self.view_is) (view_popped c.self.inside.prefix c.self.inside.starts.items c.pop.new.self.items c.self.inside.rows.items c.cut.new.rows.items c.self.inside.assumptions.items c.in-Some.start c.in-Some.ensures.items c.cut.ensures.rows
+returns-clause-ok c = rw (← c.self.view_is) (view_popped c.self.inside.prefix c.self.inside.starts.items c.pop.new.self.items c.self.inside.rows.items c.cut.new.rows.items c.self.inside.assumptions c.in-Some.start c.in-Some.ensures.items c.cut.ensures.rows
     (popped_place c.self.inside.prefix c.self.inside.starts.items c.pop.new.self.items c.self.inside.rows.items c.self.inside.literals c.self.inside.latest c.in-Some.start c.in-Some.ensures.items c.self.invariant.0).0)
 
 pub returns-clause-refused : goal.returns-clause-refused

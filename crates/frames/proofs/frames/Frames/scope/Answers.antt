@@ -12,5 +12,5 @@ pub invariant_of-self-2 : goal.invariant_of-self-2
 invariant_of-self-2 c = (
   grown c.self.inside.prefix c.add_scope.new.self c.self.inside.starts.items c.self.inside.rows.items c.self.inside.literals c.self.inside.latest
       (λ v e. ap is_some (c.in_ok-add_scope.ensures.levels v) ∙ still_some _ _ e) c.self.invariant.0,
-  none_assumed c.self.inside.prefix c.add_scope.new.self c.self.inside.assumptions.items c.self.inside.signs.items (none_there _ _ c.self.inside.assumptions.ok.0 (sym c.is_empty.ensures ∙ c.if-not-is_empty.false)) c.self.invariant.1,
+  none_assumed c.add_scope.new.self c.self.inside.assumptions (none_there _ (sym c.is_empty.ensures ∙ c.if-not-is_empty.false)),
 )
