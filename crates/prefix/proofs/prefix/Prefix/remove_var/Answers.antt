@@ -1,6 +1,5 @@
 use Rattle.std.proofs.Common.{◌≡◌, ◌+◌, Some, suc, sym, ap, ◌∙◌, true, arith}
 use Rattle.prefix.specs.Scopes.{all_variables, is_among, level_of, without_variable}
-use Rattle.prefix.specs.Blocks.{ids_of, scopes_of}
 use Rattle.prefix.proofs.QuantLemmas.{quant_within, quants_without}
 use Rattle.prefix.proofs.RemovalLemmas.{index_within, level-without, removal_keeps_order, table_taken, without_absent, without_is}
 use Rattle.prefix.proofs.prefix.Prefix.remove_var.Goals as goal
@@ -10,47 +9,46 @@ returns-in_default-clause-value c = without_absent c.args.v c.args.self.now (sym
 
 pub index_mut-requires : goal.index_mut-requires
 index_mut-requires c =
-    let level : level_of (scopes_of c.self.inside.blocks.items) c.args.v ≡ Some c.in-Some.scope = ap (λ ss. level_of ss c.args.v) c.self.view_is ∙ sym c.in-Some.ensures.value in
-    rw c.self.inside.homes.ok.0 (index_within (scopes_of c.self.inside.blocks.items) (ids_of
-    c.self.inside.blocks.items) c.self.inside.numbers.items c.self.inside.homes.items c.self.inside.count
+    let level : level_of c.self.inside.blocks.scopes c.args.v ≡ Some c.in-Some.scope = ap (λ ss. level_of ss c.args.v) c.self.view_is ∙ sym c.in-Some.ensures.value in
+    rw c.self.inside.homes.ok.0 (index_within c.self.inside.blocks.scopes c.self.inside.blocks.ids c.self.inside.numbers.items c.self.inside.homes.items c.self.inside.count
     c.index.result c.args.v c.in-Some.scope c.index.ensures.place c.self.invariant.0 level)
 
 pub invariant_of-self : goal.invariant_of-self
 invariant_of-self c =
-    let level : level_of (scopes_of c.self.inside.blocks.items) c.args.v ≡ Some c.in-Some.scope = ap (λ ss. level_of ss c.args.v) c.self.view_is ∙ sym c.in-Some.ensures.value in
-    let among : is_among c.args.v (all_variables (scopes_of c.self.inside.blocks.items)) ≡ true = ap (λ ss. is_among c.args.v (all_variables ss)) c.self.view_is ∙ sym c.in-Some.ensures.found in
+    let level : level_of c.self.inside.blocks.scopes c.args.v ≡ Some c.in-Some.scope = ap (λ ss. level_of ss c.args.v) c.self.view_is ∙ sym c.in-Some.ensures.value in
+    let among : is_among c.args.v (all_variables c.self.inside.blocks.scopes) ≡ true = ap (λ ss. is_among c.args.v (all_variables ss)) c.self.view_is ∙ sym c.in-Some.ensures.found in
     let table =
-    table_taken (scopes_of c.self.inside.blocks.items) (ids_of c.self.inside.blocks.items) c.self.inside.numbers.items
+    table_taken c.self.inside.blocks.scopes c.self.inside.blocks.ids c.self.inside.numbers.items
     c.self.inside.homes.items c.self.inside.count c.index.result c.args.v c.in-Some.scope c.index.ensures.place
     c.self.invariant.0 level
-    (scopes_of c.take_out.new.blocks.items) (ids_of c.take_out.new.blocks.items) among
-    (without_is (scopes_of c.self.inside.blocks.items) (scopes_of c.take_out.new.blocks.items) c.in-Some.scope
+    c.take_out.new.self.scopes c.take_out.new.self.ids among
+    (without_is c.self.inside.blocks.scopes c.take_out.new.self.scopes c.in-Some.scope
     c.args.v c.self.invariant.0.distinct level c.in-Some.ensures.within.0 c.take_out.ensures.scopes)
     c.take_out.ensures.ids in
     let next : c.index-2.result + 1 ≡ c.args.v = c.index-2.ensures.place in
     let is_next : c.args.v ≡ suc c.index-2.result = omega arith in
     let taken =
-    without_is (scopes_of c.self.inside.blocks.items) (scopes_of c.take_out.new.blocks.items) c.in-Some.scope c.args.v
+    without_is c.self.inside.blocks.scopes c.take_out.new.self.scopes c.in-Some.scope c.args.v
     c.self.invariant.0.distinct level c.in-Some.ensures.within.0 c.take_out.ensures.scopes in
     let room =
-    quant_within (scopes_of c.self.inside.blocks.items) c.self.inside.quants.items c.index-2.result c.args.v
+    quant_within c.self.inside.blocks.scopes c.self.inside.quants.items c.index-2.result c.args.v
     c.self.invariant.1 next among in
     let quants =
-    quants_without (scopes_of c.self.inside.blocks.items) c.self.inside.quants.items c.index-2.result room
+    quants_without c.self.inside.blocks.scopes c.self.inside.quants.items c.index-2.result room
     c.self.invariant.1 in
     (table, rw (taken, is_next) quants)
 
 pub index_mut-requires-2 : goal.index_mut-requires-2
 index_mut-requires-2 c =
-    let among : is_among c.args.v (all_variables (scopes_of c.self.inside.blocks.items)) ≡ true =
+    let among : is_among c.args.v (all_variables c.self.inside.blocks.scopes) ≡ true =
     ap (λ ss. is_among c.args.v (all_variables ss)) c.self.view_is ∙ sym c.in-Some.ensures.found in
-    rw c.self.inside.quants.ok.0 (quant_within (scopes_of c.self.inside.blocks.items) c.self.inside.quants.items
+    rw c.self.inside.quants.ok.0 (quant_within c.self.inside.blocks.scopes c.self.inside.quants.items
     c.index-2.result c.args.v c.self.invariant.1 c.index-2.ensures.place among)
 
 pub returns-clause-value : goal.returns-clause-value
 returns-clause-value c =
-    let level : level_of (scopes_of c.self.inside.blocks.items) c.args.v ≡ Some c.in-Some.scope = ap (λ ss. level_of ss c.args.v) c.self.view_is ∙ sym c.in-Some.ensures.value in
-    without_is (scopes_of c.self.inside.blocks.items) (scopes_of c.take_out.new.blocks.items) c.in-Some.scope c.args.v
+    let level : level_of c.self.inside.blocks.scopes c.args.v ≡ Some c.in-Some.scope = ap (λ ss. level_of ss c.args.v) c.self.view_is ∙ sym c.in-Some.ensures.value in
+    without_is c.self.inside.blocks.scopes c.take_out.new.self.scopes c.in-Some.scope c.args.v
     c.self.invariant.0.distinct level c.in-Some.ensures.within.0 c.take_out.ensures.scopes
     ∙ ap (without_variable c.args.v) c.self.view_is
 
