@@ -7,7 +7,7 @@ use Rattle.calculus.specs.Worked.{minus, plus}
 use Rattle.qdimacs.specs.declared.refusal.Quantity.{Quantity}
 use Rattle.qdimacs.specs.Rules.{limit, parsed, refused}
 use Rattle.session.specs.declared.answer.Answer.TheVariants.{Sat, Unknown, Unsat}
-use Rattle.session.specs.declared.ending.Ending.TheVariants.{Refused}
+use Rattle.session.specs.declared.ending.Ending.TheVariants.{CheckLimit, Done, Limit, Refused}
 use Rattle.session.specs.declared.ending.Job.TheVariants.{Solve, Qdo, Qcir, Trace, Cert}
 use Rattle.session.specs.Inputs.{Says, format_of}
 use Rattle.session.specs.Inputs.Format.{as_circuit, as_formula}
@@ -72,3 +72,7 @@ pub record WorkedInputs : Type 0 where
   -- endings
   pub ends_refused : IsEnding as_circuit (terms_of 0 0) formula_text (Refused 70 1)
   pub not_ended : IsEnding as_circuit (terms_of 0 0) one_text (Refused 70 1) → ⊥
+  pub not_beyond : (quantity : Quantity) (at : ℕ) → IsEnding as_circuit (terms_of 0 0) one_text (Limit quantity at) → ⊥
+  pub not_beyond_check : (quantity : Quantity) → IsEnding as_circuit (terms_of 0 0) one_text (CheckLimit quantity) → ⊥
+  pub done : IsEnding as_circuit (terms_of 0 0) one_text (Done 10)
+  pub not_done : IsEnding as_circuit (terms_of 0 0) one_text (Done 20) → ⊥

@@ -10,6 +10,11 @@ use Rattle.qdimacs.proofs.Before.{one_outcome as one_formula_outcome}
 use Rattle.qdimacs.proofs.Outcomes.{computed_reads as computed_formula}
 use Rattle.qcir_reader.specs.Rules.{parsed as circuit, refused as circuit_refused, limit as circuit_limit}
 use Rattle.qcir_reader.proofs.Complete.{one_outcome}
+use Rattle.session.specs.declared.answer.Answer.{Answer}
+use Rattle.session.specs.declared.answer.Answer.TheVariants.{Sat, Unknown, Unsat}
+use Rattle.session.specs.Inputs.Format.{as_circuit}
+use Rattle.session.specs.Solve.{Solves, answer_status}
+use Rattle.session.specs.Terms.{terms_of}
 use Rattle.session.specs.WorkedInputs.{each_text, formula_text, gate_formula, gate_text, negated, one_text}
 use Rattle.session.proofs.InputValues.{alone, each_says, formula_refused, gate_says, is_formula, one_reads, one_says}
 use Rattle.session.proofs.worked.worked_inputs.Goals as goal
@@ -19,6 +24,14 @@ no_header = computed_formula one_text (refused 10 1) refl
 
 truth_of : Formula → Bool
 truth_of f = truth f.prefix f.clauses
+
+-- no answer to the first text has the status of a false one
+no_such : (answer : Answer) → 20 ≡ answer_status answer → Solves as_circuit (terms_of 0 0) one_text answer → ⊥
+unfolding truth_of
+no_such Sat e h = absurd (omega arith)
+no_such Unsat e h = absurd (let bad : true ≡ false =
+    ap truth_of (is_formula one_text (negated Exists) h.0 one_says h.1) ∙ h.2 in cc)
+no_such Unknown e h = absurd (omega arith)
 
 pub returns : goal.returns
 unfolding truth_of
@@ -53,4 +66,9 @@ returns c = record {
   ends_refused = formula_refused;
   not_ended = λ h. absurd (let same : circuit (alone Exists) ≡ circuit_refused 70 1 =
       one_outcome one_text (circuit (alone Exists)) (circuit_refused 70 1) one_reads h in cc);
+  not_beyond = λ quantity at h. absurd (let same : circuit (alone Exists) ≡ circuit_limit quantity at =
+      one_outcome one_text (circuit (alone Exists)) (circuit_limit quantity at) one_reads h in cc);
+  not_beyond_check = λ quantity h. absurd h;
+  done = (Sat, refl, (negated Exists, one_says, refl));
+  not_done = λ h. no_such h.0 h.1 h.2;
 }
