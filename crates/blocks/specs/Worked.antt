@@ -17,8 +17,8 @@ pub record WorkedBlocks : Type 0 where
   pub block_twice : ¬ Passes (codes "ab") (codes "cd") (codes "abcd") (codes "cdefg") (codes "efg")
   pub not_first : ¬ Passes (codes "ab") (codes "cd") (codes "abe") (codes "cdfg") (codes "efg")
 
--- Lines of three words, of one and of none, and two lines; and texts that are none of them: with a blank at the end, with
--- no blank between words, without the line's end, and with the lines exchanged.
+-- Lines of three words, of one and of none, and two lines; and texts that are none of them: with a blank at the end,
+-- with no blank between words, without the line's end, and with the lines exchanged.
 pub record WorkedLines : Type 0 where
   pub three_words : line_text (codes "6" ∷ codes "40" ∷ codes "2" ∷ []) ≡ codes "6 40 2\n"
   pub one_word : line_text (codes "skolem" ∷ []) ≡ codes "skolem\n"

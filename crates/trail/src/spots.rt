@@ -75,7 +75,7 @@ impl Spots {
     }
 
     // Makes spots for so many variables, the new ones unassigned. With no memory all stays as it was.
-    #[tactic(auto, using(crate::proofs::Spotting::spots_more, crate::proofs::Spotting::spots_front, crate::proofs::Spotting::spots_length))]
+    #[tactic(auto, using(crate::proofs::Spotting::spots_front, crate::proofs::Spotting::spots_length))]
     pub(crate) fn widen(&mut self, count: usize) -> Result<(), AllocError>
         requires { length self.old ≤ count }
         ensures ok { OnOk result (self.new ≡ self.old ++ replicate (count - length self.old) None) }
