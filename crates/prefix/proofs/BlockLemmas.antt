@@ -1,5 +1,5 @@
 -- Scopes in the order of their ids.
-use Rattle.std.proofs.Common.{◌≡◌, ◌≢◌, ℕ, zero, suc, ◌+◌, ◌<◌, ◌≤◌, Bool, true, false, List, [], ◌∷◌, ◌++◌, length, get_or, set, refl, sym, ap, ◌∙◌, arith}
+use Rattle.std.proofs.Common.{◌≡◌, ◌≢◌, ℕ, zero, suc, ◌+◌, ◌<◌, ◌≤◌, Bool, true, false, List, [], ◌∷◌, ◌++◌, length, get_or, set, None, refl, sym, ap, ◌∙◌, arith}
 use Rattle.std.specs.Prelude.{◌==◌, ◌||◌, insert, not, filter}
 use Rattle.std.specs.List.{AllByRecursion}
 use Rattle.std.proofs.lemmas.Bool.{ne_eqb, eqb-false}
@@ -8,9 +8,9 @@ use Rattle.std.proofs.lemmas.List.Edits.{length-insert}
 use Rattle.std.proofs.lemmas.List.Elements.{All-from_recursion}
 use Rattle.prefix.specs.declared.blocks.Block.{Block}
 use Rattle.std.proofs.Math.Seq.{get_or-append_seam}
-use Rattle.prefix.specs.Scopes.{Scope, is_among, AreDistinct, IsAscending, insert_ascending, with_variable_at}
+use Rattle.prefix.specs.Scopes.{Scope, is_among, level_of, AreDistinct, IsAscending, insert_ascending, with_variable_at}
 use Rattle.prefix.specs.Blocks.{scope_of, made_of, scope_with, scopes_of, IsOrder, IsTakenOut}
-use Rattle.prefix.proofs.ScopeLemmas.{map-insert, set-with_variable_at}
+use Rattle.prefix.proofs.ScopeLemmas.{level_none_at, map-insert, set-with_variable_at}
 use Rattle.prefix.proofs.TableLemmas.{all-insert}
 
 cons : (s t : Scope) (ss ts : List Scope) → s ≡ t → ss ≡ ts → (s ∷ ss) ≡ (t ∷ ts)
@@ -33,7 +33,9 @@ scopes_more made s ids place h =
     ∙ ap (insert (scopes_of made ids) place) (get_or-append_seam made s [] _)
 
 -- the same, of blocks
-pub scopes_put : (blocks after : List Block) (ids order : List ℕ) (place : ℕ) (b : Block) → IsOrder (length blocks) ids → after ≡ blocks ++ b ∷ [] → order ≡ insert ids place (length blocks) → b.vars.items ≡ []
+pub scopes_put : (blocks after : List Block) (ids order : List ℕ) (place : ℕ) (b : Block)
+    → IsOrder (length blocks) ids → after ≡ blocks ++ b ∷ [] → order ≡ insert ids place (length blocks)
+    → b.vars.keys ≡ []
     → scopes_of (made_of after) order ≡ insert (scopes_of (made_of blocks) ids) place (record { quantifier = b.quant; variables = [] })
 scopes_put blocks after ids order place b o e f g =
     let below : AllByRecursion (λ i. i < length (made_of blocks)) ids = rw length-map o.below in
@@ -126,22 +128,32 @@ module _ (blocks : List Block) (ids : List ℕ) (place id : ℕ) (x : Block) (or
       ap (λ ts. scopes_of ts ids) (map-set scope_of blocks id y) ∙ ap (λ i. scopes_of (set (made_of blocks) i (scope_of y)) ids) named
       ∙ scope_changed (made_of blocks) ids place (scope_of y) below order.distinct within
 
-  pub ascending_at : AllByRecursion (λ s. IsAscending s.variables) ss → IsAscending x.vars.items
+  -- a variable that no scope has isn't in this one
+  pub none_at : (v : ℕ) → level_of ss v ≡ None → is_among v x.vars.keys ≡ false
+  none_at v e =
+      ap (λ (s : Scope). is_among v s.variables) (sym (scope_at (scope_of x)))
+      ∙ level_none_at ss place v (scope_of x) within_scopes e
+
+  pub ascending_at : AllByRecursion (λ s. IsAscending s.variables) ss → IsAscending x.vars.keys
   ascending_at a = rw (scope_at (scope_of x)) at (All-from_recursion (λ s. IsAscending s.variables) ss a place (scope_of x) within_scopes)
 
   pub same_scopes : (y : Block) → scope_of y ≡ scope_of x → scopes_of (made_of (set blocks id y)) ids ≡ ss
   same_scopes y e = changed y ∙ ap (set ss place) (e ∙ sym (scope_at (scope_of x))) ∙ set-get_or ss place (scope_of x)
 
-  pub scopes_with : (y : Block) (v : ℕ) → y.quant ≡ x.quant → y.vars.items ≡ insert_ascending v x.vars.items → scopes_of (made_of (set blocks id y)) ids ≡ with_variable_at ss place v
+  pub scopes_with : (y : Block) (v : ℕ) → y.quant ≡ x.quant → y.vars.keys ≡ insert_ascending v x.vars.keys
+      → scopes_of (made_of (set blocks id y)) ids ≡ with_variable_at ss place v
   scopes_with y v e f =
       changed y ∙ ap (set ss place) (made y v e f ∙ sym (ap (λ (t : Scope). record { quantifier = t.quantifier; variables = insert_ascending v t.variables }) (scope_at (scope_of x)))) ∙ set-with_variable_at ss place v (scope_of x) within_scopes
     where
-      made : (z : Block) (w : ℕ) → z.quant ≡ x.quant → z.vars.items ≡ insert_ascending w x.vars.items → scope_of z ≡ record { quantifier = x.quant; variables = insert_ascending w x.vars.items }
+      made : (z : Block) (w : ℕ) → z.quant ≡ x.quant → z.vars.keys ≡ insert_ascending w x.vars.keys
+          → scope_of z ≡ record { quantifier = x.quant; variables = insert_ascending w x.vars.keys }
       made z w p q = cc
 
-  pub scopes_taken : (y : Block) (v : ℕ) → y.quant ≡ x.quant → y.vars.items ≡ filter (λ u. not (u == v)) x.vars.items → IsTakenOut v place ss (scopes_of (made_of (set blocks id y)) ids)
+  pub scopes_taken : (y : Block) (v : ℕ) → y.quant ≡ x.quant
+      → y.vars.keys ≡ filter (λ u. not (u == v)) x.vars.keys → IsTakenOut v place ss (scopes_of (made_of (set blocks id y)) ids)
   scopes_taken y v e f d =
       changed y ∙ ap (set ss place) (left y v e f ∙ sym (ap (λ (t : Scope). record { quantifier = t.quantifier; variables = filter (λ u. not (u == v)) t.variables }) (scope_at d)))
     where
-      left : (z : Block) (w : ℕ) → z.quant ≡ x.quant → z.vars.items ≡ filter (λ u. not (u == w)) x.vars.items → scope_of z ≡ record { quantifier = x.quant; variables = filter (λ u. not (u == w)) x.vars.items }
+      left : (z : Block) (w : ℕ) → z.quant ≡ x.quant → z.vars.keys ≡ filter (λ u. not (u == w)) x.vars.keys
+          → scope_of z ≡ record { quantifier = x.quant; variables = filter (λ u. not (u == w)) x.vars.keys }
       left z w p q = cc

@@ -3,6 +3,9 @@ use Rattle.std.proofs.Common.{◌≡◌, ℕ, zero, suc, ◌+◌, ◌-◌, ◌<�
 use Rattle.std.specs.Prelude.{◌==◌, ◌||◌, ◌&&◌, IfSome, IsSome, is_some, slice_get, count_by, unwrap_or}
 use Rattle.std.specs.Option.{option_map, option_and_then}
 use Rattle.std.specs.List.{AllByRecursion}
+use Rattle.std.specs.Ordering.{nat_cmp}
+use Rattle.std.specs.BTreeMap.{is_at}
+use Rattle.std.specs.Set.{remove_key}
 use Rattle.std.proofs.lemmas.Bool.{cases_Bool, cond-true, cond-false, cases_eq, eq-eqb, eqb-true, ne_eqb, or_parts, true≢false}
 use Rattle.std.proofs.lemmas.Bool.Decides.{nat_tests}
 use Rattle.std.proofs.lemmas.List.{length-map, length-set}
@@ -74,6 +77,31 @@ rest_absent v [] h = refl
 rest_absent v (x ∷ xs) h =
     let parts = or_parts (x == v) (is_among v xs) h in
     rest_past v x xs parts.0 ∙ ap (λ zs. x ∷ zs) (rest_absent v xs parts.1)
+
+-- what is above v hasn't v
+above_absent : (v x : ℕ) (xs : List ℕ) → (x == v) ≡ true → AllByRecursion (λ y. x < y) xs → is_among v xs ≡ false
+above_absent v x [] e a = refl
+above_absent v x (y ∷ ys) e a =
+    let above : x < y = a.0 in
+    let same = eqb-true x v e in
+    let other : (y == v) ≡ false = ne_eqb y v (λ k. omega (arith, above, same, k)) in
+    ap (λ b. b || is_among v ys) other ∙ above_absent v x ys e a.1
+
+key_by : (v x : ℕ) (xs ys zs : List ℕ) → (x == v) ≡ false → ys ≡ zs
+    → cond (is_at (nat_cmp v) x) xs (x ∷ ys) ≡ x ∷ zs
+key_by v x xs ys zs e f = rw f (grind (arith, nat_tests))
+
+key_here : (v x : ℕ) (xs ys : List ℕ) → (x == v) ≡ true → cond (is_at (nat_cmp v) x) xs ys ≡ xs
+key_here v x xs ys e = grind (arith, nat_tests)
+
+-- an ascending list has a key once
+pub remove_key-ascending : (v : ℕ) (xs : List ℕ) → IsAscending xs → remove_key (is_at (nat_cmp v)) xs ≡ rest v xs
+remove_key-ascending v [] a = refl
+remove_key-ascending v (x ∷ xs) a =
+    ⊎_elim
+    (λ t. key_here v x xs _ t ∙ sym (rest_here v x xs t ∙ rest_absent v xs (above_absent v x xs t a.0)))
+    (λ f. key_by v x xs _ _ f (remove_key-ascending v xs a.1) ∙ sym (rest_past v x xs f))
+    (cases_Bool (x == v))
 
 pub length_rest : (v : ℕ) (xs : List ℕ) → AreDistinct xs → is_among v xs ≡ true → length (rest v xs) + 1 ≡ length xs
 length_rest v [] d h = absurd (true≢false (sym h))

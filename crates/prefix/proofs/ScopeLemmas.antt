@@ -1,11 +1,12 @@
 -- Scopes under an insertion of a variable or a scope.
-use Rattle.std.proofs.Common.{◌≡◌, ℕ, zero, suc, ◌+◌, ◌-◌, ◌<◌, ◌≤◌, Bool, true, false, cond, List, [], ◌∷◌, ◌++◌, length, map, drop, get_or, set, Option, Some, None, refl, sym, ap, subst, ⊎_elim, ◌∙◌, arith, length-append}
+use Rattle.std.proofs.Common.{◌≡◌, ℕ, zero, suc, ◌+◌, ◌<◌, ◌≤◌, Bool, true, false, cond, List, [], ◌∷◌, ◌++◌, length, map, get_or, set, Option, Some, None, refl, sym, ap, subst, ⊎_elim, ◌∙◌, arith, length-append}
 use Rattle.std.specs.Prelude.{◌==◌, ◌||◌, insert, nat_lt, IfSome}
 use Rattle.std.specs.Option.{option_map}
 use Rattle.std.specs.List.{AllByRecursion}
+use Rattle.std.specs.Ordering.{nat_cmp, match_ordering}
+use Rattle.std.specs.BTreeSet.{insert_key}
 use Rattle.std.proofs.lemmas.Bool.{or_parts, or_from, cond-true, cond-false, lt-ltb, le-ltb, cases_lt}
 use Rattle.std.proofs.lemmas.Bool.Decides.{nat_tests}
-use Rattle.std.proofs.lemmas.List.{drop_more}
 use Rattle.prefix.specs.declared.quant.Quant.{Quant}
 use Rattle.prefix.specs.Scopes.{Scope, is_among, level_of, all_variables, IsAscending, AreDistinct, insert_ascending, with_variable_at}
 use Rattle.prefix.specs.Insertion.{lifted}
@@ -150,29 +151,23 @@ set-with_variable_at [] n v d h = absurd (omega arith)
 set-with_variable_at (s ∷ ss) zero v d h = refl
 set-with_variable_at (s ∷ ss) (suc n) v d h = ap (λ zs. s ∷ zs) (set-with_variable_at ss n v d (omega arith))
 
-all_at : (P : ℕ → Type 0) (xs : List ℕ) (k : ℕ) → k < length xs → AllByRecursion P xs → P (get_or xs k 0)
-all_at P [] k h a = absurd (omega arith)
-all_at P (x ∷ xs) zero h a = a.0
-all_at P (x ∷ xs) (suc k) h a = all_at P xs k (omega arith) a.1
+-- a variable that is in no scope is not in the one at a place
+pub level_none_at : (ss : List Scope) (n v : ℕ) (d : Scope) → n < length ss → level_of ss v ≡ None
+    → is_among v (get_or ss n d).variables ≡ false
+level_none_at [] n v d h k = absurd (omega arith)
+level_none_at (s ∷ ss) zero v d h k = (level_none_parts s ss v k).0
+level_none_at (s ∷ ss) (suc n) v d h k = level_none_at ss n v d (omega arith) (level_none_parts s ss v k).1
 
--- a place after all that are at most v and before all that are greater is where v goes
-pub insert-insert_ascending : (v : ℕ) (xs : List ℕ) (i : ℕ) → i ≤ length xs → IsAscending xs → AllByRecursion (λ y. v < y) (drop i xs) → ((j : ℕ) → i ≡ suc j → get_or xs j 0 ≤ v) → insert xs i v ≡ insert_ascending v xs
-insert-insert_ascending v [] zero h a g b = refl
-insert-insert_ascending v [] (suc i) h a g b = refl
-insert-insert_ascending v (x ∷ xs) zero h a g b = cond_is_true _ _ _ (lt-ltb v x g.0)
-insert-insert_ascending v (x ∷ xs) (suc i) h a g b =
-    let ih = insert-insert_ascending v xs i (omega arith) a.1 g (λ j e. b (suc j) (ap suc e)) in
-    ap (λ zs. x ∷ zs) ih ∙ cond_is_false _ _ _ (le-ltb v x (first_le i (omega arith) b))
-  where
-    first_le : (k : ℕ) → k ≤ length xs → ((j : ℕ) → suc k ≡ suc j → get_or (x ∷ xs) j 0 ≤ v) → x ≤ v
-    first_le zero _ before = before 0 refl
-    first_le (suc k) within before = omega (arith, before (suc k) refl, all_at (λ y. x < y) xs k (omega arith) a.0)
+key_by : (v x : ℕ) (xs ys zs : List ℕ) → (x == v) ≡ false → ys ≡ zs
+    → match_ordering (nat_cmp v x) (v ∷ x ∷ xs) (x ∷ xs) (x ∷ ys) ≡ cond (nat_lt v x) (v ∷ x ∷ xs) (x ∷ zs)
+key_by v x xs ys zs e f = rw f (grind (arith, nat_tests))
 
--- one more element at the front of what is left
-pub all-drop_less : (P : ℕ → Type 0) (xs : List ℕ) (i x : ℕ) → 0 < i → i ≤ length xs → x ≡ get_or xs (i - 1) x → P x → AllByRecursion P (drop i xs) → AllByRecursion P (drop (i - 1) xs)
-all-drop_less P xs i x h k e p a =
-    let back : i - 1 + 1 ≡ i = omega arith in
-    rw (drop_more xs (i - 1) x (omega arith)) (rw (← e, back) (p, a))
+-- a key that is new to a set goes where v goes in an ascending list
+pub insert_key-new : (v : ℕ) (xs : List ℕ) → is_among v xs ≡ false → insert_key nat_cmp xs v ≡ insert_ascending v xs
+insert_key-new v [] h = refl
+insert_key-new v (x ∷ xs) h =
+    let parts = or_parts (x == v) (is_among v xs) h in
+    key_by v x xs (insert_key nat_cmp xs v) (insert_ascending v xs) parts.0 (insert_key-new v xs parts.1)
 
 pub length-with_variable_at : (ss : List Scope) (n v : ℕ) → length (with_variable_at ss n v) ≡ length ss
 length-with_variable_at [] n v = refl

@@ -12,7 +12,7 @@ pub record Ordered : Type 0 where
 
 -- what contracts see of a block
 abbrev pub scope_of : Block → Scope
-scope_of b = record { quantifier = b.quant; variables = b.vars.items }
+scope_of b = record { quantifier = b.quant; variables = b.vars.keys }
 
 -- the scopes of blocks, by id
 abbrev pub made_of : List Block → List Scope

@@ -1,19 +1,20 @@
 //! The scopes of a prefix, each under an id that stays.
-ghost use Rattle.std.specs.Prelude.{◌≡◌, ◌≤◌, ◌<◌, not, filter, [], ◌==◌, length, insert, slice_get, slice_index, slice_index_or, IfOk, OnOk, OnErr};
+ghost use Rattle.std.specs.Prelude.{◌≡◌, ◌≤◌, ◌<◌, not, filter, [], ◌==◌, None, false, length, insert, slice_get, slice_index, slice_index_or, IfOk, OnOk, OnErr};
 ghost use Rattle.std.specs.List.{AllByRecursion};
 ghost use Rattle.std.specs.Option.{option_map};
-ghost use Rattle.prefix.specs.Scopes.{Scope, with_variable_at, IsAscending, insert_ascending};
+ghost use Rattle.prefix.specs.Scopes.{Scope, is_among, level_of, with_variable_at, IsAscending, insert_ascending};
 ghost use Rattle.prefix.specs.Blocks.{IsTakenOut};
 
 use super::{Quant, Var};
 use std::alloc::{AllocError, Global};
+use std::collections::BTreeSet;
 use std::marker::Model;
 
 // A scope.
 #[derive(Debug, Drop)]
 struct Block {
     quant: Quant,
-    vars: Vec<Var>,
+    vars: BTreeSet<Var>,
 }
 
 // Scopes in order. One that is put in has the next id, and moves four bytes of each that comes after it.
@@ -66,9 +67,9 @@ impl Blocks {
     }
 
     // The variables of the scope at a place.
-    pub(crate) fn vars(&self, place: usize) -> &[Var]
+    pub(crate) fn vars(&self, place: usize) -> &BTreeSet<Var>
         requires { place < length self.now.scopes }
-        ensures { (d : Scope) → result.now ≡ (slice_index_or self.now.scopes place d).variables }
+        ensures { (d : Scope) → result.now.keys ≡ (slice_index_or self.now.scopes place d).variables }
     {
         &self.blocks[self.order[place] as usize].vars
     }
@@ -86,16 +87,16 @@ impl Blocks {
         self.order.reserve(1)?;
         self.blocks.push(Block {
             quant,
-            vars: Vec::new(*self.order.allocator()),
+            vars: BTreeSet::new(*self.order.allocator()),
         })?;
         let _ = self.order.insert(place, id);
         Ok(())
     }
 
-    // Puts a variable into the scope at a place, and answers the scope's id.
+    // Puts a variable that no scope has into the scope at a place, and answers the scope's id.
     pub(crate) fn put(&mut self, place: usize, v: Var) -> Result<u32, AllocError>
         requires place { place < length self.old.scopes }
-        requires ascending { AllByRecursion (λ s. IsAscending s.variables) self.old.scopes }
+        requires new { level_of self.old.scopes v ≡ None }
         ensures scopes { OnOk result (self.new.scopes ≡ with_variable_at self.old.scopes place v) }
         ensures ids { self.new.ids ≡ self.old.ids }
         ensures id { IfOk result (λ id. id ≡ slice_index self.old.ids place) }
@@ -108,7 +109,8 @@ impl Blocks {
 
     // Takes a variable out of the scope at a place.
     pub(crate) fn take_out(&mut self, place: usize, v: Var)
-        requires { place < length self.old.scopes }
+        requires place { place < length self.old.scopes }
+        requires ascending { AllByRecursion (λ s. IsAscending s.variables) self.old.scopes }
         ensures scopes { IsTakenOut v place self.old.scopes self.new.scopes }
         ensures ids { self.new.ids ≡ self.old.ids }
     {
@@ -117,23 +119,20 @@ impl Blocks {
     }
 }
 
-// Takes a variable out of a list.
-fn remove(vars: &mut Vec<Var>, v: Var)
-    ensures { vars.new.items ≡ filter (λ x. not (x == v)) vars.old.items }
+// Takes a variable out of a set.
+fn remove(vars: &mut BTreeSet<Var>, v: Var)
+    requires { IsAscending vars.old.keys }
+    ensures { vars.new.keys ≡ filter (λ x. not (x == v)) vars.old.keys }
 {
-    vars.retain(|x| *x != v);
+    vars.remove(&v);
 }
 
-// Puts a variable into an ascending list.
-fn put(vars: &mut Vec<Var>, v: Var) -> Result<(), AllocError>
-    requires { IsAscending vars.old.items }
-    ensures ok { OnOk result (vars.new.items ≡ insert_ascending v vars.old.items) }
-    ensures err { OnErr result (vars.new.items ≡ vars.old.items) }
+// Puts a variable into a set that hasn't it.
+fn put(vars: &mut BTreeSet<Var>, v: Var) -> Result<(), AllocError>
+    requires { is_among v vars.old.keys ≡ false }
+    ensures ok { OnOk result (vars.new.keys ≡ insert_ascending v vars.old.keys) }
+    ensures err { OnErr result (vars.new.keys ≡ vars.old.keys) }
 {
-    let mut place = vars.len();
-    while place > 0 && vars[place - 1] > v {
-        place -= 1;
-    }
-    vars.insert(place, v)?;
+    vars.insert(v)?;
     Ok(())
 }

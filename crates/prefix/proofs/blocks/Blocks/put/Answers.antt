@@ -1,11 +1,10 @@
-use Rattle.std.proofs.Common.{◌≡◌, ◌<◌, ℕ, List, length, ap, refl, arith, ◌∙◌, sym, subst}
+use Rattle.std.proofs.Common.{◌≡◌, ◌<◌, ℕ, List, length, ap, refl, arith, ◌∙◌, sym}
 use Rattle.std.proofs.lemmas.Result.{err_from_is_err_and}
 use Rattle.std.proofs.lemmas.List.{get_or_read, length-map}
 use Rattle.prefix.specs.declared.quant.Quant.{Quant}
-use Rattle.prefix.specs.Scopes.{Scope, with_variable_at, IsAscending}
-use Rattle.std.specs.List.{AllByRecursion}
+use Rattle.prefix.specs.Scopes.{Scope, level_of, with_variable_at}
 use Rattle.prefix.specs.Blocks.{Ordered}
-use Rattle.prefix.proofs.BlockLemmas.{ascending_at, same_scopes, scopes_with}
+use Rattle.prefix.proofs.BlockLemmas.{none_at, same_scopes, scopes_with}
 use Rattle.prefix.proofs.blocks.Blocks.put.Goals as goal
 
 pub put-requires : goal.put-requires
@@ -13,7 +12,9 @@ put-requires c =
     let count : length c.args.self.now.scopes ≡ length c.self.inside.order.items = ap (λ (o : Ordered). length o.scopes) (sym c.self.view_is) ∙ length-map c.self.inside.order.items _ in
     let within : c.args.place < length c.self.inside.order.items = omega (arith, count, c.requires.place) in
     let named = get_or_read c.self.inside.order.items c.args.place c.index-id.result.now within c.index-id.ensures 0 in
-    ascending_at c.self.inside.blocks.items c.self.inside.order.items c.args.place c.index-id.result.now c.index_mut.result.now c.self.invariant within named c.index_mut.ensures.value (subst (λ (o : Ordered). AllByRecursion (λ s. IsAscending s.variables) o.scopes) (sym c.self.view_is) c.requires.ascending)
+    none_at c.self.inside.blocks.items c.self.inside.order.items c.args.place c.index-id.result.now
+    c.index_mut.result.now c.self.invariant within named c.index_mut.ensures.value c.args.v
+    (ap (λ (o : Ordered). level_of o.scopes c.args.v) c.self.view_is ∙ c.requires.new)
 
 pub returns-in_err-put-clause-err : goal.returns-in_err-put-clause-err
 returns-in_err-put-clause-err c =

@@ -21,5 +21,6 @@ invariant_of-self-2 c =
 
 pub returns-clause-scopes : goal.returns-clause-scopes
 returns-clause-scopes c =
-    scopes_put c.self.inside.blocks.items c.push.new.self.items c.self.inside.order.items c.insert.new.self.items c.args.place _ c.self.invariant c.in_ok-push.ensures.items (moved c) c.new.ensures.items
+    scopes_put c.self.inside.blocks.items c.push.new.self.items c.self.inside.order.items c.insert.new.self.items
+    c.args.place _ c.self.invariant c.in_ok-push.ensures.items (moved c) c.new.ensures.empty
     ∙ ap (λ (o : Ordered). insert o.scopes c.args.place (record { quantifier = c.args.quant; variables = [] })) c.self.view_is
