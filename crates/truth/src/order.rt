@@ -5,6 +5,7 @@ ghost use Rattle.truth.specs.Order.{bounds_of};
 
 use prefix::{Prefix, Quant, Var};
 use std::alloc::{AllocError, Global};
+use std::collections::BTreeSet;
 
 // A variable with its quantifier.
 #[derive(Debug, Drop)]
@@ -27,8 +28,13 @@ pub(crate) fn order_of(alloc: Global, prefix: &Prefix) -> Result<Vec<BoundVar>, 
 }
 
 // Puts the variables of a scope at the end.
-fn push_scope(order: &mut Vec<BoundVar>, quant: Quant, vars: &[Var]) -> Result<(), AllocError>
-    ensures { OnOk result (bounds_of order.new.items ≡ bounds_of order.old.items ++ map (bound_by quant) vars.now) }
+fn push_scope(
+    order: &mut Vec<BoundVar>,
+    quant: Quant,
+    vars: &BTreeSet<Var>,
+) -> Result<(), AllocError>
+    ensures { OnOk result (bounds_of order.new.items
+        ≡ bounds_of order.old.items ++ map (bound_by quant) vars.now.keys) }
 {
     for var in vars {
         order.push(BoundVar { quant, var: *var })?;
