@@ -23,6 +23,7 @@ use super::tally::{count_down, count_up, widen};
 use super::{Stopped, Why};
 use prefix::{Lit, Prefix, Var};
 use std::alloc::Global;
+use std::collections::BTreeSet;
 use std::marker::Model;
 use steps::{NoMemory, Spent, Steps};
 
@@ -444,16 +445,10 @@ impl Trail {
     }
 
     // How many of some variables are assigned.
-    fn count_assigned(&self, vars: &[Var]) -> usize
-        ensures { result ≡ count_by (is_assigned self.now.placed) vars.now }
+    fn count_assigned(&self, vars: &BTreeSet<Var>) -> usize
+        ensures { result ≡ count_by (is_assigned self.now.placed) vars.now.keys }
     {
-        let mut count = 0;
-        for v in vars {
-            if self.value(*v).is_some() {
-                count += 1;
-            }
-        }
-        count
+        vars.iter().filter(|v| self.value(**v).is_some()).count()
     }
 
     // The number of a scope before which every variable is assigned: that of the last decision, or the first.
