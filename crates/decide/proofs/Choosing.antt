@@ -1,15 +1,13 @@
 -- Variables that may be decided.
-use Rattle.std.proofs.Common.{◌≡◌, ℕ, zero, suc, ◌+◌, ◌-◌, ◌<◌, ◌≤◌, Bool, true, false, ◌⊎◌, List, [], ◌∷◌, ◌++◌, length, take, get_or, Contains, Option, Some, None, is_some, unwrap_or, refl, sym, ap, ◌∙◌, inl, inr, ⊎_elim, arith, nat_eq}
+use Rattle.std.proofs.Common.{◌≡◌, ℕ, zero, suc, ◌+◌, ◌-◌, ◌<◌, ◌≤◌, Bool, true, false, ◌⊎◌, List, [], ◌∷◌, length, Contains, Option, Some, None, is_some, unwrap_or, refl, sym, ap, ◌∙◌, inl, inr, ⊎_elim, arith, nat_eq}
 use Rattle.std.proofs.lemmas.Bool.{cases_Bool, cases_lt, eqb-true, true≢false, false≢true}
-use Rattle.std.proofs.lemmas.List.{take_all, take_more}
-use Rattle.std.proofs.lemmas.List.Elements.{Contains-append_cases}
 use Rattle.std.specs.Option.{option_eq}
 use Rattle.std.specs.Prelude.{IfSome, IsTrue}
 use Rattle.prefix.specs.Scopes.{Scope, variables_at, is_among, level_of}
 use Rattle.calculus.specs.Rows.{depth_of}
 use Rattle.calculus.specs.Search.{Trail, value_on}
 use Rattle.calculus.proofs.Levels.{depth_counted, level_from, level_in_prefix}
-use Rattle.calculus.proofs.Lists.{among_from, contains_cons, contains_nil}
+use Rattle.calculus.proofs.Lists.{among_from, contains_cons, contains_head, contains_nil, contains_tail}
 use Rattle.std.proofs.lemmas.Bool.{cond-true, cond-false}
 use Rattle.trail.specs.Open.{IsFirstOpen}
 use Rattle.trail.proofs.Counting.{variables_before, variables_in, variables_within}
@@ -61,40 +59,47 @@ decision scopes trail scope x first here = record {
   order = λ y i below. first.earlier y i (let depth = here.depth in omega arith);
 }
 
--- one of the first variables of the scope, if one of them is unassigned
-pub record HasOne (scopes : List Scope) (trail : Trail) (scope : ℕ) (xs : List ℕ) (i : ℕ) (one : Option ℕ) : Type 0 where
+-- one of the variables of the scope, if one is unassigned that isn't left to look at
+pub record HasOne (scopes : List Scope) (trail : Trail) (scope : ℕ) (xs left : List ℕ) (one : Option ℕ) : Type 0 where
+  pub within : (x : ℕ) → Contains left x → Contains xs x
   pub found : IfSome one (IsOpenIn scopes trail scope)
-  pub missed : one ≡ None → (x : ℕ) → Contains (take i xs) x → IsTrue (is_some (value_on trail x))
+  pub missed : one ≡ None → (x : ℕ) → Contains xs x → Contains left x ⊎ IsTrue (is_some (value_on trail x))
 
--- none yet
-pub one_none : (scopes : List Scope) (trail : Trail) (scope : ℕ) (xs : List ℕ) → HasOne scopes trail scope xs 0 None
-one_none scopes trail scope xs = record { found = tt; missed = λ e x i. absurd (contains_nil x i) }
+-- all are left
+pub one_none : (scopes : List Scope) (trail : Trail) (scope : ℕ) (xs : List ℕ) → HasOne scopes trail scope xs xs None
+one_none scopes trail scope xs = record { within = λ x i. i; found = tt; missed = λ e x i. inl i }
 
--- one more
-module _ (scopes : List Scope) (trail : Trail) (scope : ℕ) (xs : List ℕ) (i : ℕ) (one : Option ℕ) (v : ℕ) (before : HasOne scopes trail scope xs i one) (below : i < length xs) (is : v ≡ get_or xs i v) where
-  pub one_assigned : is_some (value_on trail v) ≡ true → HasOne scopes trail scope xs (i + 1) one
+-- one more is looked at
+module _ (scopes : List Scope) (trail : Trail) (scope : ℕ) (xs left later : List ℕ) (one : Option ℕ) (v : ℕ) (before : HasOne scopes trail scope xs left one) (is : left ≡ v ∷ later) where
+  pub one_stands : Contains xs v
+  one_stands = before.within v (rw is (contains_head v later))
+
+  further : (x : ℕ) → Contains later x → Contains xs x
+  further x i = before.within x (rw is (contains_tail v later x i))
+
+  pub one_assigned : is_some (value_on trail v) ≡ true → HasOne scopes trail scope xs later one
   one_assigned known = record {
+    within = further;
     found = before.found;
-    missed = λ e x j. ⊎_elim (λ early. before.missed e x early) (λ here. rw (← here) known) (front x j);
+    missed = λ e x i. ⊎_elim (λ j. one_of x (contains_cons v later x (rw is at j))) inr (before.missed e x i);
   }
     where
-      front : (x : ℕ) → Contains (take (i + 1) xs) x → Contains (take i xs) x ⊎ (v ≡ x)
-      front x j =
-          let all : take (i + 1) xs ≡ take i xs ++ v ∷ [] = take_more xs i v below ∙ ap (λ y. take i xs ++ y ∷ []) (sym is) in
-          ⊎_elim inl (λ k. inr (last x k)) (Contains-append_cases (take i xs) (v ∷ []) x (rw all at j))
-        where
-          last : (x : ℕ) → Contains (v ∷ []) x → v ≡ x
-          last x k = ⊎_elim (λ e. e) (λ n. absurd (contains_nil x n)) (contains_cons v [] x k)
+      one_of : (x : ℕ) → (v ≡ x) ⊎ Contains later x → Contains later x ⊎ IsTrue (is_some (value_on trail x))
+      one_of x (inl e) = inr (rw (← e) known)
+      one_of x (inr j) = inl j
 
-  pub one_found : IsOpenIn scopes trail scope v → HasOne scopes trail scope xs (i + 1) (Some v)
-  one_found here = record { found = here; missed = λ e x j. absurd (cc) }
+  pub one_found : IsOpenIn scopes trail scope v → HasOne scopes trail scope xs later (Some v)
+  one_found here = record { within = further; found = here; missed = λ e x j. absurd (cc) }
 
 -- there is one at the end
-pub one_at_end : (scopes : List Scope) (trail : Trail) (scope : ℕ) (xs : List ℕ) (i : ℕ) (one : Option ℕ) → HasOne scopes trail scope xs i one → length xs ≤ i → xs ≡ variables_at scopes scope → IsFirstOpen scopes trail scope → IsTrue (is_some one)
-one_at_end scopes trail scope xs i None has past is first =
-    let all : take i xs ≡ variables_at scopes scope = take_all i xs past ∙ is in
-    absurd (true≢false (sym (has.missed refl first.variable (rw all first.stands)) ∙ ap is_some first.unassigned))
-one_at_end scopes trail scope xs i (Some v) has past is first = refl
+pub one_at_end : (scopes : List Scope) (trail : Trail) (scope : ℕ) (xs left : List ℕ) (one : Option ℕ)
+    → HasOne scopes trail scope xs left one → left ≡ [] → xs ≡ variables_at scopes scope
+    → IsFirstOpen scopes trail scope → IsTrue (is_some one)
+one_at_end scopes trail scope xs left None has past is first =
+    ⊎_elim (λ j. absurd (contains_nil first.variable (rw past at j)))
+    (λ known. absurd (true≢false (sym known ∙ ap is_some first.unassigned)))
+    (has.missed refl first.variable (rw is first.stands))
+one_at_end scopes trail scope xs left (Some v) has past is first = refl
 
 -- tests that code makes
 pub none_from : (o : Option Bool) → is_some o ≡ false → o ≡ None
