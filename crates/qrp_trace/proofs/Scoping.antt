@@ -1,6 +1,6 @@
 -- Scopes and numbers in texts.
-use Rattle.std.proofs.Common.{◌≡◌, ℕ, zero, suc, ◌+◌, ◌-◌, ◌<◌, ◌≤◌, ◌==◌, false, max, List, [], ◌∷◌, ◌++◌, length, take, get_or, Option, Some, None, unwrap_or, refl, sym, ap, ap₂, ◌∙◌, arith}
-use Rattle.std.specs.Prelude.{slice_get, codes}
+use Rattle.std.proofs.Common.{◌≡◌, ℕ, zero, suc, ◌+◌, ◌-◌, ◌<◌, ◌≤◌, ◌==◌, Bool, false, max, List, [], ◌∷◌, ◌++◌, length, take, get_or, Option, Some, None, unwrap_or, refl, sym, ap, ap₂, ◌∙◌, arith}
+use Rattle.std.specs.Prelude.{◌↔◌, IsTrue, slice_get, codes}
 use Rattle.std.specs.Option.{option_map}
 use Rattle.std.specs.List.{flat_map, range_with_len}
 use Rattle.std.proofs.lemmas.List.{append-nil, take_more}
@@ -21,12 +21,17 @@ greatest-append (x ∷ xs) ys = ap (max x) (greatest-append xs ys) ∙ assoc x (
 max_none : (a : ℕ) → max a 0 ≡ a
 max_none a = grind arith
 
-pub greatest_more : (xs : List ℕ) (i v : ℕ) (most n new : ℕ) → i < length xs → v ≡ get_or xs i v
-    → most ≡ greatest (take i xs) → n ≡ v → new ≡ max most n → new ≡ greatest (take (i + 1) xs)
-greatest_more xs i v most n new below is before same more =
-    more ∙ ap₂ max before (same ∙ sym (max_none v))
-    ∙ sym (greatest-append (take i xs) (v ∷ []))
-    ∙ sym (ap greatest (take_more xs i v below ∙ ap (λ m. take i xs ++ m ∷ []) (sym is)))
+pub greatest_next : (left later : List ℕ) (v most n new all : ℕ) → left ≡ v ∷ later
+    → max most (greatest left) ≡ all → n ≡ v → new ≡ max most n → max new (greatest later) ≡ all
+greatest_next left later v most n new all is before same more =
+    ap (λ m. max m (greatest later)) (more ∙ ap (max most) same) ∙ assoc most v (greatest later)
+    ∙ ap (λ vs. max most (greatest vs)) (sym is) ∙ before
+  where
+    assoc : (a b c : ℕ) → max (max a b) c ≡ max a (max b c)
+    assoc a b c = grind arith
+
+pub greatest_all : (left : List ℕ) (most all : ℕ) → left ≡ [] → max most (greatest left) ≡ all → most ≡ all
+greatest_all left most all is before = sym (max_none most) ∙ ap (λ vs. max most (greatest vs)) (sym is) ∙ before
 
 slice_get_in : {X : Type 0} (xs : List X) (k : ℕ) (d : X) → k < length xs → slice_get xs k ≡ Some (get_or xs k d)
 slice_get_in [] k d h = absurd (omega arith)
@@ -74,6 +79,19 @@ line_some scope vars q is quantifier some = by_list vars is some
         ++ (flat_map number_word xs ++ codes "0\n")
     by_list [] e t = absurd (true≢false t)
     by_list (x ∷ xs) e t = ap₂ variables_line (sym quantifier) (sym e)
+
+-- a test of emptiness by numbers
+pub some_by : (is_empty : Bool) (n : ℕ) → (IsTrue is_empty ↔ (n ≡ 0)) → is_empty ≡ false → (n == 0) ≡ false
+some_by is_empty n means known = ne_eqb n 0 (λ e. true≢false (sym (means.1 e) ∙ known))
+
+-- what a loop has put, and what follows
+pub put_next : (f : ℕ → List ℕ) (left later : List ℕ) (v n : ℕ) (text all : List ℕ) → left ≡ v ∷ later
+    → text ++ flat_map f left ≡ all → n ≡ v → text ++ (f n ++ flat_map f later) ≡ all
+put_next f left later v n text all is before same =
+    ap (λ m. text ++ (f m ++ flat_map f later)) same ∙ ap (λ vs. text ++ flat_map f vs) (sym is) ∙ before
+
+pub put_all : (f : ℕ → List ℕ) (left text all : List ℕ) → left ≡ [] → text ++ flat_map f left ≡ all → text ≡ all
+put_all f left text all is before = sym (append-nil text) ∙ ap (λ vs. text ++ flat_map f vs) (sym is) ∙ before
 
 pub range_length : (a n : ℕ) → length (range_with_len a n) ≡ n
 range_length a zero = refl

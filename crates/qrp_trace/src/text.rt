@@ -15,6 +15,7 @@ use crate::words;
 use blocks::Block;
 use ports::{Failed, Sink};
 use prefix::{Lit, Prefix, Quant, Var};
+use std::collections::BTreeSet;
 
 /// Writes the trace of a core under a prefix: the header, a line for each scope that has variables, one for each step,
 /// and the verdict. Each step but the last is, by its number, one that a later one rests on. This takes no memory.
@@ -83,8 +84,8 @@ fn greatest_variable(prefix: &Prefix) -> usize
 }
 
 // The greatest number of some variables, 0 where there is none.
-fn greatest_of(vars: &[Var]) -> usize
-    ensures { result ≡ greatest vars.now }
+fn greatest_of(vars: &BTreeSet<Var>) -> usize
+    ensures { result ≡ greatest vars.now.keys }
 {
     let mut most = 0;
     for v in vars {
@@ -144,9 +145,13 @@ fn put_quantifier<S: Sink>(quant: Quant, block: &mut Block, sink: &mut S) -> Res
 }
 
 // Puts variables, each with a blank.
-fn put_variables<S: Sink>(vars: &[Var], block: &mut Block, sink: &mut S) -> Result<(), Failed>
+fn put_variables<S: Sink>(
+    vars: &BTreeSet<Var>,
+    block: &mut Block,
+    sink: &mut S,
+) -> Result<(), Failed>
     ensures { Puts S.written S.flushed S.faults S.has_room sink.old block.old sink.new block.new
-        (flat_map number_word vars.now) result }
+        (flat_map number_word vars.now.keys) result }
 {
     for v in vars {
         put_number(v.number() as usize, block, sink)?;
