@@ -169,7 +169,8 @@ open_from d k note there side why within =
     (listed_from (clause_at d) 0 (next_id d) c k (omega arith) (omega arith)
     (ap (option_and_then (clause_from k (row_of d k))) (there ∙ ap Some (note_is note Exists Given side why))))
 
-map_at : {X Y : Type 0} (f : X → Y) (xs : List X) (y : Y) → Contains (map f xs) y → (x : X) × Contains xs x × (f x ≡ y)
+pub map_at : {X Y : Type 0} (f : X → Y) (xs : List X) (y : Y) → Contains (map f xs) y
+    → (x : X) × Contains xs x × (f x ≡ y)
 map_at f [] y i = absurd (contains_nil y i)
 map_at f (x ∷ xs) y i = ⊎_elim (λ e. (x, contains_head x xs, e)) (λ j. let p = map_at f xs y j in (p.0, contains_tail x xs p.0 p.1, p.2)) (contains_cons (f x) (map f xs) y i)
 

@@ -7,9 +7,7 @@ use Rattle.calculus.specs.Derivations.{Why, RestsOn}
 use Rattle.calculus.specs.Derivations.Why.{Given, ReducedFrom, ResolvedFrom, FinishedFrom}
 use Rattle.derive.specs.State.{Note, Notes, note_in}
 use Rattle.derive.specs.Antecedents.{AreSupported, Fits}
-use Rattle.derive.specs.declared.dropping.Roots.{Roots}
-use Rattle.derive.specs.declared.dropping.Roots.TheVariants.{Frame, Finishes, From, Naming}
-use Rattle.derive.specs.Dropping.{StepTest, Falls, DropsFrom, is_root, is_that, mentions}
+use Rattle.derive.specs.Dropping.{StepTest, Falls, DropsFrom}
 use Rattle.derive.specs.Dropping.Falls.{root, rests}
 use Rattle.derive.specs.Missing.{misses_antecedent, falls_now, falls_with}
 
@@ -168,13 +166,7 @@ passed_all is_root old notes old_rows rows to all passed =
     no_fall id past (root j note at r) = none_some (note_in old id) note past at
     no_fall id past (rests j on note at r falls) = none_some (note_in old id) note past at
 
--- a step that is live names what it named before the pass
-root_same : (roots : Roots) (old_rows rows : Arena) (id : ℕ) (note : Note) → literals_at rows id ≡ literals_at old_rows id → is_root roots rows id note ≡ is_root roots old_rows id note
-root_same (Frame frame) old_rows rows id note e = refl
-root_same Finishes old_rows rows id note e = refl
-root_same (From first) old_rows rows id note e = refl
-root_same (Naming index) old_rows rows id note e = ap (mentions (is_that (index + 1))) e
-
+-- what is found of a step by its row, after the pass came to it, is so before
 pub falls_alike : (test : Arena → StepTest) → ((old_rows rows : Arena) (id : ℕ) (note : Note) → literals_at rows id ≡ literals_at old_rows id → test rows id note ≡ test old_rows id note) → (old notes : Notes) (old_rows rows : Arena) (to : ℕ) → Passed (test old_rows) old notes old_rows rows to → falls_now (test rows) notes to ≡ falls_now (test old_rows) notes to
 falls_alike test same old notes old_rows rows to passed = by (note_in notes to) refl
   where
@@ -183,9 +175,6 @@ falls_alike test same old notes old_rows rows to passed = by (note_in notes to) 
     by (Some note) e =
         let row : literals_at rows to ≡ literals_at old_rows to = ap literals_of (passed.rows_follow to ∙ cond-true (is_some (note_in notes to)) (stored_at old_rows to) None (ap is_some e)) in
         ap (λ b. b || misses_antecedent notes note.why) (same old_rows rows to note row)
-
-pub falls_same : (roots : Roots) (old notes : Notes) (old_rows rows : Arena) (to : ℕ) → Passed (is_root roots old_rows) old notes old_rows rows to → falls_now (is_root roots rows) notes to ≡ falls_now (is_root roots old_rows) notes to
-falls_same roots old notes old_rows rows to passed = falls_alike (is_root roots) (root_same roots) old notes old_rows rows to passed
 
 -- a live step's row is there
 pub row_there : (is_root : StepTest) (old notes : Notes) (old_rows rows : Arena) (to id : ℕ) → Fits old old_rows → Passed is_root old notes old_rows rows to → to ≤ id → (note : Note) → note_in notes id ≡ Some note → is_some (stored_at rows id) ≡ true

@@ -5,6 +5,7 @@ pub mod Falling
 pub mod Growth
 pub mod Ids
 pub mod Inputs
+pub mod Leaving
 pub mod Legality
 pub mod Listing
 pub mod Missed
@@ -13,3 +14,4 @@ pub mod Sweeps
 pub mod Tagging
 pub mod Tags
 pub mod Working
+pub mod WorkingLeaving

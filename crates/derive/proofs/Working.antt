@@ -38,7 +38,7 @@ second_stays f = false≢true (given_root missed all_cubes.notes 2 (note Forall 
 over_second_stays : Goes 4 → ⊥
 over_second_stays f = over_stays (plus 2 ∷ []) (arena_of all_cubes) all_cubes.notes 4 (note Forall (ReducedFrom 2)) 2 refl refl second_stays f
 
-none_goes : (is_root : StepTest) (notes : Notes) (id : ℕ) → note_in notes id ≡ None → Falls is_root notes id → ⊥
+pub none_goes : (is_root : StepTest) (notes : Notes) (id : ℕ) → note_in notes id ≡ None → Falls is_root notes id → ⊥
 none_goes is_root notes id none (root j n at r) = none_some (note_in notes id) n none at
 none_goes is_root notes id none (rests j on n at r falls) = none_some (note_in notes id) n none at
 

@@ -1,16 +1,17 @@
 -- What goes where steps are dropped: some steps, the roots, with all that rests on them.
-use Rattle.std.specs.Prelude.{◌≡◌, ℕ, Bool, true, false, ◌+◌, ◌==◌, nat_le, ◌⊎◌, if◌then◌else◌, length, Option, Some, None, is_some, filter, IsTrue}
+use Rattle.std.specs.Prelude.{◌≡◌, ℕ, Bool, true, false, ◌<◌, ◌==◌, nat_le, ◌⊎◌, if◌then◌else◌, length, List, Option, Some, None, is_none, is_some, filter, IsTrue}
 use Rattle.prefix.specs.declared.quant.Quant.{Quant}
 use Rattle.prefix.specs.declared.quant.Quant.TheVariants.{Exists, Forall}
 use Rattle.std.specs.List.{list_any}
 use Rattle.prefix.specs.Literal.{Literal}
+use Rattle.prefix.specs.Scopes.{Scope, level_of}
 use Rattle.calculus.specs.Rows.{Row}
 use Rattle.rows.specs.Arena.{Arena, literals_at, next_id as next_row, row_at as stored_at}
 use Rattle.calculus.specs.Derivations.{Step, Why, RestsOn}
 use Rattle.calculus.specs.Derivations.Why.{Given, ReducedFrom, ResolvedFrom, FinishedFrom}
 use Rattle.derive.specs.State.{Note, Notes, State, SameStep, note_in, is_finish, is_live, steps_of, arena_of, has_rows}
 use Rattle.derive.specs.declared.dropping.Roots.{Roots}
-use Rattle.derive.specs.declared.dropping.Roots.TheVariants.{Frame, Finishes, From, Naming}
+use Rattle.derive.specs.declared.dropping.Roots.TheVariants.{Frame, Finishes, From}
 
 -- a test of steps, by id and note
 abbrev pub StepTest : Type 0
@@ -71,13 +72,17 @@ mentions test row = list_any (λ (l : Literal). test l.variable) row
 abbrev pub names : (ℕ → Bool) → Arena → StepTest
 names test rows id note = mentions test (literals_at rows id)
 
--- whether a variable is that one
-abbrev pub is_that : ℕ → ℕ → Bool
-is_that v x = x == v
+-- whether a variable isn't in a prefix
+abbrev pub is_outside : List Scope → ℕ → Bool
+is_outside scopes x = is_none (level_of scopes x)
 
--- the steps that a sort of roots names, with these rows
-abbrev pub is_root : Roots → Arena → StepTest
-is_root (Frame frame) rows = has_tag frame
-is_root Finishes rows = finishes
-is_root (From first) rows = is_from first
-is_root (Naming index) rows = names (is_that (index + 1)) rows
+-- no live step under an id below this one names a variable outside a prefix
+abbrev pub NoneOutsideBelow : List Scope → ℕ → State → Type 0
+NoneOutsideBelow scopes from d = (id : ℕ) → id < from → IsTrue (is_live d id)
+    → mentions (is_outside scopes) (literals_at (arena_of d) id) ≡ false
+
+-- the steps that a sort of roots names
+abbrev pub is_root : Roots → StepTest
+is_root (Frame frame) = has_tag frame
+is_root Finishes = finishes
+is_root (From first) = is_from first

@@ -1,7 +1,7 @@
 -- The theorems on derivations that callers cite, as statements for contracts.
 use Rattle.std.specs.Prelude.{◌≡◌, ℕ, nat_lt, if◌then◌else◌, IsTrue, List, Contains, Some, None}
 use Rattle.prefix.specs.declared.quant.Quant.TheVariants.{Exists}
-use Rattle.prefix.specs.Scopes.{Scope}
+use Rattle.prefix.specs.Scopes.{Scope, all_variables}
 use Rattle.calculus.specs.Rows.{Row, variables_in}
 use Rattle.calculus.specs.Derivations.{AgreeOn, Step, Why, Extends, IsDerivation}
 use Rattle.calculus.specs.Derivations.Why.{Given}
@@ -23,6 +23,10 @@ IsNamed d x = (id : ℕ) × IsTrue (is_live d id) × Contains (variables_in (row
 abbrev pub PrefixesMayChange : Type 0
 PrefixesMayChange = (old new : List Scope) (d : State) → AgreeOn old new (IsNamed d) → IsLegalFor old d
     → IsLegalFor new d
+
+-- A prefix agrees with a larger one, from which variables left, on its own variables.
+abbrev pub SmallerPrefixesAgree : Type 0
+SmallerPrefixesAgree = (old new : List Scope) → Extends new old → AgreeOn old new (Contains (all_variables new))
 
 -- The listed steps are those under the ids that `is_step` holds of, with the side, the row and the reason that are
 -- told there.

@@ -1,7 +1,9 @@
--- Worked values: which initial cubes miss a clause, and what goes with them; and the tags of steps.
-use Rattle.std.specs.Prelude.{◌≡◌, ℕ, Bool, true, false, if◌then◌else◌, [], ◌∷◌, Option, Some, None}
+-- Worked values: which initial cubes miss a clause, and what goes with them; what goes with a variable; and the tags
+-- of steps.
+use Rattle.std.specs.Prelude.{◌≡◌, ℕ, Bool, true, false, if◌then◌else◌, List, [], ◌∷◌, Option, Some, None}
 use Rattle.prefix.specs.declared.quant.Quant.{Quant}
 use Rattle.prefix.specs.declared.quant.Quant.TheVariants.{Exists, Forall}
+use Rattle.prefix.specs.Scopes.{Scope}
 use Rattle.rows.specs.Arena.{StoredRow, new_row}
 use Rattle.calculus.specs.Derivations.{Why}
 use Rattle.calculus.specs.Derivations.Why.{Given, ReducedFrom, ResolvedFrom, FinishedFrom}
@@ -9,7 +11,7 @@ use Rattle.calculus.specs.Rows.{Row}
 use Rattle.calculus.specs.Worked.{minus, plus}
 use Rattle.derive.specs.Antecedents.{AreSupported, HasTag, IsAntecedentIn, IsGreatestFrame, Supports}
 use Rattle.derive.specs.State.{Note, Notes, State, arena_of}
-use Rattle.derive.specs.Dropping.{Drops}
+use Rattle.derive.specs.Dropping.{Drops, NoneOutsideBelow, is_outside, names}
 use Rattle.derive.specs.Cubes.{hits_clause, misses}
 
 abbrev pub note : Quant → Why → Note
@@ -71,6 +73,60 @@ pub record WorkedCubes : Type 0 where
   pub not_both : LeavesAt2 (with_cubes false true false true true) → ⊥
   pub not_none : LeavesAt2 (with_cubes false false false false false) → ⊥
   pub not_over_second : LeavesAt2 (with_cubes false true false false false) → ⊥
+
+-- exists 1, for all 2
+abbrev pub two_scopes : List Scope
+two_scopes =
+    record { quantifier = Exists; variables = 1 ∷ [] }
+    ∷ record { quantifier = Forall; variables = 2 ∷ [] }
+    ∷ []
+
+-- the clauses 1 2, 1 3 and -3, the resolvent of the last two, and the cube 1; which of the last four are live
+abbrev pub with_third : (first second over other : Bool) → State
+with_third first second over other = record {
+  notes = Some (note Exists Given)
+      ∷ step_if first Exists Given
+      ∷ step_if second Exists Given
+      ∷ step_if over Exists (ResolvedFrom 1 2 3)
+      ∷ step_if other Forall Given
+      ∷ [];
+  rows = Some (
+      Some (new_row (plus 1 ∷ plus 2 ∷ []))
+      ∷ row_if first (plus 1 ∷ plus 3 ∷ [])
+      ∷ row_if second (minus 3 ∷ [])
+      ∷ row_if over (plus 1 ∷ [])
+      ∷ row_if other (plus 1 ∷ [])
+      ∷ []
+      );
+}
+
+-- all of them
+abbrev pub all_third : State
+all_third = with_third true true true true
+
+-- the variable 3 left the prefix, and this is left
+abbrev pub LeavesWithout3 : State → Type 0
+LeavesWithout3 left = Drops (names (is_outside two_scopes) (arena_of all_third)) all_third left
+
+pub record WorkedLeaving : Type 0 where
+  -- 3 is outside; 1 and 2 are not; of no scopes each is
+  pub third : is_outside two_scopes 3 ≡ true
+  pub first : is_outside two_scopes 1 ≡ false
+  pub second : is_outside two_scopes 2 ≡ false
+  pub no_scopes : is_outside [] 1 ≡ true
+  -- the clauses 1 3 and -3 name one outside, of either sign; not the clause 1 2, nor their resolvent
+  pub named : names (is_outside two_scopes) (arena_of all_third) 1 (note Exists Given) ≡ true
+  pub other_sign : names (is_outside two_scopes) (arena_of all_third) 2 (note Exists Given) ≡ true
+  pub unnamed : names (is_outside two_scopes) (arena_of all_third) 0 (note Exists Given) ≡ false
+  pub resolvent : names (is_outside two_scopes) (arena_of all_third) 3 (note Exists (ResolvedFrom 1 2 3)) ≡ false
+  -- none below the id 1 does, and one below 2
+  pub below : NoneOutsideBelow two_scopes 1 all_third
+  pub not_below : NoneOutsideBelow two_scopes 2 all_third → ⊥
+  -- they go, with the resolvent; the cube stays
+  pub leaves : LeavesWithout3 (with_third false false false true)
+  pub not_all : LeavesWithout3 all_third → ⊥
+  pub not_over : LeavesWithout3 (with_third false false true true) → ⊥
+  pub not_other : LeavesWithout3 (with_third false false false false) → ⊥
 
 abbrev pub tagged : Quant → Why → ℕ → Option Note
 tagged side why tag = Some (record { side = side; why = why; tag = tag })

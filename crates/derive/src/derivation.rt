@@ -13,7 +13,7 @@ ghost use Rattle.derive.specs.State.{State, arena_of, IsStepOf, SameStep, OpenCl
 ghost use Rattle.derive.specs.Antecedents.{Fits, IsAntecedentIn, AreSupported, IsSupportedAt, IsGreatestFrame};
 ghost use Rattle.derive.specs.Adding.{clause_note, Adds, AddsBoth, AddsClause, AreResolvable, CountsRemoval, InputsClause, IsOver, IsReductionOf, Removes, cube_note, finish_at, reduction_at, resolvent_at, resolvent_note};
 ghost use Rattle.derive.specs.Growing.{AreUnlinked, GainsSteps};
-ghost use Rattle.derive.specs.Dropping.{Drops, Falls, StepTest, is_that, mentions, names, has_tag, finishes, is_from, is_root, unless_finish};
+ghost use Rattle.derive.specs.Dropping.{Drops, Falls, NoneOutsideBelow, StepTest, is_outside, mentions, names, has_tag, finishes, is_from, is_root, unless_finish};
 ghost use Rattle.derive.specs.Cubes.{is_cube_in, misses};
 ghost use Rattle.derive.specs.Sweeping.{Sweeps};
 ghost use Rattle.derive.specs.Told.{told, why_of};
@@ -22,6 +22,7 @@ use super::cubes::{drop_missing, first_missing, list_cube, retain_cubes};
 use super::dropping::{Roots, drop_roots};
 use super::new_step::NewStep;
 use super::note::Note;
+use super::outside::{drop_outside, first_outside, is_outside};
 use super::removal::{is_reduced_of, push_assumed, reduce_of};
 use super::sweeping::{sweep_all, widen_marks};
 use super::{Step, StepId};
@@ -406,17 +407,41 @@ impl Derivation {
         retain_cubes(&mut self.cubes, &self.notes);
     }
 
-    /// Drops the steps that name a variable, with all that rests on them. This takes no memory, and the time of going
-    /// over all literals.
-    pub fn drop_var(&mut self, v: Var)
-        requires { IsTrue (has_rows self.old) }
-        ensures drops { Drops (names (is_that v) (arena_of self.old)) self.old self.new }
-        ensures clauses { clauses_of self.new ≡ filter (λ (c : OpenClause). not (mentions (is_that v) c.row))
-            (clauses_of self.old) }
-        ensures left { (id : ℕ) → IsTrue (is_live self.new id) → mentions (is_that v) (row_of self.new id) ≡ false }
+    /// Whether a live step names a variable that isn't in a prefix.
+    pub fn names_outside(&self, id: StepId, prefix: &Prefix) -> bool
+        requires live { IsTrue (is_live self.now id) }
+        requires rows { IsTrue (has_rows self.now) }
+        ensures { result ≡ mentions (is_outside prefix.now) (row_of self.now id) }
+    {
+        is_outside(self.lits(id), prefix)
+    }
+
+    /// The id from which on steps of a side can go where those go that name a variable outside a prefix, none of which
+    /// has an id below `from`. This goes over the literals of the steps of the side from `from` on, up to the first
+    /// that names such a variable.
+    pub fn outside_from(&self, side: Quant, from: StepId, prefix: &Prefix) -> StepId
+        requires rows { IsTrue (has_rows self.now) }
+        requires below { NoneOutsideBelow prefix.now from self.now }
+        ensures { (id : ℕ) → Falls (names (is_outside prefix.now) (arena_of self.now)) self.now.notes id →
+            side_at self.now id ≡ side → result ≤ id }
+    {
+        first_outside(&self.notes, self.rows(), side, from, prefix)
+    }
+
+    /// Drops the steps that name a variable outside a prefix, with all that rests on them. None of them has an id below
+    /// `from`, as where that was `next_id` when the first such variable came. This takes no memory, and the time of
+    /// going over the literals of the steps from that id on.
+    pub fn drop_outside(&mut self, from: StepId, prefix: &Prefix)
+        requires rows { IsTrue (has_rows self.old) }
+        requires below { NoneOutsideBelow prefix.now from self.old }
+        ensures drops { Drops (names (is_outside prefix.now) (arena_of self.old)) self.old self.new }
+        ensures clauses { clauses_of self.new ≡ filter (λ (c : OpenClause).
+            not (mentions (is_outside prefix.now) c.row)) (clauses_of self.old) }
+        ensures left { (id : ℕ) → IsTrue (is_live self.new id) →
+            mentions (is_outside prefix.now) (row_of self.new id) ≡ false }
         ensures legal { (scopes : List Scope) → IsLegalFor scopes self.old → IsLegalFor scopes self.new }
     {
-        self.drop_all(0, Roots::Naming(v.index()));
+        drop_outside(&mut self.notes, self.rows.as_mut().unwrap(), from, prefix);
     }
 
     /// Hands out the rows. Then only `step`, `is_live`, `tag` and `next_id` are called, until they are put back. This
@@ -557,8 +582,8 @@ impl Derivation {
     fn drop_all(&mut self, from: StepId, roots: Roots)
         requires rows { IsTrue (has_rows self.old) }
         requires below { (id : ℕ) (note : Kept) → note_at self.old id ≡ Some note → id < from →
-            is_root roots (arena_of self.old) id note ≡ false }
-        ensures drops { Drops (is_root roots (arena_of self.old)) self.old self.new }
+            is_root roots id note ≡ false }
+        ensures drops { Drops (is_root roots) self.old self.new }
         ensures supported { AreSupported self.old.notes }
     {
         drop_roots(&mut self.notes, self.rows.as_mut().unwrap(), from, &roots);

@@ -1,14 +1,12 @@
 //! Dropping steps with all that rests on them.
-ghost use Rattle.std.specs.Prelude.{◌≡◌, ◌+◌, ◌<◌, ℕ, Some, IsTrue, false, length};
-ghost use Rattle.rows.specs.Arena.{is_live as is_stored};
+ghost use Rattle.std.specs.Prelude.{◌≡◌, ◌<◌, ℕ, Some, false, length};
 ghost use Rattle.derive.specs.State.{Note as Kept, note_in};
 ghost use Rattle.derive.specs.Antecedents.{AreSupported, Fits};
-ghost use Rattle.derive.specs.Dropping.{DropsFrom, is_root, is_that, mentions};
+ghost use Rattle.derive.specs.Dropping.{DropsFrom, is_root};
 ghost use Rattle.derive.specs.Missing.{falls_now};
 
 use super::StepId;
 use super::note::Note;
-use prefix::Lit;
 use rows::Rows;
 
 // The steps that are dropped, with all that rests on them.
@@ -20,29 +18,18 @@ pub(crate) enum Roots {
     Finishes,
     // Those with this id or a later one.
     From(StepId),
-    // Those that name the variable of this index.
-    Naming(usize),
 }
 
 impl Roots {
-    fn contains(&self, id: StepId, note: &Note, rows: &Rows) -> bool
-        requires { IsTrue (is_stored rows.now id) }
-        ensures { result ≡ is_root self.now rows.now id note.now }
+    fn contains(&self, id: StepId, note: &Note) -> bool
+        ensures { result ≡ is_root self.now id note.now }
     {
         match self {
             Self::Frame(frame) => note.tag() == *frame,
             Self::Finishes => note.is_finish(),
             Self::From(first) => *first <= id,
-            Self::Naming(index) => is_named(rows.lits(id), *index),
         }
     }
-}
-
-// Whether a row is over the variable of an index.
-fn is_named(lits: &[Lit], index: usize) -> bool
-    ensures { result ≡ mentions (is_that (index + 1)) lits.now }
-{
-    lits.iter().any(|lit| lit.var().index() == index)
 }
 
 // Drops the roots with all that rests on them, and frees their rows. No root has an id below `from`.
@@ -55,11 +42,11 @@ pub(crate) fn drop_roots(
     requires supported { AreSupported notes.old.items }
     requires fits { Fits notes.old.items rows.old }
     requires below { (id : ℕ) (note : Kept) → note_in notes.old.items id ≡ Some note → id < from →
-        is_root roots.now rows.old id note ≡ false }
-    ensures { DropsFrom (is_root roots.now rows.old) notes.old.items notes.new.items rows.old rows.new }
+        is_root roots.now id note ≡ false }
+    ensures { DropsFrom (is_root roots.now) notes.old.items notes.new.items rows.old rows.new }
 {
     for id in from..notes.len() {
-        if falls(notes, rows, id, roots) {
+        if falls(notes, id, roots) {
             notes[id] = None;
             rows.free(id);
         }
@@ -67,13 +54,12 @@ pub(crate) fn drop_roots(
 }
 
 // Whether a live step is a root, or rests on one that is gone.
-fn falls(notes: &Vec<Option<Note>>, rows: &Rows, id: StepId, roots: &Roots) -> bool
-    requires within { id < length notes.now.items }
-    requires stored { (note : Kept) → note_in notes.now.items id ≡ Some note → IsTrue (is_stored rows.now id) }
-    ensures { result ≡ falls_now (is_root roots.now rows.now) notes.now.items id }
+fn falls(notes: &Vec<Option<Note>>, id: StepId, roots: &Roots) -> bool
+    requires { id < length notes.now.items }
+    ensures { result ≡ falls_now (is_root roots.now) notes.now.items id }
 {
     match &notes[id] {
-        Some(note) => roots.contains(id, note, rows) || note.misses_antecedent(notes),
+        Some(note) => roots.contains(id, note) || note.misses_antecedent(notes),
         None => false,
     }
 }

@@ -1,5 +1,5 @@
 //! Laws of derivations.
-ghost use Rattle.derive.specs.Theorems.{ClausesAreListed, GrowthLaws, PrefixesMayChange, PrefixesMayGrow, SameClausesServe, StepsAreListed};
+ghost use Rattle.derive.specs.Theorems.{ClausesAreListed, GrowthLaws, PrefixesMayChange, PrefixesMayGrow, SameClausesServe, SmallerPrefixesAgree, StepsAreListed};
 
 /// Each live step but a finish stays legal when the prefix gets scopes and variables.
 pub fn prefixes_may_grow()
@@ -9,6 +9,11 @@ pub fn prefixes_may_grow()
 /// Each live step but a finish stays legal when variables leave the prefix that no live step names.
 pub fn prefixes_may_change()
     ensures { PrefixesMayChange }
+{}
+
+/// A prefix agrees with a larger one, from which variables left, on its own variables.
+pub fn smaller_prefixes_agree()
+    ensures { SmallerPrefixesAgree }
 {}
 
 /// Each live step but a finish is legal for every formula that has the open clauses and no others.

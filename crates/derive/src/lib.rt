@@ -8,6 +8,7 @@ mod dropping;
 mod laws;
 mod new_step;
 mod note;
+mod outside;
 mod removal;
 mod step;
 mod sweeping;
@@ -16,7 +17,7 @@ mod worked;
 pub use derivation::Derivation;
 pub use laws::{
     clauses_are_listed, growth_laws, prefixes_may_change, prefixes_may_grow, same_clauses_serve,
-    steps_are_listed,
+    smaller_prefixes_agree, steps_are_listed,
 };
 pub use step::{Step, StepId};
-pub use worked::{worked_cubes, worked_tags};
+pub use worked::{worked_cubes, worked_leaving, worked_tags};

@@ -6,7 +6,7 @@ ghost use Rattle.derive.specs.State.{has_rows};
 use super::rows_tests::{has_link, has_lits};
 use derive::{Derivation, Step, StepId};
 use fixtures::{Workshop, by_turns, other, row, variable};
-use prefix::Quant;
+use prefix::{Prefix, Quant};
 use rows::Rows;
 use std::alloc::Global;
 use std::test::Fail;
@@ -152,8 +152,8 @@ fn shop_after(
     Ok(shop)
 }
 
-// What is done to a derivation after its turns: nothing, or finishes are dropped, or the steps that name a variable, or
-// the rows are taken and put back.
+// What is done to a derivation after its turns: nothing, or finishes are dropped, or the steps that name a variable
+// outside a prefix, or the rows are taken and put back.
 #[derive(Clone, Copy)]
 enum End {
     Plain,
@@ -169,7 +169,7 @@ fn is_right(alloc: Global, derivation: &mut Derivation, end: End) -> Result<bool
     match end {
         End::Plain => Ok(true),
         End::Unfinished => Ok(is_unfinished(derivation)),
-        End::Named => go_with_variables(derivation),
+        End::Named => go_with_variables(alloc, derivation),
         End::Taken => links_stay(alloc, derivation),
     }
 }
@@ -210,20 +210,33 @@ fn is_unfinished(derivation: &mut Derivation) -> bool
     derivation.is_live(0) && !derivation.is_live(1)
 }
 
-// Which of the steps 0 and 1 are live.
-fn are_live(derivation: &Derivation) -> (bool, bool) {
-    (derivation.is_live(0), derivation.is_live(1))
+// Whether step 1 is the first that names a variable outside a prefix.
+fn names_first(derivation: &Derivation, prefix: &Prefix) -> bool
+    requires { IsTrue (has_rows derivation.now) }
+{
+    derivation.is_live(1)
+        && derivation.names_outside(1, prefix)
+        && derivation.outside_from(Quant::Exists, 0, prefix) == 1
 }
 
-// Whether of the steps 0 and 1 the first goes with variable 1, and the second with variable 3.
-fn go_with_variables(derivation: &mut Derivation) -> Result<bool, Fail>
+// Whether of the steps 0 to 4 the first and the last are left.
+fn are_left(derivation: &Derivation) -> bool {
+    derivation.next_id() == 5
+        && derivation.is_live(0)
+        && !derivation.is_live(1)
+        && !derivation.is_live(2)
+        && !derivation.is_live(3)
+        && derivation.is_live(4)
+}
+
+// Whether of the steps 0 to 4 the first and the last are left, where of the variables 1 and 2 are.
+fn go_with_variables(alloc: Global, derivation: &mut Derivation) -> Result<bool, Fail>
     requires { IsTrue (has_rows derivation.old) }
 {
-    let (one, three) = (variable(1)?, variable(3)?);
-    derivation.drop_var(one);
-    let first = are_live(derivation);
-    derivation.drop_var(three);
-    Ok(first == (false, true) && are_live(derivation) == (false, false))
+    let prefix = by_turns(alloc, Quant::Exists, &[2])?;
+    let is_right = names_first(derivation, &prefix);
+    derivation.drop_outside(0, &prefix);
+    Ok(is_right && are_left(derivation))
 }
 
 // Whether step 1, while the rows are taken, is the clause of frame 1 that it was, and the last step.
@@ -441,6 +454,10 @@ fn steps_that_name_a_variable_go(rt: HostRuntime) -> Result<(), Fail> {
     let turns = [
         Turn::Clause([1, 2], 0, (0, 0)),
         Turn::Clause([-2, 3], 0, (1, 1)),
+        Turn::Clause([-3, 0], 0, (2, 2)),
+        Turn::Resolve(1, 2, 3, 3),
+        Turn::HasRow(3, [-2, 0]),
+        Turn::Clause([1, -2], 0, (4, 4)),
     ];
     play_to(rt.alloc(), Quant::Exists, &[3], &turns, End::Named)
 }

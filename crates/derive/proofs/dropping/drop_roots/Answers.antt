@@ -1,5 +1,5 @@
-use Rattle.std.proofs.Common.{length, ◌<◌, ◌≤◌, sym, refl, arith, ◌∙◌}
-use Rattle.derive.proofs.Falling.{falls_same, passed_none, passed_keep, passed_drop, passed_all, row_there}
+use Rattle.std.proofs.Common.{length, ◌<◌, ◌≤◌, sym, refl, arith}
+use Rattle.derive.proofs.Falling.{passed_none, passed_keep, passed_drop, passed_all}
 use Rattle.derive.proofs.dropping.drop_roots.Goals as goal
 use Rattle.derive.proofs.dropping.drop_roots.Goals.{then-falls, else-falls}
 
@@ -17,8 +17,11 @@ within c =
 pub loop-id-preserved : goal.loop-id-preserved
 loop-id-preserved c =
     elim c.if-falls.branch [
-      | then-falls w ↦ rw (w.notes-is, w.rows-is) (passed_drop _ _ _ _ _ _ c.requires.supported c.loop-id.invariant _ _ (within c) (sym (falls_same _ _ _ _ _ _ c.loop-id.invariant) ∙ sym w.if-falls.ensures) refl w.free.ensures.rest w.free.ensures.next)
-      | else-falls w ↦ rw (w.notes-is, w.rows-is) (passed_keep _ _ _ _ _ _ c.requires.supported c.loop-id.invariant (sym (falls_same _ _ _ _ _ _ c.loop-id.invariant) ∙ sym w.if-falls.ensures))
+      | then-falls w ↦ rw (w.notes-is, w.rows-is)
+          (passed_drop _ _ _ _ _ _ c.requires.supported c.loop-id.invariant _ _ (within c) (sym w.if-falls.ensures)
+          refl w.free.ensures.rest w.free.ensures.next)
+      | else-falls w ↦ rw (w.notes-is, w.rows-is)
+          (passed_keep _ _ _ _ _ _ c.requires.supported c.loop-id.invariant (sym w.if-falls.ensures))
     ]
 
 pub returns : goal.returns
@@ -29,6 +32,3 @@ returns c =
     let test = c.loop-id-test.false in
     let all : length c.loop-id.notes.items ≤ c.loop-id.id = omega arith in
     passed_all _ _ _ _ _ c.loop-id.id all c.loop-id.invariant
-
-pub falls-requires-clause-stored : goal.falls-requires-clause-stored
-falls-requires-clause-stored c = λ note there. row_there _ _ _ _ _ c.loop-id.id c.loop-id.id c.requires.fits c.loop-id.invariant (omega arith) note there
