@@ -7,7 +7,7 @@ use Rattle.prefix.specs.declared.quant.Quant.TheVariants.{Exists, Forall}
 use Rattle.prefix.specs.Literal.{Literal}
 use Rattle.prefix.specs.Sides.{bad_of}
 use Rattle.calculus.specs.Rows.{is_bad_at, is_pivot, reduce}
-use Rattle.calculus.specs.Search.{HasAssumptions, MakesUnitAt, Trail, cause_on, decision_level_on, must_stay}
+use Rattle.calculus.specs.Search.{AreTheAssumptions, MakesUnitAt, Trail, cause_on, decision_level_on, must_stay}
 use Rattle.calculus.specs.Search.Cause.{Assumed}
 use Rattle.truth.specs.Truth.{assumed_value}
 use Rattle.calculus.specs.Worked.{plus}
@@ -131,20 +131,20 @@ lessons pivot = record {
     alone : (l : Literal) → Contains (plus 2 ∷ []) l → plus 2 ≡ l
     alone l i = ⊎_elim (λ e. e) (λ n. absurd (contains_nil l n)) (contains_cons (plus 2) [] l i)
 
-    by_value : (assumptions : List Literal) → HasAssumptions (with_last pivot (bad pivot 3)) assumptions
+    by_value : (assumptions : List Literal) → AreTheAssumptions (with_last pivot (bad pivot 3)) assumptions
         → (l : Literal) (b : Bool) → plus 2 ≡ l → assumed_value assumptions l.variable ≡ Some b
         → IsTrue (is_bad_at pivot b l)
     by_value assumptions has l b e is =
         let value : Some (bad_of pivot) ≡ Some b =
-        has.values 2 b (subst (λ (m : Literal). assumed_value assumptions m.variable ≡ Some b) (sym e) is) in
+        (has.stand 2 b (subst (λ (m : Literal). assumed_value assumptions m.variable ≡ Some b) (sym e) is)).0 in
         let same : bad_of pivot ≡ b = cc in
         subst (λ (m : Literal). is_bad_at pivot b m ≡ true) e (subst
         (λ v. is_bad_at pivot v (plus 2) ≡ true) same (bad_is pivot 2))
 
-    none : HasAssumptions (with_last pivot (bad pivot 3)) []
+    none : AreTheAssumptions (with_last pivot (bad pivot 3)) []
     none = record {
       entries = λ x e. absurd (never x e);
-      values = λ x b e. absurd (nothing b e);
+      stand = λ x b e. absurd (nothing b e);
     }
       where
         nothing : (b : Bool) → None ≡ Some b → ⊥

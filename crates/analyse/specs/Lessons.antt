@@ -1,16 +1,15 @@
 -- What analysis gives.
-use Rattle.std.specs.Prelude.{◌≡◌, ℕ, ◌⊎◌, List, Some}
+use Rattle.std.specs.Prelude.{◌≡◌, ℕ, List, Some}
 use Rattle.prefix.specs.declared.quant.Quant.{Quant}
 use Rattle.prefix.specs.Literal.{Literal}
 use Rattle.prefix.specs.Scopes.{Scope}
 use Rattle.steps.specs.Counter.{Counter}
 use Rattle.calculus.specs.Rows.{Row}
-use Rattle.calculus.specs.Search.{Trail, HasAssumptions, IsClean, IsLast, MakesUnitAt, cause_on, value_on}
+use Rattle.calculus.specs.Search.{Trail, AreTheAssumptions, IsLast, MakesUnitAt, cause_on}
 use Rattle.calculus.specs.Search.Cause.{Propagated}
 use Rattle.calculus.specs.Verdicts.{IsEndRow}
 use Rattle.trail.specs.State.{TrailState, IsPropagated}
 use Rattle.derive.specs.State.{State, row_of}
-use Rattle.clean.specs.Blockers.{IsBlocked}
 use Rattle.clean.specs.Reasons.{IsReducedStep}
 use Rattle.clean.specs.Marks.{CleansReasons}
 use Rattle.analyse.specs.Levels.{MakesUnitFirstAt}
@@ -19,10 +18,10 @@ use Rattle.analyse.specs.declared.lesson.Lesson.TheVariants.{Learn, End}
 use Rattle.analyse.specs.declared.lesson.Next.{Next}
 use Rattle.analyse.specs.declared.lesson.Next.TheVariants.{Ends, Makes, Resolves as resolves_on}
 
--- a row is an end row under whatever assumptions a trail has
+-- a row is an end row under the assumptions of a trail
 abbrev pub EndsOn : Quant → List Scope → Trail → Row → Type 0
 EndsOn pivot scopes trail row =
-    (assumptions : List Literal) → HasAssumptions trail assumptions → IsEndRow pivot scopes assumptions row
+    (assumptions : List Literal) → AreTheAssumptions trail assumptions → IsEndRow pivot scopes assumptions row
 
 -- a lesson: a step whose row makes its literal unit at a level below that of the trail, the least one at which it does,
 -- or a step with an end row
@@ -31,24 +30,21 @@ IsLesson pivot scopes trail d (Learn row literal level) =
     IsReducedStep pivot scopes d row × MakesUnitFirstAt pivot scopes trail (row_of d row) literal level
 IsLesson pivot scopes trail d (End row) = IsReducedStep pivot scopes d row × EndsOn pivot scopes trail (row_of d row)
 
--- a row teaches nothing yet: its last pivot-type literal was propagated, and no level makes the row unit in it
-pub record IsUnlearned (pivot : Quant) (scopes : List Scope) (trail : Trail) (row : Row) : Type 0 where
+-- a resolution is due for a bad row, which teaches nothing yet: its last pivot-type literal was propagated, and no level
+-- makes the row unit in it
+pub record NeedsResolution (pivot : Quant) (scopes : List Scope) (trail : Trail) (row : Row) : Type 0 where
   pub literal : Literal
   pub last : IsLast pivot scopes trail row literal
   pub propagated : IsPropagated trail literal.variable
   pub no_level : (b : ℕ) → MakesUnitAt pivot scopes trail row literal b → ⊥
 
--- a resolution is due for a bad row: a literal keeps an open one from reduction, or the row teaches nothing yet
-abbrev pub NeedsResolution : Quant → List Scope → Trail → Row → Type 0
-NeedsResolution pivot scopes trail row = IsBlocked pivot scopes trail row ⊎ IsUnlearned pivot scopes trail row
-
--- what comes next for a clean row: it is an end row, or makes a literal unit, or its last pivot-type literal was
+-- what comes next for a bad row: it is an end row, or makes a literal unit, or its last pivot-type literal was
 -- propagated and no level makes it unit in that
 abbrev pub IsNext : Quant → List Scope → Trail → Row → Next → Type 0
 IsNext pivot scopes trail row Ends = EndsOn pivot scopes trail row
 IsNext pivot scopes trail row (Makes literal level) = MakesUnitFirstAt pivot scopes trail row literal level
 IsNext pivot scopes trail row (resolves_on literal reason) =
-    IsClean pivot (value_on trail) row × IsLast pivot scopes trail row literal
+    IsLast pivot scopes trail row literal
     × (cause_on trail literal.variable ≡ Some (Propagated reason))
     × ((b : ℕ) → MakesUnitAt pivot scopes trail row literal b → ⊥)
 

@@ -1,3 +1,4 @@
+pub mod Fronts
 pub mod Levels
 pub mod Lessons
 pub mod Worked

@@ -1,7 +1,7 @@
 //! The level at which a row is to be unit.
-ghost use Rattle.std.specs.Prelude.{◌≡◌, ◌<◌, ◌≤◌, ◌⊎◌, is_some, IfSome, IsNone, IsTrue, Contains};
+ghost use Rattle.std.specs.Prelude.{◌≡◌, ◌<◌, ◌≤◌, ◌⊎◌, None, is_some, IfSome, IsNone, IsTrue, Contains};
 ghost use Rattle.prefix.specs.Literal.{Literal};
-ghost use Rattle.calculus.specs.Search.{IsClean, decision_level_on, must_stay as stays, value_on};
+ghost use Rattle.calculus.specs.Search.{decision_level_on, must_stay as stays, value_on};
 ghost use Rattle.analyse.specs.Levels.{IsLevelBelow};
 
 use prefix::{Lit, Prefix, Side, Var};
@@ -13,6 +13,14 @@ pub(crate) fn level_of(trail: &Trail, v: Var) -> usize
     ensures { result ≡ decision_level_on trail.now.placed v }
 {
     trail.level_of(v).unwrap_or(0)
+}
+
+// The decision level of a variable; none exactly where it is unassigned.
+fn assigned_level(trail: &Trail, v: Var) -> Option<usize>
+    ensures some { IfSome result (λ level. level ≡ decision_level_on trail.now.placed v) }
+    ensures none { IsNone result → value_on trail.now.placed v ≡ None }
+{
+    trail.level_of(v)
 }
 
 // Whether a literal must stay bad where another one is to be unit: it is over another variable, and pivot-type or of an
@@ -29,10 +37,11 @@ fn must_stay<S: Side>(prefix: &Prefix, lit: Lit, unit: Lit) -> bool
     prefix.depth(lit.var()) < prefix.depth(unit.var())
 }
 
-// The greatest decision level of a clean row's literals over other variables than that of a literal that are pivot-type
-// or of an earlier scope than it; 0 where there are none.
+// The greatest decision level of a row's literals over other variables than that of a literal that are pivot-type or of
+// an earlier scope than it, each of which is assigned; 0 where there are none.
 pub(crate) fn level_below<S: Side>(trail: &Trail, prefix: &Prefix, row: &[Lit], unit: Lit) -> usize
-    requires { IsClean S.PIVOT (value_on trail.now.placed) row.now }
+    requires { (l : Literal) → Contains row.now l → IsTrue (stays S.PIVOT prefix.now unit l) →
+        IsTrue (is_some (value_on trail.now.placed l.variable)) }
     ensures { IsLevelBelow S.PIVOT prefix.now trail.now.placed unit row.now result }
 {
     let mut level = 0;
@@ -45,8 +54,8 @@ pub(crate) fn level_below<S: Side>(trail: &Trail, prefix: &Prefix, row: &[Lit], 
     level
 }
 
-// The level that `level_below` gives, where it is smaller than this one. The look at the row ends at the first literal
-// by which it isn't.
+// The level that `level_below` gives, where each of these literals is assigned and it is smaller than this one. The look
+// at the row ends at the first literal by which it isn't so.
 pub(crate) fn level_before<S: Side>(
     trail: &Trail,
     prefix: &Prefix,
@@ -54,18 +63,20 @@ pub(crate) fn level_before<S: Side>(
     unit: Lit,
     end: usize,
 ) -> Option<usize>
-    requires { IsClean S.PIVOT (value_on trail.now.placed) row.now }
     ensures some { IfSome result (λ level. IsLevelBelow S.PIVOT prefix.now trail.now.placed unit row.now level) }
     ensures small { IfSome result (λ level. level < end) }
     ensures none { IsNone result → (end ≡ 0) ⊎ ((l : Literal) × Contains row.now l
-        × IsTrue (stays S.PIVOT prefix.now unit l) × (end ≤ decision_level_on trail.now.placed l.variable)) }
+        × IsTrue (stays S.PIVOT prefix.now unit l) × ((value_on trail.now.placed l.variable ≡ None)
+        ⊎ (end ≤ decision_level_on trail.now.placed l.variable))) }
 {
     let mut level = 0;
     for lit in row {
         if !must_stay::<S>(prefix, *lit, unit) {
             continue;
         }
-        let other = level_of(trail, lit.var());
+        let Some(other) = assigned_level(trail, lit.var()) else {
+            return None;
+        };
         if end <= other {
             return None;
         }

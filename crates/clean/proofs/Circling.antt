@@ -521,7 +521,7 @@ spent_under before spent taken reduced most e fewer full few =
     omega arith
 
 -- what was propagated is so still
-kinds_cause : (trail : Trail) (x : ℕ) → cause_on (kinds_on trail) x ≡ option_map kind_of (cause_on trail x)
+pub kinds_cause : (trail : Trail) (x : ℕ) → cause_on (kinds_on trail) x ≡ option_map kind_of (cause_on trail x)
 kinds_cause [] x = refl
 kinds_cause (p ∷ trail) x =
     let q : Placed = record { literal = p.literal; cause = kind_of p.cause } in

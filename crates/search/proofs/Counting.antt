@@ -135,7 +135,7 @@ counted_push n start t now before same marks long within room rises h =
 -- reasons were made clean
 pub counted_owed : (n start made taken reduced : ℕ) (t now : TrailState) (before later : Counter)
     → length t.marks ≡ length t.placed → length t.placed ≤ n → MarksMore t now made
-    → taken ≤ made * length t.placed + 2 * length t.placed → reduced ≤ taken → later ≡ after before (taken + reduced)
+    → taken ≤ made * length t.placed + length t.placed → reduced ≤ taken → later ≡ after before (taken + reduced)
     → before.spent + (taken + reduced) ≤ before.budget → IsCounted n 1 start t before
     → IsCounted n (lesson_cost n) start now later
 counted_owed n start made taken reduced t now before later same short marks few fewer is within h =
@@ -182,7 +182,7 @@ counted_back n start t now steps shorter same marks assigned h =
 
 -- a stop after a few more steps, which the marks that are left pay for
 pub bounded_more : (n start taken : ℕ) (t now : TrailState) (before later : Counter) → length t.placed ≤ n
-    → taken ≤ 2 * (marks_left t * length t.placed + 2 * length t.placed) → now.assigned ≡ t.assigned
+    → taken ≤ 2 * (marks_left t * length t.placed + length t.placed) → now.assigned ≡ t.assigned
     → later ≡ after before taken → IsCounted n 1 start t before → IsBounded n start now later
 bounded_more n start taken t now before later short few assigned is h =
     let first = h.later in

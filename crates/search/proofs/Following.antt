@@ -141,8 +141,7 @@ ends_analysed scopes s new before now side row analyses step ends = record {
       (omega arith) refl
       (analyses.owed start is);
   row = step;
-  end = λ assumptions a. let h = analyses.assumed assumptions a in
-      ends assumptions (record { entries = h.entries; values = λ x b e. (h.stand x b e).0 });
+  end = λ assumptions a. ends assumptions (analyses.assumed assumptions a);
 }
 
 -- with less slack before

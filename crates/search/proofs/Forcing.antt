@@ -200,7 +200,7 @@ few_analysed n len marks start spent budget short few was h =
 
 pub few_analysis : (scopes : List Scope) (start : ℕ) (s : SearchState) (steps : Counter) → IsSearching scopes s
     → IsForced scopes start s steps
-    → left steps < 2 * (marks_left s.trail * length s.trail.placed + 2 * length s.trail.placed)
+    → left steps < 2 * (marks_left s.trail * length s.trail.placed + length s.trail.placed)
     → steps.budget - start < propagation_limit (size_of scopes)
 few_analysis scopes start s steps searching forced h =
     let short : length s.trail.placed ≤ size_of scopes =

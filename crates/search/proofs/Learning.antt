@@ -246,7 +246,7 @@ module _ (scopes : List Scope) (s new : SearchState) (before now : Counter) (wit
   short = trail_length scopes s.trail.placed searching.paused.intact.trail.ordered
 
   pub analyses : clauses_of new.derivation ≡ clauses_of s.derivation
-      → CleansReasons scopes s.derivation new.derivation s.trail new.trail before now (2 * length s.trail.placed)
+      → CleansReasons scopes s.derivation new.derivation s.trail new.trail before now (length s.trail.placed)
       → Analyses scopes s new before now
   analyses clauses cleans =
       let is = cleans.counted in
@@ -268,7 +268,7 @@ module _ (scopes : List Scope) (s new : SearchState) (before now : Counter) (wit
 
   pub halts_analysis : clauses_of new.derivation ≡ clauses_of s.derivation
       → StopsCleaning scopes s.derivation new.derivation s.trail new.trail before now
-      (marks_left s.trail * length s.trail.placed + 2 * length s.trail.placed) → Halts scopes 1 s new before now
+      (marks_left s.trail * length s.trail.placed + length s.trail.placed) → Halts scopes 1 s new before now
   halts_analysis clauses stops =
       let is = stops.counted in
       let spent : now.spent ≡ before.spent + stops.taken = ap (λ (c : Counter). c.spent) is in

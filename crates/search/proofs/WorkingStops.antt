@@ -9,8 +9,7 @@ use Rattle.calculus.specs.Rows.{Row, depth_of}
 use Rattle.calculus.specs.Search.{AreTheAssumptions, Trail, cause_on, value_on}
 use Rattle.calculus.specs.Search.Cause.{Assumed, Propagated}
 use Rattle.calculus.specs.Worked.{plus}
-use Rattle.clean.specs.Blockers.{IsBlocked}
-use Rattle.analyse.specs.Lessons.{IsUnlearned}
+use Rattle.analyse.specs.Lessons.{NeedsResolution}
 use Rattle.derive.specs.State.{OpenClause, State, clauses_of, open_clauses, row_of}
 use Rattle.search.specs.Moves.{IsDue}
 use Rattle.search.specs.Moves.IsDue.{unit, bad, cube, decision}
@@ -46,13 +45,6 @@ only_one side l is =
     (λ f. absurd (false≢true (rw f at is)))
     (cases_Bool (1 == l.variable))
 
-not_deeper : (x : ℕ) → depth_of alone x < 1 → ⊥
-not_deeper x l =
-    ⊎_elim
-    (λ t. not_less (rw t at l))
-    (λ f. absurd (let m = rw f at l in omega arith))
-    (cases_Bool (1 == x))
-
 module _ (placed : Trail) (assumed : AreTheAssumptions placed (plus 1 ∷ [])) where
   has_value : value_on placed 1 ≡ Some true
   has_value = (assumed.stand 1 true refl).0
@@ -60,14 +52,8 @@ module _ (placed : Trail) (assumed : AreTheAssumptions placed (plus 1 ∷ [])) w
   not_open : (x : ℕ) → x ≡ 1 → is_none (value_on placed x) ≡ true → ⊥
   not_open x one open_yet = false≢true (sym (ap is_none (ap (value_on placed) one ∙ has_value)) ∙ open_yet)
 
-  not_blocked : (side : Quant) (row : Row) → IsBlocked side alone placed row → ⊥
-  not_blocked side row is =
-      let one = only_one side is.blocker is.blocks.pivot_type in
-      not_deeper is.blocked.variable
-      (subst (λ x. depth_of alone is.blocked.variable < depth_of alone x) one is.blocks.later)
-
-  not_unlearned : (side : Quant) (row : Row) → IsUnlearned side alone placed row → ⊥
-  not_unlearned side row is =
+  not_needed : (side : Quant) (row : Row) → NeedsResolution side alone placed row → ⊥
+  not_needed side row is =
       let one = only_one side is.literal is.last.pivot_type in
       let g : Some Assumed ≡ Some (Propagated is.propagated.0) = sym (ap (cause_on placed) one
       ∙ (assumed.stand 1 true refl).1) ∙ is.propagated.1 in
@@ -87,7 +73,7 @@ nothing_due : (at : SearchState) → clauses_of at.derivation ≡ []
 nothing_due at clauses assumed (unit side id l step is) =
     not_open at.trail.placed assumed l.variable (only_one side l is.pivot_type) is.open_yet
 nothing_due at clauses assumed (bad side id step is needs) =
-    ⊎_elim (not_blocked at.trail.placed assumed side _) (not_unlearned at.trail.placed assumed side _) needs
+    not_needed at.trail.placed assumed side _ needs
 nothing_due at clauses assumed (decision x may is) =
     ⊎_elim
     (λ one. not_open at.trail.placed assumed x (sym one) (ap is_none is.unassigned))

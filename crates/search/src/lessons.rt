@@ -55,7 +55,7 @@ impl Search {
         ensures long { HasFewLong prefix.now self.old → OnOk result (HasFewLong prefix.now self.new) }
         ensures ends { last_level self.old.trail.placed ≡ 0 → result ≢ Ok None }
         ensures few { last_level self.old.trail.placed ≡ 0 → result ≡ Err spent → left steps.old
-            < 2 * (marks_left self.old.trail * length self.old.trail.placed + 2 * length self.old.trail.placed) }
+            < 2 * (marks_left self.old.trail * length self.old.trail.placed + length self.old.trail.placed) }
     {
         match self.analysed(prefix, side, row, steps)? {
             Lesson::End { row } => Ok(Some(EndRow { side, row })),
@@ -141,7 +141,7 @@ impl Search {
         ensures due { result ≡ Err spent → WasDue prefix.now self.old self.new }
         ensures reductions { ReducesFew self.old.derivation self.new.derivation steps.old steps.new }
         ensures few { result ≡ Err spent → left steps.old
-            < 2 * (marks_left self.old.trail * length self.old.trail.placed + 2 * length self.old.trail.placed) }
+            < 2 * (marks_left self.old.trail * length self.old.trail.placed + length self.old.trail.placed) }
     {
         holding_laws();
         agreeing_laws();
@@ -279,13 +279,13 @@ fn lesson_of(
     requires bad { IsBadRow side prefix.now (value_on trail.old.placed) (row_of derivation.old row) }
     ensures lesson { IfOk result (λ lesson. IsLesson side prefix.now trail.new.placed derivation.new lesson) }
     ensures counted { OnOk result (CleansReasons prefix.now derivation.old derivation.new trail.old trail.new
-        steps.old steps.new (2 * length trail.old.placed)) }
+        steps.old steps.new (length trail.old.placed)) }
     ensures err { OnErr result (StopsCleaning prefix.now derivation.old derivation.new trail.old trail.new
-        steps.old steps.new (marks_left trail.old * length trail.old.placed + 2 * length trail.old.placed)) }
+        steps.old steps.new (marks_left trail.old * length trail.old.placed + length trail.old.placed)) }
     ensures due { OnErr result (NeedsResolution side prefix.now trail.old.placed (row_of derivation.old row)) }
     ensures spent { result ≡ Err spent → steps.new.spent ≡ steps.new.budget }
     ensures few { result ≡ Err spent →
-        left steps.old < 2 * (marks_left trail.old * length trail.old.placed + 2 * length trail.old.placed) }
+        left steps.old < 2 * (marks_left trail.old * length trail.old.placed + length trail.old.placed) }
     ensures reasons { KeepsReasons prefix.now derivation.old derivation.new trail.old trail.new }
     ensures trail { IsTrailFor prefix.now trail.new }
     ensures gains { GainsSteps derivation.old derivation.new }

@@ -12,7 +12,7 @@ ghost use Rattle.test_search.specs.Tested.{HasUnitRow, IsStored, MayPend, is_fin
 mod conflicts;
 
 use analyse::{Lesson, analyse};
-use clean::{clean, clean_reason, resolve_away};
+use clean::{clean, clean_reason, resolve_away, resolve_by_reason};
 use derive::{Derivation, Step, StepId};
 use fixtures::{by_turns, holds, is_row, literal, other, row, variable};
 use prefix::{Clauses, Cubes, Lit, Prefix, Quant, Side, Var};
@@ -270,6 +270,7 @@ enum Ask {
     Clean,
     CleanReason(u32),
     ResolveAway(i32),
+    ResolveByReason(i32),
 }
 
 // What is told, beside a row.
@@ -405,12 +406,29 @@ impl<S: Side> Board<S> {
         Ok(told_by_cleaning(&resolved))
     }
 
+    fn resolve_by_reason(
+        &mut self,
+        id: StepId,
+        lit: Lit,
+        steps: &mut Steps,
+    ) -> Result<(Told, StepId), Fail> {
+        if !is_bad_row::<S>(&self.derivation, &self.trail, &self.prefix, id)?
+            || !is_resolvable::<S>(&self.trail, &self.prefix, self.derivation.lits(id), lit)
+        {
+            return Err("not to be resolved")?;
+        }
+        let (derivation, trail) = (&mut self.derivation, &mut self.trail);
+        let resolved = resolve_by_reason::<S>(derivation, trail, &self.prefix, id, lit, steps);
+        Ok(told_by_cleaning(&resolved))
+    }
+
     fn ask(&mut self, ask: Ask, id: StepId, steps: &mut Steps) -> Result<(Told, StepId), Fail> {
         match ask {
             Ask::Analyse => self.analyse(id, steps),
             Ask::Clean => self.clean(id, steps),
             Ask::CleanReason(number) => self.clean_reason(variable(number)?, steps),
             Ask::ResolveAway(number) => self.resolve_away(id, literal(number)?, steps),
+            Ask::ResolveByReason(number) => self.resolve_by_reason(id, literal(number)?, steps),
         }
     }
 
@@ -626,8 +644,8 @@ fn propagated_literals_are_learned(rt: HostRuntime) -> Result<(), Fail> {
     run(rt.alloc(), true, &[3], &moves)
 }
 
-// A reason stays as it is until it is used, and is cleaned then: that takes a resolution, and a reduction in which 2
-// goes.
+// A reason stays as it is where it is resolved with, unless it is asked for clean: that takes a resolution, and a
+// reduction in which 2 goes.
 #[test]
 fn reasons_are_cleaned_on_demand(rt: HostRuntime) -> Result<(), Fail> {
     let moves = [
@@ -637,7 +655,7 @@ fn reasons_are_cleaned_on_demand(rt: HostRuntime) -> Result<(), Fail> {
         Move::Propagate(3, 0),
         Move::Propagate(1, 1),
         Move::Ask(Ask::Analyse, 1, Told::End, [0; 3], 1),
-        Move::Marked(3, true),
+        Move::Marked(3, false),
         Move::Marked(1, false),
         Move::Ask(Ask::CleanReason(1), 0, Told::Spent, [0; 3], 0),
         Move::Ask(Ask::CleanReason(1), 1, Told::Spent, [0; 3], 1),
@@ -645,6 +663,44 @@ fn reasons_are_cleaned_on_demand(rt: HostRuntime) -> Result<(), Fail> {
         Move::Ask(Ask::CleanReason(1), 2, Told::Cleaned, [1, 0, 0], 2),
         Move::Marked(1, true),
         Move::Ask(Ask::CleanReason(1), 0, Told::Cleaned, [1, 0, 0], 0),
+    ];
+    run(rt.alloc(), true, &[1, 1, 1], &moves)
+}
+
+// The reason of -3 is taken as it stands, with 4, and the lesson keeps the open 2.
+#[test]
+fn open_literals_are_learned(rt: HostRuntime) -> Result<(), Fail> {
+    let moves = [
+        Move::Put([-4, 0, 0]),
+        Move::Put([1, -3, 4]),
+        Move::Put([2, 3, 0]),
+        Move::Propagate(-4, 0),
+        Move::Decide(-1),
+        Move::Propagate(-3, 1),
+        Move::Ask(Ask::Analyse, 0, Told::Spent, [0; 3], 0),
+        Move::Ask(Ask::ResolveByReason(3), 1, Told::Cleaned, [1, 2, 4], 1),
+        Move::Ask(Ask::Analyse, 1, Told::Learn(1, 0), [1, 2, 4], 1),
+        Move::Marked(3, false),
+        Move::Ask(Ask::Clean, 4, Told::Cleaned, [1, 0, 0], 3),
+        Move::Marked(3, true),
+    ];
+    run(rt.alloc(), true, &[1, 1, 2], &moves)
+}
+
+// The reason of 1 holds 2 and the row -2, so it is made clean before: two steps, and two more for the row.
+#[test]
+fn reasons_that_clash_are_cleaned(rt: HostRuntime) -> Result<(), Fail> {
+    let moves = [
+        Move::Put([3, 0, 0]),
+        Move::Put([1, 2, -3]),
+        Move::Put([-1, -2, -3]),
+        Move::Propagate(3, 0),
+        Move::Propagate(1, 1),
+        Move::Ask(Ask::Analyse, 0, Told::Spent, [0; 3], 0),
+        Move::Ask(Ask::Analyse, 3, Told::Spent, [0; 3], 3),
+        Move::Marked(1, true),
+        Move::Ask(Ask::ResolveByReason(-1), 1, Told::Cleaned, [-2, -3, 0], 1),
+        Move::Ask(Ask::Analyse, 2, Told::End, [-2, 0, 0], 2),
     ];
     run(rt.alloc(), true, &[1, 1, 1], &moves)
 }

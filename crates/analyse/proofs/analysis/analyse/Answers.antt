@@ -6,31 +6,31 @@ use Rattle.clean.proofs.Ends.{cleans_counted, gains_on, rises_on, under_limit, u
 use Rattle.analyse.proofs.analysis.analyse.Goals as goal
 
 pub returns-clause-lesson : goal.returns-clause-lesson
-returns-clause-lesson g c = IfOk-weaker c.analyse_row.result _ _ (λ lesson learns. learns.is) c.analyse_row.ensures.ok
+returns-clause-lesson g c = IfOk-weaker c.learn.result _ _ (λ lesson learns. learns.is) c.learn.ensures.ok
 
 pub returns-clause-counted : goal.returns-clause-counted
-returns-clause-counted g c = cleans_counted c.analyse_row.result _ _
-    (λ id cleans. cleans.cleans) c.analyse_row.ensures.ok
+returns-clause-counted g c = cleans_counted c.learn.result _ _
+    (λ id cleans. cleans.cleans) c.learn.ensures.ok
 
 pub returns-clause-gains : goal.returns-clause-gains
 returns-clause-gains g c =
-    gains_on c.args.prefix.now c.args.derivation.now c.analyse_row.new.derivation c.args.trail.now
-    c.analyse_row.new.trail c.args.steps.now c.analyse_row.new.steps (2 * length c.args.trail.now.placed)
-    (marks_left c.args.trail.now * length c.args.trail.now.placed + 2 * length c.args.trail.now.placed)
-    c.analyse_row.result
+    gains_on c.args.prefix.now c.args.derivation.now c.learn.new.derivation c.args.trail.now
+    c.learn.new.trail c.args.steps.now c.learn.new.steps (length c.args.trail.now.placed)
+    (marks_left c.args.trail.now * length c.args.trail.now.placed + length c.args.trail.now.placed)
+    c.learn.result
     (unlinked_now c.args.derivation.now c.requires.rows c.next_id.ensures.fits)
-    (cleans_counted c.analyse_row.result _ _
-    (λ id cleans. cleans.cleans) c.analyse_row.ensures.ok) c.analyse_row.ensures.err
+    (cleans_counted c.learn.result _ _
+    (λ id cleans. cleans.cleans) c.learn.ensures.ok) c.learn.ensures.err
 
 pub returns-clause-rises : goal.returns-clause-rises
 returns-clause-rises g c =
-    rises_on c.args.prefix.now c.args.derivation.now c.analyse_row.new.derivation c.args.trail.now
-    c.analyse_row.new.trail c.args.steps.now c.analyse_row.new.steps (2 * length c.args.trail.now.placed)
-    (marks_left c.args.trail.now * length c.args.trail.now.placed + 2 * length c.args.trail.now.placed)
-    c.analyse_row.result
-    (cleans_counted c.analyse_row.result _ _
-    (λ id cleans. cleans.cleans) c.analyse_row.ensures.ok) c.analyse_row.ensures.err
+    rises_on c.args.prefix.now c.args.derivation.now c.learn.new.derivation c.args.trail.now
+    c.learn.new.trail c.args.steps.now c.learn.new.steps (length c.args.trail.now.placed)
+    (marks_left c.args.trail.now * length c.args.trail.now.placed + length c.args.trail.now.placed)
+    c.learn.result
+    (cleans_counted c.learn.result _ _
+    (λ id cleans. cleans.cleans) c.learn.ensures.ok) c.learn.ensures.err
 
 pub returns-clause-limit : goal.returns-clause-limit
 returns-clause-limit g c = λ e. under_limit c.args.trail.now (left c.args.steps.now)
-    (2 * length c.args.trail.now.placed) (c.analyse_row.ensures.spent e).1 (omega arith)
+    (length c.args.trail.now.placed) (c.learn.ensures.spent e).1 (omega arith)

@@ -22,7 +22,7 @@ loop-lit-preserved g c =
     let row = c.args.row.now in
     let i = c.loop-lit.lit-index in
     let trail = c.args.trail.now.placed in
-    let level = c.max-level.ensures ∙ ap (λ n. max n c.loop-lit.level) (c.level_of-other.ensures
+    let level = c.max-level.ensures ∙ ap (λ n. max n c.loop-lit.level) (c.in-Some.ensures.some
     ∙ ap (decision_level_on trail) c.var.ensures) in
     let all = one_more row i c.lit-item.result c.loop-lit-test.true c.lit-item.is in
     rw (all, level) (level_takes g.S.Side.PIVOT c.args.prefix.now trail c.args.unit

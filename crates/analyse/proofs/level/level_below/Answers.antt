@@ -1,6 +1,5 @@
 use Rattle.std.proofs.Common.{max, is_some, Contains, take, sym, subst, ap, ◌∙◌}
 use Rattle.calculus.specs.Search.{decision_level_on, value_on}
-use Rattle.calculus.proofs.Searching.{bad_assigned}
 use Rattle.std.proofs.lemmas.List.{take_all}
 use Rattle.calculus.specs.Rows.{Row}
 use Rattle.analyse.specs.Levels.{IsLevelBelow}
@@ -37,7 +36,7 @@ level_of-requires g c =
     let l = c.lit-item.result in
     let stands : Contains c.args.row.now l = (c.loop-lit.lit-index, c.loop-lit-test.true, sym c.lit-item.is) in
     ap (λ x. is_some (value_on trail x)) c.var.ensures
-    ∙ bad_assigned g.S.Side.PIVOT (value_on trail l.variable) l (c.requires l stands)
+    ∙ c.requires l stands (sym c.must_stay.ensures ∙ c.if-not-must_stay.false)
 
 pub returns : goal.returns
 returns g c =
