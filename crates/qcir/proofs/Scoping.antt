@@ -5,7 +5,7 @@ use Rattle.std.specs.Option.{option_map}
 use Rattle.std.specs.List.{AllByRecursion}
 use Rattle.std.specs.List.Sorted.{IsPermutation}
 use Rattle.std.proofs.lemmas.Bool.{eqb-true, ne_eqb, or_cases, or_left, or_right}
-use Rattle.std.proofs.lemmas.List.{take_all, take_more}
+use Rattle.std.proofs.lemmas.List.{take_all}
 use Rattle.prefix.specs.declared.quant.Quant.{Quant}
 use Rattle.prefix.specs.declared.quant.Quant.TheVariants.{Exists, Forall}
 use Rattle.prefix.specs.declared.refusal.PrefixRefusal.{PrefixRefusal}
@@ -231,20 +231,15 @@ followed_is (s ∷ rest) names h =
 
 -- The greatest number.
 
-greatest_more : (xs : List ℕ) (v : ℕ) → greatest_of (xs ++ v ∷ []) ≡ max (greatest_of xs) v
-greatest_more [] v = omega arith
-greatest_more (x ∷ xs) v = omega (arith, greatest_more xs v)
-
 greatest_both : (xs ys : List ℕ) → greatest_of (xs ++ ys) ≡ max (greatest_of xs) (greatest_of ys)
 greatest_both [] ys = omega arith
 greatest_both (x ∷ xs) ys = omega (arith, greatest_both xs ys)
 
--- of one more variable
-pub greatest_next : (xs : List ℕ) (i v least old new : ℕ) → i < length xs → v ≡ get_or xs i 0
-    → old ≡ max least (greatest_of (take i xs)) → new ≡ max old v → new ≡ max least (greatest_of (take (i + 1) xs))
-greatest_next xs i v least old new low is before grown =
-    let all : greatest_of (take (i + 1) xs) ≡ max (greatest_of (take i xs)) (get_or xs i 0) =
-    ap greatest_of (take_more xs i 0 low) ∙ greatest_more (take i xs) (get_or xs i 0) in
+-- one more variable is looked at
+pub greatest_next : (left later : List ℕ) (v number old new bound : ℕ) → left ≡ v ∷ later → number ≡ v
+    → max old (greatest_of left) ≡ bound → new ≡ max old number → max new (greatest_of later) ≡ bound
+greatest_next left later v number old new bound steps is before grown =
+    let all : greatest_of left ≡ max v (greatest_of later) = ap greatest_of steps in
     omega (arith, all, is, before, grown)
 
 -- of one more scope

@@ -11,6 +11,7 @@ ghost use Rattle.qcir.specs.Building.{ends_existential as is_last_existential};
 use crate::circuit::{Circuit, Gate};
 use prefix::{Prefix, PrefixRefusal, Quant, Var};
 use std::alloc::{AllocError, Global};
+use std::collections::BTreeSet;
 
 // The scopes of a circuit with its gates in the last, or behind it.
 pub(crate) fn prefix_of(alloc: Global, circuit: &Circuit) -> Result<Prefix, PrefixRefusal>
@@ -45,7 +46,7 @@ fn joined(alloc: Global, circuit: &Circuit) -> Result<Prefix, PrefixRefusal>
 {
     let count = circuit.prefix.scopes();
     let mut vars = Vec::new(alloc);
-    vars.extend_from_slice(circuit.prefix.vars_of(count))?;
+    put_vars(&mut vars, circuit.prefix.vars_of(count))?;
     put_names(&mut vars, circuit.gates.gates())?;
     with_last(alloc, &circuit.prefix, count - 1, vars)
 }
@@ -66,6 +67,16 @@ fn followed(alloc: Global, circuit: &Circuit) -> Result<Prefix, PrefixRefusal>
     let mut vars = Vec::new(alloc);
     put_names(&mut vars, gates)?;
     with_last(alloc, &circuit.prefix, count, vars)
+}
+
+// Puts the variables of a set behind others, ascending.
+fn put_vars(vars: &mut Vec<Var>, set: &BTreeSet<Var>) -> Result<(), AllocError>
+    ensures { OnOk result (vars.new.items ≡ vars.old.items ++ set.now.keys) }
+{
+    for v in set {
+        vars.push(*v)?;
+    }
+    Ok(())
 }
 
 // Puts the variables of gates behind others.
@@ -110,9 +121,27 @@ fn first_scopes(alloc: Global, old: &Prefix, count: usize) -> Result<Prefix, Pre
     let mut prefix = Prefix::new(alloc);
     for s in 0..count {
         let quant = old.scope_quant(s + 1).unwrap();
-        add_scope(&mut prefix, quant, old.vars_of(s + 1))?;
+        copy_scope(alloc, &mut prefix, quant, old.vars_of(s + 1))?;
     }
     Ok(prefix)
+}
+
+// Puts in a scope with the variables of a set as the last.
+fn copy_scope(
+    alloc: Global,
+    prefix: &mut Prefix,
+    quant: Quant,
+    set: &BTreeSet<Var>,
+) -> Result<(), PrefixRefusal>
+    requires room { length prefix.old < 65536 }
+    requires new { AreNew prefix.old set.now.keys }
+    ensures ok { OnOk result (prefix.new
+        ≡ prefix.old ++ record { quantifier = quant; variables = ascending set.now.keys } ∷ []) }
+    ensures memory { IsOkUnless result PrefixRefusal.NoMemory }
+{
+    let mut vars = Vec::new(alloc);
+    put_vars(&mut vars, set)?;
+    add_scope(prefix, quant, &vars)
 }
 
 // Puts in a scope as the last.
@@ -143,8 +172,8 @@ pub(crate) fn greatest_var(prefix: &Prefix) -> u32
 }
 
 // The greatest of a number and those of variables.
-fn greatest_above(least: u32, vars: &[Var]) -> u32
-    ensures { result ≡ max least (greatest_of vars.now) }
+fn greatest_above(least: u32, vars: &BTreeSet<Var>) -> u32
+    ensures { result ≡ max least (greatest_of vars.now.keys) }
 {
     let mut greatest = least;
     for v in vars {

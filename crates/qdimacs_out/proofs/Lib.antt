@@ -1,5 +1,6 @@
 pub mod Lines
 pub mod Numbered
+pub mod GoneOver
 pub mod All
 pub mod Parting
 pub mod Spelling

@@ -15,6 +15,7 @@ use crate::words;
 use blocks::Block;
 use ports::{Failed, Sink};
 use prefix::{Lit, LitList, Prefix, Quant, Var};
+use std::collections::BTreeSet;
 use truth::Formula;
 
 /// Writes a formula as QDIMACS 1.1 writes it: the header `p cnf VARS CLAUSES` with the declared numbers, a line for
@@ -70,12 +71,12 @@ fn put_scopes<S: Sink>(prefix: &Prefix, block: &mut Block, sink: &mut S) -> Resu
 // Puts the line of a scope.
 fn put_scope<S: Sink>(
     quant: Quant,
-    vars: &[Var],
+    vars: &BTreeSet<Var>,
     block: &mut Block,
     sink: &mut S,
 ) -> Result<(), Failed>
     ensures { Puts S.written S.flushed S.faults S.has_room sink.old block.old sink.new block.new
-        (scope_text (record { quantifier = quant; variables = vars.now })) result }
+        (scope_text (record { quantifier = quant; variables = vars.now.keys })) result }
 {
     put_quantifier(quant, block, sink)?;
     put_variables(vars, block, sink)?;
@@ -94,9 +95,13 @@ fn put_quantifier<S: Sink>(quant: Quant, block: &mut Block, sink: &mut S) -> Res
 }
 
 // Puts the numbers of variables, each with a blank.
-fn put_variables<S: Sink>(vars: &[Var], block: &mut Block, sink: &mut S) -> Result<(), Failed>
+fn put_variables<S: Sink>(
+    vars: &BTreeSet<Var>,
+    block: &mut Block,
+    sink: &mut S,
+) -> Result<(), Failed>
     ensures { Puts S.written S.flushed S.faults S.has_room sink.old block.old sink.new block.new
-        (flat_map (λ v. spaced (decimal v)) vars.now) result }
+        (flat_map (λ v. spaced (decimal v)) vars.now.keys) result }
 {
     for v in vars {
         block.put_line(&words::variable(*v), sink)?;

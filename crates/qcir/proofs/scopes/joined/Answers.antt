@@ -16,7 +16,7 @@ vars_are : (c : In_ok-put_names) → c.put_names.new.vars.items
 vars_are c =
     c.in_ok-put_names.ensures
     ∙ ap₂ (λ (vs names : List ℕ). vs ++ names)
-    (c.in_ok-extend_from_slice.ensures.items
+    (c.in_ok-put_vars.ensures
     ∙ ap₂ (λ (us vs : List ℕ). us ++ vs) c.new-vars.ensures.items
     (c.vars_of.ensures ∙ ap (variables_at c.args.circuit.now.prefix) c.scopes-count.ensures.value))
     (ap gate_names c.gates.ensures)

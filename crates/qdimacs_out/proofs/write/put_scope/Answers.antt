@@ -11,8 +11,8 @@ use Rattle.qdimacs_out.proofs.write.put_scope.Goals as goal
 pub returns-in_err-put_quantifier : goal.returns-in_err-put_quantifier
 returns-in_err-put_quantifier g c =
     let letter = spaced (quantifier_word c.args.quant) in
-    let vars = flat_map (λ v. spaced (decimal v)) c.args.vars.now in
-    rw (scope_is c.args.quant c.args.vars.now)
+    let vars = flat_map (λ v. spaced (decimal v)) c.args.vars.now.keys in
+    rw (scope_is c.args.quant c.args.vars.now.keys)
     (puts_err g.S.Sink.written g.S.Sink.flushed g.S.Sink.faults g.S.Sink.has_room _ c.from_residual.result
     c.args.sink.now c.args.block.now c.put_quantifier.new.sink c.put_quantifier.new.block (letter ++ (vars ++ closing))
     c.from_residual.ensures.1
@@ -22,8 +22,8 @@ returns-in_err-put_quantifier g c =
 pub returns-in_err-put_variables : goal.returns-in_err-put_variables
 returns-in_err-put_variables g c =
     let letter = spaced (quantifier_word c.args.quant) in
-    let vars = flat_map (λ v. spaced (decimal v)) c.args.vars.now in
-    rw (scope_is c.args.quant c.args.vars.now)
+    let vars = flat_map (λ v. spaced (decimal v)) c.args.vars.now.keys in
+    rw (scope_is c.args.quant c.args.vars.now.keys)
     (puts_err g.S.Sink.written g.S.Sink.flushed g.S.Sink.faults g.S.Sink.has_room _
     c.from_residual-in_err-put_variables.result c.args.sink.now c.args.block.now c.put_variables.new.sink
     c.put_variables.new.block
@@ -39,8 +39,8 @@ returns-in_err-put_variables g c =
 pub returns : goal.returns
 returns g c =
     let letter = spaced (quantifier_word c.args.quant) in
-    let vars = flat_map (λ v. spaced (decimal v)) c.args.vars.now in
-    rw (scope_is c.args.quant c.args.vars.now)
+    let vars = flat_map (λ v. spaced (decimal v)) c.args.vars.now.keys in
+    rw (scope_is c.args.quant c.args.vars.now.keys)
     (puts_then g.S.Sink.written g.S.Sink.flushed g.S.Sink.faults g.S.Sink.has_room c.put_end.result c.args.sink.now
     c.args.block.now
     c.put_quantifier.new.sink c.put_quantifier.new.block c.put_end.new.sink c.put_end.new.block letter (vars ++ closing)

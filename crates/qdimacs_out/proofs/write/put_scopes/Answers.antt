@@ -13,22 +13,22 @@ loop-s-init g c =
 pub loop-s-preserved : goal.loop-s-preserved
 loop-s-preserved g c =
     let ss = c.args.prefix.now in
-    let here : Scope = record { quantifier = c.unwrap.result; variables = c.vars_of.result.now } in
+    let here : Scope = record { quantifier = c.unwrap.result; variables = c.vars_of.result.now.keys } in
     let below : suc c.loop-s.s ≤ length ss = omega arith in
     each_more g.S.Sink.written g.S.Sink.flushed g.S.Sink.faults g.S.Sink.has_room scope_text ss c.loop-s.s here
     c.args.sink.now c.args.block.now c.loop-s.sink c.loop-s.block c.put_scope.new.sink c.put_scope.new.block
     (scope_text here) below
-    (ap scope_text (scope_found ss c.loop-s.s here c.unwrap.result c.scope_quant.result c.vars_of.result.now below
+    (ap scope_text (scope_found ss c.loop-s.s here c.unwrap.result c.scope_quant.result c.vars_of.result.now.keys below
     c.scope_quant.ensures.value c.unwrap.ensures c.vars_of.ensures)) c.loop-s.invariant c.in_ok-put_scope.ensures
 
 pub returns-in_err-put_scope : goal.returns-in_err-put_scope
 returns-in_err-put_scope g c =
     let ss = c.args.prefix.now in
-    let here : Scope = record { quantifier = c.unwrap.result; variables = c.vars_of.result.now } in
+    let here : Scope = record { quantifier = c.unwrap.result; variables = c.vars_of.result.now.keys } in
     let below : suc c.loop-s.s ≤ length ss = omega arith in
     each_stops g.S.Sink.written g.S.Sink.flushed g.S.Sink.faults g.S.Sink.has_room scope_text ss c.loop-s.s here
     c.args.sink.now c.args.block.now c.loop-s.sink c.loop-s.block c.put_scope.new.sink c.put_scope.new.block
     (scope_text here) _ c.from_residual.result below
-    (ap scope_text (scope_found ss c.loop-s.s here c.unwrap.result c.scope_quant.result c.vars_of.result.now below
+    (ap scope_text (scope_found ss c.loop-s.s here c.unwrap.result c.scope_quant.result c.vars_of.result.now.keys below
     c.scope_quant.ensures.value c.unwrap.ensures c.vars_of.ensures)) c.loop-s.invariant c.in_err-put_scope.ensures
     c.from_residual.ensures.1
