@@ -1,5 +1,5 @@
 //! The circuit of a core.
-ghost use Rattle.std.specs.Prelude.{◌≡◌, ◌≢◌, ℕ, ◌+◌, ◌<◌, ◌≤◌, ◌⊎◌, ◌&&◌, not, Bool, None, Some, [], length, map, filter, is_some, false, unwrap_or, ◌^◌, All, if◌then◌else◌, Contains, List, IfOk, OnOk, IsTrue};
+ghost use Rattle.std.specs.Prelude.{◌≡◌, ◌≢◌, ℕ, ◌+◌, ◌<◌, ◌≤◌, ◌⊎◌, ◌++◌, ◌&&◌, not, Bool, None, Some, [], length, map, filter, is_some, false, unwrap_or, ◌^◌, All, if◌then◌else◌, Contains, List, IfOk, OnOk, IsTrue};
 ghost use Rattle.prefix.specs.Scopes.{quantifier_of, all_variables, is_among};
 ghost use Rattle.truth.specs.Truth.{assumed_value};
 ghost use Rattle.calculus.specs.Rows.{Row, Assignment, is_of};
@@ -22,6 +22,7 @@ use calculus::circuits_win;
 use prefix::{Lit, Prefix, Quant, Var};
 use qrp_trace::Core;
 use std::alloc::Global;
+use std::collections::BTreeSet;
 use steps::NoMemory;
 
 // The variables of a prefix, in order.
@@ -32,9 +33,19 @@ fn variables_of(alloc: Global, prefix: &Prefix) -> Result<Vec<Var>, NoMemory>
     let _ = prefix.len();
     let mut vars = Vec::new(alloc);
     for s in 0..prefix.scopes() {
-        vars.extend_from_slice(prefix.vars_of(s + 1))?;
+        push_scope(&mut vars, prefix.vars_of(s + 1))?;
     }
     Ok(vars)
+}
+
+// Puts the variables of a scope at the end.
+fn push_scope(vars: &mut Vec<Var>, scope: &BTreeSet<Var>) -> Result<(), NoMemory>
+    ensures { OnOk result (vars.new.items ≡ vars.old.items ++ scope.now.keys) }
+{
+    for v in scope {
+        vars.push(*v)?;
+    }
+    Ok(())
 }
 
 // Whether a variable has this quantifier.
