@@ -1,5 +1,6 @@
 mod Feeding
 mod Numbers
+mod Passing
 pub mod Certifying
 pub mod Checking
 pub mod CircuitValues

@@ -12,6 +12,7 @@ use engine::Engine;
 use frames::FrameRefusal;
 use prefix::{Lit, LitList, Prefix, Quant, Var};
 use std::alloc::{AllocError, Global};
+use std::collections::BTreeSet;
 use truth::Formula;
 
 // Gives the scopes, the variables and the clauses of a formula to an engine that has none. They are refused for want of
@@ -43,13 +44,13 @@ fn feed_scopes(engine: &mut Engine, prefix: &Prefix) -> Result<(), FrameRefusal>
 }
 
 // Gives a scope, as the last, with its variables.
-fn feed_scope(engine: &mut Engine, quant: Quant, vars: &[Var]) -> Result<(), FrameRefusal>
+fn feed_scope(engine: &mut Engine, quant: Quant, vars: &BTreeSet<Var>) -> Result<(), FrameRefusal>
     requires holds { HoldsFormula engine.old.formula.scopes [] engine.old }
     requires room { length engine.old.formula.scopes < 65536 }
-    requires new { AreNew engine.old.formula.scopes vars.now }
-    requires ascending { IsAscending vars.now }
+    requires new { AreNew engine.old.formula.scopes vars.now.keys }
+    requires ascending { IsAscending vars.now.keys }
     ensures ok { OnOk result (HoldsFormula (engine.old.formula.scopes
-        ++ record { quantifier = quant; variables = vars.now } ∷ []) [] engine.new) }
+        ++ record { quantifier = quant; variables = vars.now.keys } ∷ []) [] engine.new) }
     ensures memory { IsOkUnless result FrameRefusal.NoMemory }
 {
     engine.scope(quant, None)?;
