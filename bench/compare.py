@@ -1,6 +1,6 @@
 #!/usr/bin/env python3
-"""Runs qbf, and DepQBF where it is installed, on a folder of formulas, and prints solved formulas and total time a
-family.
+"""Runs qbf, and DepQBF where it is installed, on a folder of formulas, and prints solved formulas and processor seconds
+a family. DepQBF runs twice, with the calculus of qbf and at its default.
 
 Ends with status 1 where two verdicts differ.
 
@@ -11,25 +11,32 @@ With --csv the file gets a line for each run: the formula, the solver, true, fal
 """
 
 import csv
+import math
 import os
+import resource
 import shutil
 import subprocess
 import sys
-import time
 from collections import defaultdict
 from pathlib import Path
 
 DEPQBF = "depqbf --dep-man=simple --traditional-qcdcl --no-qbce-dynamic --no-pure-literals"
 
 
+def processor_seconds():
+    """What the processes that ended took so far."""
+    used = resource.getrusage(resource.RUSAGE_CHILDREN)
+    return used.ru_utime + used.ru_stime
+
+
 def run(command, path, limit):
-    """The verdict, or None, and the seconds that it took."""
-    started = time.monotonic()
-    try:
-        done = subprocess.run([*command, str(path)], capture_output=True, text=True, timeout=limit)
-    except subprocess.TimeoutExpired:
+    """The verdict, or None, and the processor seconds that it took; the limit where it didn't end within it."""
+    started = processor_seconds()
+    cap = lambda: resource.setrlimit(resource.RLIMIT_CPU, (math.ceil(limit), math.ceil(limit) + 1))
+    done = subprocess.run([*command, str(path)], capture_output=True, text=True, preexec_fn=cap)
+    spent = processor_seconds() - started
+    if done.returncode < 0 or spent > limit:
         return None, limit
-    spent = time.monotonic() - started
     return {10: True, 20: False}.get(done.returncode), spent
 
 
@@ -53,7 +60,8 @@ def main():
     root = Path(__file__).resolve().parent.parent
     solvers = {"qbf": os.environ.get("QBF", f"{root}/bin/qbf solve").split()}
     if shutil.which("depqbf"):
-        solvers["depqbf"] = DEPQBF.split()
+        solvers["depqbf, same calculus"] = DEPQBF.split()
+        solvers["depqbf"] = ["depqbf"]
     counts = defaultdict(int)
     solved = defaultdict(int)
     seconds = defaultdict(float)
@@ -76,6 +84,8 @@ def main():
     for family, count in counts.items():
         cells = [f"{solved[family, n]} | {seconds[family, n]:.2f}" for n in solvers]
         print(f"| {family} | {count} | " + " | ".join(cells) + " |")
+    cells = [f"{sum(solved[f, n] for f in counts)} | {sum(seconds[f, n] for f in counts):.2f}" for n in solvers]
+    print(f"| all | {sum(counts.values())} | " + " | ".join(cells) + " |")
     for name in differ:
         print(f"verdicts differ: {name}")
     sys.exit(1 if differ else 0)
