@@ -132,6 +132,9 @@ counted_push n start t now before same marks long within room rises h =
       omega arith,
     )
 
+more_taken : (taken a b : ℕ) → taken ≤ a + b → taken ≤ a + 2 * b
+more_taken taken a b few = omega arith
+
 -- reasons were made clean
 pub counted_owed : (n start made taken reduced : ℕ) (t now : TrailState) (before later : Counter)
     → length t.marks ≡ length t.placed → length t.placed ≤ n → MarksMore t now made
@@ -148,7 +151,8 @@ counted_owed n start made taken reduced t now before later same short marks few 
     let left : marks_left now ≡ marks_left t - made = omega arith in
     let most : made ≤ marks_left t = omega arith in
     let owed = few_owed n (before.spent - start) (length t.placed)
-    (marks_left t) made taken reduced t.assigned h.few few fewer most short in
+    (marks_left t) made taken reduced t.assigned h.few
+    (more_taken taken (made * length t.placed) (length t.placed) few) fewer most short in
     let used : (before.spent + (taken + reduced)) - start ≡ (before.spent - start) + (taken + reduced) = omega arith in
     rw is (record {
       later = omega arith;

@@ -198,6 +198,9 @@ few_analysed n len marks start spent budget short few was h =
     let three : 2 * n * (n + 3) ≡ 2 * (n * n) + 6 * n = omega arith in
     omega arith
 
+wider : (x a b : ℕ) → x < 2 * (a + b) → x < 2 * (a + 2 * b)
+wider x a b h = omega arith
+
 pub few_analysis : (scopes : List Scope) (start : ℕ) (s : SearchState) (steps : Counter) → IsSearching scopes s
     → IsForced scopes start s steps
     → left steps < 2 * (marks_left s.trail * length s.trail.placed + length s.trail.placed)
@@ -206,7 +209,8 @@ few_analysis scopes start s steps searching forced h =
     let short : length s.trail.placed ≤ size_of scopes =
     trail_length scopes s.trail.placed searching.paused.intact.trail.ordered in
     few_analysed (size_of scopes) (length s.trail.placed) (marks_left s.trail) start steps.spent steps.budget short
-    (omega arith) forced.counted h
+    (omega arith) forced.counted
+    (wider (left steps) (marks_left s.trail * length s.trail.placed) (length s.trail.placed) h)
 
 -- the start
 pub forced_start : (scopes : List Scope) (s : SearchState) (assumptions : List Literal) (before : Counter)
