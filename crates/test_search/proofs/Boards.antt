@@ -22,7 +22,7 @@ use Rattle.derive.specs.Told.{told}
 use Rattle.derive.specs.Growing.{GainsSteps}
 use Rattle.clean.specs.Marks.{CleansReasons, KeepsReasons, StopsCleaning}
 use Rattle.clean.specs.Reasons.{HaveReasons, IsReducedStep}
-use Rattle.clean.specs.Cleaning.{MayReplace, Replaces}
+use Rattle.clean.specs.Cleaning.{MayReplace, Replaces, ReplacesBefore}
 use Rattle.clean.proofs.Reasoning.{assigned_have}
 use Rattle.test_search.specs.Tested.{HasUnitRow, IsReady, IsStored, MayPend, is_finished}
 
@@ -111,6 +111,12 @@ module _ (scopes : List Scope) (old new : State) (t now : TrailState) (before la
       → OnErr r (StopsCleaning scopes old new t now before later most) → Keeps old new t now
   by_replacing pivot row f most (Ok x) ok err = cleans 1 ok.cleans
   by_replacing pivot row f most (Err e) ok err = stops most err
+
+  pub by_replacing_before : {E : Type 0} (pivot : Quant) (row : ℕ) (f : Literal) (most : ℕ) (r : Result ℕ E) → IfOk r
+      (λ id. ReplacesBefore pivot scopes t now old new before later row f id)
+      → OnErr r (StopsCleaning scopes old new t now before later most) → Keeps old new t now
+  by_replacing_before pivot row f most (Ok x) ok err = cleans 1 ok.cleans
+  by_replacing_before pivot row f most (Err e) ok err = stops most err
 
 pub called_ready : (pivot : Quant) (scopes : List Scope) (old new : State) (t now : TrailState)
     → IsReady pivot scopes old t → Keeps old new t now → KeepsReasons scopes old new t now → IsTrailFor scopes now

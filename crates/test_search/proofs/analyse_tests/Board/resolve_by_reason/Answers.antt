@@ -1,6 +1,6 @@
 use Rattle.std.proofs.Common.{Contains, refl, subst}
 use Rattle.calculus.specs.Rows.{Row}
-use Rattle.test_search.proofs.Boards.{by_replacing, called_ready, may_replace}
+use Rattle.test_search.proofs.Boards.{by_replacing_before, called_ready, may_replace}
 use Rattle.test_search.proofs.analyse_tests.Board.resolve_by_reason.Goals as goal
 
 pub resolve_by_reason-resolved-requires-clause-may : goal.resolve_by_reason-resolved-requires-clause-may
@@ -21,5 +21,5 @@ invariant_of-self g c =
     let d = c.self.inside.derivation in
     let t = c.self.inside.trail in
     called_ready g.S.Side.PIVOT scopes d call.new.derivation t call.new.trail c.self.invariant
-    (by_replacing scopes d call.new.derivation t call.new.trail c.args.steps.now call.new.steps g.S.Side.PIVOT
+    (by_replacing_before scopes d call.new.derivation t call.new.trail c.args.steps.now call.new.steps g.S.Side.PIVOT
     c.args.id c.args.lit _ call.result e.ok e.err) e.reasons e.trail e.legal
