@@ -10,6 +10,7 @@ pub mod Legality
 pub mod Listing
 pub mod Missed
 pub mod Removals
+pub mod Rooted
 pub mod Sweeps
 pub mod Tagging
 pub mod Tags

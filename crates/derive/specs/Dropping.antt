@@ -10,8 +10,6 @@ use Rattle.rows.specs.Arena.{Arena, literals_at, next_id as next_row, row_at as 
 use Rattle.calculus.specs.Derivations.{Step, Why, RestsOn}
 use Rattle.calculus.specs.Derivations.Why.{Given, ReducedFrom, ResolvedFrom, FinishedFrom}
 use Rattle.derive.specs.State.{Note, Notes, State, SameStep, note_in, is_finish, is_live, steps_of, arena_of, has_rows}
-use Rattle.derive.specs.declared.dropping.Roots.{Roots}
-use Rattle.derive.specs.declared.dropping.Roots.TheVariants.{Frame, Finishes, From}
 
 -- a test of steps, by id and note
 abbrev pub StepTest : Type 0
@@ -80,9 +78,3 @@ is_outside scopes x = is_none (level_of scopes x)
 abbrev pub NoneOutsideBelow : List Scope → ℕ → State → Type 0
 NoneOutsideBelow scopes from d = (id : ℕ) → id < from → IsTrue (is_live d id)
     → mentions (is_outside scopes) (literals_at (arena_of d) id) ≡ false
-
--- the steps that a sort of roots names
-abbrev pub is_root : Roots → StepTest
-is_root (Frame frame) = has_tag frame
-is_root Finishes = finishes
-is_root (From first) = is_from first

@@ -6,6 +6,7 @@ pub mod Growing
 pub mod Kept
 pub mod Missing
 pub mod Packed
+pub mod Roots
 pub mod State
 pub mod Sweeping
 pub mod Theorems

@@ -1,14 +1,14 @@
 //! Initial cubes, and which of them miss a clause.
-ghost use Rattle.std.specs.Prelude.{◌≡◌, ◌<◌, ℕ, List, Some, true, false, IsTrue, OnOk, Contains, filter, length};
+ghost use Rattle.std.specs.Prelude.{◌≡◌, ◌<◌, ℕ, Some, true, false, IsTrue, OnOk, Contains, filter, length};
 ghost use Rattle.calculus.specs.Rows.{same_literal};
 ghost use Rattle.rows.specs.Arena.{is_live as is_stored};
 ghost use Rattle.derive.specs.State.{Note as Kept, note_in};
 ghost use Rattle.derive.specs.Antecedents.{AreSupported, Fits};
 ghost use Rattle.derive.specs.Dropping.{DropsFrom, is_cube};
 ghost use Rattle.derive.specs.Cubes.{AreListed, hits_clause, is_cube_in, misses, misses_in, stands_in};
-ghost use Rattle.derive.specs.Missing.{falls_now};
 
 use super::StepId;
+use super::dropping::{Roots, drop_roots};
 use super::note::Note;
 use prefix::Lit;
 use rows::Rows;
@@ -41,7 +41,7 @@ pub(crate) fn drop_missing(
     ensures listed { AreListed notes.new.items cubes.new.items }
 {
     let from = first_missing(cubes.as_slice(), notes, rows, clause);
-    drop_missing_from(notes, rows, from, clause);
+    drop_roots(notes, rows, from, &Roots::Missing(clause));
     retain_cubes(cubes, notes);
 }
 
@@ -66,34 +66,6 @@ pub(crate) fn first_missing(
     first
 }
 
-// The same with all that rests on them, where none of them has an id below `from`.
-fn drop_missing_from(notes: &mut Vec<Option<Note>>, rows: &mut Rows, from: StepId, clause: &[Lit])
-    requires supported { AreSupported notes.old.items }
-    requires fits { Fits notes.old.items rows.old }
-    requires below { (id : ℕ) (note : Kept) → note_in notes.old.items id ≡ Some note → id < from →
-        misses clause.now rows.old id note ≡ false }
-    ensures { DropsFrom (misses clause.now rows.old) notes.old.items notes.new.items rows.old rows.new }
-{
-    for id in from..notes.len() {
-        if falls(notes, rows, id, clause) {
-            notes[id] = None;
-            rows.free(id);
-        }
-    }
-}
-
-// Whether a live step is an initial cube that misses a clause, or rests on a step that is gone.
-fn falls(notes: &Vec<Option<Note>>, rows: &Rows, id: StepId, clause: &[Lit]) -> bool
-    requires within { id < length notes.now.items }
-    requires stored { (note : Kept) → note_in notes.now.items id ≡ Some note → IsTrue (is_stored rows.now id) }
-    ensures { result ≡ falls_now (misses clause.now rows.now) notes.now.items id }
-{
-    match &notes[id] {
-        Some(note) => misses(note, rows, id, clause) || note.misses_antecedent(notes),
-        None => false,
-    }
-}
-
 // Whether there is an initial cube under an id, and it misses a clause.
 fn is_missing(notes: &Vec<Option<Note>>, rows: &Rows, id: StepId, clause: &[Lit]) -> bool
     requires { (note : Kept) → note_in notes.now.items id ≡ Some note → IsTrue (is_stored rows.now id) }
@@ -106,7 +78,7 @@ fn is_missing(notes: &Vec<Option<Note>>, rows: &Rows, id: StepId, clause: &[Lit]
 }
 
 // Whether a live step is an initial cube that misses a clause.
-fn misses(note: &Note, rows: &Rows, id: StepId, clause: &[Lit]) -> bool
+pub(crate) fn misses(note: &Note, rows: &Rows, id: StepId, clause: &[Lit]) -> bool
     requires { IsTrue (is_stored rows.now id) }
     ensures { result ≡ misses clause.now rows.now id note.now }
 {

@@ -13,7 +13,8 @@ ghost use Rattle.derive.specs.State.{State, arena_of, IsStepOf, SameStep, OpenCl
 ghost use Rattle.derive.specs.Antecedents.{Fits, IsAntecedentIn, AreSupported, IsSupportedAt, IsGreatestFrame};
 ghost use Rattle.derive.specs.Adding.{clause_note, Adds, AddsBoth, AddsClause, AreResolvable, CountsRemoval, InputsClause, IsOver, IsReductionOf, Removes, cube_note, finish_at, reduction_at, resolvent_at, resolvent_note};
 ghost use Rattle.derive.specs.Growing.{AreUnlinked, GainsSteps};
-ghost use Rattle.derive.specs.Dropping.{Drops, Falls, NoneOutsideBelow, StepTest, is_outside, mentions, names, has_tag, finishes, is_from, is_root, unless_finish};
+ghost use Rattle.derive.specs.Dropping.{Drops, Falls, NoneOutsideBelow, StepTest, is_outside, mentions, names, has_tag, finishes, is_from, unless_finish};
+ghost use Rattle.derive.specs.Roots.{is_root};
 ghost use Rattle.derive.specs.Cubes.{is_cube_in, misses};
 ghost use Rattle.derive.specs.Sweeping.{Sweeps};
 ghost use Rattle.derive.specs.Told.{told, why_of};
@@ -22,7 +23,7 @@ use super::cubes::{drop_missing, first_missing, list_cube, retain_cubes};
 use super::dropping::{Roots, drop_roots};
 use super::new_step::NewStep;
 use super::note::Note;
-use super::outside::{drop_outside, first_outside, is_outside};
+use super::outside::{first_outside, is_outside};
 use super::removal::{is_reduced_of, push_assumed, reduce_of};
 use super::sweeping::{sweep_all, widen_marks};
 use super::{Step, StepId};
@@ -441,7 +442,7 @@ impl Derivation {
             mentions (is_outside prefix.now) (row_of self.new id) ≡ false }
         ensures legal { (scopes : List Scope) → IsLegalFor scopes self.old → IsLegalFor scopes self.new }
     {
-        drop_outside(&mut self.notes, self.rows.as_mut().unwrap(), from, prefix);
+        self.drop_all(from, Roots::Outside(prefix));
     }
 
     /// Hands out the rows. Then only `step`, `is_live`, `tag` and `next_id` are called, until they are put back. This
@@ -582,8 +583,8 @@ impl Derivation {
     fn drop_all(&mut self, from: StepId, roots: Roots)
         requires rows { IsTrue (has_rows self.old) }
         requires below { (id : ℕ) (note : Kept) → note_at self.old id ≡ Some note → id < from →
-            is_root roots id note ≡ false }
-        ensures drops { Drops (is_root roots) self.old self.new }
+            is_root roots (arena_of self.old) id note ≡ false }
+        ensures drops { Drops (is_root roots.entry (arena_of self.old)) self.old self.new }
         ensures supported { AreSupported self.old.notes }
     {
         drop_roots(&mut self.notes, self.rows.as_mut().unwrap(), from, &roots);

@@ -1,33 +1,45 @@
 //! Dropping steps with all that rests on them.
-ghost use Rattle.std.specs.Prelude.{◌≡◌, ◌<◌, ℕ, Some, false, length};
+ghost use Rattle.std.specs.Prelude.{◌≡◌, ◌<◌, ℕ, Some, IsTrue, false, length};
+ghost use Rattle.rows.specs.Arena.{is_live as is_stored};
 ghost use Rattle.derive.specs.State.{Note as Kept, note_in};
 ghost use Rattle.derive.specs.Antecedents.{AreSupported, Fits};
-ghost use Rattle.derive.specs.Dropping.{DropsFrom, is_root};
+ghost use Rattle.derive.specs.Dropping.{DropsFrom};
+ghost use Rattle.derive.specs.Roots.{is_root};
 ghost use Rattle.derive.specs.Missing.{falls_now};
 
 use super::StepId;
+use super::cubes::misses;
 use super::note::Note;
+use super::outside::is_outside;
+use prefix::{Lit, Prefix};
 use rows::Rows;
 
 // The steps that are dropped, with all that rests on them.
-#[derive(Debug, Drop)]
-pub(crate) enum Roots {
+#[derive(Drop)]
+pub(crate) enum Roots<'a> {
     // Those with this tag.
     Frame(usize),
     // The finishes.
     Finishes,
     // Those with this id or a later one.
     From(StepId),
+    // Those that name a variable outside this prefix.
+    Outside(&'a Prefix),
+    // The initial cubes that miss this clause.
+    Missing(&'a [Lit]),
 }
 
-impl Roots {
-    fn contains(&self, id: StepId, note: &Note) -> bool
-        ensures { result ≡ is_root self.now id note.now }
+impl Roots<'_> {
+    fn contains(&self, id: StepId, note: &Note, rows: &Rows) -> bool
+        requires { IsTrue (is_stored rows.now id) }
+        ensures { result ≡ is_root self.now rows.now id note.now }
     {
         match self {
             Self::Frame(frame) => note.tag() == *frame,
             Self::Finishes => note.is_finish(),
             Self::From(first) => *first <= id,
+            Self::Outside(prefix) => is_outside(rows.lits(id), prefix),
+            Self::Missing(clause) => misses(note, rows, id, clause),
         }
     }
 }
@@ -42,11 +54,11 @@ pub(crate) fn drop_roots(
     requires supported { AreSupported notes.old.items }
     requires fits { Fits notes.old.items rows.old }
     requires below { (id : ℕ) (note : Kept) → note_in notes.old.items id ≡ Some note → id < from →
-        is_root roots.now id note ≡ false }
-    ensures { DropsFrom (is_root roots.now) notes.old.items notes.new.items rows.old rows.new }
+        is_root roots.now rows.old id note ≡ false }
+    ensures { DropsFrom (is_root roots.now rows.old) notes.old.items notes.new.items rows.old rows.new }
 {
     for id in from..notes.len() {
-        if falls(notes, id, roots) {
+        if falls(notes, rows, id, roots) {
             notes[id] = None;
             rows.free(id);
         }
@@ -54,12 +66,13 @@ pub(crate) fn drop_roots(
 }
 
 // Whether a live step is a root, or rests on one that is gone.
-fn falls(notes: &Vec<Option<Note>>, id: StepId, roots: &Roots) -> bool
-    requires { id < length notes.now.items }
-    ensures { result ≡ falls_now (is_root roots.now) notes.now.items id }
+fn falls(notes: &Vec<Option<Note>>, rows: &Rows, id: StepId, roots: &Roots) -> bool
+    requires within { id < length notes.now.items }
+    requires stored { (note : Kept) → note_in notes.now.items id ≡ Some note → IsTrue (is_stored rows.now id) }
+    ensures { result ≡ falls_now (is_root roots.now rows.now) notes.now.items id }
 {
     match &notes[id] {
-        Some(note) => roots.contains(id, note) || note.misses_antecedent(notes),
+        Some(note) => roots.contains(id, note, rows) || note.misses_antecedent(notes),
         None => false,
     }
 }
