@@ -30,8 +30,8 @@ IsLesson pivot scopes trail d (Learn row literal level) =
     IsReducedStep pivot scopes d row × MakesUnitFirstAt pivot scopes trail (row_of d row) literal level
 IsLesson pivot scopes trail d (End row) = IsReducedStep pivot scopes d row × EndsOn pivot scopes trail (row_of d row)
 
--- a resolution is due for a bad row, which teaches nothing yet: its last pivot-type literal was propagated, and no level
--- makes the row unit in it
+-- a resolution is due for a bad row, which teaches nothing yet: its last pivot-type literal was propagated, and no
+-- level makes the row unit in it
 pub record NeedsResolution (pivot : Quant) (scopes : List Scope) (trail : Trail) (row : Row) : Type 0 where
   pub literal : Literal
   pub last : IsLast pivot scopes trail row literal

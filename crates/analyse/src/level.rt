@@ -54,8 +54,8 @@ pub(crate) fn level_below<S: Side>(trail: &Trail, prefix: &Prefix, row: &[Lit], 
     level
 }
 
-// The level that `level_below` gives, where each of these literals is assigned and it is smaller than this one. The look
-// at the row ends at the first literal by which it isn't so.
+// The level that `level_below` gives, where each of these literals is assigned and it is smaller than this one. The
+// look at the row ends at the first literal by which it isn't so.
 pub(crate) fn level_before<S: Side>(
     trail: &Trail,
     prefix: &Prefix,

@@ -8,9 +8,9 @@ use prefix::{Prefix, PrefixRefusal, Quant};
 /// them ascending. It takes the time of `Prefix::add_var` for each of them, which is constant on the average where they
 /// ascend.
 ///
-/// The prefix has room for a scope, and the variables, each from 1 to `Var::MAX`, are distinct and in no scope of it. So
-/// NoMemory alone is answered; the prefix is then as it was, or it has the new scope with the first of the variables,
-/// maybe with none.
+/// The prefix has room for a scope, and the variables, each from 1 to `Var::MAX`, are distinct and in no scope of it.
+/// So NoMemory alone is answered; the prefix is then as it was, or it has the new scope with the first of the
+/// variables, maybe with none.
 pub fn add_scope(prefix: &mut Prefix, quant: Quant, vars: &[u32]) -> Result<(), PrefixRefusal>
     requires room { length prefix.old < 65536 }
     requires new { AreNew prefix.old vars.now }

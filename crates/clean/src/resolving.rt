@@ -19,9 +19,9 @@ use reduce::clashes;
 use steps::{Steps, Stop};
 use trail::Trail;
 
-/// Resolves a bad literal of a row away by its reason: as that stands, where the two rows have no clash, else made clean
-/// before, as `resolve_away` does. This counts one step, or two, beside those of reasons made clean, and costs the
-/// lengths of the two rows. Spent comes only where the budget is spent. What a stop leaves is as for `clean`.
+/// Resolves a bad literal of a row away by its reason: as that stands, where the two rows have no clash, else made
+/// clean before, as `resolve_away` does. This counts one step, or two, beside those of reasons made clean, and costs
+/// the lengths of the two rows. Spent comes only where the budget is spent. What a stop leaves is as for `clean`.
 pub fn resolve_by_reason<S: Side>(
     derivation: &mut Derivation,
     trail: &mut Trail,

@@ -151,10 +151,10 @@ fn is_same(a: Option<Waiting>, b: Option<Waiting>) -> bool {
     }
 }
 
-// Which of two comes first.
+// Which of two comes first, where the second waits at a later place: of equals that one does.
 fn first_of(a: Option<Waiting>, b: Option<Waiting>) -> Option<Waiting> {
     match (a, b) {
-        (Some(x), Some(y)) => Some(if y.comes_before(&x) { y } else { x }),
+        (Some(x), Some(y)) => Some(if x.comes_before(&y) { x } else { y }),
         (None, other) => other,
         (some, None) => some,
     }

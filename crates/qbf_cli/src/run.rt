@@ -30,11 +30,11 @@ use trail::Stopped;
 ///   input, by search with a budget of N steps, which may begin anew R times, and writes `SAT`, `UNSAT` or `UNKNOWN` to
 ///   `out`; with `--qdo` the lines of QDIMACS 1.1's output format. With `--qcir` the input is a quantified circuit
 ///   (QCIR-14), which is decided by its formula (`qcir::translate`).
-/// - `trace [--budget N] [--restarts R] [NAME]` writes in the place of `SAT` and `UNSAT` the trace of the verdict's proof
-///   (QRP).
-/// - `cert [--budget N] [--restarts R] [--binary] [--trim] [NAME]` writes there the circuit by which the verdict's winner
-///   wins (AIGER 1.9): in ASCII, or with `--binary` in the binary form; with `--trim` without the gates that no output
-///   is reached from. `UNKNOWN` stays a line of text.
+/// - `trace [--budget N] [--restarts R] [NAME]` writes in the place of `SAT` and `UNSAT` the trace of the verdict's
+///   proof (QRP).
+/// - `cert [--budget N] [--restarts R] [--binary] [--trim] [NAME]` writes there the circuit by which the verdict's
+///   winner wins (AIGER 1.9): in ASCII, or with `--binary` in the binary form; with `--trim` without the gates that no
+///   output is reached from. `UNKNOWN` stays a line of text.
 /// - `check [--budget N] [--restarts R] [--decide] [NAME]` writes there the formula that says that this circuit loses,
 ///   as QDIMACS, which is unsatisfiable; with `--decide` it decides that formula, with a budget of its own, and writes
 ///   `WINS`, or `UNDECIDED` with status 0 where that budget was spent.

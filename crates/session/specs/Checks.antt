@@ -1,5 +1,5 @@
--- What is written where the certificate of a formula's verdict is checked: the formula that says that the circuit loses,
--- or what comes of deciding it.
+-- What is written where the certificate of a formula's verdict is checked: the formula that says that the circuit
+-- loses, or what comes of deciding it.
 use Rattle.std.specs.Prelude.{◌≡◌, ℕ, Bool, true, false, if◌then◌else◌, List, [], ◌++◌, codes, length, Option, Some, None, IfSome, Result, Ok, Err}
 use Rattle.std.specs.Io.KnownBytes.{Appends, Keeps}
 use Rattle.ports.specs.Bytes.{AppendsFront}
