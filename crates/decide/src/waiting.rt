@@ -19,9 +19,13 @@ pub(crate) struct Waiting {
 }
 
 impl Waiting {
-    // Whether it comes before another: it is of an earlier scope, or of the same one with a greater priority.
+    // Whether it comes before another: it is of an earlier scope, or of the same one with a greater priority; of equal
+    // priorities the greater number goes first.
     fn comes_before(&self, other: &Self) -> bool {
-        self.scope < other.scope || (self.scope == other.scope && self.score > other.score)
+        if self.scope != other.scope {
+            return self.scope < other.scope;
+        }
+        self.score > other.score || (self.score == other.score && self.number > other.number)
     }
 }
 
@@ -151,10 +155,10 @@ fn is_same(a: Option<Waiting>, b: Option<Waiting>) -> bool {
     }
 }
 
-// Which of two comes first, where the second waits at a later place: of equals that one does.
+// Which of two comes first.
 fn first_of(a: Option<Waiting>, b: Option<Waiting>) -> Option<Waiting> {
     match (a, b) {
-        (Some(x), Some(y)) => Some(if x.comes_before(&y) { x } else { y }),
+        (Some(x), Some(y)) => Some(if y.comes_before(&x) { y } else { x }),
         (None, other) => other,
         (some, None) => some,
     }

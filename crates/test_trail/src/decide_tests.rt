@@ -265,19 +265,19 @@ fn later_bumps_count_more(rt: HostRuntime) -> Result<(), Fail> {
     play(rt.alloc(), 3, &turns)
 }
 
-// Of three variables the middle one comes first once it was bumped, then the others in their order; and after another
-// one was bumped twice, that one.
+// Of three variables with equal priorities the greatest comes first; the middle one once it was bumped, then the others
+// as before; and after the least was bumped twice, that one.
 #[test]
 fn the_one_that_was_bumped_comes_first_of_three(rt: HostRuntime) -> Result<(), Fail> {
     let turns = [
-        Turn::Decide(false, [-1, -2, -3, 4]),
+        Turn::Decide(false, [-3, -2, -1, 4]),
         Turn::Undo,
         Turn::Bump(2),
-        Turn::Decide(false, [-2, -1, -3, 4]),
-        Turn::Bump(3),
-        Turn::Bump(3),
+        Turn::Decide(false, [-2, -3, -1, 4]),
+        Turn::Bump(1),
+        Turn::Bump(1),
         Turn::Undo,
-        Turn::Decide(false, [-3, -2, -1, 4]),
+        Turn::Decide(false, [-1, -2, -3, 4]),
     ];
     play_over(rt.alloc(), 3, 4, &turns)
 }
