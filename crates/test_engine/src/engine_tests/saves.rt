@@ -193,7 +193,7 @@ fn ends(
     put_and_solve(&mut engine, alloc, formula, restarts, budgets, want)
 }
 
-// At first, and again: where lessons aren't kept, the first solve takes 4,281 steps and the second 6,813.
+// At first, and again: where lessons aren't kept, the first solve takes 4,726 steps and the second 10,071.
 #[test]
 fn lessons_are_kept_for_the_next_solve(rt: HostRuntime) -> Result<(), Fail> {
     let budgets = [4_000, 100];
@@ -206,15 +206,15 @@ fn lessons_are_kept_for_the_next_solve(rt: HostRuntime) -> Result<(), Fail> {
     )
 }
 
-// Where rows that wait are looked at last come, first served, this takes 13,541 steps; without priorities 12,473, and
-// 10,323 without those of the rows that lessons were resolved with.
+// Where rows that wait are looked at last come, first served, this takes 16,950 steps; without priorities 30,843, and
+// 11,703 without those of the rows that lessons were resolved with.
 #[test]
 fn rows_wait_in_a_queue_and_priorities_count(rt: HostRuntime) -> Result<(), Fail> {
     let formula = Formula::Many(2, 80, 344);
     ends(rt.alloc(), formula, 0, &[8_000], Ended::Answered(true))
 }
 
-// Where each existential variable is false at first, this takes 11,359 steps.
+// Where each existential variable is false at first, this takes 4,213 steps.
 #[test]
 fn first_signs_are_those_of_most_clauses(rt: HostRuntime) -> Result<(), Fail> {
     let formula = Formula::Many(0, 800, 2_400);
