@@ -185,7 +185,7 @@ report early_grant_inputs "$got" "1 -4
 -1 4 5 6"
 if has berkeley-abc; then
     cat "$examples/wrong.v" "$examples/arbiter.v" > "$folder/both.v"
-    sed 's/= n12 & ~r3/= n12/' "$folder/both.v" > "$folder/bad.v"
+    sed 's/= n14 & ~r1/= n14/' "$folder/both.v" > "$folder/bad.v"
     got=$(cd "$folder" && berkeley-abc -c "read_verilog both.v; strash; sat" | grep -o '[UN]*SATISFIABLE')
     report abc_arbiter "$got" UNSATISFIABLE
     got=$(cd "$folder" && berkeley-abc -c "read_verilog bad.v; strash; sat; write_cex -n cex" |
@@ -197,14 +197,14 @@ else
 fi
 python3 "$examples/binary.py" "$examples/arbiter.aag" > "$folder/arbiter.aig"
 report binary $? 0 "$(head -1 "$folder/arbiter.aig")" 'aig 8 3 0 3 5' \
-    "$(tail -n +5 "$folder/arbiter.aig" | head -c 10 | od -An -tu1 | tr -s ' ')" ' 3 2 2 1 7 3 2 5 9 3'
+    "$(tail -n +5 "$folder/arbiter.aig" | head -c 10 | od -An -tu1 | tr -s ' ')" ' 3 2 2 1 8 1 8 1 2 11'
 "$program" cert --binary "$examples/arbiter.qdimacs" > "$folder/written.aig"
 report binary_form $? 10 "$(od -An -tx1 "$folder/written.aig")" "$(od -An -tx1 "$folder/arbiter.aig")"
 # equivalent TEXT MODULE: what abc says of a circuit in binary form and a module.
 equivalent() {
     (cd "$folder" && berkeley-abc -q "cec -n $1 $2" | grep -o 'Networks are [NOT ]*[Ee][A-Za-z]*')
 }
-sed 's/= n12 & ~r3/= n12/' "$examples/arbiter.v" > "$folder/other.v"
+sed 's/= n14 & ~r1/= n14/' "$examples/arbiter.v" > "$folder/other.v"
 if has berkeley-abc; then
     report abc_same "$(equivalent arbiter.aig "$examples/arbiter.v")" 'Networks are equivalent' \
         "$(equivalent arbiter.aig other.v)" 'Networks are NOT EQUIVALENT'
@@ -227,10 +227,10 @@ report library_line "$(block docs/LIBRARY.md 'The line in crates.txt' 1)" \
     "$(grep '^example_engine:' "$root/crates.txt")"
 
 # The arbiter by a table, and a simulation that is to fail: one assignment has an input in the place of its negation.
-printf '.i 3\n.o 3\n.type fr\n.ilb r1 r2 r3\n.ob g1 g2 g3\n--1 001\n-10 010\n100 100\n000 000\n' > "$folder/arbiter.pla"
+printf '.i 3\n.o 3\n.type fr\n.ilb r1 r2 r3\n.ob g1 g2 g3\n1-- 100\n01- 010\n001 001\n000 000\n' > "$folder/arbiter.pla"
 python3 "$examples/simulate.py" "$folder/arbiter.pla" "$examples/arbiter.v" > "$folder/out"
 report simulated $? 0 "$(tail -1 "$folder/out")" '8 inputs tried, 0 outputs wrong'
-sed 's/= ~r3 & r2/= r3 \& r2/' "$examples/arbiter.v" > "$folder/negated.v"
+sed 's/= r2 & ~r1/= r2 \& r1/' "$examples/arbiter.v" > "$folder/negated.v"
 python3 "$examples/simulate.py" "$folder/arbiter.pla" "$folder/negated.v" > "$folder/out"
 report simulated_wrong $? 1 "$(tail -1 "$folder/out")" '8 inputs tried, 4 outputs wrong'
 

@@ -191,25 +191,25 @@ fn certificates_have_four_forms(rt: HostRuntime) -> Result<(), Fail> {
         (
             false,
             false,
-            "aag 8 3 0 3 5\n2\n4\n6\n14\n16\n6\n8 5 3\n10 8 7\n12 5 2\n14 12 7\n16 7 4\n\
+            "aag 8 3 0 3 5\n2\n4\n6\n2\n12\n16\n8 5 3\n10 8 7\n12 4 3\n14 6 5\n16 14 3\n\
              i0 1\ni1 2\ni2 3\no0 4\no1 5\no2 6\nc\nskolem\n",
         ),
         (
             true,
             false,
-            "aig 8 3 0 3 5\n14\n16\n6\n\x03\x02\x02\x01\x07\x03\x02\x05\x09\x03\
+            "aig 8 3 0 3 5\n2\n12\n16\n\x03\x02\x02\x01\x08\x01\x08\x01\x02\x0b\
              i0 1\ni1 2\ni2 3\no0 4\no1 5\no2 6\nc\nskolem\n",
         ),
         (
             false,
             true,
-            "aag 6 3 0 3 3\n2\n4\n6\n10\n12\n6\n8 5 2\n10 8 7\n12 7 4\n\
+            "aag 6 3 0 3 3\n2\n4\n6\n2\n8\n12\n8 4 3\n10 6 5\n12 10 3\n\
              i0 1\ni1 2\ni2 3\no0 4\no1 5\no2 6\nc\nskolem\n",
         ),
         (
             true,
             true,
-            "aig 6 3 0 3 3\n10\n12\n6\n\x03\x03\x02\x01\x05\x03\
+            "aig 6 3 0 3 3\n2\n8\n12\n\x04\x01\x04\x01\x02\x07\
              i0 1\ni1 2\ni2 3\no0 4\no1 5\no2 6\nc\nskolem\n",
         ),
     ] {

@@ -92,26 +92,26 @@ fn circuits_have_four_forms(rt: HostRuntime) -> Result<(), Fail> {
     for (given, want) in [
         (
             ["qbf", "cert"].as_slice(),
-            "aag 8 3 0 3 5/2/4/6/14/16/6/8 5 3/10 8 7/12 5 2/14 12 7/16 7 4/\
+            "aag 8 3 0 3 5/2/4/6/2/12/16/8 5 3/10 8 7/12 4 3/14 6 5/16 14 3/\
 i0 1/i1 2/i2 3/o0 4/o1 5/o2 6/c/skolem/",
         ),
         (
             &["qbf", "cert", "--binary"],
-            "aig 8 3 0 3 5/14/16/6/\x03\x02\x02\x01\x07\x03\x02\x05\x09\x03\
+            "aig 8 3 0 3 5/2/12/16/\x03\x02\x02\x01\x08\x01\x08\x01\x02\x0b\
 i0 1/i1 2/i2 3/o0 4/o1 5/o2 6/c/skolem/",
         ),
         (
             &["qbf", "cert", "--trim"],
-            "aag 6 3 0 3 3/2/4/6/10/12/6/8 5 2/10 8 7/12 7 4/i0 1/i1 2/i2 3/o0 4/o1 5/o2 6/c/skolem/",
+            "aag 6 3 0 3 3/2/4/6/2/8/12/8 4 3/10 6 5/12 10 3/i0 1/i1 2/i2 3/o0 4/o1 5/o2 6/c/skolem/",
         ),
         (
             &["qbf", "cert", "--trim", "--budget", "100000", "--binary"],
-            "aig 6 3 0 3 3/10/12/6/\x03\x03\x02\x01\x05\x03\
+            "aig 6 3 0 3 3/2/8/12/\x04\x01\x04\x01\x02\x07\
 i0 1/i1 2/i2 3/o0 4/o1 5/o2 6/c/skolem/",
         ),
         (
             &["qbf", "cert", "--binary", "--trim"],
-            "aig 6 3 0 3 3/10/12/6/\x03\x03\x02\x01\x05\x03\
+            "aig 6 3 0 3 3/2/8/12/\x04\x01\x04\x01\x02\x07\
 i0 1/i1 2/i2 3/o0 4/o1 5/o2 6/c/skolem/",
         ),
     ] {
