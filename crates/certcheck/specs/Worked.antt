@@ -78,7 +78,8 @@ pub record WorkedChecks : Type 0 where
   pub of_none : rows_of (check_clauses ([] ∷ []) [] no_variables) ≡ (no_ 1 ∷ []) ∷ (yes_ 1 ∷ []) ∷ []
   pub no_scope : scopes_to 0 ≡ []
   -- repeats count once, and a literal with its opposite, or the constant true, takes its clause out
-  pub once : rows_of ((4 ∷ 2 ∷ 0 ∷ 4 ∷ []) ∷ (2 ∷ 4 ∷ 3 ∷ []) ∷ (2 ∷ 1 ∷ []) ∷ []) ≡ (yes_ 1 ∷ yes_ 2 ∷ []) ∷ []
+  pub once
+      : rows_of ((4 ∷ 2 ∷ 0 ∷ 4 ∷ []) ∷ (2 ∷ 4 ∷ 3 ∷ []) ∷ (2 ∷ 1 ∷ []) ∷ []) ≡ (yes_ 1 ∷ yes_ 2 ∷ []) ∷ []
   -- as many variables as there may be, and one more
   pub few : limit_of (formula_over 1048576 []) ≡ None
   pub many : limit_of (formula_over 1048577 []) ≡ Some Variables

@@ -30,6 +30,7 @@ use Rattle.search.proofs.Reducing.{count_left}
 use Rattle.engine.specs.declared.counts.Counts.{Counts}
 use Rattle.engine.specs.declared.verdict.Held.{Held}
 use Rattle.engine.specs.Counting.{one_more, with_clause, with_solve}
+use Rattle.engine.specs.Marks.{AreMarked}
 use Rattle.engine.specs.Kept.{AreTied, HasFinishesOf, IsEngine}
 
 -- each variable of the prefix has room
@@ -134,10 +135,10 @@ pub some_solves : (counts : Counts) → one_more counts.solves ≡ 0 → ⊥
 some_solves counts none = absurd (omega arith)
 
 -- an engine after a solve without a verdict
-pub undecided : (f : OpenFormula) (s : SearchState) (counts : Counts) (now again n : ℕ) → AreTied f s
+pub undecided : (f : OpenFormula) (s : SearchState) (counts : Counts) (marks : List ℕ) (now again n : ℕ) → AreTied f s
     → HasNoFinish s.derivation → reductions_in s.derivation < allowed (with_solve now again n counts)
-    → IsEngine f s None (with_solve now again n counts)
-undecided f s counts now again n tied none few = record {
+    → AreMarked f.frames marks f.scopes s.derivation → IsEngine f s None (with_solve now again n counts) marks
+undecided f s counts marks now again n tied none few marked = record {
   tied = tied;
   held = tt;
   finishes = none;
@@ -145,6 +146,7 @@ undecided f s counts now again n tied none few = record {
   reductions = few;
   variables = tt;
   long = tt;
+  marked = marked;
 }
 
 -- a derivation has no more reductions than ids

@@ -1,6 +1,7 @@
 -- What stays of an engine where its formula changes, or where it doesn't.
 use Rattle.std.proofs.Common.{◌≡◌, ◌≢◌, ◌≤◌, ◌<◌, ◌⊎◌, ℕ, ◌+◌, ◌-◌, Bool, true, false, not, ◌||◌, List, [], ◌∷◌, length, Option, Some, None, Result, Ok, Err, IsTrue, IfSome, arith, refl, sym, ap, ap₂, ◌∙◌, subst, ⊎_elim, inl, inr, ◌++◌, length-append}
 use Rattle.std.specs.Prelude.{Contains, ℤ, filter, ◌==◌, if◌then◌else◌, is_some, MatchOption, IsOk, IsOkUnless, OnOk, is_ok}
+use Rattle.std.specs.List.{AllByRecursion}
 use Rattle.std.specs.Option.{option_map}
 use Rattle.std.proofs.lemmas.List.{length-take-le}
 use Rattle.std.proofs.lemmas.Bool.Decides.{nat_tests}
@@ -13,14 +14,15 @@ use Rattle.prefix.specs.Scopes.{Scope, all_variables, is_among, level_of, place_
 use Rattle.prefix.proofs.ScopeLemmas.{all_variables-insert, is_among-all_variables-with}
 use Rattle.calculus.specs.Derivations.{Extends, Inference, Step}
 use Rattle.calculus.specs.DerivationTheorems.{PrefixesGrow}
-use Rattle.calculus.specs.Rows.{Row}
+use Rattle.calculus.specs.Rows.{IsRow, Row}
 use Rattle.calculus.specs.Verdicts.{IsEndRow, finished, proof_of, relevant_of}
 use Rattle.calculus.proofs.Lists.{among_at, among_from, contains_nil}
 use Rattle.clauses.specs.Clause.{as_row, is_tautology}
+use Rattle.derive.specs.Dropping.{is_outside, mentions}
 use Rattle.derive.specs.State.{Note, Notes, OpenClause, State, clauses_of, is_finish, is_live, may_be_antecedent, note_at, note_in, row_of, side_at, side_in, why_at, why_in}
 use Rattle.frames.specs.declared.refusal.FrameRefusal.{FrameRefusal}
 use Rattle.frames.specs.declared.refusal.FrameRefusal.TheVariants.{AssumptionsHeld, NoFrame, NoMemory}
-use Rattle.frames.specs.State.{Frame, OpenFormula, clauses_in, depth, popped, pushed, with_row}
+use Rattle.frames.specs.State.{Frame, OpenFormula, clauses_in, depth, empty_frame, leaves_in, popped, pushed, with_leaving, with_row, with_variable}
 use Rattle.frames.specs.Commands.{AddClause, AddScope, AddVariable, Pop, Push, first_of, formula_after, is_empty, prefix_refusals, refusal_of, with_clause}
 use Rattle.qrp_trace.specs.Cores.{IsFinishAt, end_row_in, proof_at, step_under}
 use Rattle.search.specs.Changing.{AddsClause, IsRoomy, RestingGrows, StaysResting}
@@ -35,9 +37,11 @@ use Rattle.search.proofs.Tallying.{tally_none}
 use Rattle.engine.specs.declared.counts.Counts.{Counts}
 use Rattle.engine.specs.declared.verdict.Held.{Held}
 use Rattle.engine.specs.declared.verdict.Verdict.{Verdict}
+use Rattle.engine.specs.Marks.{AreMarked}
 use Rattle.engine.specs.Kept.{AreTied, HasFinishesOf, IsEngine, IsFound, IsHeld, framed_in}
 use Rattle.engine.specs.Verdicts.{told}
-use Rattle.engine.proofs.Framing.{added_clauses, framed_pushed, popped_clauses, rows_with_row, some_with_row}
+use Rattle.engine.proofs.Framing.{added_clauses, framed_pushed, framed_with_leaving, popped_inside, rows_with_row, some_with_leaving, some_with_row}
+use Rattle.engine.proofs.Marking.{rows_inside}
 
 -- refusals
 
@@ -120,6 +124,21 @@ one_of scopes n v x within i =
     ⊎_elim (λ t. inl (eqb-true v x t)) (λ t. inr (among_at (all_variables scopes) x t))
     (or_cases (v == x) (is_among x (all_variables scopes)) among)
 
+listed : (f : OpenFormula) (scopes : List Scope) (var : ℕ) (s : SearchState) → AreTied (record f { scopes = scopes }) s
+    → AreTied (record f { scopes = scopes; frames = with_variable f.version var f.frames }) s
+listed f scopes var s tied = by (leaves_in f.version (depth f.frames))
+  where
+    by : (b : Bool) → AreTied (record f {
+      scopes = scopes;
+      frames = if b then with_leaving var f.frames else f.frames;
+    }) s
+    by false = record { resting = tied.resting; frames = tied.frames; clauses = tied.clauses }
+    by true = record {
+      resting = tied.resting;
+      frames = let same = some_with_leaving var f.frames in let some = tied.frames in omega (arith, same, some);
+      clauses = tied.clauses ∙ sym (framed_with_leaving var f.frames);
+    }
+
 pub variable_added : (f : OpenFormula) (s : SearchState) (var scope : ℕ) → AreTied f s → IsRoomy var s
     → refusal_of f (AddVariable var scope) ≡ None → PrefixesGrow → RestingGrows
     → AreTied (formula_after f (AddVariable var scope)) s
@@ -127,13 +146,13 @@ variable_added f s var scope tied roomy accepts prefixes grows =
     let fits = variable_fits f var scope accepts in
     let room = tied.resting.intact.room in
     let one = λ (x : ℕ). one_of f.scopes (scope - 1) var x fits.0 in
-    grown f (with_variable_at f.scopes (scope - 1) var) s tied
+    listed f (with_variable_at f.scopes (scope - 1) var) var s (grown f (with_variable_at f.scopes (scope - 1) var) s tied
     (prefixes.variable f.scopes (scope - 1) var fits.0 fits.1)
     (record {
       trail = λ x i. ⊎_elim (λ e. roomy.trail x (omega (arith, e))) (λ j. room.trail x j) (one x i);
       signs = λ x i. ⊎_elim (λ e. roomy.signs x (omega (arith, e))) (λ j. room.signs x j) (one x i);
     })
-    grows
+    grows)
 
 -- assumptions
 
@@ -158,7 +177,7 @@ pub frame_pushed : (f : OpenFormula) (s : SearchState) → AreTied f s → AreTi
 frame_pushed f s tied = record {
   resting = tied.resting;
   frames = let count : length (pushed f.frames) ≡ length f.frames + 1 =
-      length-append f.frames (record { clauses = [] } ∷ []) in omega (arith, count);
+      length-append f.frames (empty_frame ∷ []) in omega (arith, count);
   clauses = tied.clauses ∙ sym (framed_pushed f.frames);
 }
 
@@ -173,13 +192,16 @@ pop_fits frames e =
     by false t n = grind (arith, nat_tests)
 
 pub frame_popped : (f : OpenFormula) (old new : SearchState) → AreTied f old → refusal_of f Pop ≡ None
-    → IsResting f.scopes new
-    → clauses_of new.derivation ≡ filter (λ (c : OpenClause). not (c.frame == depth f.frames))
+    → IsResting (formula_after f Pop).scopes new
+    → AllByRecursion (IsRow (formula_after f Pop).scopes) (clauses_in (popped f.frames))
+    → clauses_of new.derivation ≡ filter (λ (c : OpenClause).
+    not (c.frame == depth f.frames || mentions (is_outside (formula_after f Pop).scopes) c.row))
     (clauses_of old.derivation) → AreTied (formula_after f Pop) new
-frame_popped f old new tied accepts resting clauses = record {
+frame_popped f old new tied accepts resting rows clauses = record {
   resting = resting;
   frames = pop_fits f.frames accepts;
-  clauses = popped_clauses old.derivation new.derivation f.frames tied.frames tied.clauses clauses;
+  clauses = popped_inside old.derivation new.derivation f.frames (mentions (is_outside (formula_after f Pop).scopes))
+      tied.frames tied.clauses (rows_inside (formula_after f Pop).scopes (clauses_in (popped f.frames)) rows) clauses;
 }
 
 -- clauses
@@ -274,9 +296,10 @@ cubes_kept old new watched derivation none id i live =
     ∙ none id (subst (λ ids. Contains ids id) watched i) (subst (λ (d : State). IsTrue (is_live d id)) derivation live)
 
 -- an engine whose search has more room
-pub roomier : (f : OpenFormula) (old new : SearchState) (v : Option Held) (counts : Counts) → StaysResting old new
-    → new.derivation ≡ old.derivation → new.watched ≡ old.watched → IsEngine f old v counts → IsEngine f new v counts
-roomier f old new v counts stays same watched is = record {
+pub roomier : (f : OpenFormula) (old new : SearchState) (v : Option Held) (counts : Counts) (marks : List ℕ)
+    → StaysResting old new → new.derivation ≡ old.derivation → new.watched ≡ old.watched
+    → IsEngine f old v counts marks → IsEngine f new v counts marks
+roomier f old new v counts marks stays same watched is = record {
   tied = reserved f old new stays same is.tied;
   held = subst (λ (d : State). IfSome v (IsHeld f d)) (sym same) is.held;
   finishes = subst (HasFinishesOf v) (sym same) is.finishes;
@@ -284,6 +307,7 @@ roomier f old new v counts stays same watched is = record {
   reductions = rw same is.reductions;
   variables = is.variables;
   long = subst (λ (d : State). IfSome v (λ _. long_in d ≤ 513 + size_of f.scopes)) (sym same) is.long;
+  marked = subst (AreMarked f.frames marks f.scopes) (sym same) is.marked;
 }
 
 -- the variable that a refusal's absence gives

@@ -1,12 +1,13 @@
 -- Clauses with the numbers of their frames.
 use Rattle.std.proofs.Common.{◌≡◌, ◌≤◌, ◌<◌, ℕ, zero, suc, ◌+◌, Bool, cond, true, false, not, List, [], ◌∷◌, ◌++◌, map, length, take, arith, append_assoc, refl, sym, ap, ap₂, ◌∙◌, subst}
-use Rattle.std.specs.Prelude.{Contains, filter, ◌==◌}
+use Rattle.std.specs.Prelude.{Contains, filter, ◌==◌, ◌||◌}
+use Rattle.std.specs.List.{AllByRecursion}
 use Rattle.std.proofs.lemmas.Bool.{cond-false, cond-true, eq-eqb, ne_eqb}
 use Rattle.std.proofs.lemmas.List.{append-nil, map-append}
 use Rattle.std.proofs.lemmas.List.Elements.{filter-append}
 use Rattle.calculus.specs.Rows.{Row}
 use Rattle.derive.specs.State.{OpenClause, State, clauses_of, open_clauses}
-use Rattle.frames.specs.State.{Frame, clauses_in, depth, popped, pushed, with_row}
+use Rattle.frames.specs.State.{Frame, clauses_in, depth, empty_frame, popped, pushed, with_leaving, with_row}
 use Rattle.search.specs.Changing.{AddsClause}
 use Rattle.search.specs.Moves.{IsMatrix}
 use Rattle.engine.specs.Kept.{FramedClause, framed, framed_as, framed_from, framed_in}
@@ -54,7 +55,7 @@ framed_append n (f ∷ first) rest =
     (framed_from (n + length (f ∷ first)) rest))
 
 pub framed_pushed : (frames : List Frame) → framed (pushed frames) ≡ framed frames
-framed_pushed frames = framed_append 0 frames (record { clauses = [] } ∷ []) ∙ append-nil (framed frames)
+framed_pushed frames = framed_append 0 frames (empty_frame ∷ []) ∙ append-nil (framed frames)
 
 -- one more row in the top frame
 
@@ -156,6 +157,60 @@ popped_clauses old new frames some tied e =
     ∙ open_filtered (depth frames) (clauses_of old)
     ∙ ap (filter (is_other (depth frames))) tied
     ∙ sym (framed_popped frames some)
+
+-- and so where those go too that fail a test by which none of these fails
+
+all_kept : (top : ℕ) (test : Row → Bool) (cs : List OpenClause)
+    → AllByRecursion (λ (row : Row). test row ≡ false)
+    (map (λ (c : OpenClause). c.row) (filter (λ (c : OpenClause). not (c.frame == top)) cs))
+    → filter (λ (c : OpenClause). not (c.frame == top || test c.row)) cs
+    ≡ filter (λ (c : OpenClause). not (c.frame == top)) cs
+all_kept top test [] all = refl
+all_kept top test (c ∷ cs) all = by (all_kept top test cs) (c.frame == top) all
+  where
+    rest : List OpenClause
+    rest = filter (λ (d : OpenClause). not (d.frame == top)) cs
+
+    fewer : List OpenClause
+    fewer = filter (λ (d : OpenClause). not (d.frame == top || test d.row)) cs
+
+    by : (AllByRecursion (λ (row : Row). test row ≡ false) (map (λ (d : OpenClause). d.row) rest) → fewer ≡ rest)
+        → (b : Bool) → AllByRecursion (λ (row : Row). test row ≡ false)
+        (map (λ (d : OpenClause). d.row) (cond (not b) (c ∷ rest) rest))
+        → cond (not (b || test c.row)) (c ∷ fewer) fewer ≡ cond (not b) (c ∷ rest) rest
+    by same true is = same is
+    by same false is = ap (λ t. cond (not t) (c ∷ fewer) fewer) is.0 ∙ ap (λ xs. c ∷ xs) (same is.1)
+
+pub popped_inside : (old new : State) (frames : List Frame) (test : Row → Bool) → 1 ≤ length frames
+    → framed_in old ≡ framed frames → AllByRecursion (λ (row : Row). test row ≡ false) (clauses_in (popped frames))
+    → clauses_of new ≡ filter (λ (c : OpenClause). not (c.frame == depth frames || test c.row)) (clauses_of old)
+    → framed_in new ≡ framed (popped frames)
+popped_inside old new frames test some tied inside e =
+    let left = filter (λ (c : OpenClause). not (c.frame == depth frames)) (clauses_of old) in
+    let rows : map (λ (c : OpenClause). c.row) left ≡ clauses_in (popped frames) =
+    sym (open_rows left)
+    ∙ ap (map row_of_framed) (open_filtered (depth frames) (clauses_of old)
+    ∙ ap (filter (is_other (depth frames))) tied ∙ sym (framed_popped frames some))
+    ∙ framed_rows 0 (popped frames) in
+    popped_clauses old new frames some tied
+    (e ∙ all_kept (depth frames) test (clauses_of old)
+    (subst (AllByRecursion (λ (row : Row). test row ≡ false)) (sym rows) inside))
+
+-- a variable that leaves changes no clause
+
+framed_leaving_from : (n v : ℕ) (frames : List Frame) → framed_from n (with_leaving v frames) ≡ framed_from n frames
+framed_leaving_from n v [] = refl
+framed_leaving_from n v (f ∷ []) = refl
+framed_leaving_from n v (f ∷ g ∷ rest) =
+    ap (λ cs. map (framed_as n) f.clauses ++ cs) (framed_leaving_from (n + 1) v (g ∷ rest))
+
+pub framed_with_leaving : (v : ℕ) (frames : List Frame) → framed (with_leaving v frames) ≡ framed frames
+framed_with_leaving v frames = framed_leaving_from 0 v frames
+
+pub some_with_leaving : (v : ℕ) (frames : List Frame) → length (with_leaving v frames) ≡ length frames
+some_with_leaving v [] = refl
+some_with_leaving v (f ∷ []) = refl
+some_with_leaving v (f ∷ g ∷ rest) = ap suc (some_with_leaving v (g ∷ rest))
 
 -- those of a search with one more are those of the frames with one more row
 pub added_clauses : (old new : State) (frames : List Frame) (row : Row) → 1 ≤ length frames

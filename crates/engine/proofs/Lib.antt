@@ -4,5 +4,7 @@ pub mod Certifying
 pub mod Changing
 pub mod Framing
 pub mod Looking
+pub mod Marking
+pub mod Marked
 pub mod Telling
 pub mod FirstScope

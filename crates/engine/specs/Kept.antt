@@ -18,6 +18,7 @@ use Rattle.search.specs.Stops.{IsOutcome}
 use Rattle.engine.specs.declared.counts.Counts.{Counts}
 use Rattle.engine.specs.declared.verdict.Held.{Held}
 use Rattle.engine.specs.declared.verdict.Verdict.{Verdict}
+use Rattle.engine.specs.Marks.{AreMarked}
 use Rattle.engine.specs.Verdicts.{loser_of}
 
 -- a clause with the number of its frame
@@ -69,9 +70,10 @@ HasFinishesOf None d = HasNoFinish d
 HasFinishesOf (Some held) d = (id : ℕ) → IsFinishId d id → id ≡ held.verdict.end
 
 -- What holds of an engine between calls. The counts allow the live reductions and one removal more, which is for the
--- finish; a verdict is of as many variables as were counted, or fewer; and with a verdict few long learned rows are
--- attached.
-pub record IsEngine (formula : OpenFormula) (s : SearchState) (verdict : Option Held) (counts : Counts) : Type 0 where
+-- finish; a verdict is of as many variables as were counted, or fewer; with a verdict few long learned rows are
+-- attached; and what stood when a frame was pushed names no variable that came later.
+pub record IsEngine (formula : OpenFormula) (s : SearchState) (verdict : Option Held) (counts : Counts)
+    (marks : List ℕ) : Type 0 where
   pub tied : AreTied formula s
   pub held : IfSome verdict (IsHeld formula s.derivation)
   pub finishes : HasFinishesOf verdict s.derivation
@@ -80,3 +82,4 @@ pub record IsEngine (formula : OpenFormula) (s : SearchState) (verdict : Option 
       removal_bound counts.clauses counts.solves counts.budget counts.restarts counts.vars
   pub variables : IfSome verdict (λ _. size_of formula.scopes ≤ counts.vars)
   pub long : IfSome verdict (λ _. long_in s.derivation ≤ 513 + size_of formula.scopes)
+  pub marked : AreMarked formula.frames marks formula.scopes s.derivation

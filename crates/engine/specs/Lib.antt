@@ -1,6 +1,7 @@
 pub mod Asks
 pub mod Counting
 pub mod Kept
+pub mod Marks
 pub mod Refusals
 pub mod State
 pub mod Verdicts

@@ -3,7 +3,9 @@ use Rattle.std.specs.Prelude.{ℕ, Bool, List, Option, None}
 use Rattle.prefix.specs.Literal.{Literal}
 use Rattle.calculus.specs.Rows.{Row}
 use Rattle.calculus.specs.Derivations.{Inference}
-use Rattle.frames.specs.State.{OpenFormula, empty_formula}
+use Rattle.versions.specs.declared.version.Version.{Version}
+use Rattle.versions.specs.declared.version.Version.TheVariants.{One}
+use Rattle.frames.specs.State.{OpenFormula, new_formula}
 use Rattle.frames.specs.Commands.{Command, formula_after}
 use Rattle.engine.specs.declared.counts.Counts.{Counts}
 use Rattle.engine.specs.Counting.{no_counts}
@@ -26,8 +28,19 @@ pub record EngineState : Type 0 where
   pub restarts : ℕ
   pub kept_long : ℕ
 
+-- an engine of no scopes and no clauses, for scripts of a version
+abbrev pub engine_of : Version → EngineState
+engine_of version = record {
+  formula = new_formula version;
+  verdict = None;
+  counts = no_counts;
+  restarts = 0;
+  kept_long = 0;
+}
+
+-- the same of version 1
 abbrev pub new_engine : EngineState
-new_engine = record { formula = empty_formula; verdict = None; counts = no_counts; restarts = 0; kept_long = 0 }
+new_engine = engine_of One
 
 -- an engine after an accepted change of its formula: there is no verdict
 abbrev pub changed : EngineState → Command → EngineState

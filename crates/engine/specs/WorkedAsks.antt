@@ -9,7 +9,7 @@ use Rattle.calculus.specs.Derivations.Why.{FinishedFrom, Given}
 use Rattle.calculus.specs.Rows.{Row}
 use Rattle.calculus.specs.Verdicts.{relevant_of}
 use Rattle.calculus.specs.Worked.{differ, existential, existential_first, minus, plus, refutation, universal_first}
-use Rattle.frames.specs.State.{OpenFormula}
+use Rattle.frames.specs.State.{OpenFormula, empty_formula, empty_frame}
 use Rattle.qrp_trace.specs.Worked.{clause}
 use Rattle.aig.specs.declared.strategy.Strategy.{Strategy}
 use Rattle.engine.specs.declared.refusal.AskRefusal.TheVariants.{NoVerdict, NotOutermost, NotWinner, NoMemory}
@@ -20,9 +20,10 @@ use Rattle.engine.specs.Refusals.{ask_number, ask_refusal, is_outermost, value_r
 use Rattle.engine.specs.State.{EngineState, VerdictState}
 use Rattle.engine.specs.Worked.{cube, finished_with, some_counts}
 
--- a formula of one frame, without assumptions
+-- a formula of one frame, without assumptions, in version 1
 abbrev pub formula_of : List Scope → List Row → OpenFormula
-formula_of scopes clauses = record { scopes = scopes; frames = record { clauses = clauses } ∷ []; assumptions = [] }
+formula_of scopes clauses =
+    record empty_formula { scopes = scopes; frames = record empty_frame { clauses = clauses } ∷ [] }
 
 -- a verdict with its assumptions, its proof and its last row
 abbrev pub verdict_with : Bool → List Literal → List Inference → Row → VerdictState

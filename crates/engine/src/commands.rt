@@ -1,6 +1,7 @@
 //! Commands that change the formula.
-ghost use Rattle.std.specs.Prelude.{◌≡◌, ◌≢◌, ◌≤◌, IsOk, IfErr, OnOk, OnErr, IsOkUnless, MatchOption};
-ghost use Rattle.frames.specs.Commands.{AddClause, AddScope, AddVariable, Assume, Pop, Push, refusal_of};
+ghost use Rattle.std.specs.Prelude.{◌≡◌, ◌≢◌, ◌≤◌, ◌<◌, ◌==◌, false, IsOk, IfErr, OnOk, OnErr, IsOkUnless, MatchOption, vec_len, vec_capacity};
+ghost use Rattle.frames.specs.Commands.{AddClause, AddScope, AddVariable, Assume, Pop, Push, max_pushed, refusal_of};
+ghost use Rattle.frames.specs.State.{depth};
 ghost use Rattle.engine.specs.Counting.{with_clause};
 ghost use Rattle.engine.specs.State.{changed};
 
@@ -8,9 +9,11 @@ use crate::engine::Engine;
 use crate::tied::{drop_top, forget_outcome, put_clause};
 use crate::variables::variable_for;
 use calculus::prefixes_grow;
-use frames::FrameRefusal;
+use derive::StepId;
+use frames::{FrameRefusal, Frames};
 use prefix::Quant;
 use search::resting_grows;
+use steps::NoMemory;
 
 impl Engine {
     /// Puts in a scope without variables as number `at`, or as the last; scopes from there on move up by one.
@@ -81,14 +84,18 @@ impl Engine {
             (IsOkUnless result FrameRefusal.NoMemory) (λ e. result ≡ Err e) }
         ensures err { OnErr result (self.new ≡ self.old) }
     {
+        reserve_mark(&mut self.marks, &self.frames)?;
         self.frames.push()?;
         forget_outcome(&mut self.search, &self.frames);
+        let _ = self.marks.push(self.search.derivation().next_id());
         self.verdict = None;
         Ok(())
     }
 
-    /// Drops the top pushed frame with its clauses, and all that was learned from them. Refused with NoFrame where no
-    /// pushed frame is open; it takes no memory.
+    /// Drops the top pushed frame with its clauses, the variables that leave with it and the assumptions over these, and
+    /// all that was learned from such clauses or names such a variable. Refused with NoFrame where no pushed frame is
+    /// open; it takes no memory. The time is that of dropping clauses and variables, and of going over the literals of
+    /// the steps since the frame was pushed.
     pub fn pop(&mut self) -> Result<(), FrameRefusal>
         ensures ok { OnOk result (self.new ≡ record (changed self.old Pop) { kept_long = self.new.kept_long }) }
         ensures refused { MatchOption (refusal_of self.old.formula Pop) (IsOk result) (λ e. result ≡ Err e) }
@@ -96,7 +103,11 @@ impl Engine {
     {
         let top = self.frames.depth();
         self.frames.pop()?;
-        drop_top(&mut self.search, &self.frames, top);
+        prefixes_grow();
+        let mark = self.marks.pop().unwrap();
+        // Each clause that is left is over the prefix that is left.
+        let _left = self.frames.open_clauses();
+        drop_top(&mut self.search, &self.frames, top, mark);
         forget_outcome(&mut self.search, &self.frames);
         self.verdict = None;
         Ok(())
@@ -117,4 +128,17 @@ impl Engine {
         self.verdict = None;
         Ok(())
     }
+}
+
+// Makes room for the mark of one more frame, where one may be pushed.
+fn reserve_mark(marks: &mut Vec<StepId>, frames: &Frames) -> Result<(), NoMemory>
+    ensures same { marks.new.items ≡ marks.old.items }
+    ensures room { OnOk result ((depth frames.now.formula.frames == max_pushed) ≡ false →
+        vec_len marks.new < vec_capacity marks.new) }
+    ensures err { OnErr result ((depth frames.now.formula.frames == max_pushed) ≡ false) }
+{
+    if frames.depth() != Frames::MAX_PUSHED {
+        marks.reserve(1)?;
+    }
+    Ok(())
 }

@@ -7,7 +7,7 @@ ghost use Rattle.frames.specs.State.{clauses_in};
 ghost use Rattle.search.specs.Counting.{size_of};
 ghost use Rattle.search.specs.Stops.{IsQuickStop};
 ghost use Rattle.engine.specs.Counting.{with_solve};
-ghost use Rattle.engine.specs.State.{new_engine};
+ghost use Rattle.engine.specs.State.{engine_of, new_engine};
 ghost use Rattle.engine.specs.Verdicts.{HasProof, IsStopFor};
 
 use crate::counts::Counts;
@@ -15,13 +15,14 @@ use crate::lookup::keep_mentioned;
 use crate::tied::{decide, forget_outcome};
 use crate::verdict::{Held, Verdict};
 use calculus::{end_rows_give_proofs, proofs_decide};
-use derive::steps_are_listed;
+use derive::{StepId, steps_are_listed};
 use frames::{Assumptions, Frames};
 use prefix::{Lit, LitList, Prefix};
 use search::{Search, SolveStop};
 use std::alloc::Global;
 use std::marker::Model;
 use steps::{NoMemory, Steps};
+use versions::Version;
 
 /// An incremental solver: commands build a formula, `solve` decides it under the assumptions, and what it learns stays
 /// for the next call.
@@ -34,6 +35,8 @@ pub struct Engine {
     pub(crate) counts: Counts,
     // How often a solve may begin anew.
     pub(crate) restarts: u32,
+    // For each pushed frame the id that came next when it was pushed.
+    pub(crate) marks: Vec<StepId>,
 }
 
 impl Model for Engine {
@@ -53,21 +56,30 @@ impl Model for Engine {
       kept_long = e.search.long;
     } };
 
-    ghost invariant = { λ e. IsEngine e.frames.formula e.search e.verdict e.counts };
+    ghost invariant = { λ e. IsEngine e.frames.formula e.search e.verdict e.counts e.marks.items };
 }
 
 impl Engine {
-    /// An engine of no scopes and no clauses. This takes no memory.
+    /// An engine of no scopes and no clauses, for scripts of version 1. This takes no memory.
     pub fn new(alloc: Global) -> Result<Self, NoMemory>
         ensures { result ≡ Ok new_engine }
     {
+        Self::with_version(alloc, Version::One)
+    }
+
+    /// An engine of no scopes and no clauses, in which variables leave with their frame where the version says so. This
+    /// takes no memory.
+    pub fn with_version(alloc: Global, version: Version) -> Result<Self, NoMemory>
+        ensures { result ≡ Ok (engine_of version) }
+    {
         Ok(Self {
             alloc,
-            frames: Frames::new(alloc),
+            frames: Frames::with_version(alloc, version),
             search: Search::new(alloc),
             verdict: None,
             counts: Counts::new(),
             restarts: 0,
+            marks: Vec::new(alloc),
         })
     }
 

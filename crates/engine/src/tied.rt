@@ -1,14 +1,17 @@
 //! Frames and a search that belong together.
-ghost use Rattle.std.specs.Prelude.{◌≡◌, ◌≢◌, ◌≤◌, ◌<◌, ◌+◌, ◌-◌, ◌^◌, ◌==◌, ℕ, ◌++◌, ◌∷◌, [], not, filter, length, List, IfOk, IfErr, OnOk, OnErr, IsOkUnless, MatchOption};
+ghost use Rattle.std.specs.Prelude.{◌≡◌, ◌≢◌, ◌≤◌, ◌<◌, ◌+◌, ◌-◌, ◌^◌, ◌==◌, ◌||◌, ℕ, ◌++◌, ◌∷◌, [], not, filter, length, List, IfOk, IfErr, OnOk, OnErr, IsOkUnless, MatchOption};
 ghost use Rattle.steps.specs.Counter.{step_limit};
+ghost use Rattle.prefix.specs.Scopes.{Scope};
+ghost use Rattle.calculus.specs.Derivations.{Extends};
 ghost use Rattle.calculus.specs.Rows.{Row};
 ghost use Rattle.calculus.specs.Search.{IsRefuted};
 ghost use Rattle.derive.specs.State.{OpenClause, clauses_of};
+ghost use Rattle.derive.specs.Dropping.{NoneOutsideBelow, is_outside, mentions};
 ghost use Rattle.clean.specs.Turns.{reductions_in};
 ghost use Rattle.frames.specs.State.{clauses_in, depth};
 ghost use Rattle.frames.specs.Commands.{AddClause, formula_after, refusal_of};
 ghost use Rattle.search.specs.Changing.{AddsClause};
-ghost use Rattle.search.specs.Moves.{SameSteps};
+ghost use Rattle.search.specs.Moves.{KeepsOlder, SameSteps};
 ghost use Rattle.search.specs.State.{IsResting};
 ghost use Rattle.search.specs.Counting.{size_of};
 ghost use Rattle.search.specs.Finishes.{HasNoFinish, IsFinishId};
@@ -19,6 +22,7 @@ ghost use Rattle.engine.specs.Kept.{AreTied, IsFound};
 ghost use Rattle.engine.specs.Verdicts.{IsStopFor};
 
 use crate::verdict::{Verdict, truth_against};
+use derive::StepId;
 use frames::{FrameRefusal, Frames};
 use prefix::Lit;
 use search::{Search, SolveStop};
@@ -33,6 +37,7 @@ pub(crate) fn forget_outcome(search: &mut Search, frames: &Frames)
     ensures reductions { reductions_in search.new.derivation ≡ reductions_in search.old.derivation }
     ensures fit { reductions_in search.new.derivation < 2 ^ 64 }
     ensures long { search.new.long ≡ search.old.long }
+    ensures older { KeepsOlder search.old.derivation search.new.derivation }
 {
     search.drop_finish(frames.prefix());
     // Ids are fewer than 2 ^ 64.
@@ -64,6 +69,7 @@ pub(crate) fn decide(
     ensures within { steps.new.spent ≤ steps.new.budget }
     ensures budget { steps.new.budget ≡ steps.old.budget }
     ensures rises { steps.old.spent ≤ steps.new.spent }
+    ensures older { KeepsOlder search.old.derivation search.new.derivation }
 {
     let matrix = frames.open_clauses();
     // They are of the first scope, and ascend.
@@ -97,6 +103,7 @@ pub(crate) fn put_clause(
     ensures tied { AreTied frames.new.formula search.new }
     ensures cubes { HasNoCubes search.old → HasNoCubes search.new }
     ensures reductions { reductions_in search.new.derivation ≤ reductions_in search.old.derivation + 1 }
+    ensures older { KeepsOlder search.old.derivation search.new.derivation }
 {
     let count = frames.open_clauses().len();
     frames.add_clause(lits)?;
@@ -122,20 +129,25 @@ fn put_last(search: &mut Search, frames: &Frames) -> Result<(), NoMemory>
     ensures resting { IsResting frames.now.formula.scopes search.new }
     ensures cubes { HasNoCubes search.old → HasNoCubes search.new }
     ensures reductions { reductions_in search.new.derivation ≤ reductions_in search.old.derivation + 1 }
+    ensures older { KeepsOlder search.old.derivation search.new.derivation }
 {
     let clauses = frames.open_clauses();
     let last = &clauses[clauses.len() - 1];
     search.add_clause(frames.prefix(), last.lits(), frames.depth())
 }
 
-// Drops the clauses of the frame that was the top one.
-pub(crate) fn drop_top(search: &mut Search, frames: &Frames, top: usize)
-    requires { IsResting frames.now.formula.scopes search.old }
-    ensures clauses { clauses_of search.new.derivation ≡ filter (λ (c : OpenClause). not (c.frame == top))
+// Drops the clauses of the frame that was the top one, and what names a variable that isn't in the prefix any more: no
+// step under an id below the frame's mark does.
+pub(crate) fn drop_top(search: &mut Search, frames: &Frames, top: usize, mark: StepId)
+    requires resting { (old : List Scope) × Extends frames.now.formula.scopes old × IsResting old search.old }
+    requires below { NoneOutsideBelow frames.now.formula.scopes mark search.old.derivation }
+    ensures clauses { clauses_of search.new.derivation ≡ filter (λ (c : OpenClause).
+        not (c.frame == top || mentions (is_outside frames.now.formula.scopes) c.row))
         (clauses_of search.old.derivation) }
     ensures resting { IsResting frames.now.formula.scopes search.new }
     ensures cubes { HasNoCubes search.old → HasNoCubes search.new }
     ensures reductions { reductions_in search.new.derivation ≤ reductions_in search.old.derivation }
+    ensures older { KeepsOlder search.old.derivation search.new.derivation }
 {
-    search.drop_frame(frames.prefix(), top);
+    search.pop_frame(frames.prefix(), top, mark);
 }

@@ -1,5 +1,6 @@
 pub mod Assuming
 pub mod Keeping
 pub mod Knowing
+pub mod Leaving
 pub mod Refusing
 pub mod Starts

@@ -1,10 +1,14 @@
 -- Which refusal of a clause comes.
-use Rattle.std.proofs.Common.{◌≡◌, ℕ, ◌+◌, ◌≤◌, ℤ, nat_abs, Bool, true, false, not, ◌&&◌, ◌||◌, List, [], ◌∷◌, length, map, suc, refl, ap, arith}
-use Rattle.std.specs.Prelude.{◌==◌, eqb, if◌then◌else◌, nat_lt, nat_le, Option, Some, None, Result, Err, MatchOption, IsOkUnless}
+use Rattle.std.proofs.Common.{◌≡◌, ℕ, ◌+◌, ◌≤◌, ℤ, nat_abs, Bool, true, false, not, ◌&&◌, ◌||◌, List, [], ◌∷◌, length, map, suc, refl, ap, sym, ◌∙◌, arith}
+use Rattle.std.specs.Prelude.{◌==◌, eqb, if◌then◌else◌, nat_lt, nat_le, Option, Some, None, Result, Ok, Err, MatchOption, is_some, IsOkUnless}
 use Rattle.std.specs.Option.{option_eq}
 use Rattle.std.proofs.lemmas.Bool.{eqb-true}
 use Rattle.std.proofs.lemmas.Bool.Decides.{nat_tests}
 use Rattle.std.proofs.lemmas.List.{length-map}
+use Rattle.prefix.specs.Scopes.{Scope, level_of}
+use Rattle.prefix.specs.Refusals.{variable_refusal}
+use Rattle.prefix.specs.declared.refusal.PrefixRefusal.{PrefixRefusal}
+use Rattle.prefix.specs.declared.refusal.PrefixRefusal.TheVariants.{VarTwice, VarRange, ScopeRange}
 use Rattle.calculus.specs.Rows.{Row}
 use Rattle.clauses.specs.Clause.{ascending, put, variables_of}
 use Rattle.frames.specs.Commands.{is_beyond, max_clauses, max_literals}
@@ -14,18 +18,22 @@ use Rattle.frames.specs.declared.refusal.FrameRefusal.TheVariants.{UnknownVar, L
 
 -- what refuses a clause, from the three tests
 abbrev pub tested : Bool → Bool → Bool → Option FrameRefusal
-tested known tautology beyond = if not known then Some UnknownVar else if not tautology && beyond then Some Limit else None
+tested known tautology beyond = if not known then Some UnknownVar else if not tautology && beyond then Some Limit
+    else None
 
 abbrev pub Answers : Option FrameRefusal → Result (Unit {0}) FrameRefusal → Type 0
 Answers refusal r = MatchOption refusal (IsOkUnless r NoMemory) (λ e. r ≡ Err e)
 
-pub without_row : (known tautology beyond : Bool) (r : FrameRefusal) → known ≡ true → r ≡ (if not tautology && beyond then Limit else NoMemory) → Answers (tested known tautology beyond) (Err r)
+pub without_row : (known tautology beyond : Bool) (r : FrameRefusal) → known ≡ true → r
+    ≡ (if not tautology && beyond then Limit else NoMemory) → Answers (tested known tautology beyond) (Err r)
 without_row false tautology beyond r k e = absurd (cc)
 without_row true true beyond r k e = e
 without_row true false true r k e = ap Err e
 without_row true false false r k e = e
 
-pub put_answers : (known tautology beyond : Bool) (r : Result (Unit {0}) FrameRefusal) → known ≡ true → tautology ≡ false → (beyond ≡ true → r ≡ Err Limit) → (beyond ≡ false → IsOkUnless r NoMemory) → Answers (tested known tautology beyond) r
+pub put_answers : (known tautology beyond : Bool) (r : Result (Unit {0}) FrameRefusal) → known ≡ true → tautology
+    ≡ false → (beyond ≡ true → r ≡ Err Limit) → (beyond ≡ false → IsOkUnless r NoMemory)
+    → Answers (tested known tautology beyond) r
 put_answers false tautology beyond r k t h g = absurd (cc)
 put_answers true true beyond r k t h g = absurd (cc)
 put_answers true false true r k t h g = h refl
@@ -47,7 +55,8 @@ put_length : (n : ℕ) (ms : List ℕ) → length (put n ms) ≤ suc (length ms)
 put_length n [] = omega arith
 put_length n (m ∷ ms) = by (nat_lt n m) (n == m) (put_length n ms)
   where
-    by : (b c : Bool) → length (put n ms) ≤ suc (length ms) → length (if b then n ∷ m ∷ ms else if c then m ∷ ms else m ∷ put n ms) ≤ suc (suc (length ms))
+    by : (b c : Bool) → length (put n ms) ≤ suc (length ms)
+        → length (if b then n ∷ m ∷ ms else if c then m ∷ ms else m ∷ put n ms) ≤ suc (suc (length ms))
     by true c h = omega arith
     by false true h = omega arith
     by false false h = omega (arith, h)
@@ -62,7 +71,8 @@ ascending_length (n ∷ ns) =
 -- a clause has at most as many variables as literals
 pub variables_length : (clause : List ℤ) → length (variables_of clause) ≤ length clause
 variables_length clause =
-    let few : length (ascending (map nat_abs clause)) ≤ length (map nat_abs clause) = ascending_length (map nat_abs clause) in
+    let few : length (ascending (map nat_abs clause)) ≤ length (map nat_abs clause) =
+    ascending_length (map nat_abs clause) in
     let same : length (map nat_abs clause) ≡ length clause = length-map clause nat_abs in
     omega (arith, few, same)
 
@@ -73,15 +83,43 @@ less_within m n a b less e = grind (arith, nat_tests, less, e)
 fewer_within : (rows : List Row) (a b : ℕ) → a ≤ b → is_beyond rows b ≡ false → is_beyond rows a ≡ false
 fewer_within rows a b less e = by (nat_le max_clauses (length rows)) e
   where
-    by : (full : Bool) → (full || nat_lt max_literals (literals_in rows + b)) ≡ false → (full || nat_lt max_literals (literals_in rows + a)) ≡ false
+    by : (full : Bool) → (full || nat_lt max_literals (literals_in rows + b)) ≡ false
+        → (full || nat_lt max_literals (literals_in rows + a)) ≡ false
     by true f = f
     by false f = less_within max_literals (literals_in rows) a b less f
 
-unless_beyond : (tautology beyond : Bool) → beyond ≡ false → NoMemory ≡ (if not tautology && beyond then Limit else NoMemory)
+unless_beyond : (tautology beyond : Bool) → beyond ≡ false → NoMemory
+    ≡ (if not tautology && beyond then Limit else NoMemory)
 unless_beyond tautology true e = absurd (let f : true ≡ false = e in cc)
 unless_beyond true false e = refl
 unless_beyond false false e = refl
 
 -- a clause that goes beyond no limit with all its literals is refused for want of memory
-pub within_all : (rows : List Row) (clause : List ℤ) (tautology : Bool) → is_beyond rows (length clause) ≡ false → NoMemory ≡ (if not tautology && is_beyond rows (length (variables_of clause)) then Limit else NoMemory)
-within_all rows clause tautology e = unless_beyond tautology (is_beyond rows (length (variables_of clause))) (fewer_within rows (length (variables_of clause)) (length clause) (variables_length clause) e)
+pub within_all : (rows : List Row) (clause : List ℤ) (tautology : Bool) → is_beyond rows (length clause) ≡ false
+    → NoMemory ≡ (if not tautology && is_beyond rows (length (variables_of clause)) then Limit else NoMemory)
+within_all rows clause tautology e = unless_beyond tautology (is_beyond rows (length (variables_of clause)))
+    (fewer_within rows (length (variables_of clause)) (length clause) (variables_length clause) e)
+
+-- what is known of a variable that the prefix takes
+
+no_refusal : (o : Option PrefixRefusal) (r : Result ℕ PrefixRefusal) (v var : ℕ) → r ≡ Ok v
+    → MatchOption o (r ≡ Ok var) (λ e. r ≡ Err e) → (o ≡ None) × (v ≡ var)
+no_refusal None r v var is m = (refl, (let f : Ok v ≡ Ok var = sym is ∙ m in cc))
+no_refusal (Some e) r v var is m = absurd (let f : Ok v ≡ Err e = sym is ∙ m in cc)
+
+pub variable_is : (scopes : List Scope) (var scope : ℕ) (r : Result ℕ PrefixRefusal) (v : ℕ) → r ≡ Ok v
+    → MatchOption (variable_refusal scopes var scope) (r ≡ Ok var) (λ e. r ≡ Err e) → v ≡ var
+variable_is scopes var scope r v is m = (no_refusal (variable_refusal scopes var scope) r v var is m).1
+
+pub variable_free : (scopes : List Scope) (var scope : ℕ) (r : Result ℕ PrefixRefusal) (v : ℕ) → r ≡ Ok v
+    → MatchOption (variable_refusal scopes var scope) (r ≡ Ok var) (λ e. r ≡ Err e) → is_some (level_of scopes var)
+    ≡ false
+variable_free scopes var scope r v is m =
+    by (var == 0 || nat_lt 1048576 var) (is_some (level_of scopes var)) (scope == 0 || nat_lt (length scopes) scope)
+    (no_refusal (variable_refusal scopes var scope) r v var is m).0
+  where
+    by : (out there : Bool) (place : Bool) → (if out then Some VarRange else if there then Some VarTwice else if place
+        then Some ScopeRange else None) ≡ None → there ≡ false
+    by true there place e = absurd (let f : Some VarRange ≡ None = e in cc)
+    by false true place e = absurd (let f : Some VarTwice ≡ None = e in cc)
+    by false false place e = refl

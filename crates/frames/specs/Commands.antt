@@ -12,7 +12,7 @@ use Rattle.calculus.specs.Rows.{Row}
 use Rattle.frames.specs.declared.refusal.FrameRefusal.{FrameRefusal}
 use Rattle.frames.specs.declared.refusal.FrameRefusal.TheVariants.{NoFrame, UnknownVar, AssumeScope, AssumeClash, AssumptionsHeld, Limit}
 use Rattle.frames.specs.Refusal.{refusal_for}
-use Rattle.frames.specs.State.{Frame, OpenFormula, depth, clauses_in, literals_in, with_row, pushed, popped, literal_from, put_assumption, is_positive}
+use Rattle.frames.specs.State.{Frame, OpenFormula, depth, open_clauses, variables_on_top, literals_in, with_row, with_variable, pushed, popped, without_variables, without_assumed, literal_from, put_assumption, is_positive}
 
 -- how a decision of the formula ended: with its truth, or without a verdict
 pub data Answer : Type 0 where
@@ -77,7 +77,7 @@ refusals s (AddVariable var scope) =
     (not (is_empty s.assumptions), AssumptionsHeld) ∷ prefix_refusals (variable_refusal s.scopes var scope)
 refusals s (AddClause clause) =
     (not (list_all (is_known s.scopes) clause), UnknownVar)
-    ∷ (not (is_tautology clause) && is_beyond (clauses_in s.frames) (length (variables_of clause)), Limit)
+    ∷ (not (is_tautology clause) && is_beyond (open_clauses s) (length (variables_of clause)), Limit)
     ∷ []
 refusals s Push = (depth s.frames == max_pushed, Limit) ∷ []
 refusals s Pop = (depth s.frames == 0, NoFrame) ∷ []
@@ -101,10 +101,17 @@ with_clause clause frames = if is_tautology clause then frames else with_row (as
 -- the formula after an accepted command
 abbrev pub formula_after : OpenFormula → Command → OpenFormula
 formula_after s (AddScope quant at) = record s { scopes = with_scope s.scopes quant at }
-formula_after s (AddVariable var scope) = record s { scopes = with_variable_at s.scopes (scope - 1) var }
+formula_after s (AddVariable var scope) = record s {
+  scopes = with_variable_at s.scopes (scope - 1) var;
+  frames = with_variable s.version var s.frames;
+}
 formula_after s (AddClause clause) = record s { frames = with_clause clause s.frames }
 formula_after s Push = record s { frames = pushed s.frames }
-formula_after s Pop = record s { frames = popped s.frames }
+formula_after s Pop = record s {
+  scopes = without_variables (variables_on_top s) s.scopes;
+  frames = popped s.frames;
+  assumptions = without_assumed (variables_on_top s) s.assumptions;
+}
 formula_after s (Assume n) = record s { assumptions = put_assumption (literal_from n) s.assumptions }
 formula_after s (Solve (Verdict truth)) = record s { assumptions = [] }
 formula_after s (Solve Stop) = s

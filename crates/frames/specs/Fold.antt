@@ -2,8 +2,10 @@
 use Rattle.std.specs.Prelude.{ℕ, ◌+◌, Bool, List, [], ◌∷◌, length, Option, Some, None, max}
 use Rattle.prefix.specs.Literal.{Literal}
 use Rattle.prefix.specs.Scopes.{all_variables}
+use Rattle.versions.specs.declared.version.Version.{Version}
+use Rattle.versions.specs.declared.version.Version.TheVariants.{One}
 use Rattle.frames.specs.declared.refusal.FrameRefusal.{FrameRefusal}
-use Rattle.frames.specs.State.{OpenFormula, empty_formula}
+use Rattle.frames.specs.State.{OpenFormula, new_formula}
 use Rattle.frames.specs.Commands.{Verdict, Stop, Command, AddScope, AddVariable, AddClause, Push, Pop, Assume, Solve, refusal_of, formula_after}
 
 -- a truth, and the assumptions under which it was found
@@ -20,8 +22,13 @@ pub record ScriptState : Type 0 where
   pub solves : ℕ
   pub greatest : ℕ
 
+-- the start of a script of a version
+abbrev pub script_in : Version → ScriptState
+script_in version = record { formula = new_formula version; verdict = None; clauses = 0; solves = 0; greatest = 0 }
+
+-- the same in version 1
 abbrev pub new_script : ScriptState
-new_script = record { formula = empty_formula; verdict = None; clauses = 0; solves = 0; greatest = 0 }
+new_script = script_in One
 
 -- A verdict is kept with the assumptions that it was found under. Everything else is a change, and then there is
 -- none.

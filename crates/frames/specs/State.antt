@@ -1,16 +1,21 @@
 -- The formula that commands build: scopes, frames of clauses, and assumptions.
 use Rattle.std.specs.Prelude.{ℕ, ◌-◌, ℤ, pos, negsuc, nat_abs, Bool, true, false, ◌==◌, nat_lt, if◌then◌else◌, List, [], ◌∷◌, ◌++◌, length, take, flat_map, Option, None}
 use Rattle.prefix.specs.Literal.{Literal}
-use Rattle.prefix.specs.Scopes.{Scope}
-use Rattle.calculus.specs.Rows.{Row}
+use Rattle.prefix.specs.Scopes.{Scope, without_variable}
+use Rattle.calculus.specs.Rows.{Row, without}
+use Rattle.versions.specs.declared.version.Version.{Version}
+use Rattle.versions.specs.declared.version.Version.TheVariants.{One, Two}
 
--- a list of clauses that goes when the frame is popped
+-- What goes when a frame is popped: its clauses, and the variables that leave with it, in the order in which they were
+-- added. In version 1, and of frame 0, no variable leaves.
 pub record Frame : Type 0 where
   pub clauses : List Row
+  pub variables : List ℕ
 
 -- The formula. Frame 0 comes first and is always open; the others were pushed. A clause stands as its row, and a
 -- tautology nowhere. The assumptions ascend by variable.
 pub record OpenFormula : Type 0 where
+  pub version : Version
   pub scopes : List Scope
   pub frames : List Frame
   pub assumptions : List Literal
@@ -21,9 +26,16 @@ pub record FramesState : Type 0 where
   pub formula : OpenFormula
   pub before : Option OpenFormula
 
+abbrev pub empty_frame : Frame
+empty_frame = record { clauses = []; variables = [] }
+
 -- no scope, no clause, frame 0 alone
+abbrev pub new_formula : Version → OpenFormula
+new_formula version = record { version = version; scopes = []; frames = empty_frame ∷ []; assumptions = [] }
+
+-- the same in version 1
 abbrev pub empty_formula : OpenFormula
-empty_formula = record { scopes = []; frames = record { clauses = [] } ∷ []; assumptions = [] }
+empty_formula = new_formula One
 
 -- the number of pushed frames
 abbrev pub depth : List Frame → ℕ
@@ -32,6 +44,19 @@ depth frames = length frames - 1
 -- the clauses of all open frames, those of frame 0 first
 abbrev pub clauses_in : List Frame → List Row
 clauses_in frames = flat_map (λ (f : Frame). f.clauses) frames
+
+abbrev pub open_clauses : OpenFormula → List Row
+open_clauses s = clauses_in s.frames
+
+-- the variables that leave with the last of these frames
+abbrev pub top_variables : List Frame → List ℕ
+top_variables [] = []
+top_variables (f ∷ []) = f.variables
+top_variables (f ∷ g ∷ rest) = top_variables (g ∷ rest)
+
+-- what the next pop removes
+abbrev pub variables_on_top : OpenFormula → List ℕ
+variables_on_top s = top_variables s.frames
 
 -- how many literals the rows have in all
 abbrev pub literals_in : List Row → ℕ
@@ -43,13 +68,37 @@ with_row row [] = []
 with_row row (f ∷ []) = record f { clauses = f.clauses ++ row ∷ [] } ∷ []
 with_row row (f ∷ g ∷ rest) = f ∷ with_row row (g ∷ rest)
 
+-- one more variable that leaves with the top frame
+abbrev pub with_leaving : ℕ → List Frame → List Frame
+with_leaving v [] = []
+with_leaving v (f ∷ []) = record f { variables = f.variables ++ v ∷ [] } ∷ []
+with_leaving v (f ∷ g ∷ rest) = f ∷ with_leaving v (g ∷ rest)
+
+-- whether a variable that is added leaves with the top frame: in version 2, where so many frames are pushed
+abbrev pub leaves_in : Version → ℕ → Bool
+leaves_in One n = false
+leaves_in Two n = nat_lt 0 n
+
+abbrev pub with_variable : Version → ℕ → List Frame → List Frame
+with_variable version v frames = if leaves_in version (depth frames) then with_leaving v frames else frames
+
 -- one more frame
 abbrev pub pushed : List Frame → List Frame
-pushed frames = frames ++ record { clauses = [] } ∷ []
+pushed frames = frames ++ empty_frame ∷ []
 
 -- without the top frame
 abbrev pub popped : List Frame → List Frame
 popped frames = take (length frames - 1) frames
+
+-- each of these variables taken out of its scope
+abbrev pub without_variables : List ℕ → List Scope → List Scope
+without_variables [] scopes = scopes
+without_variables (v ∷ vs) scopes = without_variable v (without_variables vs scopes)
+
+-- without the assumptions over these variables
+abbrev pub without_assumed : List ℕ → List Literal → List Literal
+without_assumed [] assumptions = assumptions
+without_assumed (v ∷ vs) assumptions = without v (without_assumed vs assumptions)
 
 abbrev pub is_positive : ℤ → Bool
 is_positive (pos n) = true

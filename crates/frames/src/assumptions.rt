@@ -2,7 +2,7 @@
 ghost use Rattle.std.specs.Prelude.{◌≡◌, ℕ, [], None, Some, ◌==◌, if◌then◌else◌, length, IfOk, OnOk, OnErr};
 ghost use Rattle.prefix.specs.Scopes.{IsAscending};
 ghost use Rattle.truth.specs.Truth.{assumed_value};
-ghost use Rattle.calculus.specs.Rows.{variables_in};
+ghost use Rattle.calculus.specs.Rows.{variables_in, without};
 ghost use Rattle.frames.specs.State.{put_assumption};
 
 use prefix::{Lit, Var};
@@ -85,6 +85,13 @@ impl Assumptions {
     {
         self.signs.insert(lit.var(), lit.is_positive())?;
         Ok(())
+    }
+
+    /// Takes out the literal over a variable, if one is there; it takes no memory.
+    pub(crate) fn remove(&mut self, v: Var)
+        ensures { self.new ≡ without v self.old }
+    {
+        let _ = self.signs.remove(&v);
     }
 
     /// Takes all out; it takes no memory.

@@ -1,19 +1,23 @@
 //! Frames.
-ghost use Rattle.std.specs.Prelude.{◌≡◌, ℕ, [], Some, None, IsSome, IsOk, OnOk, OnErr, IsOkUnless, MatchOption, length};
+ghost use Rattle.std.specs.Prelude.{◌≡◌, ℕ, true, [], Some, None, is_some, IsSome, IsOk, OnOk, OnErr, IsOkUnless, MatchOption, length};
 ghost use Rattle.std.specs.List.{AllByRecursion};
-ghost use Rattle.prefix.specs.Scopes.{IsPrefix, IsAscending};
+ghost use Rattle.prefix.specs.Scopes.{IsPrefix, IsAscending, AreDistinct, level_of};
 ghost use Rattle.calculus.specs.Rows.{IsRow, variables_in};
 ghost use Rattle.calculus.specs.Verdicts.{AreOuter};
-ghost use Rattle.frames.specs.State.{empty_formula, settled, clauses_in, depth as depth_of};
+ghost use Rattle.frames.specs.State.{new_formula, empty_formula, settled, clauses_in, open_clauses as open_clauses_of, popped, variables_on_top, depth as depth_of};
+ghost use Rattle.frames.specs.Kept.{last_vars};
+ghost use Rattle.frames.specs.Leaving.{NamesNone};
 ghost use Rattle.frames.specs.Commands.{AddScope, AddVariable, AddClause, Push, Pop, Assume, refusal_of, formula_after};
 
 use crate::assumptions::Assumptions;
 use crate::lists::{are_known, cut, known, put_row, refusal_without_row};
 use crate::refusal::FrameRefusal;
+use crate::variables::{leaves, make_room, put_variable, take_out, variable_for, vars_from};
 use clauses::row_of;
-use prefix::{Lit, LitList, Prefix, Quant};
+use prefix::{Lit, LitList, Prefix, Quant, Var};
 use std::alloc::Global;
 use std::marker::Model;
+use versions::Version;
 
 // What the last command was, where that matters for taking it back.
 #[derive(Clone, Copy, Debug)]
@@ -26,7 +30,17 @@ pub(crate) enum Latest {
     Kept,
 }
 
+// How many rows and variables came before a pushed frame.
+#[derive(Clone, Copy, Debug)]
+pub(crate) struct Start {
+    pub(crate) rows: usize,
+    pub(crate) vars: usize,
+}
+
 /// The scopes, the frames of clauses, and the assumptions that commands build.
+///
+/// In version 2 a variable that is added while a pushed frame is open leaves with the top frame. In version 1, and
+/// where frame 0 alone is open, it stays.
 ///
 /// Frame 0 is always open, and at most `Frames::MAX_PUSHED` more. In them stand at most `Frames::MAX_CLAUSES`
 /// clauses with at most `Frames::MAX_LITERALS` literals in all. A tautology is accepted and left out, a repeated
@@ -34,11 +48,14 @@ pub(crate) enum Latest {
 /// popped.
 #[derive(Debug, Drop)]
 pub struct Frames {
+    version: Version,
     prefix: Prefix,
     // The rows of all open frames.
     rows: Vec<LitList>,
-    // For each pushed frame how many rows came before it.
-    starts: Vec<usize>,
+    // The variables that leave with their frames.
+    vars: Vec<Var>,
+    // Where each pushed frame starts.
+    starts: Vec<Start>,
     // How many literals the rows have.
     literals: usize,
     assumptions: Assumptions,
@@ -50,12 +67,14 @@ impl Model for Frames {
 
     ghost Value = { FramesState };
 
-    ghost use Rattle.frames.specs.Kept.{state_of, AreFrames, AreAssumptions};
+    ghost use Rattle.frames.specs.Kept.{at_first, frames_from, state_of, AreFrames, AreAssumptions};
+    ghost use Rattle.frames.specs.Leaving.{AreLeaving};
 
-    ghost view = { λ f. state_of f.prefix f.starts.items f.rows.items f.assumptions f.latest };
+    ghost view = { λ f. state_of f.version f.prefix f.starts.items f.rows.items f.vars.items f.assumptions f.latest };
 
-    ghost invariant = { λ f. AreFrames f.prefix f.starts.items f.rows.items f.literals f.latest
-        × AreAssumptions f.prefix f.assumptions };
+    ghost invariant = { λ f. AreFrames f.prefix f.starts.items f.rows.items f.vars.items f.literals f.latest
+        × AreAssumptions f.prefix f.assumptions
+        × AreLeaving f.version f.prefix (frames_from at_first f.starts.items f.rows.items f.vars.items) };
 }
 
 /// What a formula is decided by: its prefix, the clauses of all open frames, and the assumptions.
@@ -79,13 +98,22 @@ impl Frames {
     /// The greatest number of literals in the open frames.
     pub const MAX_LITERALS: usize = 268_435_456;
 
-    /// No scope, no clause, and frame 0 alone.
+    /// No scope, no clause, and frame 0 alone, in version 1.
     pub fn new(alloc: Global) -> Self
         ensures { result ≡ settled empty_formula }
     {
+        Self::with_version(alloc, Version::One)
+    }
+
+    /// No scope, no clause, and frame 0 alone, in this version. This takes no memory.
+    pub fn with_version(alloc: Global, version: Version) -> Self
+        ensures { result ≡ settled (new_formula version) }
+    {
         Self {
+            version,
             prefix: Prefix::new(alloc),
             rows: Vec::new(alloc),
+            vars: Vec::new(alloc),
             starts: Vec::new(alloc),
             literals: 0,
             assumptions: Assumptions::new(alloc),
@@ -111,7 +139,8 @@ impl Frames {
         Ok(())
     }
 
-    /// Puts the variable of number `var` into scope number `scope`.
+    /// Puts the variable of number `var` into scope number `scope`. In version 2, where a frame is pushed, it leaves
+    /// with the top frame.
     ///
     /// Refused, in this order, with AssumptionsHeld where an assumption stands, as `Prefix::add_var` refuses it, and
     /// with NoMemory.
@@ -124,7 +153,11 @@ impl Frames {
         if !self.assumptions.is_empty() {
             return Err(FrameRefusal::AssumptionsHeld);
         }
+        let v = variable_for(&self.prefix, var, scope)?;
+        let leaves = leaves(self.version, self.starts.len());
+        make_room(&mut self.vars, leaves)?;
         self.prefix.add_var(var, scope)?;
+        put_variable(&mut self.vars, leaves, v);
         self.latest = Latest::Other;
         Ok(())
     }
@@ -139,13 +172,18 @@ impl Frames {
         if self.starts.len() == Self::MAX_PUSHED {
             return Err(FrameRefusal::Limit);
         }
-        self.starts.push(self.rows.len())?;
+        let start = Start {
+            rows: self.rows.len(),
+            vars: self.vars.len(),
+        };
+        self.starts.push(start)?;
         self.latest = Latest::Other;
         Ok(())
     }
 
-    /// Drops the top pushed frame with its clauses. Refused with NoFrame where no pushed frame is open; it takes no
-    /// memory. The time is that of dropping the clauses.
+    /// Drops the top pushed frame with its clauses, the variables that leave with it, and the assumptions over these.
+    /// Refused with NoFrame where no pushed frame is open; it takes no memory. The time is that of dropping the
+    /// clauses, and for each variable the logarithms of how many its scope has and of how many assumptions stand.
     pub fn pop(&mut self) -> Result<(), FrameRefusal>
         ensures ok { OnOk result (self.new ≡ settled (formula_after self.old.formula Pop)) }
         ensures refused { MatchOption (refusal_of self.old.formula Pop) (IsOk result) (λ e. result ≡ Err e) }
@@ -154,7 +192,13 @@ impl Frames {
         let Some(start) = self.starts.pop() else {
             return Err(FrameRefusal::NoFrame);
         };
-        cut(&mut self.rows, &mut self.literals, start);
+        cut(&mut self.rows, &mut self.literals, start.rows);
+        take_out(
+            &mut self.prefix,
+            &mut self.assumptions,
+            &mut self.vars,
+            start.vars,
+        );
         self.latest = Latest::Other;
         Ok(())
     }
@@ -260,10 +304,33 @@ impl Frames {
 
     /// The clauses of all open frames, those of frame 0 first.
     pub fn open_clauses(&self) -> &[LitList]
-        ensures value { result.now ≡ clauses_in self.now.formula.frames }
-        ensures rows { AllByRecursion (IsRow self.now.formula.scopes) (clauses_in self.now.formula.frames) }
+        ensures value { result.now ≡ open_clauses_of self.now.formula }
+        ensures rows { AllByRecursion (IsRow self.now.formula.scopes) (open_clauses_of self.now.formula) }
     {
         &self.rows
+    }
+
+    /// The variables that the next `pop` removes, in the order in which they were added; in version 1, and where no
+    /// frame is pushed, none. Each is in the prefix, none comes twice, and no clause names one that stands below the
+    /// top frame.
+    pub fn top_vars(&self) -> &[Var]
+        ensures value { result.now ≡ variables_on_top self.now.formula }
+        ensures known { AllByRecursion (λ v. is_some (level_of self.now.formula.scopes v) ≡ true)
+            (variables_on_top self.now.formula) }
+        ensures distinct { AreDistinct (variables_on_top self.now.formula) }
+        ensures below { AllByRecursion (NamesNone (variables_on_top self.now.formula))
+            (clauses_in (popped self.now.formula.frames)) }
+        ensures never { self.now.formula.version ≡ Version.One → variables_on_top self.now.formula ≡ [] }
+        ensures first { depth_of self.now.formula.frames ≡ 0 → variables_on_top self.now.formula ≡ [] }
+    {
+        vars_from(&self.vars, top_start(&self.starts))
+    }
+
+    /// The version of the script format that decides how long a variable stays.
+    pub fn version(&self) -> Version
+        ensures { result ≡ self.now.formula.version }
+    {
+        self.version
     }
 
     /// The assumptions, ascending by variable.
@@ -286,7 +353,7 @@ impl Frames {
     /// Prefix, clauses and assumptions together.
     pub fn parts(&self) -> OpenParts<'_>
         ensures prefix { result.prefix.now ≡ self.now.formula.scopes }
-        ensures clauses { result.clauses.now ≡ clauses_in self.now.formula.frames }
+        ensures clauses { result.clauses.now ≡ open_clauses_of self.now.formula }
         ensures assumptions { result.assumptions.now ≡ self.now.formula.assumptions }
     {
         OpenParts {
@@ -294,5 +361,15 @@ impl Frames {
             clauses: &self.rows,
             assumptions: &self.assumptions,
         }
+    }
+}
+
+// How many variables came before the last of these frames.
+fn top_start(starts: &[Start]) -> usize
+    ensures { result ≡ last_vars starts.now }
+{
+    match starts.last() {
+        Some(start) => start.vars,
+        None => 0,
     }
 }

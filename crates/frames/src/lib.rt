@@ -1,4 +1,5 @@
-//! The open formula that commands build: scopes, frames of clauses, and assumptions.
+//! The open formula that commands build: scopes, frames of clauses and of variables that leave with them, and
+//! assumptions.
 //!
 //! `specs/Commands` says what each command is refused for and what it does, `specs/Fold` what a list of commands comes
 //! to.
@@ -9,10 +10,11 @@ mod frames;
 mod laws;
 mod lists;
 mod refusal;
+mod variables;
 mod worked;
 
 pub use assumptions::Assumptions;
 pub use frames::{Frames, OpenParts};
-pub use laws::refused_commands_change_nothing;
+pub use laws::{others_stay, refused_commands_change_nothing};
 pub use refusal::FrameRefusal;
-pub use worked::{worked_commands, worked_limits};
+pub use worked::{worked_commands, worked_limits, worked_versions};

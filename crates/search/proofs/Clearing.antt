@@ -23,6 +23,7 @@ use Rattle.search.specs.Forgetting.{AreLive, Clears, Forgets, HasFewLong, HaveAl
 use Rattle.search.specs.Counting.{size_of}
 use Rattle.search.specs.Long.{is_input}
 use Rattle.search.specs.State.{IsAttached, IsSearching, SearchState}
+use Rattle.search.proofs.Aging.{older_dropped, older_none, older_same, older_then}
 use Rattle.search.proofs.Dropping.{attached_on, attached_still, attached_was, intact_rederived, note_of, rederived, tally_left, watched_left}
 use Rattle.search.proofs.Marks.{reduced_by, step_live}
 use Rattle.search.proofs.Reducing.{reductions_left, reductions_same}
@@ -97,6 +98,7 @@ module _ (holding : HoldingLaws) (agreeing : AgreeingLaws) (scopes : List Scope)
           (Contains-append_left ids s.watched id (reasons x id cause live)))) (searching.reasons side);
     };
     clauses = clauses;
+    older = older_dropped is_root s.derivation d drops;
     trail = refl;
     long = refl;
     attached = attached_on scopes s d is_root drops attached_same;
@@ -109,6 +111,7 @@ pub clears_none : (scopes : List Scope) (s : SearchState) → IsSearching scopes
 clears_none scopes s searching = record {
   searching = searching;
   clauses = refl;
+  older = older_none s.derivation;
   trail = refl;
   long = refl;
   attached = λ side id a. a;
@@ -136,6 +139,8 @@ forgets scopes old mid new most searching thins few least enough clears =
     record {
       searching = clears.searching;
       clauses = clears.clauses ∙ thins.steps.clauses;
+      older = older_then old.derivation mid.derivation new.derivation
+          (older_same old.derivation mid.derivation thins.steps) clears.older;
       trail = clears.trail ∙ thins.trail;
       few = omega (arith, long, same);
       enough = inr (omega (arith, enough, same));
@@ -151,6 +156,7 @@ pub forgets_none : (scopes : List Scope) (s : SearchState) → IsSearching scope
 forgets_none scopes s searching few = record {
   searching = searching;
   clauses = refl;
+  older = older_none s.derivation;
   trail = refl;
   few = few;
   enough = inl refl;

@@ -1,7 +1,10 @@
 -- Searches at rest in which steps are dropped.
 use Rattle.std.proofs.Common.{◌≡◌, ℕ, ◌<◌, ◌⊎◌, Bool, true, false, not, List, filter, Option, Some, None, Contains, IsTrue, is_some, nat_eq, get_or, refl, sym, ap, subst, ◌∙◌, inl, inr, ⊎_elim, arith}
 use Rattle.std.proofs.lemmas.Bool.{cases_Bool, cond-false, eq-eqb, false≢true}
-use Rattle.calculus.proofs.Lists.{filter_at}
+use Rattle.calculus.proofs.Lists.{any_at, any_from, filter_at}
+use Rattle.calculus.proofs.Opposites.{reduce_part}
+use Rattle.calculus.specs.Rows.{Row}
+use Rattle.prefix.specs.Literal.{Literal}
 use Rattle.prefix.specs.declared.quant.Quant.{Quant}
 use Rattle.prefix.specs.declared.quant.Quant.TheVariants.{Exists, Forall}
 use Rattle.prefix.specs.Scopes.{Scope}
@@ -10,7 +13,7 @@ use Rattle.calculus.specs.Derivations.{RestsOn, Why}
 use Rattle.calculus.specs.Derivations.Why.{Given, ReducedFrom, ResolvedFrom, FinishedFrom}
 use Rattle.derive.specs.State.{IsLegalFor, Note, OpenClause, State, arena_of, clauses_of, is_finish, is_live, is_step, may_be_antecedent, note_at, note_in, row_of, side_at, side_in, tag_at, tag_in, why_at, why_in}
 use Rattle.derive.specs.Adding.{IsReductionOf}
-use Rattle.derive.specs.Dropping.{Drops, Falls, StepTest, has_tag, unless_finish}
+use Rattle.derive.specs.Dropping.{Drops, Falls, StepTest, has_tag, mentions, names, unless_finish}
 use Rattle.derive.specs.Dropping.Falls.{rests, root}
 use Rattle.derive.specs.Theorems.{ClausesAreListed}
 use Rattle.derive.specs.Sweeping.{is_input_clause}
@@ -192,13 +195,16 @@ module _ (scopes : List Scope) (s : SearchState) (d : State) (is_root : StepTest
 
 -- where such rows were detached before as go
 module _ (scopes : List Scope) (start s : SearchState) (d : State) (is_root : StepTest)
-    (drops : Drops is_root s.derivation d) (goes : ℕ → Type 0) (sheds : Sheds scopes goes start s)
-    (none : NoneFalls is_root s) where
+    (drops : Drops is_root s.derivation d) (goes : ℕ → Type 0) (sheds : Sheds goes start s)
+    (known : IsIntact scopes start) (none : NoneFalls is_root s) where
+  intact : IsIntact scopes s
+  intact = sheds.intact scopes known
+
   pub shed_stay : (side : Quant) (id : ℕ) → IsAttached s side id → IsTrue (is_live d id)
   shed_stay side id a =
       ⊎_elim
       (λ gone. absurd (none side id a gone.0))
-      (λ kept. ap is_some kept.1 ∙ step_live (note_at s.derivation id) (sheds.intact.watched.sides side id a).step)
+      (λ kept. ap is_some kept.1 ∙ step_live (note_at s.derivation id) (intact.watched.sides side id a).step)
       (drops.exactly.steps id)
 
   pub shed_inputs : (id a : ℕ) → IsAttached s (side_at s.derivation id) id → why_at s.derivation id ≡ ReducedFrom a
@@ -206,7 +212,7 @@ module _ (scopes : List Scope) (start s : SearchState) (d : State) (is_root : St
   shed_inputs id a at why =
       let side = side_at s.derivation id in
       let n = note_of (note_at s.derivation id)
-      (step_live (note_at s.derivation id) (sheds.intact.watched.sides side id at).step) in
+      (step_live (note_at s.derivation id) (intact.watched.sides side id at).step) in
       let is : n.0.why ≡ ReducedFrom a = sym (ap why_in n.1) ∙ why in
       let on : RestsOn n.0.why a = subst (λ w. RestsOn w a) (sym is) refl in
       ⊎_elim
@@ -241,15 +247,21 @@ frame_falls frame d id tag live =
     let is : n.0.tag ≡ frame = sym (ap tag_in n.1) ∙ tag in
     root id n.0 n.1 (eq-eqb n.0.tag frame is)
 
--- the reduction of a clause of another frame doesn't fall with a frame
-falls_not : (frame : ℕ) (d : State) (c : OpenClause) (id : ℕ)
+-- the live steps fall that name such a variable
+pub named_falls : (test : ℕ → Bool) (d : State) (id : ℕ) → mentions test (row_of d id) ≡ true → IsTrue (is_live d id)
+    → Falls (names test (arena_of d)) d.notes id
+named_falls test d id named live =
+    let n = note_of (note_at d id) live in
+    root id n.0 n.1 named
+
+-- the reduction of a clause that stands doesn't fall where it is no root itself
+falls_not : (is_root : StepTest) (d : State) (c : OpenClause) (id : ℕ)
     → note_at d c.id ≡ Some (record { side = Exists; why = Given; tag = c.frame })
-    → (Falls (has_tag frame) d.notes c.id → ⊥) → nat_eq c.frame frame ≡ false → tag_at d id ≡ c.frame
-    → (id ≡ c.id) ⊎ (why_at d id ≡ ReducedFrom c.id) → Falls (has_tag frame) d.notes id → ⊥
-falls_not frame d c id input stands other tag rests_so (root i note there test) =
-    let is : note.tag ≡ c.frame = ap tag_in (sym there) ∙ tag in
-    false≢true (sym (ap (λ n. nat_eq n frame) is ∙ other) ∙ test)
-falls_not frame d c id input stands other tag rests_so (rests i on note there why falls) =
+    → (Falls is_root d.notes c.id → ⊥) → ((note : Note) → note_at d id ≡ Some note → is_root id note ≡ false)
+    → (id ≡ c.id) ⊎ (why_at d id ≡ ReducedFrom c.id) → Falls is_root d.notes id → ⊥
+falls_not is_root d c id input stands no_root rests_so (root i note there test) =
+    false≢true (sym (no_root note there) ∙ test)
+falls_not is_root d c id input stands no_root rests_so (rests i on note there why falls) =
     ⊎_elim
     (λ same.
     let is : note.why ≡ Given = ap why_in (sym there ∙ (ap (note_at d) same ∙ input)) in
@@ -257,33 +269,55 @@ falls_not frame d c id input stands other tag rests_so (rests i on note there wh
     (λ reduced.
     let is : note.why ≡ ReducedFrom c.id = ap why_in (sym there) ∙ reduced in
     let e : c.id ≡ on = subst (λ w. RestsOn w on) is why in
-    stands (subst (λ x. Falls (has_tag frame) d.notes x) (sym e) falls))
+    stands (subst (λ x. Falls is_root d.notes x) (sym e) falls))
     rests_so
 
-not_false : (b : Bool) → not b ≡ true → b ≡ false
+pub not_false : (b : Bool) → not b ≡ true → b ≡ false
 not_false true h = absurd (false≢true h)
 not_false false h = refl
 
-pub clauses_in_frames : (scopes : List Scope) (old d : State) (frame : ℕ) → ClausesAreListed
-    → Drops (has_tag frame) old d
-    → clauses_of d ≡ filter (λ (c : OpenClause). not (nat_eq c.frame frame)) (clauses_of old) → (c : OpenClause)
-    → Contains (clauses_of d) c
+-- the clauses that are left were there, and their reductions stay where these are no roots
+pub clauses_left : (scopes : List Scope) (old d : State) (is_root : StepTest) (keeps : OpenClause → Bool)
+    → ClausesAreListed → Drops is_root old d → clauses_of d ≡ filter keeps (clauses_of old)
+    → ((c : OpenClause) (id : ℕ) (note : Note) → keeps c ≡ true → IsReductionOf scopes old c id
+    → note_at old id ≡ Some note → is_root id note ≡ false) → (c : OpenClause) → Contains (clauses_of d) c
     → Contains (clauses_of old) c × ((id : ℕ) → IsReductionOf scopes old c id → IsTrue (is_live d id))
-clauses_in_frames scopes old d frame listed drops clauses c at =
-    let f = filter_at (λ (c : OpenClause). not (nat_eq c.frame frame)) (clauses_of old) c
-    (subst (λ cs. Contains cs c) clauses at) in
+clauses_left scopes old d is_root keeps listed drops clauses no_root c at =
+    let f = filter_at keeps (clauses_of old) c (subst (λ cs. Contains cs c) clauses at) in
     let here = listed.note d c at in
-    let stands : Falls (has_tag frame) old.notes c.id → ⊥ =
+    let stands : Falls is_root old.notes c.id → ⊥ =
     ⊎_elim (λ gone. absurd (let g : None ≡ Some (record { side = Exists; why = Given; tag = c.frame }) = sym gone.1
     ∙ here in cc)) (λ kept. kept.0) (drops.exactly.steps c.id) in (
       f.0,
       λ id r.
           ⊎_elim
-          (λ gone. absurd (falls_not frame old c id (listed.note old c f.0) stands
-          (not_false (nat_eq c.frame frame) f.1) r.tag r.rests gone.0))
+          (λ gone. absurd (falls_not is_root old c id (listed.note old c f.0) stands
+          (λ note there. no_root c id note f.1 r there) r.rests gone.0))
           (λ kept. ap is_some kept.1 ∙ step_live (note_at old id) r.step)
           (drops.exactly.steps id),
     )
+
+-- the reduction of a clause of another frame isn't of the frame
+pub no_frame_root : (scopes : List Scope) (old : State) (frame : ℕ) (c : OpenClause) (id : ℕ) (note : Note)
+    → not (nat_eq c.frame frame) ≡ true → IsReductionOf scopes old c id → note_at old id ≡ Some note
+    → has_tag frame id note ≡ false
+no_frame_root scopes old frame c id note other r there =
+    let is : note.tag ≡ c.frame = ap tag_in (sym there) ∙ r.tag in
+    ap (λ n. nat_eq n frame) is ∙ not_false (nat_eq c.frame frame) other
+
+-- the reduction of a clause names no variable that the clause doesn't
+pub no_named_root : (scopes : List Scope) (old : State) (test : ℕ → Bool) (c : OpenClause) (id : ℕ) (note : Note)
+    → not (mentions test c.row) ≡ true → IsReductionOf scopes old c id → note_at old id ≡ Some note
+    → names test (arena_of old) id note ≡ false
+no_named_root scopes old test c id note unnamed r there =
+    let none : mentions test c.row ≡ false = not_false (mentions test c.row) unnamed in
+    ⊎_elim
+    (λ some.
+    let l = any_at (λ (k : Literal). test k.variable) (row_of old id) some in
+    let part = reduce_part Exists scopes c.row l.0 (subst (λ (row : Row). Contains row l.0) r.literals l.1) in
+    absurd (false≢true (sym none ∙ any_from (λ (k : Literal). test k.variable) c.row l.0 part l.2)))
+    (λ is. is)
+    (cases_Bool (mentions test (row_of old id)))
 
 -- the finishes go
 

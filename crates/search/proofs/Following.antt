@@ -16,7 +16,7 @@ use Rattle.decide.specs.Memory.{Memory}
 use Rattle.search.specs.State.{IsPaused, IsSearching, SearchState}
 use Rattle.search.specs.Counting.{IsCounted, lesson_cost, size_of}
 use Rattle.search.specs.Forgetting.{Forgets}
-use Rattle.search.specs.Moves.{Advances, Analyses, BeginsAnew, Covers, Ends, Halts, IsMatrix, Proceeds, SameSteps, Undoes, WasDue}
+use Rattle.search.specs.Moves.{Advances, Analyses, BeginsAnew, Covers, Ends, Halts, IsMatrix, KeepsOlder, Proceeds, SameSteps, Undoes, WasDue}
 use Rattle.search.specs.Moves.IsDue.{decision, unit}
 use Rattle.search.specs.Stops.{WasSpentWhenDue}
 use Rattle.search.specs.Stops.WasSpentWhenDue.{searching as in_search}
@@ -27,7 +27,12 @@ use Rattle.clean.proofs.Keeping.{after_none}
 use Rattle.clean.proofs.Turning.{reduces}
 use Rattle.derive.specs.Adding.{CountsRemoval, Removes}
 use Rattle.calculus.specs.Derivations.Why.{ReducedFrom}
+use Rattle.search.proofs.Aging.{older_removed, older_same, older_then}
 use Rattle.search.proofs.Counting.{bounded_now, bounded_step, counted_step, counted_weaker}
+
+-- the derivation stayed, and then its steps did
+older_kept : (old cut kept : State) → cut ≡ old → SameSteps cut kept → KeepsOlder old kept
+older_kept old cut kept same steps = subst (λ (d : State). KeepsOlder d kept) same (older_same cut kept steps)
 
 -- a step of a derivation with the same steps
 pub step_same : (side : Quant) (scopes : List Scope) (old new : State) (id : ℕ) → SameSteps old new
@@ -70,6 +75,8 @@ pub advances_undone : (scopes : List Scope) (level : ℕ) (s cut kept new : Sear
 advances_undone scopes level s cut kept new before now undoes keeps goes = record {
   searching = goes.searching;
   clauses = goes.clauses ∙ (keeps.steps.clauses ∙ ap clauses_of undoes.derivation);
+  older = older_then s.derivation kept.derivation new.derivation
+      (older_kept s.derivation cut.derivation kept.derivation undoes.derivation keeps.steps) goes.older;
   assumed = λ assumptions h. goes.assumed assumptions
       (subst (λ (t : TrailState). AreTheAssumptions t.placed assumptions) (sym keeps.trail)
       (undoes.assumed assumptions h));
@@ -108,6 +115,7 @@ module _ (scopes : List Scope) (s between new : SearchState) (before now end : C
       record {
         paused = h.paused;
         clauses = h.clauses ∙ analyses.clauses;
+        older = older_then s.derivation between.derivation new.derivation analyses.older h.older;
         budget = h.budget ∙ analyses.budget;
         rises = omega arith;
         bounded = λ start is. h.bounded start (analyses.owed start is);
@@ -121,6 +129,7 @@ module _ (scopes : List Scope) (s between new : SearchState) (before now end : C
       record {
         searching = h.searching;
         clauses = h.clauses ∙ analyses.clauses;
+        older = older_then s.derivation between.derivation new.derivation analyses.older h.older;
         assumed = λ assumptions a. h.assumed assumptions (analyses.assumed assumptions a);
         allowed = h.allowed;
         budget = h.budget ∙ analyses.budget;
@@ -135,6 +144,7 @@ pub ends_analysed : (scopes : List Scope) (s new : SearchState) (before now : Co
 ends_analysed scopes s new before now side row analyses step ends = record {
   paused = analyses.searching.paused;
   clauses = analyses.clauses;
+  older = analyses.older;
   budget = analyses.budget;
   rises = analyses.rises;
   bounded = λ start is. bounded_now (size_of scopes) (lesson_cost (size_of scopes)) start new.trail new.trail now
@@ -150,11 +160,26 @@ pub advances_sooner : (scopes : List Scope) (s new : SearchState) (before now : 
 advances_sooner scopes s new before now h = record {
   searching = h.searching;
   clauses = h.clauses;
+  older = h.older;
   assumed = h.assumed;
   allowed = h.allowed;
   budget = h.budget;
   rises = h.rises;
   counted = λ start is. h.counted start (counted_weaker (size_of scopes) 0 1 start s.trail before (omega arith) is);
+}
+
+-- after a look
+pub halts_looked : (scopes : List Scope) (slack : ℕ) (s between new : SearchState) (before end : Counter)
+    → Looks scopes s between → Halts scopes slack between new before end → Halts scopes slack s new before end
+halts_looked scopes slack s between new before end looks h = record {
+  paused = h.paused;
+  clauses = h.clauses ∙ looks.steps.clauses;
+  older = older_then s.derivation between.derivation new.derivation
+      (older_same s.derivation between.derivation looks.steps) h.older;
+  budget = h.budget;
+  rises = h.rises;
+  bounded = λ start is. h.bounded start
+      (subst (λ (t : TrailState). IsCounted (size_of scopes) slack start t before) (sym looks.trail) is);
 }
 
 -- after an initial cube
@@ -171,6 +196,7 @@ module _ (scopes : List Scope) (s between new : SearchState) (before now end : C
       record {
         searching = h.searching;
         clauses = h.clauses ∙ covers.clauses;
+        older = older_then s.derivation between.derivation new.derivation covers.older h.older;
         assumed = λ assumptions a. h.assumed assumptions
             (subst (λ (t : TrailState). AreTheAssumptions t.placed assumptions) (sym covers.same_trail) a);
         allowed = h.allowed;
@@ -187,6 +213,7 @@ module _ (scopes : List Scope) (s between new : SearchState) (before now end : C
       record {
         paused = h.paused;
         clauses = h.clauses ∙ covers.clauses;
+        older = older_then s.derivation between.derivation new.derivation covers.older h.older;
         budget = h.budget ∙ covers.budget;
         rises = omega arith;
         bounded = λ start is. h.bounded start (counted_then start is);
@@ -200,6 +227,7 @@ module _ (scopes : List Scope) (s between new : SearchState) (before now end : C
       record {
         paused = h.paused;
         clauses = h.clauses ∙ covers.clauses;
+        older = older_then s.derivation between.derivation new.derivation covers.older h.older;
         budget = h.budget ∙ covers.budget;
         rises = omega arith;
         bounded = λ start is. h.bounded start (counted_then start is);
@@ -214,6 +242,7 @@ pub halts_sooner : (scopes : List Scope) (s new : SearchState) (before now : Cou
 halts_sooner scopes s new before now h = record {
   paused = h.paused;
   clauses = h.clauses;
+  older = h.older;
   budget = h.budget;
   rises = h.rises;
   bounded = λ start is. h.bounded start (counted_weaker (size_of scopes) 0 1 start s.trail before (omega arith) is);
@@ -224,6 +253,7 @@ pub ends_sooner : (scopes : List Scope) (s new : SearchState) (before now : Coun
 ends_sooner scopes s new before now side id h = record {
   paused = h.paused;
   clauses = h.clauses;
+  older = h.older;
   budget = h.budget;
   rises = h.rises;
   bounded = λ start is. h.bounded start (counted_weaker (size_of scopes) 0 1 start s.trail before (omega arith) is);
@@ -233,11 +263,12 @@ ends_sooner scopes s new before now side id h = record {
 
 -- from a search with the same clauses and the same trail
 pub covers_moved : (scopes : List Scope) (v s new : SearchState) (before now : Counter)
-    → clauses_of v.derivation ≡ clauses_of s.derivation → v.trail ≡ s.trail → Covers scopes v new before now
+    → v.derivation ≡ s.derivation → v.trail ≡ s.trail → Covers scopes v new before now
     → Covers scopes s new before now
-covers_moved scopes v s new before now clauses trail covers = record {
+covers_moved scopes v s new before now same trail covers = record {
   searching = covers.searching;
-  clauses = covers.clauses ∙ clauses;
+  clauses = covers.clauses ∙ ap clauses_of same;
+  older = subst (λ (d : State). KeepsOlder d new.derivation) same covers.older;
   same_trail = covers.same_trail ∙ trail;
   budget = covers.budget;
   rises = covers.rises;
@@ -251,6 +282,7 @@ pub covers_looked : (scopes : List Scope) (s new : SearchState) (c : Counter) �
 covers_looked scopes s new c looks = record {
   searching = looks.searching;
   clauses = looks.steps.clauses;
+  older = older_same s.derivation new.derivation looks.steps;
   same_trail = looks.trail;
   budget = refl;
   rises = omega arith;
@@ -260,7 +292,8 @@ covers_looked scopes s new c looks = record {
 
 -- an initial cube came in, with its reduction
 module _ (scopes : List Scope) (s middle new : SearchState) (before now : Counter) (within : now.spent ≤ now.budget)
-    (clauses : clauses_of middle.derivation ≡ clauses_of s.derivation) (same : new.trail ≡ s.trail) where
+    (clauses : clauses_of middle.derivation ≡ clauses_of s.derivation)
+    (older : KeepsOlder s.derivation middle.derivation) (same : new.trail ≡ s.trail) where
   pub covers_counted : (id a : ℕ) (row : Row) → IsSearching scopes new
       → Removes middle.derivation new.derivation id a (ReducedFrom a) row
       → CountsRemoval (row_of middle.derivation a) row before now → Covers scopes s new before now
@@ -270,6 +303,8 @@ module _ (scopes : List Scope) (s middle new : SearchState) (before now : Counte
       record {
         searching = searching;
         clauses = r.clauses ∙ clauses;
+        older = older_then s.derivation middle.derivation new.derivation older
+            (older_removed middle.derivation new.derivation id a (ReducedFrom a) row removes);
         same_trail = same;
         budget = ap (λ (c : Counter). c.budget) r.counted;
         rises = omega arith;
@@ -288,6 +323,7 @@ module _ (scopes : List Scope) (s middle new : SearchState) (before now : Counte
           record {
             paused = paused;
             clauses = ap clauses_of there ∙ clauses;
+            older = subst (KeepsOlder s.derivation) (sym there) older;
             budget = ap (λ (c : Counter). c.budget) is;
             rises = omega arith;
             bounded = λ start. bounded_step (size_of scopes) start k s.trail new.trail before now once
@@ -364,6 +400,7 @@ module _ (scopes : List Scope) (s cut kept : SearchState) (steps : Counter) (beg
       record {
         searching = keeps.searching;
         clauses = keeps.steps.clauses ∙ ap clauses_of began.derivation;
+        older = older_kept s.derivation cut.derivation kept.derivation began.derivation keeps.steps;
         assumed = λ assumptions h. subst (λ (t : TrailState). AreTheAssumptions t.placed assumptions) (sym keeps.trail)
             (began.assumed assumptions h);
         allowed = ap (λ (t : TrailState). t.allowed) keeps.trail ∙ began.allowed;
@@ -384,6 +421,7 @@ module _ (scopes : List Scope) (s cut kept : SearchState) (steps : Counter) (beg
   halts_anew = record {
     paused = keeps.searching.paused;
     clauses = keeps.steps.clauses ∙ ap clauses_of began.derivation;
+    older = older_kept s.derivation cut.derivation kept.derivation began.derivation keeps.steps;
     budget = refl;
     rises = omega arith;
     bounded = λ start. bounded_now (size_of scopes) (lesson_cost (size_of scopes)) start s.trail kept.trail steps
@@ -415,6 +453,7 @@ pub advances_forgot : (scopes : List Scope) (slack : ℕ) (s between new : Searc
 advances_forgot scopes slack s between new before now h forgets = record {
   searching = forgets.searching;
   clauses = forgets.clauses ∙ h.clauses;
+  older = older_then s.derivation between.derivation new.derivation h.older forgets.older;
   assumed = λ assumptions a. subst (λ (t : TrailState). AreTheAssumptions t.placed assumptions) (sym forgets.trail)
       (h.assumed assumptions a);
   allowed = ap (λ (t : TrailState). t.allowed) forgets.trail ∙ h.allowed;
@@ -430,6 +469,7 @@ halts_advanced scopes slack s between new before now h same =
     subst (λ (t : SearchState). Halts scopes slack s t before now) (sym same) (record {
       paused = h.searching.paused;
       clauses = h.clauses;
+      older = h.older;
       budget = h.budget;
       rises = h.rises;
       bounded = λ start is. bounded_now (size_of scopes) 0 start between.trail between.trail now (omega arith) refl

@@ -249,7 +249,7 @@ no_cubes_same old new none same watched id at live =
 
 -- the reduction is attached, too
 module _ (scopes : List Scope) (start s taken new : SearchState) (second : ℕ)
-    (sheds : Sheds scopes (λ id. ⊥) start s) (takes : TakesIn scopes s taken second)
+    (sheds : Sheds (λ id. ⊥) start s) (takes : TakesIn scopes s taken second)
     (joins : Joins scopes taken new second) (tallied : IsTallied new) (resting : IsResting scopes start) where
   taken_live : (id : ℕ) → IsTrue (is_live new.derivation id) → IsTrue (is_live taken.derivation id)
   taken_live id live = sym (live_same taken.derivation new.derivation joins.steps id) ∙ live

@@ -56,6 +56,8 @@ module _ (laws : HoldingLaws) (pivot : Quant) (scopes : List Scope) (old new : S
         room = same.looked.room;
       }) intact
 
+module _ (laws : HoldingLaws) (pivot : Quant) (scopes : List Scope) (old new : SearchState)
+    (same : IsElseSame pivot old new) (intact : IsIntact scopes old) where
   module _ (id : ℕ) (attaches : Attaches pivot (rows_of old) (rows_of new) id (Some (mark_of pivot)))
       (may : MayJoin old pivot id) where
     here : IsAttached new pivot id
@@ -89,7 +91,7 @@ module _ (laws : HoldingLaws) (pivot : Quant) (scopes : List Scope) (old new : S
 
     pub joins : Holds pivot scopes (watch_of pivot new) (rows_of new) → Joins scopes old new id
     joins holds = record {
-      intact = else_intact (record {
+      intact = else_intact laws pivot scopes old new same intact (record {
         steps = same.touches.steps;
         watched = same.watched;
         marked =
@@ -129,16 +131,16 @@ module _ (laws : HoldingLaws) (pivot : Quant) (scopes : List Scope) (old new : S
         (λ other apart a. apart (sym of_side ∙ (intact.watched.sides other id (parted_stays other id a)).of_side))
 
     pub parts : GoesOnHolding pivot (watch_of pivot old) (rows_of old) (watch_of pivot new) (rows_of new)
-        → Parts scopes old new id
+        → Parts old new id
     parts holds = record {
-      intact = else_intact (record {
+      intact = λ prefix known. else_intact laws pivot prefix old new same known (record {
         steps = same.touches.steps;
         watched = same.watched;
         marked =
             parted_marks;
         attached = λ side i a. inl (parted_stays side i a);
       })
-          (holds scopes (intact.watching.holds pivot));
+          (holds prefix (known.watching.holds pivot));
       steps = same.touches.steps;
       trail = same.trail;
       signs = same.signs;

@@ -26,7 +26,7 @@ use Rattle.clean.proofs.Keeping.{reasons_stay, reduced_stays, step_lives}
 use Rattle.search.specs.State.{AreAttached, AreMarked, AreWatched, IsIntact, IsResting, IsSearching, IsTallied, SearchState, rows_of, watch_of}
 use Rattle.analyse.specs.Lessons.{NeedsResolution}
 use Rattle.search.specs.Counting.{size_of}
-use Rattle.search.specs.Moves.{Analyses, Halts, KeepsAssumptions, WasDue}
+use Rattle.search.specs.Moves.{Analyses, Halts, KeepsAssumptions, KeepsOlder, WasDue}
 use Rattle.search.specs.Moves.IsDue.{bad}
 use Rattle.search.proofs.Counting.{bounded_more, counted_owed}
 use Rattle.search.proofs.Tallying.{tally_gained}
@@ -245,16 +245,17 @@ module _ (scopes : List Scope) (s new : SearchState) (before now : Counter) (wit
   short : length s.trail.placed ≤ size_of scopes
   short = trail_length scopes s.trail.placed searching.paused.intact.trail.ordered
 
-  pub analyses : clauses_of new.derivation ≡ clauses_of s.derivation
+  pub analyses : clauses_of new.derivation ≡ clauses_of s.derivation → KeepsOlder s.derivation new.derivation
       → CleansReasons scopes s.derivation new.derivation s.trail new.trail before now (length s.trail.placed)
       → Analyses scopes s new before now
-  analyses clauses cleans =
+  analyses clauses older cleans =
       let is = cleans.counted in
       let budget : now.budget ≡ before.budget = ap (λ (c : Counter). c.budget) is in
       let spent : now.spent ≡ before.spent + (cleans.taken + cleans.reduced) = ap (λ (c : Counter). c.spent) is in
       record {
         searching = goes_on cleans.made cleans.marks;
         clauses = clauses;
+        older = older;
         assumed = assumptions_marked s.trail new.trail cleans.made cleans.marks;
         level = level_marked s.trail new.trail cleans.made cleans.marks;
         assigned = cleans.marks.assigned;
@@ -266,15 +267,16 @@ module _ (scopes : List Scope) (s new : SearchState) (before now : Counter) (wit
             (omega arith);
       }
 
-  pub halts_analysis : clauses_of new.derivation ≡ clauses_of s.derivation
+  pub halts_analysis : clauses_of new.derivation ≡ clauses_of s.derivation → KeepsOlder s.derivation new.derivation
       → StopsCleaning scopes s.derivation new.derivation s.trail new.trail before now
       (marks_left s.trail * length s.trail.placed + length s.trail.placed) → Halts scopes 1 s new before now
-  halts_analysis clauses stops =
+  halts_analysis clauses older stops =
       let is = stops.counted in
       let spent : now.spent ≡ before.spent + stops.taken = ap (λ (c : Counter). c.spent) is in
       record {
         paused = (goes_on stops.made stops.marks).paused;
         clauses = clauses;
+        older = older;
         budget = ap (λ (c : Counter). c.budget) is;
         rises = omega arith;
         bounded = λ start. bounded_more (size_of scopes) start stops.taken s.trail new.trail before now short

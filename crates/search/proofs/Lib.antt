@@ -1,3 +1,4 @@
+pub mod Aging
 pub mod Clearing
 pub mod Counting
 pub mod Covering
@@ -13,6 +14,7 @@ pub mod Learning
 pub mod Listing
 pub mod Looking
 pub mod Marks
+pub mod Popping
 pub mod Reducing
 pub mod Rows
 pub mod Shedding
@@ -24,4 +26,5 @@ pub mod Turning
 pub mod Undoing
 pub mod Working
 pub mod WorkingForgetting
+pub mod WorkingLeaving
 pub mod WorkingStops

@@ -1,27 +1,32 @@
 -- Rows that are detached between solves.
-use Rattle.std.proofs.Common.{◌≡◌, ℕ, ◌+◌, ◌<◌, ◌≤◌, Bool, true, List, refl, sym, subst, ◌∙◌, inl, inr, ⊎_elim, arith}
+use Rattle.std.proofs.Common.{◌≡◌, ℕ, ◌+◌, ◌<◌, ◌≤◌, Bool, true, IsTrue, List, refl, sym, ap, subst, ◌∙◌, inl, inr, ⊎_elim, arith}
 use Rattle.std.proofs.lemmas.Bool.{cases_lt}
 use Rattle.prefix.specs.Scopes.{Scope}
-use Rattle.derive.specs.State.{Notes, State, arena_of, next_id, note_at}
+use Rattle.prefix.specs.declared.quant.Quant.{Quant}
+use Rattle.prefix.specs.declared.quant.Quant.TheVariants.{Exists, Forall}
+use Rattle.derive.specs.State.{Note, Notes, State, arena_of, has_rows, next_id, note_at, note_in, side_at, side_in, tag_in}
 use Rattle.calculus.specs.Rows.{Row}
 use Rattle.derive.specs.Cubes.{misses}
-use Rattle.derive.specs.Dropping.{Falls, StepTest, has_tag}
+use Rattle.derive.specs.Dropping.{Falls, NoneOutsideBelow, StepTest, has_tag, is_outside, mentions, names}
 use Rattle.derive.specs.Dropping.Falls.{rests, root}
+use Rattle.derive.proofs.Leaving.{names_same}
 use Rattle.derive.proofs.Missed.{misses_same}
 use Rattle.derive.proofs.Additions.{live_below}
+use Rattle.search.specs.Leaving.{Goes, Reaches}
+use Rattle.search.specs.declared.leaving.Leaving.{Leaving}
+use Rattle.search.specs.declared.leaving.Leaving.TheVariants.{Frame, Cubes, Outside}
 use Rattle.search.specs.Moves.{SameSteps}
 use Rattle.search.specs.State.{IsIntact, IsTallied, SearchState, rows_of}
 use Rattle.search.specs.Watching.{IsFree, NoneFalls, Parts, Sheds}
 use Rattle.search.proofs.Joining.{same_or_not}
-use Rattle.search.proofs.Marks.{note_same, same_mark, step_live, steps_then}
+use Rattle.search.proofs.Marks.{live_same, note_same, same_mark, step_live, steps_then}
 
 -- nothing is detached
-pub sheds_none : (scopes : List Scope) (goes : ℕ → Type 0) (s : SearchState) → IsIntact scopes s → IsTallied s
-    → Sheds scopes goes s s
-sheds_none scopes goes s intact tallied = record {
-  intact = intact;
+pub sheds_none : (goes : ℕ → Type 0) (s : SearchState) → IsTrue (has_rows s.derivation) → IsTallied s → Sheds goes s s
+sheds_none goes s rows tallied = record {
+  intact = λ scopes intact. intact;
   tallied = tallied;
-  steps = record { notes = refl; has_rows = intact.has_rows; literals = λ id. refl; clauses = refl };
+  steps = record { notes = refl; has_rows = rows; literals = λ id. refl; clauses = refl };
   trail = refl;
   watched = refl;
   fewer = omega arith;
@@ -31,9 +36,9 @@ sheds_none scopes goes s intact tallied = record {
 }
 
 -- told of more rows
-pub sheds_as : (scopes : List Scope) (goes goes_too : ℕ → Type 0) (old new : SearchState) → Sheds scopes goes old new
-    → ((id : ℕ) → goes id → goes_too id) → Sheds scopes goes_too old new
-sheds_as scopes goes goes_too old new sheds same = record {
+pub sheds_as : (goes goes_too : ℕ → Type 0) (old new : SearchState) → Sheds goes old new
+    → ((id : ℕ) → goes id → goes_too id) → Sheds goes_too old new
+sheds_as goes goes_too old new sheds same = record {
   intact = sheds.intact;
   tallied = sheds.tallied;
   steps = sheds.steps;
@@ -46,10 +51,10 @@ sheds_as scopes goes goes_too old new sheds same = record {
 }
 
 -- one row after the other
-pub sheds_then : (scopes : List Scope) (goes goes_too : ℕ → Type 0) (a b c : SearchState) → Sheds scopes goes a b
-    → Sheds scopes goes_too b c → ((id : ℕ) → goes_too id → goes id) → Sheds scopes goes a c
-sheds_then scopes goes goes_too a b c one two same = record {
-  intact = two.intact;
+pub sheds_then : (goes goes_too : ℕ → Type 0) (a b c : SearchState) → Sheds goes a b → Sheds goes_too b c
+    → ((id : ℕ) → goes_too id → goes id) → Sheds goes a c
+sheds_then goes goes_too a b c one two same = record {
+  intact = λ scopes intact. two.intact scopes (one.intact scopes intact);
   tallied = two.tallied;
   steps = steps_then a.derivation b.derivation c.derivation one.steps two.steps;
   trail = two.trail ∙ one.trail;
@@ -66,11 +71,12 @@ sheds_then scopes goes goes_too a b c one two same = record {
 }
 
 -- a row is detached, which goes where all are told to be attached still
-pub sheds_parted : (scopes : List Scope) (goes : ℕ → Type 0) (old new : SearchState) (flag : Bool) (id : ℕ)
-    → Parts scopes (record old { joined = flag }) new id → IsTallied new → new.long ≤ old.long
-    → (flag ≡ true → (old.joined ≡ true) × goes id) → Sheds scopes goes old new
-sheds_parted scopes goes old new flag id parts tallied fewer told = record {
-  intact = parts.intact;
+pub sheds_parted : (goes : ℕ → Type 0) (old new : SearchState) (flag : Bool) (id : ℕ)
+    → ((scopes : List Scope) → IsIntact scopes old → IsIntact scopes (record old { joined = flag }))
+    → Parts (record old { joined = flag }) new id → IsTallied new → new.long ≤ old.long
+    → (flag ≡ true → (old.joined ≡ true) × goes id) → Sheds goes old new
+sheds_parted goes old new flag id flagged parts tallied fewer told = record {
+  intact = λ scopes intact. parts.intact scopes (flagged scopes intact);
   tallied = tallied;
   steps = parts.steps;
   trail = parts.trail;
@@ -87,23 +93,22 @@ sheds_parted scopes goes old new flag id parts tallied fewer told = record {
 }
 
 -- so many ids from one on were gone over: of these, such as are reached are attached no more
-pub record HasShed (scopes : List Scope) (goes reached : ℕ → Type 0) (start s : SearchState) (from to : ℕ) : Type 0
-  where
-    pub sheds : Sheds scopes goes start s
-    pub gone : (id : ℕ) → from ≤ id → id < to → reached id → IsFree s id
+pub record HasShed (goes reached : ℕ → Type 0) (start s : SearchState) (from to : ℕ) : Type 0 where
+  pub sheds : Sheds goes start s
+  pub gone : (id : ℕ) → from ≤ id → id < to → reached id → IsFree s id
 
-pub shed_none : (scopes : List Scope) (goes reached : ℕ → Type 0) (s : SearchState) (from to : ℕ) → to ≤ from
-    → IsIntact scopes s → IsTallied s → HasShed scopes goes reached s s from to
-shed_none scopes goes reached s from to low intact tallied = record {
-  sheds = sheds_none scopes goes s intact tallied;
+pub shed_none : (goes reached : ℕ → Type 0) (s : SearchState) (from to : ℕ) → to ≤ from
+    → IsTrue (has_rows s.derivation) → IsTallied s → HasShed goes reached s s from to
+shed_none goes reached s from to low rows tallied = record {
+  sheds = sheds_none goes s rows tallied;
   gone = λ id above below is. absurd (omega arith);
 }
 
-pub shed_more : (scopes : List Scope) (goes goes_too reached : ℕ → Type 0) (start s new : SearchState) (from to : ℕ)
-    → HasShed scopes goes reached start s from to → Sheds scopes goes_too s new → (reached to → IsFree new to)
-    → ((id : ℕ) → goes_too id → goes id) → HasShed scopes goes reached start new from (to + 1)
-shed_more scopes goes goes_too reached start s new from to has sheds here same = record {
-  sheds = sheds_then scopes goes goes_too start s new has.sheds sheds same;
+pub shed_more : (goes goes_too reached : ℕ → Type 0) (start s new : SearchState) (from to : ℕ)
+    → HasShed goes reached start s from to → Sheds goes_too s new → (reached to → IsFree new to)
+    → ((id : ℕ) → goes_too id → goes id) → HasShed goes reached start new from (to + 1)
+shed_more goes goes_too reached start s new from to has sheds here same = record {
+  sheds = sheds_then goes goes_too start s new has.sheds sheds same;
   gone =
       λ id above below is.
       ⊎_elim
@@ -114,28 +119,110 @@ shed_more scopes goes goes_too reached start s new from to has sheds here same =
       (cases_lt id to);
 }
 
--- what falls is reached, and none of it is attached in the end
-pub shed_all : (scopes : List Scope) (goes reached : ℕ → Type 0) (is_root : StepTest) (start s : SearchState)
-    (from to : ℕ) → HasShed scopes goes reached start s from to → next_id s.derivation ≤ to
-    → ((id : ℕ) → Falls is_root s.derivation.notes id → (from ≤ id) × reached id) → NoneFalls is_root s
-shed_all scopes goes reached is_root start s from to has all falls side id a fell =
-    let live = step_live (note_at s.derivation id) (has.sheds.intact.watched.sides side id a).step in
+-- what is attached is live, and so its id was given
+pub attached_below : (scopes : List Scope) (s : SearchState) → IsIntact scopes s → (id : ℕ) → next_id s.derivation ≤ id
+    → IsFree s id
+attached_below scopes s intact id past side a =
+    let live = step_live (note_at s.derivation id) (intact.watched.sides side id a).step in
     let low : id < next_id s.derivation = live_below s.derivation.notes id live in
+    absurd (omega arith)
+
+-- in the end all that is reached from the first id on is attached no more
+pub shed_all : (goes reached : ℕ → Type 0) (start s : SearchState) (from to : ℕ) → HasShed goes reached start s from to
+    → (scopes : List Scope) × IsIntact scopes start → next_id s.derivation ≤ to → (id : ℕ) → from ≤ id → reached id
+    → IsFree s id
+shed_all goes reached start s from to has known all id above is =
+    ⊎_elim
+    (λ (less : id < to). has.gone id above less is)
+    (λ (past : to ≤ id). attached_below known.0 s (has.sheds.intact known.0 known.1) id (omega arith))
+    (cases_lt id to)
+
+-- what is reached, and what goes, is the same with the same steps
+pub reaches_same : (leaving : Leaving) (old new : State) → SameSteps old new → (id : ℕ) → Reaches leaving old id
+    → Reaches leaving new id
+reaches_same (Frame frame) old new same id is = subst (λ o. frame ≤ tag_in o) (sym (note_same old new same id)) is
+reaches_same Cubes old new same id is = ap side_in (note_same old new same id) ∙ is
+reaches_same (Outside side prefix) old new same id is = ap side_in (note_same old new same id) ∙ is
+
+pub goes_before : (leaving : Leaving) (old new : State) → SameSteps old new → (id : ℕ) → Goes leaving new id
+    → Goes leaving old id
+goes_before (Frame frame) old new same id is = ap tag_in (sym (note_same old new same id)) ∙ is
+goes_before Cubes old new same id is = is
+goes_before (Outside side prefix) old new same id is =
+    subst (λ (row : Row). mentions (is_outside prefix.now) row ≡ true) (same.literals id) is
+
+-- by tests that agree the same fall
+pub falls_alike : (p q : StepTest) (a b : Notes) → b ≡ a → ((id : ℕ) (note : Note) → p id note ≡ q id note) → (id : ℕ)
+    → Falls p a id → Falls q b id
+falls_alike p q a b same tests id (root i note there test) =
+    root id note (ap (λ (notes : Notes). note_in notes id) same ∙ there) (sym (tests id note) ∙ test)
+falls_alike p q a b same tests id (rests i on note there r falls) =
+    rests id on note (ap (λ (notes : Notes). note_in notes id) same ∙ there) r
+    (falls_alike p q a b same tests on falls)
+
+module _ (old new : State) (same : SameSteps old new) where
+  pub misses_alike : (clause : Row) (id : ℕ) (note : Note)
+      → misses clause (arena_of new) id note ≡ misses clause (arena_of old) id note
+  misses_alike clause id note = misses_same clause (arena_of old) (arena_of new) id note (same.literals id)
+
+  pub names_alike : (test : ℕ → Bool) (id : ℕ) (note : Note)
+      → names test (arena_of new) id note ≡ names test (arena_of old) id note
+  names_alike test id note = names_same test (arena_of old) (arena_of new) id note (same.literals id)
+
+  -- the same fall with a clause that cubes miss, with a frame, and with variables
+  pub falls_before : (clause : Row) (id : ℕ) → Falls (misses clause (arena_of new)) new.notes id
+      → Falls (misses clause (arena_of old)) old.notes id
+  falls_before clause id falls = falls_alike (misses clause (arena_of new)) (misses clause (arena_of old)) new.notes
+      old.notes (sym same.notes) (misses_alike clause) id falls
+
+  pub frame_falls_before : (frame : ℕ) (id : ℕ) → Falls (has_tag frame) new.notes id
+      → Falls (has_tag frame) old.notes id
+  frame_falls_before frame id falls = falls_alike (has_tag frame) (has_tag frame) new.notes old.notes
+      (sym same.notes) (λ i note. refl) id falls
+
+  pub names_fall_before : (test : ℕ → Bool) (id : ℕ) → Falls (names test (arena_of new)) new.notes id
+      → Falls (names test (arena_of old)) old.notes id
+  names_fall_before test id falls = falls_alike (names test (arena_of new)) (names test (arena_of old)) new.notes
+      old.notes (sym same.notes) (names_alike test) id falls
+
+  pub none_below_same : (scopes : List Scope) (from : ℕ) → NoneOutsideBelow scopes from old
+      → NoneOutsideBelow scopes from new
+  none_below_same scopes from below id low live =
+      ap (mentions (is_outside scopes)) (same.literals id)
+      ∙ below id low (sym (live_same old new same id) ∙ live)
+
+-- no row is attached that falls, where all that fall from an id on are reached
+pub none_reached : (is_root : StepTest) (reached : ℕ → Type 0) (s : SearchState) (from : ℕ)
+    → ((id : ℕ) → from ≤ id → reached id → IsFree s id)
+    → ((id : ℕ) → Falls is_root s.derivation.notes id → (from ≤ id) × reached id) → NoneFalls is_root s
+none_reached is_root reached s from free falls side id a fell =
     let f = falls id fell in
-    let above = f.0 in
-    has.gone id above (omega arith) f.1 side a
+    free id f.0 f.1 side a
 
--- with the same steps the same fall
-pub falls_before : (clause : Row) (old new : State) → SameSteps old new → (id : ℕ)
-    → Falls (misses clause (arena_of new)) new.notes id → Falls (misses clause (arena_of old)) old.notes id
-falls_before clause old new same id (root i note there test) =
-    root id note (sym (note_same old new same id) ∙ there)
-    (sym (misses_same clause (arena_of old) (arena_of new) id note (same.literals id)) ∙ test)
-falls_before clause old new same id (rests i on note there r falls) =
-    rests id on note (sym (note_same old new same id) ∙ there) r (falls_before clause old new same on falls)
+-- the rows of both sides were gone over
+by_each : (P : Quant → Type 0) → P Exists → P Forall → (side : Quant) → P side
+by_each P one two Exists = one
+by_each P one two Forall = two
 
--- and the same fall with a frame
-pub frame_falls_before : (frame : ℕ) (old new : State) → SameSteps old new → (id : ℕ)
-    → Falls (has_tag frame) new.notes id → Falls (has_tag frame) old.notes id
-frame_falls_before frame old new same id falls =
-    subst (λ (notes : Notes). Falls (has_tag frame) notes id) same.notes falls
+module _ (scopes : List Scope) (start s new : SearchState) (goes goes_too : ℕ → Type 0) (first second : ℕ)
+    (is_root root_later last : StepTest) (intact : IsIntact scopes start) (one : Sheds goes start s)
+    (two : Sheds goes_too s new)
+    (clauses : (id : ℕ) → Falls is_root start.derivation.notes id → side_at start.derivation id ≡ Exists → first ≤ id)
+    (cubes : (id : ℕ) → Falls root_later s.derivation.notes id → side_at s.derivation id ≡ Forall → second ≤ id)
+    (free : (id : ℕ) → first ≤ id → side_at start.derivation id ≡ Exists → IsFree s id)
+    (free_later : (id : ℕ) → second ≤ id → side_at s.derivation id ≡ Forall → IsFree new id)
+    (before : (id : ℕ) → Falls last new.derivation.notes id → Falls root_later s.derivation.notes id)
+    (at_start : (id : ℕ) → Falls root_later s.derivation.notes id → Falls is_root start.derivation.notes id) where
+  pub none_of_both : NoneFalls last new
+  none_of_both side id a fell =
+      let later = before id fell in
+      let was = two.was side id a in
+      let here = one.was side id was in
+      let side_start : side_at start.derivation id ≡ side = (intact.watched.sides side id here).of_side in
+      let side_later : side_at s.derivation id ≡ side =
+      ((one.intact scopes intact).watched.sides side id was).of_side in
+      by_each
+      (λ q. side ≡ q → ⊥)
+      (λ e. free id (clauses id (at_start id later) (side_start ∙ e)) (side_start ∙ e) side was)
+      (λ e. free_later id (cubes id later (side_later ∙ e)) (side_later ∙ e) side a)
+      side refl

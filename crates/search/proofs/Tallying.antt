@@ -293,10 +293,9 @@ joins_counted scopes old mid id n joins = record {
   others = joins.others;
 }
 
-pub parts_counted : (scopes : List Scope) (old mid : SearchState) (id n : ℕ) → Parts scopes old mid id
-    → Parts scopes old (with_long mid n) id
-parts_counted scopes old mid id n parts = record {
-  intact = intact_counted scopes mid n parts.intact;
+pub parts_counted : (old mid : SearchState) (id n : ℕ) → Parts old mid id → Parts old (with_long mid n) id
+parts_counted old mid id n parts = record {
+  intact = λ scopes intact. intact_counted scopes mid n (parts.intact scopes intact);
   steps = parts.steps;
   trail = parts.trail;
   signs = parts.signs;
@@ -349,7 +348,7 @@ module _ (scopes : List Scope) (old mid : SearchState) (id : ℕ) (joins : Joins
         let few = count_few (is_kept_long mid.derivation) (next_id mid.derivation) in
         omega (arith, r, t, same, e, few)
 
-module _ (scopes : List Scope) (old mid : SearchState) (id : ℕ) (parts : Parts scopes old mid id)
+module _ (old mid : SearchState) (id : ℕ) (parts : Parts old mid id)
     (live : IsTrue (is_live old.derivation id))
     (held : is_attached (side_at old.derivation id) (rows_of old) id ≡ true) where
   gone_now : is_attached (side_at mid.derivation id) (rows_of mid) id ≡ false

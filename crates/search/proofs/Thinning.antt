@@ -95,10 +95,10 @@ thins_then scopes a b c one two = record {
 }
 
 -- a row that may go is detached
-pub thins_parted : (scopes : List Scope) (old new : SearchState) (id : ℕ) → Parts scopes old new id → IsTallied new
-    → may_go old id ≡ true → Thins scopes old new
-thins_parted scopes old new id parts tallied may = record {
-  intact = parts.intact;
+pub thins_parted : (scopes : List Scope) (old new : SearchState) (id : ℕ) → IsIntact scopes old → Parts old new id
+    → IsTallied new → may_go old id ≡ true → Thins scopes old new
+thins_parted scopes old new id intact parts tallied may = record {
+  intact = parts.intact scopes intact;
   tallied = tallied;
   steps = parts.steps;
   trail = parts.trail;
@@ -114,9 +114,9 @@ thins_parted scopes old new id parts tallied may = record {
   };
 }
 
-pub parted_uncounted : (scopes : List Scope) (old new : SearchState) (id : ℕ) → Parts scopes old new id
+pub parted_uncounted : (old new : SearchState) (id : ℕ) → Parts old new id
     → is_kept_long new.derivation id ≡ true → ⊥
-parted_uncounted scopes old new id parts kept =
+parted_uncounted old new id parts kept =
     parts.gone (side_at new.derivation id)
     (and_true (is_attached (side_at new.derivation id) (rows_of new) id) (is_long new.derivation id) kept).0
 

@@ -24,6 +24,7 @@ use Rattle.search.specs.State.{AreWatched, IsIntact, IsPaused, IsSearching, IsTa
 use Rattle.search.specs.Counting.{size_of}
 use Rattle.search.specs.Long.{long_in}
 use Rattle.search.specs.Moves.{Advances}
+use Rattle.search.proofs.Aging.{older_equal}
 use Rattle.search.proofs.Counting.{counted_push}
 
 -- the watches of two searches
@@ -170,6 +171,7 @@ advances scopes s new value cause before laws searching changes is trail fresh o
             fresh (reason side) (searching.reasons side)));
       };
       clauses = ap clauses_of changes.derivation;
+      older = older_equal s.derivation new.derivation changes.derivation;
       assumed = λ assumptions h. subst (λ (t : TrailState). AreTheAssumptions t.placed assumptions) (sym is)
           (push s.trail.placed assumptions (record { literal = value; cause = cause }) other h);
       allowed = ap (λ (t : TrailState). t.allowed) is;

@@ -5,7 +5,7 @@ use Rattle.prefix.specs.declared.quant.Quant.{Quant}
 use Rattle.prefix.specs.Literal.{Literal}
 use Rattle.prefix.specs.Sides.{is_pivot}
 use Rattle.calculus.proofs.Lists.{contains_cons, contains_head, contains_nil}
-use Rattle.calculus.specs.Rows.{Row, depth_of}
+use Rattle.calculus.specs.Rows.{Row}
 use Rattle.calculus.specs.Search.{AreTheAssumptions, Trail, cause_on, value_on}
 use Rattle.calculus.specs.Search.Cause.{Assumed, Propagated}
 use Rattle.calculus.specs.Worked.{plus}

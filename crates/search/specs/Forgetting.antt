@@ -11,7 +11,7 @@ use Rattle.derive.specs.State.{State, clauses_of, is_live, row_of}
 use Rattle.clean.specs.Turns.{reductions_in}
 use Rattle.search.specs.Counting.{size_of}
 use Rattle.search.specs.Long.{is_long}
-use Rattle.search.specs.Moves.{SameSteps}
+use Rattle.search.specs.Moves.{KeepsOlder, SameSteps}
 use Rattle.search.specs.State.{IsAttached, IsIntact, IsSearching, IsTallied, SearchState, rows_of}
 
 -- the row that a variable with this cause was propagated from, if it was
@@ -71,6 +71,7 @@ AreLive d ids = (id : ℕ) → Contains ids id → IsTrue (is_live d id)
 pub record Clears (scopes : List Scope) (old new : SearchState) : Type 0 where
   pub searching : IsSearching scopes new
   pub clauses : clauses_of new.derivation ≡ clauses_of old.derivation
+  pub older : KeepsOlder old.derivation new.derivation
   pub trail : new.trail ≡ old.trail
   pub long : new.long ≡ old.long
   pub attached : (side : Quant) (id : ℕ) → IsAttached old side id → IsAttached new side id
@@ -98,6 +99,7 @@ LeavesEnough old new = (new.long ≡ old.long) ⊎ (left_long ≤ new.long)
 pub record Forgets (scopes : List Scope) (old new : SearchState) : Type 0 where
   pub searching : IsSearching scopes new
   pub clauses : clauses_of new.derivation ≡ clauses_of old.derivation
+  pub older : KeepsOlder old.derivation new.derivation
   pub trail : new.trail ≡ old.trail
   pub few : HasFewLong scopes new
   pub enough : LeavesEnough old new

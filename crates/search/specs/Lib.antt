@@ -3,6 +3,7 @@ pub mod Counting
 pub mod Finishes
 pub mod Forcing
 pub mod Forgetting
+pub mod Leaving
 pub mod Long
 pub mod Moves
 pub mod State
@@ -10,3 +11,4 @@ pub mod Stops
 pub mod Watching
 pub mod Worked
 pub mod WorkedForgetting
+pub mod WorkedLeaving

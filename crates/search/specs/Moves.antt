@@ -14,7 +14,7 @@ use Rattle.trail.specs.State.{TrailState, counted}
 use Rattle.trail.specs.declared.allowed.Allowed.TheVariants.{Anything, Nothing}
 use Rattle.decide.specs.Decision.{IsDecision}
 use Rattle.cover.specs.Choices.{MayCover}
-use Rattle.derive.specs.State.{State, clauses_of, has_rows, is_step, open_clauses, row_of, side_at, why_at}
+use Rattle.derive.specs.State.{State, clauses_of, has_rows, is_live, is_step, next_id, note_at, open_clauses, row_of, side_at, why_at}
 use Rattle.watch.specs.Events.{AreQuiet}
 use Rattle.clean.specs.Reasons.{IsReducedStep}
 use Rattle.analyse.specs.Lessons.{NeedsResolution}
@@ -29,6 +29,13 @@ pub record SameSteps (old new : State) : Type 0 where
   pub has_rows : IsTrue (has_rows new)
   pub literals : (id : ℕ) → row_of new id ≡ row_of old id
   pub clauses : clauses_of new ≡ clauses_of old
+
+-- No id is given twice: what is live under an id that was given before was so before, with its row, in which links
+-- may differ.
+pub record KeepsOlder (old new : State) : Type 0 where
+  pub longer : next_id old ≤ next_id new
+  pub note : (id : ℕ) → id < next_id old → IsTrue (is_live new id) → note_at new id ≡ note_at old id
+  pub row : (id : ℕ) → id < next_id old → IsTrue (is_live new id) → row_of new id ≡ row_of old id
 
 -- the clauses of a matrix are the open clauses
 pub record IsMatrix (d : State) (matrix : List Row) : Type 0 where
@@ -48,6 +55,7 @@ Proceeds old new = old.assigned + old.restarts < new.assigned + new.restarts
 pub record Advances (scopes : List Scope) (slack : ℕ) (old new : SearchState) (before now : Counter) : Type 0 where
   pub searching : IsSearching scopes new
   pub clauses : clauses_of new.derivation ≡ clauses_of old.derivation
+  pub older : KeepsOlder old.derivation new.derivation
   pub assumed : KeepsAssumptions old.trail new.trail
   pub allowed : new.trail.allowed ≡ Anything
   pub budget : now.budget ≡ before.budget
@@ -59,6 +67,7 @@ pub record Advances (scopes : List Scope) (slack : ℕ) (old new : SearchState) 
 pub record Analyses (scopes : List Scope) (old new : SearchState) (before now : Counter) : Type 0 where
   pub searching : IsSearching scopes new
   pub clauses : clauses_of new.derivation ≡ clauses_of old.derivation
+  pub older : KeepsOlder old.derivation new.derivation
   pub assumed : KeepsAssumptions old.trail new.trail
   pub level : last_level new.trail.placed ≡ last_level old.trail.placed
   pub assigned : new.trail.assigned ≡ old.trail.assigned
@@ -72,6 +81,7 @@ pub record Analyses (scopes : List Scope) (old new : SearchState) (before now : 
 pub record Covers (scopes : List Scope) (old new : SearchState) (before now : Counter) : Type 0 where
   pub searching : IsSearching scopes new
   pub clauses : clauses_of new.derivation ≡ clauses_of old.derivation
+  pub older : KeepsOlder old.derivation new.derivation
   pub same_trail : new.trail ≡ old.trail
   pub budget : now.budget ≡ before.budget
   pub rises : before.spent ≤ now.spent
@@ -88,6 +98,7 @@ pub record Pushes (old new : SearchState) (literal : Literal) (cause : Cause) (b
 pub record Halts (scopes : List Scope) (slack : ℕ) (old new : SearchState) (before now : Counter) : Type 0 where
   pub paused : IsPaused scopes new
   pub clauses : clauses_of new.derivation ≡ clauses_of old.derivation
+  pub older : KeepsOlder old.derivation new.derivation
   pub budget : now.budget ≡ before.budget
   pub rises : before.spent ≤ now.spent
   pub bounded : (start : ℕ) → IsCounted (size_of scopes) slack start old.trail before
@@ -98,6 +109,7 @@ pub record Ends (scopes : List Scope) (slack : ℕ) (old new : SearchState) (bef
     (id : ℕ) : Type 0 where
   pub paused : IsPaused scopes new
   pub clauses : clauses_of new.derivation ≡ clauses_of old.derivation
+  pub older : KeepsOlder old.derivation new.derivation
   pub budget : now.budget ≡ before.budget
   pub rises : before.spent ≤ now.spent
   pub bounded : (start : ℕ) → IsCounted (size_of scopes) slack start old.trail before

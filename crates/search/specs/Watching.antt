@@ -52,9 +52,13 @@ pub record Joins (scopes : List Scope) (old new : SearchState) (id : ℕ) : Type
   pub stays : (side : Quant) (i : ℕ) → IsAttached old side i → IsAttached new side i
   pub others : KeepsOtherMarks (rows_of old) (rows_of new) id
 
+-- what holds at every moment still does, for each prefix for which it did
+abbrev pub KeepsIntact : SearchState → SearchState → Type 0
+KeepsIntact old new = (scopes : List Scope) → IsIntact scopes old → IsIntact scopes new
+
 -- a row isn't attached any more, and what isn't stays so; nothing else changes
-pub record Parts (scopes : List Scope) (old new : SearchState) (id : ℕ) : Type 0 where
-  pub intact : IsIntact scopes new
+pub record Parts (old new : SearchState) (id : ℕ) : Type 0 where
+  pub intact : KeepsIntact old new
   pub steps : SameSteps old.derivation new.derivation
   pub trail : new.trail ≡ old.trail
   pub signs : new.signs ≡ old.signs
@@ -80,8 +84,8 @@ pub record Looks (scopes : List Scope) (old new : SearchState) : Type 0 where
 
 -- Some rows were detached, and nothing else changed. Where all that were live are known to be attached still, those
 -- that aren't are such as go.
-pub record Sheds (scopes : List Scope) (goes : ℕ → Type 0) (old new : SearchState) : Type 0 where
-  pub intact : IsIntact scopes new
+pub record Sheds (goes : ℕ → Type 0) (old new : SearchState) : Type 0 where
+  pub intact : KeepsIntact old new
   pub tallied : IsTallied new
   pub steps : SameSteps old.derivation new.derivation
   pub trail : new.trail ≡ old.trail

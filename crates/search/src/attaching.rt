@@ -1,22 +1,20 @@
 //! Rows that are attached to the watches, and detached.
-ghost use Rattle.std.specs.Prelude.{◌≡◌, ◌<◌, ℕ, IsTrue, Contains, length, slice_index, true, false, filter, ◌+◌, ◌-◌, ◌≤◌, if◌then◌else◌, OnOk};
-ghost use Rattle.derive.specs.State.{has_rows, is_live, next_id, side_at, tag_at};
-ghost use Rattle.prefix.specs.declared.quant.Quant.TheVariants.{Forall as forall};
-ghost use Rattle.derive.specs.Cubes.{misses};
-ghost use Rattle.derive.specs.Dropping.{has_tag};
+ghost use Rattle.std.specs.Prelude.{◌≡◌, ◌<◌, ℕ, IsTrue, List, Contains, length, slice_index, true, false, filter, ◌+◌, ◌-◌, ◌≤◌, if◌then◌else◌, OnOk};
+ghost use Rattle.prefix.specs.Scopes.{Scope};
+ghost use Rattle.derive.specs.State.{has_rows, is_live, next_id, side_at};
 ghost use Rattle.watch.specs.Links.{is_attached};
 ghost use Rattle.clean.specs.Reasons.{IsReducedStep};
 ghost use Rattle.search.specs.State.{IsAttached, IsIntact, IsPaused, IsResting, IsSearching, IsTallied, rows_of, with_long};
 ghost use Rattle.search.specs.Long.{is_long};
 ghost use Rattle.search.specs.Moves.{SameSteps};
 ghost use Rattle.search.specs.Forcing.{HasNoCubes, NoCubeAttached};
-ghost use Rattle.search.specs.Watching.{IsFree, Joins, Keeps, NoneFalls, Parts, Sheds};
+ghost use Rattle.search.specs.Watching.{Joins, Keeps, Parts};
 
 use crate::forgetting::is_long;
 use crate::search::Search;
 use crate::watching::{attach_to, detach_from, has_row};
 use derive::{Derivation, StepId};
-use prefix::{Lit, Prefix, Quant};
+use prefix::{Prefix, Quant};
 use steps::NoMemory;
 use watch::holding_laws;
 
@@ -49,10 +47,10 @@ impl Search {
     }
 
     // Detaches a row to watch from the watch of its side, if it is attached.
-    fn detach(&mut self, prefix: &Prefix, id: StepId)
-        requires intact { IsIntact prefix.now self.old }
+    fn detach(&mut self, id: StepId)
+        requires intact { (scopes : List Scope) × IsIntact scopes self.old }
         requires live { IsTrue (is_live self.old.derivation id) }
-        ensures parts { Parts prefix.now self.old self.new id }
+        ensures parts { Parts self.old self.new id }
         ensures long { self.new.long ≡ self.old.long }
     {
         holding_laws();
@@ -93,17 +91,17 @@ impl Search {
     }
 
     // Detaches a row to watch, if it is attached, and counts it no more.
-    pub(crate) fn part(&mut self, prefix: &Prefix, id: StepId)
-        requires intact { IsIntact prefix.now self.old }
+    pub(crate) fn part(&mut self, id: StepId)
+        requires intact { (scopes : List Scope) × IsIntact scopes self.old }
         requires tallied { IsTallied self.old }
         requires live { IsTrue (is_live self.old.derivation id) }
-        ensures parts { Parts prefix.now self.old self.new id }
+        ensures parts { Parts self.old self.new id }
         ensures tallied { IsTallied self.new }
         ensures fewer { self.new.long ≤ self.old.long }
         ensures one { self.old.long ≤ self.new.long + 1 }
     {
         if self.has(id) {
-            self.detach(prefix, id);
+            self.detach(id);
             self.discount(id);
         }
     }
@@ -160,75 +158,6 @@ impl Search {
     {
         let id = self.watched[k];
         self.join(prefix, id);
-    }
-
-    // Detaches the rows that fall with a frame. Where rows of later frames are there too, these are detached as well,
-    // and the next solve attaches those that are left.
-    pub(crate) fn part_frame(&mut self, prefix: &Prefix, frame: usize)
-        requires { IsResting prefix.now self.old }
-        ensures sheds { Sheds prefix.now (λ id. tag_at self.old.derivation id ≡ frame) self.old self.new }
-        ensures none { NoneFalls (has_tag frame) self.new }
-    {
-        let next = self.derivation.next_id();
-        for id in self.derivation.frame_from(frame)..next {
-            self.part_later(prefix, id, frame);
-        }
-    }
-
-    // Detaches the row of a step of a frame or a later one.
-    fn part_later(&mut self, prefix: &Prefix, id: StepId, frame: usize)
-        requires intact { IsIntact prefix.now self.old }
-        requires tallied { IsTallied self.old }
-        ensures sheds { Sheds prefix.now (λ i. tag_at self.old.derivation i ≡ frame) self.old self.new }
-        ensures gone { frame ≤ tag_at self.old.derivation id → IsFree self.new id }
-    {
-        if !self.derivation.is_live(id) {
-            return;
-        }
-        let tag = self.derivation.tag(id);
-        if tag < frame {
-            return;
-        }
-        self.shed(prefix, id, tag == frame);
-    }
-
-    // Detaches the cubes that fall where the initial cubes fall that miss a clause. Cubes that came later than the
-    // first of these are detached too, and the next solve attaches those that are left.
-    pub(crate) fn part_missing(&mut self, prefix: &Prefix, clause: &[Lit])
-        requires { IsResting prefix.now self.old }
-        ensures sheds { Sheds prefix.now (λ id. ⊥) self.old self.new }
-        ensures none { NoneFalls (misses clause.now (rows_of self.new)) self.new }
-    {
-        let next = self.derivation.next_id();
-        for id in self.derivation.missing_from(clause)..next {
-            self.part_cube(prefix, id);
-        }
-    }
-
-    // Detaches the row of a cube.
-    fn part_cube(&mut self, prefix: &Prefix, id: StepId)
-        requires intact { IsIntact prefix.now self.old }
-        requires tallied { IsTallied self.old }
-        ensures sheds { Sheds prefix.now (λ i. ⊥) self.old self.new }
-        ensures gone { side_at self.old.derivation id ≡ forall → IsFree self.new id }
-    {
-        if self.derivation.is_live(id) && self.derivation.side(id) == Quant::Forall {
-            self.shed(prefix, id, false);
-        }
-    }
-
-    // Detaches a row, if it is attached. Where it doesn't go, the next solve attaches it again.
-    fn shed(&mut self, prefix: &Prefix, id: StepId, goes: bool)
-        requires intact { IsIntact prefix.now self.old }
-        requires tallied { IsTallied self.old }
-        requires live { IsTrue (is_live self.old.derivation id) }
-        ensures sheds { Sheds prefix.now (λ i. (i ≡ id) × IsTrue goes) self.old self.new }
-        ensures gone { IsFree self.new id }
-    {
-        if self.has(id) {
-            self.joined &= goes;
-            self.part(prefix, id);
-        }
     }
 
     // Keeps a row that was learned: it is watched from now on, and attached, unless it is attached already.

@@ -1,20 +1,26 @@
 //! Changes of the formula, between solves.
-ghost use Rattle.std.specs.Prelude.{◌≡◌, ◌≤◌, ◌+◌, ◌==◌, ℕ, IsTrue, not, filter, IfOk, OnOk, OnErr};
+ghost use Rattle.std.specs.Prelude.{◌≡◌, ◌≤◌, ◌+◌, ◌==◌, ◌||◌, ℕ, IsTrue, List, not, filter, IfOk, OnOk, OnErr};
+ghost use Rattle.prefix.specs.Scopes.{Scope};
+ghost use Rattle.calculus.specs.Derivations.{Extends};
 ghost use Rattle.calculus.specs.Rows.{IsRow};
 ghost use Rattle.derive.specs.Cubes.{misses};
-ghost use Rattle.derive.specs.Dropping.{unless_finish};
+ghost use Rattle.derive.specs.Dropping.{NoneOutsideBelow, has_tag, is_outside, mentions, names, unless_finish};
 ghost use Rattle.derive.specs.State.{OpenClause, SameStep, clauses_of, is_live, note_at};
 ghost use Rattle.clean.specs.Turns.{reductions_in};
 ghost use Rattle.search.specs.State.{IsIntact, IsResting, IsTallied, rows_of};
 ghost use Rattle.search.specs.Finishes.{GainsNoFinish, HasNoFinish};
 ghost use Rattle.search.specs.Forcing.{HasNoCubes};
-ghost use Rattle.search.specs.Moves.{SameSteps};
+ghost use Rattle.search.specs.Leaving.{Loses, leaves};
+ghost use Rattle.search.specs.Moves.{KeepsOlder, SameSteps};
 ghost use Rattle.search.specs.Watching.{NoneFalls, TakesIn};
 ghost use Rattle.search.specs.Changing.{AddsClause, IsRoomy, RestingGrows, StaysResting, WatchesMore, room_of};
 
+use crate::leaving::Leaving;
 use crate::search::Search;
 use calculus::reductions_stay;
-use derive::{Derivation, StepId, clauses_are_listed, growth_laws, prefixes_may_grow};
+use derive::{
+    Derivation, StepId, clauses_are_listed, growth_laws, prefixes_may_change, prefixes_may_grow,
+};
 use prefix::{Lit, Prefix, Var};
 use steps::NoMemory;
 use watch::{agreeing_laws, holding_laws};
@@ -35,6 +41,7 @@ impl Search {
         ensures derivation { self.new.derivation ≡ self.old.derivation }
         ensures watched { self.new.watched ≡ self.old.watched }
         ensures finishes { GainsNoFinish self.old.derivation self.new.derivation }
+        ensures older { KeepsOlder self.old.derivation self.new.derivation }
     {
         let vars = v.number() as usize;
         self.clauses.reserve(vars)?;
@@ -73,8 +80,10 @@ impl Search {
         ensures cubes { HasNoCubes self.old → HasNoCubes self.new }
         ensures finishes { GainsNoFinish self.old.derivation self.new.derivation }
         ensures reductions { reductions_in self.new.derivation ≤ reductions_in self.old.derivation + 1 }
+        ensures older { KeepsOlder self.old.derivation self.new.derivation }
     {
-        self.part_missing(prefix, lits);
+        let from = self.derivation.missing_from(lits);
+        self.part_from(from, &Leaving::Cubes);
         let id = self.input(prefix, lits, frame)?;
         self.join(prefix, id);
         Ok(())
@@ -93,6 +102,7 @@ impl Search {
         ensures cubes { OnOk result (HasNoCubes self.old → HasNoCubes self.new) }
         ensures finishes { GainsNoFinish self.old.derivation self.new.derivation }
         ensures reductions { reductions_in self.new.derivation ≤ reductions_in self.old.derivation + 1 }
+        ensures older { KeepsOlder self.old.derivation self.new.derivation }
     {
         holding_laws();
         agreeing_laws();
@@ -105,21 +115,70 @@ impl Search {
     }
 
     /// Drops the clauses of a frame, with all that rests on them. This takes no memory.
-    pub fn drop_frame(&mut self, prefix: &Prefix, frame: usize)
-        requires { IsResting prefix.now self.old }
+    pub fn drop_frame(&mut self, frame: usize)
+        requires { (scopes : List Scope) × IsResting scopes self.old }
+        ensures loses { Loses (has_tag frame) self.old.derivation self.new.derivation }
         ensures clauses { clauses_of self.new.derivation ≡ filter (λ (c : OpenClause). not (c.frame == frame))
             (clauses_of self.old.derivation) }
+        ensures watched { self.new.watched ≡ self.old.watched }
+        ensures resting { StaysResting self.old self.new }
+        ensures cubes { HasNoCubes self.old → HasNoCubes self.new }
+        ensures finishes { GainsNoFinish self.old.derivation self.new.derivation }
+        ensures reductions { reductions_in self.new.derivation ≤ reductions_in self.old.derivation }
+        ensures older { KeepsOlder self.old.derivation self.new.derivation }
+    {
+        let from = self.derivation.frame_from(frame);
+        self.part_from(from, &Leaving::Frame(frame));
+        holding_laws();
+        agreeing_laws();
+        clauses_are_listed();
+        self.derivation.drop_frame(frame);
+    }
+
+    /// Drops what leaves with a frame: its clauses, the steps that name a variable outside a prefix, and all that rests
+    /// on either. Every other step stays, with its row. The prefix is the one of before without the frame's variables,
+    /// and the search rests under it then.
+    ///
+    /// No step with an id below `from` names a variable outside the prefix, as where that was the next id when the first
+    /// of these variables came. This goes over the literals of the steps from that id on, and takes no memory.
+    pub fn pop_frame(&mut self, prefix: &Prefix, frame: usize, from: StepId)
+        requires resting { (old : List Scope) × Extends prefix.now old × IsResting old self.old }
+        requires below { NoneOutsideBelow prefix.now from self.old.derivation }
+        ensures loses { Loses (leaves frame prefix.now (rows_of self.old)) self.old.derivation self.new.derivation }
+        ensures clauses { clauses_of self.new.derivation ≡ filter (λ (c : OpenClause).
+            not (c.frame == frame || mentions (is_outside prefix.now) c.row)) (clauses_of self.old.derivation) }
+        ensures watched { self.new.watched ≡ self.old.watched }
+        ensures resting { IsResting prefix.now self.new }
+        ensures cubes { HasNoCubes self.old → HasNoCubes self.new }
+        ensures finishes { GainsNoFinish self.old.derivation self.new.derivation }
+        ensures reductions { reductions_in self.new.derivation ≤ reductions_in self.old.derivation }
+        ensures older { KeepsOlder self.old.derivation self.new.derivation }
+    {
+        self.drop_frame(frame);
+        self.drop_outside(prefix, from);
+    }
+
+    // Drops the steps that name a variable outside a prefix, with all that rests on them.
+    fn drop_outside(&mut self, prefix: &Prefix, from: StepId)
+        requires resting { (old : List Scope) × Extends prefix.now old × IsResting old self.old }
+        requires below { NoneOutsideBelow prefix.now from self.old.derivation }
+        ensures loses { Loses (names (is_outside prefix.now) (rows_of self.old)) self.old.derivation
+            self.new.derivation }
+        ensures clauses { clauses_of self.new.derivation ≡ filter (λ (c : OpenClause).
+            not (mentions (is_outside prefix.now) c.row)) (clauses_of self.old.derivation) }
         ensures watched { self.new.watched ≡ self.old.watched }
         ensures resting { IsResting prefix.now self.new }
         ensures cubes { HasNoCubes self.old → HasNoCubes self.new }
         ensures finishes { GainsNoFinish self.old.derivation self.new.derivation }
         ensures reductions { reductions_in self.new.derivation ≤ reductions_in self.old.derivation }
     {
-        self.part_frame(prefix, frame);
+        self.part_outside(prefix, from);
         holding_laws();
         agreeing_laws();
         clauses_are_listed();
-        self.derivation.drop_frame(frame);
+        prefixes_may_change();
+        reductions_stay();
+        self.derivation.drop_outside(from, prefix);
     }
 
     /// Drops the finish of the last outcome, and no other step. This takes no memory.
@@ -135,6 +194,7 @@ impl Search {
         ensures resting { IsResting prefix.now self.new }
         ensures clauses { clauses_of self.new.derivation ≡ clauses_of self.old.derivation }
         ensures cubes { HasNoCubes self.old → HasNoCubes self.new }
+        ensures older { KeepsOlder self.old.derivation self.new.derivation }
     {
         holding_laws();
         agreeing_laws();

@@ -130,7 +130,7 @@ impl Search {
     {
         let id = self.watched[k];
         if self.long > most && self.derivation.is_live(id) && self.may_go(id) {
-            self.part(prefix, id);
+            self.part(id);
         }
     }
 

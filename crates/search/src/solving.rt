@@ -19,7 +19,7 @@ ghost use Rattle.search.specs.Finishes.{HasNoFinish, IsFinishId};
 ghost use Rattle.search.specs.Forcing.{HasNoCubes, IsForced, NoCubeAttached};
 ghost use Rattle.search.specs.Forgetting.{HasFewLong};
 ghost use Rattle.search.specs.Long.{long_in};
-ghost use Rattle.search.specs.Moves.{IsMatrix};
+ghost use Rattle.search.specs.Moves.{IsMatrix, KeepsOlder};
 ghost use Rattle.search.specs.Stops.{IsOutcome, IsQuickStop, IsStop, WasSpentWhenDue};
 
 use crate::outcome::{EndRow, Outcome, SolveStop};
@@ -69,6 +69,7 @@ impl Search {
             IfErr result (IsQuickStop (size_of prefix.now) steps.old) }
         ensures resting { IsResting prefix.now self.new }
         ensures clauses { clauses_of self.new.derivation ≡ clauses_of self.old.derivation }
+        ensures older { KeepsOlder self.old.derivation self.new.derivation }
         ensures finishes { IfOk result (λ o. (id : ℕ) → IsFinishId self.new.derivation id → id ≡ o.end) }
         ensures unfinished { OnErr result (HasNoFinish self.new.derivation) }
         ensures reductions { reductions_in self.new.derivation
@@ -96,6 +97,7 @@ impl Search {
         ensures long { OnOk result (HasFewLong prefix.now self.new) }
         ensures trail { OnOk result (self.new.trail ≡ self.old.trail) }
         ensures clauses { clauses_of self.new.derivation ≡ clauses_of self.old.derivation }
+        ensures older { KeepsOlder self.old.derivation self.new.derivation }
         ensures cubes { OnOk result (HasNoCubes self.old → NoCubeAttached self.new) }
         ensures reductions { reductions_in self.new.derivation ≤ reductions_in self.old.derivation }
         ensures resting { OnErr result (IsResting prefix.now self.new) }
@@ -116,6 +118,7 @@ impl Search {
         requires paused { IsPaused prefix.now self.old }
         ensures resting { IsResting prefix.now self.new }
         ensures clauses { clauses_of self.new.derivation ≡ clauses_of self.old.derivation }
+        ensures older { KeepsOlder self.old.derivation self.new.derivation }
         ensures unfinished { HasNoFinish self.new.derivation }
         ensures reductions { reductions_in self.new.derivation ≡ reductions_in self.old.derivation }
     {
@@ -140,6 +143,7 @@ impl Search {
         requires ascending { IsAscending (variables_in assumptions.now) }
         ensures paused { IsPaused prefix.now self.new }
         ensures clauses { clauses_of self.new.derivation ≡ clauses_of self.old.derivation }
+        ensures older { KeepsOlder self.old.derivation self.new.derivation }
         ensures row { IfOk result (λ e. IsReducedStep e.side prefix.now self.new.derivation e.row) }
         ensures end { IfOk result (λ e. IsEndRow e.side prefix.now assumptions.now (row_of self.new.derivation e.row)) }
         ensures bounded { IsBounded (size_of prefix.now) steps.old.spent self.new.trail steps.new }
@@ -214,6 +218,7 @@ impl Search {
         ensures err { OnErr result (result ≡ Err SolveStop.NoMemory) }
         ensures resting { IsResting prefix.now self.new }
         ensures clauses { clauses_of self.new.derivation ≡ clauses_of self.old.derivation }
+        ensures older { KeepsOlder self.old.derivation self.new.derivation }
         ensures reductions { reductions_in self.new.derivation ≡ reductions_in self.old.derivation }
         ensures long { self.new.long ≡ self.old.long }
         ensures finishes { IfOk result (λ o. (id : ℕ) → IsFinishId self.new.derivation id → id ≡ o.end) }
@@ -247,6 +252,7 @@ impl Search {
             (record { loser = end.side; end = id })) }
         ensures resting { IsResting prefix.now self.new }
         ensures clauses { clauses_of self.new.derivation ≡ clauses_of self.old.derivation }
+        ensures older { KeepsOlder self.old.derivation self.new.derivation }
         ensures reductions { reductions_in self.new.derivation ≡ reductions_in self.old.derivation }
         ensures long { self.new.long ≡ self.old.long }
         ensures finishes { IfOk result (λ end. (id : ℕ) → IsFinishId self.new.derivation id → id ≡ end) }
@@ -287,6 +293,7 @@ impl Search {
         requires spent { steps.now.spent ≡ steps.now.budget }
         ensures resting { IsResting prefix.now self.new }
         ensures clauses { clauses_of self.new.derivation ≡ clauses_of self.old.derivation }
+        ensures older { KeepsOlder self.old.derivation self.new.derivation }
         ensures unfinished { HasNoFinish self.new.derivation }
         ensures reductions { reductions_in self.new.derivation ≡ reductions_in self.old.derivation }
         ensures stopped { result ≡ account_of prefix.now self.old.trail steps.now.budget }

@@ -1,6 +1,7 @@
 //! Worked values of the definitions, each proved.
 ghost use Rattle.prefix.specs.declared.quant.Quant.{Quant};
 ghost use Rattle.search.specs.WorkedForgetting.{WorkedForgetting};
+ghost use Rattle.search.specs.WorkedLeaving.{WorkedLeaving};
 ghost use Rattle.search.specs.Worked.{WorkedCounts, WorkedDue, WorkedFinds, WorkedFinishes, WorkedStops};
 
 /// What is found and due, for rows of either side.
@@ -32,4 +33,9 @@ pub fn worked_stops()
 /// rows of either side.
 pub fn worked_forgetting()
     ensures { (side : Quant) → WorkedForgetting side }
+{}
+
+/// What leaves with a frame and its variables, and what is kept of older steps.
+pub fn worked_leaving()
+    ensures { WorkedLeaving }
 {}

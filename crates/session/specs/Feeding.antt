@@ -2,16 +2,13 @@
 use Rattle.std.specs.Prelude.{◌≡◌, ◌≤◌, List, [], ◌∷◌, None, length}
 use Rattle.prefix.specs.Literal.{Literal}
 use Rattle.prefix.specs.Scopes.{Scope}
-use Rattle.frames.specs.State.{OpenFormula}
+use Rattle.frames.specs.State.{OpenFormula, empty_formula, empty_frame}
 use Rattle.engine.specs.State.{EngineState}
 
--- these scopes and clauses, the clauses in frame 0, with no other frame and no assumption
+-- these scopes and clauses in version 1, the clauses in frame 0, with no other frame and no assumption
 abbrev pub formula_with : List Scope → List (List Literal) → OpenFormula
-formula_with scopes clauses = record {
-  scopes = scopes;
-  frames = record { clauses = clauses } ∷ [];
-  assumptions = [];
-}
+formula_with scopes clauses =
+    record empty_formula { scopes = scopes; frames = record empty_frame { clauses = clauses } ∷ [] }
 
 -- The engine holds these scopes and clauses, accepted no more clauses than these, and has not decided any formula; a
 -- search never begins anew.

@@ -206,8 +206,9 @@ pub record IsUntouched {S : Type 0} (written : S → Option (List ℕ)) (faults 
   pub no_fault : faults new ≡ faults old
 
 -- A job is replied to, and all is flushed; or a front of the reply is written, before a fault; or there is no memory.
-abbrev pub RepliesTo : {S : Type 0} → (written flushed : S → Option (List ℕ)) → (S → ℕ) → (S → ℕ → Type 0) → Job → Terms
-    → Formula → S → S → (stops : List Account × List Account) → Result Answer Ending → Type 0
+abbrev pub RepliesTo : {S : Type 0} → (written flushed : S → Option (List ℕ)) → (S → ℕ)
+    → (S → ℕ → Type 0) → Job → Terms → Formula → S → S → (stops : List Account × List Account)
+    → Result Answer Ending → Type 0
 RepliesTo written flushed faults has_room job terms f old new stops (Ok answer) = (text : Text)
     × IsReplyTo job terms f stops answer text × Delivers written flushed faults old new text
 RepliesTo written flushed faults has_room job terms f old new stops (Err WriteFault) = (answer : Answer)

@@ -70,8 +70,8 @@ IsReplyFor None s command reply = IsAcceptedReply s command reply
 IsReplyFor (Some number) s command reply = reply ≡ Refused number
 
 -- A reply with this text is sent: the text is written, or a front of it before a fault.
-abbrev pub Sends : {S : Type 0} → (written flushed : S → Option (List ℕ)) → (S → ℕ) → (S → ℕ → Type 0) → Reply → Text
-    → S → S → Result Reply SessionStop → Type 0
+abbrev pub Sends : {S : Type 0} → (written flushed : S → Option (List ℕ)) → (S → ℕ)
+    → (S → ℕ → Type 0) → Reply → Text → S → S → Result Reply SessionStop → Type 0
 Sends written flushed faults has_room reply text old new (Ok sent) =
     (sent ≡ reply) × Wrote written flushed faults has_room old new text
 Sends written flushed faults has_room reply text old new (Err (WriteFault told)) =
@@ -128,8 +128,9 @@ pub record IsDecided (terms : Terms) (s : Standing) (reply : Reply) (e : EngineS
 
 -- A command is replied to, and the reply is written; or a front of it is, before a fault; or there is no memory for one
 -- that isn't refused, and nothing is written. `old` and `new` are the sink, by what sinks of its type tell.
-abbrev pub Steps : {S : Type 0} → (written flushed : S → Option (List ℕ)) → (S → ℕ) → (S → ℕ → Type 0) → Terms → Command
-    → Standing → S → S → EngineState → Result Reply SessionStop → Type 0
+abbrev pub Steps : {S : Type 0} → (written flushed : S → Option (List ℕ)) → (S → ℕ)
+    → (S → ℕ → Type 0) → Terms → Command → Standing → S → S → EngineState → Result Reply SessionStop
+    → Type 0
 Steps written flushed faults has_room terms command s old new e (Ok reply) = (text : Text) × (after : Standing)
     × IsReply terms s command (record { text = text; stops = told_by reply }) after
     × IsReplyFor (refusal_number s command) s command reply × Wrote written flushed faults has_room old new text
@@ -177,8 +178,9 @@ LeavesAtWant Cert old new = new ≡ old
 
 -- A command of a script is replied to, and what the reply tells of a search that stopped is listed behind what was;
 -- after a fault too. Without memory nothing is written or listed. `stops` is the list before and after.
-abbrev pub Goes : {S : Type 0} → (written flushed : S → Option (List ℕ)) → (S → ℕ) → (S → ℕ → Type 0) → Terms → Command
-    → Standing → S → S → EngineState → (stops : List Account × List Account) → Result (Unit {0}) Ending → Type 0
+abbrev pub Goes : {S : Type 0} → (written flushed : S → Option (List ℕ)) → (S → ℕ)
+    → (S → ℕ → Type 0) → Terms → Command → Standing → S → S → EngineState
+    → (stops : List Account × List Account) → Result (Unit {0}) Ending → Type 0
 Goes written flushed faults has_room terms command s old new e stops (Ok u) = (out : Output) × (after : Standing)
     × IsReply terms s command out after × Wrote written flushed faults has_room old new out.text
     × (stops.1 ≡ stops.0 ++ out.stops) × Holds terms e after

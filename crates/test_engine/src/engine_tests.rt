@@ -1,6 +1,7 @@
 //! Tests of `engine`: formulas that are decided, under assumptions and frames.
 mod asks;
 mod forgets;
+mod leaves;
 mod limits;
 mod play;
 mod saves;

@@ -3,6 +3,7 @@ use frames::{FrameRefusal, Frames};
 use prefix::Quant;
 use std::alloc::Global;
 use std::test::Fail;
+use versions::Version;
 
 // What a test does to the frames.
 #[derive(Debug, Clone, Copy)]
@@ -136,5 +137,81 @@ fn as_many_frames_are_pushed_as_may(rt: HostRuntime) -> Result<(), Fail> {
         (frames.depth(), frames.push()),
         (65_536, Err(FrameRefusal::Limit))
     );
+    Ok(())
+}
+
+// A variable that is added above frame 0 and named by a clause, or assumed; and its number again after the pop.
+const NAMED: [Turn; 5] = [
+    Turn::Scope(Quant::Exists),
+    Turn::Push,
+    Turn::Var(1, 1),
+    Turn::Clause([-1, -1]),
+    Turn::Pop,
+];
+
+const ASSUMED: [Turn; 5] = [
+    Turn::Scope(Quant::Exists),
+    Turn::Push,
+    Turn::Var(1, 1),
+    Turn::Assume(1),
+    Turn::Pop,
+];
+
+// What the turns leave: the number of variables and of assumptions, and how the variable is answered then.
+fn left_by(
+    alloc: Global,
+    version: Version,
+    turns: &[Turn],
+) -> Result<(usize, usize, Option<u8>), Fail> {
+    let mut frames = Frames::with_version(alloc, version);
+    for turn in turns {
+        after(&mut frames, *turn)?;
+    }
+    let (variables, assumed) = (frames.prefix().len(), frames.assumptions().len());
+    Ok((variables, assumed, number(frames.var(1, 1))))
+}
+
+#[test]
+fn a_variable_leaves_with_its_frame_in_version_two(rt: HostRuntime) -> Result<(), Fail> {
+    let named = left_by(rt.alloc(), Version::Two, &NAMED)?;
+    let assumed = left_by(rt.alloc(), Version::Two, &ASSUMED)?;
+    assert_eq!(rt; (named, assumed), ((0, 0, Some(0)), (0, 0, Some(0))));
+    let named = left_by(rt.alloc(), Version::One, &NAMED)?;
+    let assumed = left_by(rt.alloc(), Version::One, &ASSUMED)?;
+    assert_eq!(rt; (named, assumed), ((1, 0, Some(1)), (1, 1, Some(44))));
+    Ok(())
+}
+
+// Whether the next pop removes the variables of these numbers, in this order.
+fn removes(frames: &Frames, numbers: &[u32]) -> bool {
+    let vars = frames.top_vars();
+    if vars.len() != numbers.len() {
+        return false;
+    }
+    for (v, number) in vars.iter().zip(numbers) {
+        if v.number() != *number {
+            return false;
+        }
+    }
+    true
+}
+
+#[test]
+fn the_next_pop_is_told(rt: HostRuntime) -> Result<(), Fail> {
+    let mut frames = Frames::with_version(rt.alloc(), Version::Two);
+    assert!(rt; frames.version() == Version::Two);
+    frames.scope(Quant::Exists, None)?;
+    frames.var(4, 1)?;
+    frames.push()?;
+    frames.var(3, 1)?;
+    frames.push()?;
+    frames.var(2, 1)?;
+    frames.var(1, 1)?;
+    assert!(rt; removes(&frames, &[2, 1]));
+    frames.pop()?;
+    assert!(rt; removes(&frames, &[3]));
+    frames.pop()?;
+    assert!(rt; removes(&frames, &[]));
+    assert_eq!(rt; frames.prefix().len(), 1);
     Ok(())
 }

@@ -7,4 +7,5 @@ use Rattle.frames.proofs.lists.are_known.Goals as goal
 
 pub returns-clause-range : goal.returns-clause-range
 returns-clause-range c = λ _. all_in_range c.args.prefix.now c.args.numbers.now c.scopes.ensures.valid
-    (ap (list_all (is_known c.args.prefix.now)) (sym (take_all c.loop-n.n-index c.args.numbers.now c.loop-n-test.false)) ∙ c.loop-n.invariant)
+    (ap (list_all (is_known c.args.prefix.now)) (sym
+    (take_all c.loop-n.n-index c.args.numbers.now c.loop-n-test.false)) ∙ c.loop-n.invariant)

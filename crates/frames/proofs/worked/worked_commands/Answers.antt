@@ -4,7 +4,7 @@ use Rattle.frames.proofs.worked.worked_commands.Goals as goal
 pub returns : goal.returns
 returns c = record {
   frames = refl;
-  open_clauses = refl;
+  opened = refl;
   pushed = refl;
   literals = refl;
   accepted = refl;

@@ -2,7 +2,8 @@ use Rattle.std.proofs.Common.{◌≡◌, ℕ, ◌+◌, true, false, ◌||◌, le
 use Rattle.std.specs.Prelude.{nat_le, nat_lt}
 use Rattle.frames.proofs.worked.worked_limits.Goals as goal
 
-last : (count all : ℕ) → count ≡ 16777215 → all ≡ 268435450 → (nat_le 16777216 count || nat_lt 268435456 (all + 6)) ≡ false
+last : (count all : ℕ) → count ≡ 16777215 → all ≡ 268435450 → (nat_le 16777216 count || nat_lt 268435456 (all + 6))
+    ≡ false
 last count all e f = rw (e, f) refl
 
 full : (count all : ℕ) → count ≡ 16777216 → (nat_le 16777216 count || nat_lt 268435456 (all + 0)) ≡ true

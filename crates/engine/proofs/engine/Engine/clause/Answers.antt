@@ -1,6 +1,7 @@
 use Rattle.std.proofs.Common.{◌≤◌, ◌∙◌, ap, ap₂, arith, subst, sym, Option, option_map}
 use Rattle.std.proofs.lemmas.Result.{err_from_is_err_and}
 use Rattle.clean.specs.Turns.{reductions_in}
+use Rattle.frames.specs.Commands.{AddClause, formula_after}
 use Rattle.frames.specs.State.{OpenFormula}
 use Rattle.search.specs.Counting.{size_of}
 use Rattle.search.proofs.Reducing.{reductions_same}
@@ -10,6 +11,7 @@ use Rattle.engine.specs.State.{EngineState, VerdictState}
 use Rattle.engine.specs.Verdicts.{told}
 use Rattle.engine.proofs.Bounding.{clause_counted}
 use Rattle.engine.proofs.Changing.{fewer_long, finishes_kept, held_kept, verdict_kept}
+use Rattle.engine.proofs.Marked.{clause_marked, older_marked}
 use Rattle.engine.proofs.engine.Engine.clause.Goals as goal
 
 pub invariant_of-self : goal.invariant_of-self
@@ -32,6 +34,9 @@ invariant_of-self c =
           rw e.err (fewer_long c.self.inside.verdict c.self.inside.search.derivation
           c.put_clause.new.search.derivation (size_of c.self.inside.frames.formula.scopes)
           (omega (arith, fewer, now, before)) c.self.invariant.long);
+      marked = rw e.err (older_marked c.self.inside.frames.formula c.self.inside.marks.items
+          c.self.inside.search.derivation c.put_clause.new.search.derivation c.put_clause.ensures.older
+          c.self.invariant.marked);
     }
 
 pub returns-in_err-put_clause-clause-err : goal.returns-in_err-put_clause-clause-err
@@ -86,4 +91,13 @@ invariant_of-self-2 c = record {
       c.self.invariant.reductions);
   variables = tt;
   long = tt;
+  marked =
+      let f = c.self.inside.frames.formula in
+      older_marked c.put_clause.new.frames.formula c.self.inside.marks.items c.put_clause.new.search.derivation
+      c.forget_outcome.new.search.derivation c.forget_outcome.ensures.older
+      (rw c.in_ok-put_clause.ensures.ok (older_marked (formula_after f (AddClause c.args.lits.now))
+      c.self.inside.marks.items c.self.inside.search.derivation c.put_clause.new.search.derivation
+      c.put_clause.ensures.older
+      (clause_marked f c.args.lits.now c.self.inside.marks.items c.self.inside.search.derivation
+      c.self.invariant.marked)));
 }

@@ -16,6 +16,7 @@ use Rattle.engine.proofs.Bounding.{solve_counted, some_solves, undecided, unsolv
 use Rattle.engine.proofs.Framing.{same_rows}
 use Rattle.engine.proofs.Changing.{found_without, without_assumptions}
 use Rattle.engine.proofs.Telling.{end_ascends, has_proof, stops}
+use Rattle.engine.proofs.Marked.{older_marked}
 use Rattle.engine.proofs.engine.Engine.solve.Goals as goal
 
 pub returns-in_err-assumed-clause-stop : goal.returns-in_err-assumed-clause-stop
@@ -93,6 +94,9 @@ invariant_of-self-2 c =
           c.self.invariant.reductions;
       variables = omega arith;
       long = e.long;
+      marked = older_marked c.self.inside.frames.formula c.self.inside.marks.items c.forget_outcome.new.search.derivation
+          c.decide.new.search.derivation c.decide.ensures.older (older_marked c.self.inside.frames.formula c.self.inside.marks.items c.self.inside.search.derivation
+          c.forget_outcome.new.search.derivation c.forget_outcome.ensures.older c.self.invariant.marked);
     })
 
 -- solves without a verdict
@@ -101,19 +105,21 @@ pub invariant_of-self : goal.invariant_of-self
 invariant_of-self c =
     let e = c.forget_outcome.ensures in
     rw c.with_solve-self-inside.ensures (undecided c.self.inside.frames.formula c.forget_outcome.new.search
-    c.self.inside.counts c.budget.result c.self.inside.restarts c.len.result e.tied e.finishes
+    c.self.inside.counts c.self.inside.marks.items c.budget.result c.self.inside.restarts c.len.result e.tied e.finishes
     (unsolved_counted c.self.inside.counts c.budget.result c.self.inside.restarts c.len.result
     (reductions_in c.self.inside.search.derivation) (reductions_in c.forget_outcome.new.search.derivation)
-    e.reductions e.fit c.self.invariant.reductions))
+    e.reductions e.fit c.self.invariant.reductions) (older_marked c.self.inside.frames.formula c.self.inside.marks.items c.self.inside.search.derivation
+    c.forget_outcome.new.search.derivation c.forget_outcome.ensures.older c.self.invariant.marked))
 
 pub invariant_of-self-in_err-relevant : goal.invariant_of-self-in_err-relevant
 invariant_of-self-in_err-relevant c =
     let e = c.forget_outcome.ensures in
     rw c.with_solve-self-inside.ensures (undecided c.self.inside.frames.formula c.forget_outcome.new.search
-    c.self.inside.counts c.budget.result c.self.inside.restarts c.len.result e.tied e.finishes
+    c.self.inside.counts c.self.inside.marks.items c.budget.result c.self.inside.restarts c.len.result e.tied e.finishes
     (unsolved_counted c.self.inside.counts c.budget.result c.self.inside.restarts c.len.result
     (reductions_in c.self.inside.search.derivation) (reductions_in c.forget_outcome.new.search.derivation)
-    e.reductions e.fit c.self.invariant.reductions))
+    e.reductions e.fit c.self.invariant.reductions) (older_marked c.self.inside.frames.formula c.self.inside.marks.items c.self.inside.search.derivation
+    c.forget_outcome.new.search.derivation c.forget_outcome.ensures.older c.self.invariant.marked))
 
 pub invariant_of-self-in_err-verdict : goal.invariant_of-self-in_err-verdict
 invariant_of-self-in_err-verdict c =
@@ -123,8 +129,11 @@ invariant_of-self-in_err-verdict c =
     let vars : c.len.result ≡ size_of f.scopes = c.len.ensures.value
     ∙ ap (λ (ss : List Scope). length (all_variables ss)) c.prefix.ensures.value in
     rw (c.with_solve-self-inside.ensures, c.budget.ensures.value, vars) (undecided f c.decide.new.search
-    c.self.inside.counts c.args.steps.now.budget c.self.inside.restarts (size_of f.scopes) e.tied e.unfinished
+    c.self.inside.counts c.self.inside.marks.items c.args.steps.now.budget c.self.inside.restarts (size_of f.scopes)
+    e.tied e.unfinished
     (solve_counted c.self.inside.counts c.args.steps.now c.decide.new.steps c.self.inside.restarts (size_of f.scopes)
     (reductions_in c.self.inside.search.derivation) (reductions_in c.forget_outcome.new.search.derivation)
     (reductions_in d) c.forget_outcome.ensures.reductions e.reductions e.fit e.few e.within e.budget
-    c.self.invariant.reductions))
+    c.self.invariant.reductions) (older_marked c.self.inside.frames.formula c.self.inside.marks.items c.forget_outcome.new.search.derivation
+    c.decide.new.search.derivation c.decide.ensures.older (older_marked c.self.inside.frames.formula c.self.inside.marks.items c.self.inside.search.derivation
+    c.forget_outcome.new.search.derivation c.forget_outcome.ensures.older c.self.invariant.marked)))

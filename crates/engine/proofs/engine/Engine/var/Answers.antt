@@ -3,6 +3,7 @@ use Rattle.frames.specs.State.{FramesState}
 use Rattle.search.specs.Changing.{IsRoomy}
 use Rattle.engine.specs.Kept.{IsEngine}
 use Rattle.engine.proofs.Changing.{accepted, cubes_kept, reserved, roomier, variable_added, variable_is}
+use Rattle.engine.proofs.Marked.{older_marked, variable_marked}
 use Rattle.engine.proofs.engine.Engine.var.Goals as goal
 
 pub forget_outcome-requires : goal.forget_outcome-requires
@@ -27,18 +28,26 @@ invariant_of-self-2 c = record {
   reductions = rw (c.forget_outcome.ensures.reductions, c.reserve.ensures.derivation) c.self.invariant.reductions;
   variables = tt;
   long = tt;
+  marked =
+      let f = c.self.inside.frames.formula in
+      let d = c.self.inside.search.derivation in
+      let accepts = accepted _ c.var.result c.in_ok-var.field-0 c.in_ok-var.was c.var.ensures.refused in
+      older_marked c.var.new.self.formula c.self.inside.marks.items c.reserve.new.self.derivation
+      c.forget_outcome.new.search.derivation c.forget_outcome.ensures.older
+      (rw (c.reserve.ensures.derivation, c.in_ok-var.ensures.ok) (variable_marked f c.args.var c.args.scope
+      c.self.inside.marks.items d accepts c.prefixes_grow.ensures c.self.invariant.marked));
 }
 
 pub invariant_of-self : goal.invariant_of-self
 invariant_of-self c =
     let e = c.reserve.ensures in
     roomier c.self.inside.frames.formula c.self.inside.search c.reserve.new.self c.self.inside.verdict
-    c.self.inside.counts e.resting e.derivation e.watched c.self.invariant
+    c.self.inside.counts c.self.inside.marks.items e.resting e.derivation e.watched c.self.invariant
 
 pub invariant_of-self-in_err-var : goal.invariant_of-self-in_err-var
 invariant_of-self-in_err-var c =
     let e = c.reserve.ensures in
-    subst (λ (f : FramesState). IsEngine f.formula c.reserve.new.self c.self.inside.verdict c.self.inside.counts)
-    (sym c.in_err-var.ensures.err)
+    subst (λ (f : FramesState). IsEngine f.formula c.reserve.new.self c.self.inside.verdict c.self.inside.counts
+    c.self.inside.marks.items) (sym c.in_err-var.ensures.err)
     (roomier c.self.inside.frames.formula c.self.inside.search c.reserve.new.self c.self.inside.verdict
-    c.self.inside.counts e.resting e.derivation e.watched c.self.invariant)
+    c.self.inside.counts c.self.inside.marks.items e.resting e.derivation e.watched c.self.invariant)

@@ -6,6 +6,7 @@ use Rattle.calculus.specs.Search.{IsBadRow, value_on}
 use Rattle.derive.specs.State.{row_of}
 use Rattle.search.specs.State.{IsSearching, SearchState}
 use Rattle.search.specs.Moves.{Analyses, Halts, WasDue}
+use Rattle.search.proofs.Aging.{older_grown}
 use Rattle.search.proofs.Learning.{either_way, analyses, due_analysis, halts_analysis, on_err, on_err_with, on_ok, searching_analysed}
 use Rattle.search.proofs.search.Search.analysed.Goals as goal
 
@@ -60,7 +61,7 @@ returns-clause-ok c =
     (on_ok c.lesson_of-lesson.result
     (analyses c.args.prefix.now (old c) (new c) c.args.steps.now c.lesson_of-lesson.new.steps
     c.budget-budget.ensures.within (searching_old c) (searching_new c)
-    e.gains.clauses)
+    e.gains.clauses (older_grown _ _ e.gains.grows))
     e.counted)
 
 pub returns-clause-err : goal.returns-clause-err
@@ -72,7 +73,7 @@ returns-clause-err c =
     (halts_analysis c.args.prefix.now (old c)
     (new c) c.args.steps.now c.lesson_of-lesson.new.steps c.budget-budget.ensures.within (searching_old c)
     (searching_new c)
-    e.gains.clauses)
+    e.gains.clauses (older_grown _ _ e.gains.grows))
     e.err)
 
 pub returns-clause-due : goal.returns-clause-due

@@ -8,7 +8,7 @@ use Rattle.search.proofs.search.Search.detach.Goals as goal
 
 pub detach_from-requires-clause-threaded : goal.detach_from-requires-clause-threaded
 detach_from-requires-clause-threaded c =
-    ((subst (IsIntact c.args.prefix.now) (sym c.self.view_is) c.requires.intact).watching.holds Exists).board
+    ((subst (IsIntact c.requires.intact.0) (sym c.self.view_is) c.requires.intact.1).watching.holds Exists).board
 
 pub returns-in-Exists-clause-parts : goal.returns-in-Exists-clause-parts
 returns-in-Exists-clause-parts c =
@@ -26,8 +26,8 @@ returns-in-Exists-clause-parts c =
       joined = c.self.inside.joined;
       long = c.self.inside.long;
     } in
-    subst (λ (s : SearchState). Parts c.args.prefix.now s new c.args.id) c.self.view_is (
-    parts c.holding_laws.ensures Exists c.args.prefix.now old new (record {
+    subst (λ (s : SearchState). Parts s new c.args.id) c.self.view_is (
+    parts c.holding_laws.ensures Exists c.requires.intact.0 old new (record {
       trail = refl;
       signs = refl;
       watched = refl;
@@ -37,7 +37,7 @@ returns-in-Exists-clause-parts c =
       touches = c.detach_from.ensures.touches;
       looked = c.detach_from.ensures.looked;
     })
-    (subst (IsIntact c.args.prefix.now) (sym c.self.view_is) c.requires.intact)
+    (subst (IsIntact c.requires.intact.0) (sym c.self.view_is) c.requires.intact.1)
     c.args.id
     c.detach_from.ensures.detached
     (sym c.side.ensures ∙ c.in-Exists.is)
@@ -46,7 +46,7 @@ returns-in-Exists-clause-parts c =
 
 pub detach_from-requires-in-Forall-clause-threaded : goal.detach_from-requires-in-Forall-clause-threaded
 detach_from-requires-in-Forall-clause-threaded c =
-    ((subst (IsIntact c.args.prefix.now) (sym c.self.view_is) c.requires.intact).watching.holds Forall).board
+    ((subst (IsIntact c.requires.intact.0) (sym c.self.view_is) c.requires.intact.1).watching.holds Forall).board
 
 pub returns-in-Forall-clause-parts : goal.returns-in-Forall-clause-parts
 returns-in-Forall-clause-parts c =
@@ -64,8 +64,8 @@ returns-in-Forall-clause-parts c =
       joined = c.self.inside.joined;
       long = c.self.inside.long;
     } in
-    subst (λ (s : SearchState). Parts c.args.prefix.now s new c.args.id) c.self.view_is (
-    parts c.holding_laws.ensures Forall c.args.prefix.now old new (record {
+    subst (λ (s : SearchState). Parts s new c.args.id) c.self.view_is (
+    parts c.holding_laws.ensures Forall c.requires.intact.0 old new (record {
       trail = refl;
       signs = refl;
       watched = refl;
@@ -75,7 +75,7 @@ returns-in-Forall-clause-parts c =
       touches = c.detach_from-in-Forall.ensures.touches;
       looked = c.detach_from-in-Forall.ensures.looked;
     })
-    (subst (IsIntact c.args.prefix.now) (sym c.self.view_is) c.requires.intact)
+    (subst (IsIntact c.requires.intact.0) (sym c.self.view_is) c.requires.intact.1)
     c.args.id
     c.detach_from-in-Forall.ensures.detached
     (sym c.side.ensures ∙ c.in-Forall.is)

@@ -6,6 +6,8 @@ use Rattle.search.specs.Forcing.{HasNoCubes}
 use Rattle.clean.specs.Turns.{reductions_in}
 use Rattle.search.specs.State.{IsResting, SearchState}
 use Rattle.search.specs.contracts.search.Search.{the_view}
+use Rattle.search.specs.Moves.{KeepsOlder}
+use Rattle.search.proofs.Aging.{older_dropped}
 use Rattle.search.proofs.Dropping.{no_cubes_left, resting_left, stays_live, step_unfinished, input_unfinished}
 use Rattle.search.proofs.Reducing.{reductions_alike}
 use Rattle.search.proofs.search.Search.drop_finish.Goals as goal
@@ -39,3 +41,8 @@ pub returns-clause-reductions : goal.returns-clause-reductions
 returns-clause-reductions c =
     reductions_alike c.self.inside.derivation c.drop_finish.new.self c.drop_finish.ensures.steps
     ∙ ap (λ (s : SearchState). reductions_in s.derivation) c.self.view_is
+
+pub returns-clause-older : goal.returns-clause-older
+returns-clause-older c =
+    subst (λ (s : SearchState). KeepsOlder s.derivation c.drop_finish.new.self) c.self.view_is
+    (older_dropped finishes c.self.inside.derivation c.drop_finish.new.self c.drop_finish.ensures.drops)

@@ -7,6 +7,8 @@ use Rattle.search.specs.Watching.{NoneFalls, TakesIn}
 use Rattle.derive.specs.Cubes.{misses}
 use Rattle.search.specs.contracts.search.Search.{the_view}
 use Rattle.search.specs.Finishes.{GainsNoFinish}
+use Rattle.search.specs.Moves.{KeepsOlder}
+use Rattle.search.proofs.Aging.{older_input}
 use Rattle.search.proofs.Finishing.{finishes_input}
 use Rattle.search.proofs.Reducing.{reductions_input}
 use Rattle.clean.specs.Turns.{reductions_in}
@@ -87,4 +89,10 @@ pub returns-clause-reductions : goal.returns-clause-reductions
 returns-clause-reductions c =
     subst (λ (s : SearchState). reductions_in c.input_clause.new.self ≤ reductions_in s.derivation + 1) c.self.view_is
     (reductions_input c.args.prefix.now c.self.inside.derivation c.input_clause.new.self c.in_ok-id.field-0-0
+    c.in_ok-id.id c.args.frame c.args.lits.now c.in_ok-id.ensures.ok)
+
+pub returns-clause-older : goal.returns-clause-older
+returns-clause-older c =
+    subst (λ (s : SearchState). KeepsOlder s.derivation c.input_clause.new.self) c.self.view_is
+    (older_input c.args.prefix.now c.self.inside.derivation c.input_clause.new.self c.in_ok-id.field-0-0
     c.in_ok-id.id c.args.frame c.args.lits.now c.in_ok-id.ensures.ok)

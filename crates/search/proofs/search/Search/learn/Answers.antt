@@ -38,6 +38,15 @@ returns-in_err-backjump-in-Learn-clause-due c = λ is.
     (sym c.is_restart_due.ensures.same) c.in_ok-row.ensures.ok)
     (c.in_err-backjump-in-Learn.ensures.due (ap Err same))
 
+pub returns-in_err-backjump-in-Learn-clause-err : goal.returns-in_err-backjump-in-Learn-clause-err
+returns-in_err-backjump-in-Learn-clause-err c =
+    on_err c.from_residual-in_err-backjump-in-Learn.result
+    (halts_later c.args.prefix.now c.args.self.now c.is_restart_due.new.self c.backjump.new.self c.args.steps.now
+    c.analysed.new.steps c.backjump.new.steps
+    (subst (λ (s : SearchState). Analyses c.args.prefix.now c.args.self.now s c.args.steps.now c.analysed.new.steps)
+    (sym c.is_restart_due.ensures.same) c.in_ok-row.ensures.ok)
+    c.in_err-backjump-in-Learn.ensures.err)
+
 pub forget-requires : goal.forget-requires
 forget-requires c = record {
   searching = elim c.if-is_restart_due.branch [

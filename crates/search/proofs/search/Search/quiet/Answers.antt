@@ -11,7 +11,7 @@ returns-in_default-clause-go c = λ is.
     advances_covered c.args.prefix.now c.args.self.now c.solution.new.self c.learn.new.self c.args.steps.now
     c.solution.new.steps c.learn.new.steps
     (covers_moved c.args.prefix.now _ c.args.self.now c.solution.new.self c.args.steps.now c.solution.new.steps
-    (ap (λ (s : SearchState). clauses_of s.derivation) c.self.view_is)
+    (ap (λ (s : SearchState). s.derivation) c.self.view_is)
     (ap (λ (s : SearchState). s.trail) c.self.view_is)
     c.in_ok-cube.ensures.ok)
     (c.learn.ensures.go is)
@@ -22,7 +22,7 @@ returns-in_default-clause-end c =
     (λ e. ends_covered c.args.prefix.now c.args.self.now c.solution.new.self c.learn.new.self c.args.steps.now
     c.solution.new.steps c.learn.new.steps
     (covers_moved c.args.prefix.now _ c.args.self.now c.solution.new.self c.args.steps.now c.solution.new.steps
-    (ap (λ (s : SearchState). clauses_of s.derivation) c.self.view_is)
+    (ap (λ (s : SearchState). s.derivation) c.self.view_is)
     (ap (λ (s : SearchState). s.trail) c.self.view_is)
     c.in_ok-cube.ensures.ok)
     e.side e.row)
@@ -34,7 +34,7 @@ returns-in_default-clause-err c =
     (halts_covered c.args.prefix.now c.args.self.now c.solution.new.self c.learn.new.self c.args.steps.now
     c.solution.new.steps c.learn.new.steps
     (covers_moved c.args.prefix.now _ c.args.self.now c.solution.new.self c.args.steps.now c.solution.new.steps
-    (ap (λ (s : SearchState). clauses_of s.derivation) c.self.view_is)
+    (ap (λ (s : SearchState). s.derivation) c.self.view_is)
     (ap (λ (s : SearchState). s.trail) c.self.view_is)
     c.in_ok-cube.ensures.ok))
     c.learn.ensures.err

@@ -6,6 +6,7 @@ use Rattle.calculus.specs.Rows.{variables_in}
 use Rattle.trail.proofs.Keeping.{assigned_few}
 use Rattle.search.specs.Counting.{size_of}
 use Rattle.search.specs.Moves.{Advances, Proceeds}
+use Rattle.search.proofs.Aging.{older_then}
 use Rattle.search.proofs.Ending.{limit_rises}
 use Rattle.search.proofs.Following.{due_at_stop, matrix_moves}
 use Rattle.search.proofs.Forcing.{assumptions_few}
@@ -42,6 +43,7 @@ turns-preserved c =
       assumed = adv.assumed c.args.assumptions.now i.assumed;
       counted = (adv.counted c.args.steps.now.spent i.counted).0;
       clauses = adv.clauses ∙ i.clauses;
+      older = older_then c.args.self.now.derivation c.turns.self.derivation c.turn.new.self.derivation i.older adv.older;
       budget = adv.budget ∙ i.budget;
       rises = omega arith;
       forced = λ none refuted. c.in_ok-end.ensures.forced c.args.steps.now.spent (i.forced none refuted)

@@ -6,7 +6,7 @@ use Rattle.derive.specs.State.{clauses_of}
 use Rattle.search.specs.Counting.{IsCounted, ReducesFew, size_of}
 use Rattle.search.specs.Forcing.{IsRefuting, NoCubeAttached}
 use Rattle.search.specs.Forgetting.{HasFewLong}
-use Rattle.search.specs.Moves.{IsMatrix}
+use Rattle.search.specs.Moves.{IsMatrix, KeepsOlder}
 use Rattle.search.specs.State.{IsSearching}
 use Rattle.search.proofs.search.Search.run.Given as goal
 
@@ -17,6 +17,7 @@ invariant-turns l = record {
   assumed : AreTheAssumptions l.self.trail.placed l.assumptions;
   counted : IsCounted (size_of l.prefix) 0 l.fn.steps.spent l.self.trail l.steps;
   clauses : clauses_of l.self.derivation ≡ clauses_of l.fn.self.derivation;
+  older : KeepsOlder l.fn.self.derivation l.self.derivation;
   budget : l.steps.budget ≡ l.fn.steps.budget;
   rises : l.fn.steps.spent ≤ l.steps.spent;
   restarts : l.self.trail.restarts ≤ l.restarts;

@@ -8,17 +8,20 @@ use Rattle.search.proofs.Shedding.{sheds_parted}
 use Rattle.search.proofs.search.Search.shed.Goals as goal
 
 pub part-requires-clause-intact : goal.part-requires-clause-intact
-part-requires-clause-intact c =
-    intact_flagged c.args.prefix.now (the_view c.self.inside) (c.self.inside.joined && c.args.goes)
-    (subst (IsIntact c.args.prefix.now) (sym (c.self.view_is ∙ c.has.ensures.same)) c.requires.intact)
+part-requires-clause-intact c = (
+  c.requires.intact.0,
+  intact_flagged c.requires.intact.0 (the_view c.self.inside) (c.self.inside.joined && c.args.goes)
+      (subst (IsIntact c.requires.intact.0) (sym (c.self.view_is ∙ c.has.ensures.same)) c.requires.intact.1),
+)
 
 pub returns-then-has-clause-sheds : goal.returns-then-has-clause-sheds
 returns-then-has-clause-sheds c =
     let is : the_view c.self.inside ≡ c.args.self.now = c.self.view_is ∙ c.has.ensures.same in
     subst
-    (λ (s : SearchState). Sheds c.args.prefix.now (λ i. (i ≡ c.args.id) × (c.args.goes ≡ true)) s c.part.new.self)
+    (λ (s : SearchState). Sheds (λ i. (i ≡ c.args.id) × (c.args.goes ≡ true)) s c.part.new.self)
     is
-    (sheds_parted c.args.prefix.now (λ i. (i ≡ c.args.id) × (c.args.goes ≡ true)) (the_view c.self.inside)
-    c.part.new.self (c.self.inside.joined && c.args.goes) c.args.id c.part.ensures.parts c.part.ensures.tallied
-    c.part.ensures.fewer
+    (sheds_parted (λ i. (i ≡ c.args.id) × (c.args.goes ≡ true)) (the_view c.self.inside)
+    c.part.new.self (c.self.inside.joined && c.args.goes) c.args.id
+    (λ scopes intact. intact_flagged scopes (the_view c.self.inside) (c.self.inside.joined && c.args.goes) intact)
+    c.part.ensures.parts c.part.ensures.tallied c.part.ensures.fewer
     (λ both. let p = and_parts c.self.inside.joined c.args.goes both in (p.0, (refl, p.1))))

@@ -15,6 +15,7 @@ use Rattle.search.specs.Moves.{Covers, Halts, WasDue}
 use Rattle.search.specs.Moves.IsDue.{cube}
 use Rattle.search.proofs.Reducing.{few_reduced, reductions_added}
 use Rattle.search.proofs.Following.{covers_counted, halts_reduction}
+use Rattle.search.proofs.Aging.{older_grown}
 use Rattle.search.proofs.Learning.{either_way, if_ok, on_err_both, on_ok_by, on_ok_with, searching_gained}
 use Rattle.search.proofs.search.Search.solution.Goals as goal
 
@@ -67,7 +68,8 @@ returns-clause-ok c =
     (on_ok_by c.reduce_counted-reduced.result _
     (λ id removes counts. covers_counted c.args.prefix.now (with_derivation c c.self.inside.derivation)
     (with_derivation c c.cover.new.derivation) (with_derivation c c.reduce_counted-reduced.new.self) c.args.steps.now
-    c.reduce_counted-reduced.new.steps c.budget-budget.ensures.within c.in_ok-cube.ensures.gains.clauses refl id
+    c.reduce_counted-reduced.new.steps c.budget-budget.ensures.within c.in_ok-cube.ensures.gains.clauses
+    (older_grown _ _ c.in_ok-cube.ensures.gains.grows) refl id
     c.in_ok-cube.cube _ (after_it c) removes counts)
     c.reduce_counted-reduced.ensures.ok c.reduce_counted-reduced.ensures.counted)
 
@@ -79,7 +81,8 @@ returns-clause-err c =
     (on_err_both c.reduce_counted-reduced.result
     (λ same tried. halts_reduction c.args.prefix.now (with_derivation c c.self.inside.derivation)
     (with_derivation c c.cover.new.derivation) (with_derivation c c.reduce_counted-reduced.new.self) c.args.steps.now
-    c.reduce_counted-reduced.new.steps c.budget-budget.ensures.within c.in_ok-cube.ensures.gains.clauses refl
+    c.reduce_counted-reduced.new.steps c.budget-budget.ensures.within c.in_ok-cube.ensures.gains.clauses
+    (older_grown _ _ c.in_ok-cube.ensures.gains.grows) refl
     (after_it c).paused same tried)
     c.reduce_counted-reduced.ensures.err c.reduce_counted-reduced.ensures.tried)
 

@@ -5,8 +5,9 @@ use Rattle.steps.specs.declared.stop.Stop.TheVariants.{Spent as spent}
 use Rattle.derive.specs.State.{row_of}
 use Rattle.clean.proofs.Keeping.{step_row}
 use Rattle.search.proofs.Learning.{on_err, on_err_at}
-use Rattle.search.proofs.Following.{advances_covered, covers_looked, ends_covered, ends_within, halts_covered, due_between, due_now, matrix_moves}
+use Rattle.search.proofs.Following.{advances_covered, covers_looked, ends_covered, ends_within, halts_covered, halts_looked, due_between, due_now, matrix_moves}
 use Rattle.search.proofs.Forcing.{few_analysis, few_assignment, forced_level, never_quiet, refuting_looked, refuting_push}
+use Rattle.search.proofs.Reducing.{reductions_same}
 use Rattle.search.proofs.search.Search.turn.Goals as goal
 
 pub returns-in_err-propagate-in-Unit-clause-due : goal.returns-in_err-propagate-in-Unit-clause-due
@@ -114,3 +115,21 @@ returns-in-Bad-clause-err c =
     (halts_covered c.args.prefix.now c.args.self.now c.next_found.new.self c.learn.new.self c.args.steps.now
     c.args.steps.now c.learn.new.steps (covers_looked c.args.prefix.now c.args.self.now c.next_found.new.self
     c.args.steps.now c.next_found.ensures.looks)) c.learn.ensures.err
+
+pub returns-in-Quiet-clause-err : goal.returns-in-Quiet-clause-err
+returns-in-Quiet-clause-err c =
+    on_err c.quiet.result
+    (halts_looked c.args.prefix.now 0 c.args.self.now c.next_found.new.self c.quiet.new.self c.args.steps.now
+    c.quiet.new.steps c.next_found.ensures.looks) c.quiet.ensures.err
+
+pub returns-in-Bad-clause-reductions : goal.returns-in-Bad-clause-reductions
+returns-in-Bad-clause-reductions c =
+    let same = reductions_same c.args.self.now.derivation c.next_found.new.self.derivation
+    c.next_found.ensures.looks.steps in
+    rw (← same) c.learn.ensures.reductions
+
+pub returns-in-Quiet-clause-reductions : goal.returns-in-Quiet-clause-reductions
+returns-in-Quiet-clause-reductions c =
+    let same = reductions_same c.args.self.now.derivation c.next_found.new.self.derivation
+    c.next_found.ensures.looks.steps in
+    rw (← same) c.quiet.ensures.reductions

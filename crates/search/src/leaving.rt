@@ -1,0 +1,114 @@
+//! Rows that leave: they are detached before their steps are dropped.
+ghost use Rattle.std.specs.Prelude.{◌≡◌, ◌≤◌, ◌↔◌, ℕ, IsTrue, List};
+ghost use Rattle.prefix.specs.Scopes.{Scope};
+ghost use Rattle.calculus.specs.Derivations.{Extends};
+ghost use Rattle.derive.specs.Dropping.{NoneOutsideBelow, is_outside, mentions, names};
+ghost use Rattle.derive.specs.State.{has_rows, is_live, row_of};
+ghost use Rattle.search.specs.Leaving.{Goes, Reaches};
+ghost use Rattle.search.specs.State.{IsIntact, IsTallied, rows_of};
+ghost use Rattle.search.specs.Watching.{IsFree, NoneFalls, Sheds};
+
+use crate::search::Search;
+use derive::{Derivation, StepId};
+use prefix::{Prefix, Quant};
+
+// Rows that are detached before steps go.
+#[derive(Drop)]
+pub(crate) enum Leaving<'a> {
+    // Those of a frame, which go, and those of later ones.
+    Frame(usize),
+    // Cubes.
+    Cubes,
+    // Those of a side, of which such go as name a variable outside this prefix.
+    Outside(Quant, &'a Prefix),
+}
+
+impl Leaving<'_> {
+    // Whether a live row is one of them.
+    fn reaches(&self, derivation: &Derivation, id: StepId) -> bool
+        requires { IsTrue (is_live derivation.now id) }
+        ensures { IsTrue result ↔ Reaches self.now derivation.now id }
+    {
+        match self {
+            Self::Frame(frame) => *frame <= derivation.tag(id),
+            Self::Cubes => derivation.side(id) == Quant::Forall,
+            Self::Outside(side, _) => derivation.side(id) == *side,
+        }
+    }
+
+    // Whether a live row is one that goes.
+    fn takes(&self, derivation: &Derivation, id: StepId) -> bool
+        requires live { IsTrue (is_live derivation.now id) }
+        requires rows { IsTrue (has_rows derivation.now) }
+        ensures { IsTrue result → Goes self.now derivation.now id }
+    {
+        match self {
+            Self::Frame(frame) => *frame == derivation.tag(id),
+            Self::Cubes => false,
+            Self::Outside(_, prefix) => derivation.names_outside(id, prefix),
+        }
+    }
+}
+
+impl Search {
+    // Detaches the rows from an id on that leave. Where some of them don't go, the next solve attaches those that are
+    // left.
+    pub(crate) fn part_from(&mut self, from: StepId, leaving: &Leaving)
+        requires intact { (scopes : List Scope) × IsIntact scopes self.old }
+        requires tallied { IsTallied self.old }
+        ensures sheds { Sheds (Goes leaving.now self.old.derivation) self.old self.new }
+        ensures free { (id : ℕ) → from ≤ id → Reaches leaving.now self.old.derivation id → IsFree self.new id }
+    {
+        let next = self.derivation.next_id();
+        for id in from..next {
+            self.part_at(id, leaving);
+        }
+    }
+
+    // Detaches a row, if it is live and leaves.
+    fn part_at(&mut self, id: StepId, leaving: &Leaving)
+        requires intact { (scopes : List Scope) × IsIntact scopes self.old }
+        requires tallied { IsTallied self.old }
+        ensures sheds { Sheds (Goes leaving.now self.old.derivation) self.old self.new }
+        ensures free { Reaches leaving.now self.old.derivation id → IsFree self.new id }
+    {
+        if !self.derivation.is_live(id) {
+            return;
+        }
+        if !leaving.reaches(&self.derivation, id) {
+            return;
+        }
+        let goes = leaving.takes(&self.derivation, id);
+        self.shed(id, goes);
+    }
+
+    // Detaches a row, if it is attached. Where it doesn't go, the next solve attaches it again.
+    fn shed(&mut self, id: StepId, goes: bool)
+        requires intact { (scopes : List Scope) × IsIntact scopes self.old }
+        requires tallied { IsTallied self.old }
+        requires live { IsTrue (is_live self.old.derivation id) }
+        ensures sheds { Sheds (λ i. (i ≡ id) × IsTrue goes) self.old self.new }
+        ensures free { IsFree self.new id }
+    {
+        if self.has(id) {
+            self.joined &= goes;
+            self.part(id);
+        }
+    }
+
+    // Detaches the rows that fall where the steps go that name a variable outside a prefix, and of each side the rows
+    // behind the first of these.
+    pub(crate) fn part_outside(&mut self, prefix: &Prefix, from: StepId)
+        requires intact { (scopes : List Scope) × IsIntact scopes self.old }
+        requires tallied { IsTallied self.old }
+        requires below { NoneOutsideBelow prefix.now from self.old.derivation }
+        ensures sheds { Sheds (λ id. IsTrue (mentions (is_outside prefix.now) (row_of self.old.derivation id)))
+            self.old self.new }
+        ensures none { NoneFalls (names (is_outside prefix.now) (rows_of self.new)) self.new }
+    {
+        let clauses = self.derivation.outside_from(Quant::Exists, from, prefix);
+        self.part_from(clauses, &Leaving::Outside(Quant::Exists, prefix));
+        let cubes = self.derivation.outside_from(Quant::Forall, from, prefix);
+        self.part_from(cubes, &Leaving::Outside(Quant::Forall, prefix));
+    }
+}
