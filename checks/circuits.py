@@ -260,8 +260,8 @@ def cases(program, tools):
     differs = text_of([("a", [1]), ("e", [2])], [[1, 2], [-1, -2]])
     for command in ("cert", "trace"):
         yield f"no_budget.{command}", partial(unknown, program, command, differs)
-    for name, commands, budget in scripts():
-        yield name, partial(check_script, program, commands, budget)
+    for name, commands, budget, version in scripts():
+        yield name, partial(check_script, program, commands, budget, version)
 
 
 def main():

@@ -1,6 +1,7 @@
 """Drawn scripts, and a plain model of what their commands come to: what checks/circuits.py checks `qbf script` by.
 
-The model keeps scopes, frames of clauses, assumptions and the last verdict, by docs/SCRIPTS.md and docs/FRAMES.md.
+The model keeps scopes, frames of clauses with the variables that leave with them, assumptions and the last verdict, by
+docs/SCRIPTS.md and docs/FRAMES.md.
 Truth is found by the whole table of the open formula; traces and circuits are checked by the rules of checks/rules.py.
 """
 
@@ -47,10 +48,11 @@ class Verdict:
 class Model:
     """What commands come to, from the start on."""
 
-    def __init__(self, budget):
+    def __init__(self, budget, version):
         self.budget = budget
+        self.version = version
         self.scopes = []
-        self.frames = [[]]
+        self.frames = [([], [])]
         self.assumed = []
         self.verdict = None
 
@@ -99,18 +101,25 @@ class Model:
             self.scopes.insert(place, (rest[0], []))
         elif word == "var":
             self.scopes[rest[1] - 1][1].append(rest[0])
+            if self.version == 2 and len(self.frames) > 1:
+                self.frames[-1][1].append(rest[0])
         elif word == "clause":
-            self.frames[-1].append(rest)
+            self.frames[-1][0].append(rest)
         elif word == "push":
-            self.frames.append([])
+            self.frames.append(([], []))
         elif word == "pop":
-            self.frames.pop()
+            self.leave(self.frames.pop()[1])
         elif word == "assume" and rest[0] not in self.assumed:
             self.assumed.append(rest[0])
 
+    def leave(self, variables):
+        """Takes variables out of their scopes, with the assumptions over them."""
+        self.scopes = [(quantifier, [v for v in of if v not in variables]) for quantifier, of in self.scopes]
+        self.assumed = [literal for literal in self.assumed if abs(literal) not in variables]
+
     def solve(self, lines):
         """A verdict is the truth and empties the assumptions; UNKNOWN comes under a low budget, and keeps them."""
-        formula = Formula(self.scopes, [clause for frame in self.frames for clause in frame])
+        formula = Formula(self.scopes, [clause for clauses, _ in self.frames for clause in clauses])
         [said] = lines.take("(SAT|UNSAT|UNKNOWN)", "reply of solve")
         self.verdict = None
         if said == "UNKNOWN":
@@ -169,9 +178,9 @@ def line_of(word, rest):
     return " ".join(map(str, [word, *rest, *([0] if word == "clause" else [])]))
 
 
-def check_replies(commands, budget, out):
-    """Checks the replies to commands, each solve having had this budget."""
-    model = Model(budget)
+def check_replies(commands, budget, version, out):
+    """Checks the replies to commands of this version, each solve having had this budget."""
+    model = Model(budget, version)
     lines = Lines(out) if out else Lines("\n")
     for number, (word, rest) in enumerate(commands, 1):
         try:
@@ -181,23 +190,23 @@ def check_replies(commands, budget, out):
     require(not out or lines.at_end(), "replies behind the last one")
 
 
-def script_of(commands):
-    return lines_of(["p qscript 1", *(line_of(word, rest) for word, rest in commands)])
+def script_of(commands, version):
+    return lines_of([f"p qscript {version}", *(line_of(word, rest) for word, rest in commands)])
 
 
-def check_script(program, commands, budget):
-    """Has the program reply to commands, and checks each reply."""
+def check_script(program, commands, budget, version):
+    """Has the program reply to commands of this version, and checks each reply."""
     options = [] if budget is None else ["--budget", str(budget)]
-    status, out = run(program, "script", script_of(commands), *options)
+    status, out = run(program, "script", script_of(commands, version), *options)
     require(status == 0, f"status {status}")
-    check_replies(commands, budget, out)
+    check_replies(commands, budget, version, out)
 
 
 def some_literals(draw, variables, count):
     return [draw.choice((v, -v)) for v in draw.choices(variables, k=count)]
 
 
-def drawn_commands(seed):
+def drawn_commands(seed, least=30, most=60):
     """A prefix of up to eight variables, and then commands of each kind, some of them refused."""
     draw = random.Random(seed)
     quantifier = draw.choice("ae")
@@ -207,7 +216,7 @@ def drawn_commands(seed):
     for variable in variables:
         yield "var", [variable, draw.choice((draw.randint(1, count), count))]
     kinds = {drawn_clause: 36, drawn_frame: 20, drawn_questions: 24, drawn_assumption: 14, drawn_growth: 6}
-    for kind in draw.choices(list(kinds), list(kinds.values()), k=draw.randint(30, 60)):
+    for kind in draw.choices(list(kinds), list(kinds.values()), k=draw.randint(least, most)):
         yield from kind(draw, variables)
 
 
@@ -246,9 +255,27 @@ def drawn_questions(draw, variables):
         yield word, [draw.choice(variables)] if word == "value" else []
 
 
+def leaving_commands(seed, count=200):
+    """So many commands over few variables that are added in frames, leave with these, and are added again."""
+    draw = random.Random(seed)
+    scopes, variables = draw.randint(1, 4), list(range(1, draw.randint(3, 8)))
+    commands = [("scope", ["ae"[(place + seed) % 2]]) for place in range(scopes)]
+    kinds = {drawn_clause: 34, drawn_frame: 22, drawn_questions: 12, drawn_assumption: 10}
+    while len(commands) < count:
+        if draw.random() < 0.35:
+            commands.append(("var", [draw.choice(variables), draw.randint(1, scopes)]))
+        else:
+            commands += draw.choices(list(kinds), list(kinds.values()))[0](draw, variables)
+    return commands[:count]
+
+
 def scripts():
-    """Each with its name, its commands, and the budget of its verdicts."""
+    """Each with its name, its commands, the budget of its verdicts, and its version."""
     for seed in range(120):
-        yield f"script_{seed}", list(drawn_commands(seed)), None
+        yield f"script_{seed}", list(drawn_commands(seed)), None, 1
     for seed in range(120, 150):
-        yield f"script_with_budget_{seed}", list(drawn_commands(seed)), seed % 10
+        yield f"script_with_budget_{seed}", list(drawn_commands(seed)), seed % 10, 1
+    for seed in range(150, 190):
+        yield f"script_whose_variables_leave_{seed}", list(drawn_commands(seed)), None, 2
+    for seed in range(190, 240):
+        yield f"script_whose_variables_come_again_{seed}", leaving_commands(seed), None, 2

@@ -10,9 +10,10 @@ use Rattle.qdimacs.specs.Reads.{Reads}
 use Rattle.qcir_reader.specs.Rules.{Outcome as CircuitOutcome, parsed as circuit, refused as circuit_refused, limit as circuit_limit}
 use Rattle.qcir_reader.specs.Reads.{Reads as ReadsCircuit}
 use Rattle.qscript.specs.declared.command.Command.{Command as ScriptCommand}
+use Rattle.versions.specs.declared.version.Version.{Version}
 use Rattle.qscript.specs.Reads.{Ending as ScriptEnding, ReadsScript, done, limit as script_limit, refused as script_refused}
 use Rattle.session.specs.declared.answer.Answer.TheVariants.{Sat, Unsat, Unknown}
-use Rattle.session.specs.Scripts.{IsScriptEnding}
+use Rattle.session.specs.Scripts.{IsScriptEnding, IsScriptOf}
 use Rattle.session.specs.Inputs.{Format, Says, format_of}
 use Rattle.session.specs.Inputs.Format.{as_circuit, as_formula}
 use Rattle.session.specs.Solve.{HasAnswer, IsEnding}
@@ -39,8 +40,8 @@ abbrev pub OneCircuit : Type 0
 OneCircuit = (text : Text) (o p : CircuitOutcome) → ReadsCircuit text o → ReadsCircuit text p → o ≡ p
 
 abbrev pub OneReading : Type 0
-OneReading = (text : Text) (cs ds : List ScriptCommand) (e f : ScriptEnding) → ReadsScript text cs e
-    → ReadsScript text ds f → (cs ≡ ds) × (e ≡ f)
+OneReading = (text : Text) (v w : Option Version) (cs ds : List ScriptCommand) (e f : ScriptEnding)
+    → ReadsScript text v cs e → ReadsScript text w ds f → (v ≡ w) × (cs ≡ ds) × (e ≡ f)
 
 answer_complete : (s : ℕ) → HasAnswer s → Complete s
 answer_complete s (Sat, e) = (0, omega arith, sym e)
@@ -100,9 +101,9 @@ module _ (one : OneOutcome) (circuit_one : OneCircuit) (single : OneReading) whe
   formula_complete format terms known valid NoMemory ending status read write = (3, omega arith, refl)
 
   ends_well : (known : Option Text) → IsScript known → (e : ScriptEnding)
-      → IfSome known (λ text. (cs : List ScriptCommand) × ReadsScript text cs e) → done ≡ e
+      → IfSome known (λ text. (cs : List ScriptCommand) × IsScriptOf text cs e) → done ≡ e
   ends_well None valid e h = absurd valid
-  ends_well (Some text) valid e h = (single text _ _ _ _ valid.1 h.1).1
+  ends_well (Some text) valid e h = (single text valid.1.0 h.1.0 valid.0 h.0 done e valid.1.1 h.1.1).2
 
   -- a script that ends well is answered
   script_complete : (known : Option Text) → IsScript known → (f : Ending)

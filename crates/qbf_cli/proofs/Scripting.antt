@@ -7,11 +7,12 @@ use Rattle.command.specs.Forms.{Asks, HasNoForm, Text}
 use Rattle.command.specs.declared.command.Command.{Command}
 use Rattle.qdimacs.specs.declared.refusal.Quantity.TheVariants.{Bytes}
 use Rattle.qscript.specs.declared.command.Command.{Command as ScriptCommand}
+use Rattle.versions.specs.declared.version.Version.{Version}
 use Rattle.qscript.specs.Reads.{Ending as ScriptEnding, ReadsScript, done, limit as script_limit, refused as script_refused}
 use Rattle.session.specs.Replies.{says}
 use Rattle.session.specs.Scripts.{AreAnswered, AreFirst, EndsScript, IsReadOut, IsScriptEnding}
 use Rattle.session.specs.Solve.{HasAnswer}
-use Rattle.session.specs.Standing.{start}
+use Rattle.session.specs.Standing.{start_in}
 use Rattle.session.specs.declared.ending.Ending.{Ending}
 use Rattle.session.specs.declared.ending.Ending.TheVariants.{Done, Refused, Limit, CheckLimit, ReadFault, WriteFault, NoMemory}
 use Rattle.qbf_cli.specs.declared.ending.RunEnding.TheVariants.{Worked}
@@ -28,19 +29,26 @@ nothing_more (Some x) = sym (append-nil x)
 
 -- each text is a script
 abbrev pub HaveReadings : Type 0
-HaveReadings = (text : Text) → (commands : List ScriptCommand) × (e : ScriptEnding) × ReadsScript text commands e
+HaveReadings = (text : Text) → (version : Option Version) × (commands : List ScriptCommand) × (e : ScriptEnding)
+    × ReadsScript text version commands e
 
-first_none : HaveReadings → (known : Option Text) → IfSome known (λ text. AreFirst text [])
+-- the version that a text's header names
+abbrev named : HaveReadings → Option Text → Option Version
+named reads None = None
+named reads (Some text) = (reads text).0
+
+first_none : (reads : HaveReadings) (known : Option Text) → IfSome known (λ text. AreFirst text (named reads known) [])
 first_none reads None = tt
-first_none reads (Some text) = reads text
+first_none reads (Some text) = let r = reads text in (r.1, r.2, r.3)
 
 -- without any command nothing is written or told
 pub untouched : (terms : Terms) (known w : Option Text) (told : List Account) (e : Ending) → HaveReadings
     → (IsReadOut e → ⊥) → EndsScript e → AreAnswered terms known (w, w) (told, told) e
 untouched terms known w told e reads early ends = record {
+  version = named reads known;
   commands = [];
   out = says [];
-  after = start;
+  after = start_in (named reads known);
   allowed = (refl, refl);
   first = first_none reads known;
   all = λ h. absurd (early h);
@@ -71,6 +79,7 @@ module _ (terms : Terms) (known : Option Text) (output : Option Text × Option T
       → (Contains (0 ∷ 2 ∷ 6 ∷ []) n → IsReadOut f) → (n ≢ 4 → f ≢ WriteFault)
       → IsScriptOutput terms known output told.1 n
   with_status f n so all whole = record {
+    version = so.version;
     commands = so.commands;
     out = so.out;
     after = so.after;

@@ -13,14 +13,15 @@ use Rattle.session.specs.declared.ending.Ending.{Ending}
 use Rattle.session.specs.declared.ending.Ending.TheVariants.{Done, NoMemory, WriteFault}
 use Rattle.session.specs.declared.ending.Job.TheVariants.{Solve as SolveJob}
 use Rattle.session.specs.Jobs.{IsReplyOn}
-use Rattle.session.specs.Replies.{says}
+use Rattle.session.specs.Replies.{Leads, says}
 use Rattle.session.specs.Scripts.{AreAnswered, EndsScript, IsReadOut}
 use Rattle.session.specs.Solve.{OfAnswer}
+use Rattle.versions.specs.declared.version.Version.TheVariants.{One}
 use Rattle.session.specs.Standing.{start}
 use Rattle.session.specs.Worked.{anything_fits, at_thirty_six}
 use Rattle.session.specs.WorkedScripts.{one_refusal, two_pops, two_refusals}
 use Rattle.session.proofs.JobValues.{bare, bare_reads, line_length, sat}
-use Rattle.session.proofs.ScriptValues.{both_read, first_ones, front_head, leads_two, none_told, read_length, reply_length, some_reply, too_short, whole_length}
+use Rattle.session.proofs.ScriptValues.{at_start, both_read, first_ones, front_head, leads_two, none_told, read_length, reply_length, some_reply, too_short, whole_length}
 use Rattle.qbf_cli.specs.Asked.{RoomForCommand, RoomForOutput, known_for}
 use Rattle.qbf_cli.specs.Told.{IsJobOutput, IsOutput, IsOutputOf, IsSampleOutput, IsScriptOutput}
 use Rattle.qbf_cli.proofs.Statuses.{absent}
@@ -162,6 +163,7 @@ answered_at : (output : Text) (stops : List Account) (status : ℕ) (ending : En
     → EndsScript ending → IsScriptOutput plain (Some two_pops) (Some [], Some output) stops status
     → AreAnswered plain (Some two_pops) (Some [], Some output) ([], stops) ending
 answered_at output stops status ending read sound ends is = record {
+  version = is.version;
   commands = is.commands;
   out = is.out;
   after = is.after;
@@ -179,6 +181,7 @@ both_replies = inr (
   script,
   asks_script,
   record {
+    version = Some One;
     commands = Pop ∷ Pop ∷ [];
     out = says two_refusals;
     after = start;
@@ -297,14 +300,15 @@ no_room_for_solve room =
 pub room_for_script : RoomForOutput script_words (holds two_pops) (λ n. n ≤ 22)
 room_for_script c asks = subst (λ d. RoomForCommand d (known_for (holds two_pops) d) (λ n. n ≤ 22))
     (sym (only_script c asks))
-    (λ commands out after leads first.
-    let long = reply_length out (some_reply plain commands (first_ones commands first) out after leads)
+    (λ version commands out after leads first.
+    let long = reply_length out (some_reply plain commands (first_ones version commands first) out after
+    (subst (λ s. Leads plain s commands out after) (at_start version commands first) leads))
     (length out.text) refl in
     ⊎_elim (λ n. omega (arith, n)) (⊎_elim (λ n. omega (arith, n)) (λ n. omega (arith, n))) long)
 
 pub no_room_for_script : RoomForOutput script_words (holds two_pops) (λ n. n ≤ 21) → ⊥
 no_room_for_script room =
-    let few : 22 ≤ 21 = room script asks_script (Pop ∷ Pop ∷ []) (says two_refusals) start (leads_two plain)
+    let few : 22 ≤ 21 = room script asks_script (Some One) (Pop ∷ Pop ∷ []) (says two_refusals) start (leads_two plain)
     ([], done, both_read) in
     omega (arith, few)
 

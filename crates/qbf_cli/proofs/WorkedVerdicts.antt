@@ -19,7 +19,9 @@ use Rattle.qdimacs.specs.Reads.{Reads}
 use Rattle.qdimacs.specs.Rules.{limit, parsed, refused}
 use Rattle.qdimacs.proofs.Before.{one_outcome}
 use Rattle.qdimacs.proofs.Outcomes.{computed_reads}
-use Rattle.qscript.specs.Reads.{Ending as ScriptEnding, ReadsScript, done, limit as script_limit, refused as script_refused}
+use Rattle.versions.specs.declared.version.Version.TheVariants.{One}
+use Rattle.session.specs.Scripts.{IsScriptOf}
+use Rattle.qscript.specs.Reads.{Ending as ScriptEnding, done, limit as script_limit, refused as script_refused}
 use Rattle.qscript.proofs.Outcomes.{computed_reading, one_reading}
 use Rattle.command.specs.Forms.{Text}
 use Rattle.command.specs.declared.command.Command.TheVariants.{Cert, Check, Demo, Solve, Trace}
@@ -90,21 +92,23 @@ false_truth value (f, reads, is) =
 abbrev header : Text
 header = codes "p qscript 1\n"
 
-header_reads : ReadsScript header [] done
-header_reads = computed_reading header
+header_reads : IsScriptOf header [] done
+header_reads = (Some One, computed_reading header)
 
 abbrev bad_script : Text
 bad_script = codes "p qscript 1\nsat\n"
 
-bad_script_reads : ReadsScript bad_script [] (script_refused 31 2)
-bad_script_reads = computed_reading bad_script
+bad_script_reads : IsScriptOf bad_script [] (script_refused 31 2)
+bad_script_reads = (Some One, computed_reading bad_script)
 
 ends_well : (e : ScriptEnding) → EndsIn header e → e ≡ done
-ends_well e (commands, reads) = sym (one_reading header [] commands done e header_reads reads).1
+ends_well e (commands, reads) =
+    sym (one_reading header (Some One) reads.0 [] commands done e (computed_reading header) reads.1).2
 
 ends_badly : (e : ScriptEnding) → EndsIn bad_script e → e ≡ script_refused 31 2
 ends_badly e (commands, reads) =
-    sym (one_reading bad_script [] commands (script_refused 31 2) e bad_script_reads reads).1
+    sym (one_reading bad_script (Some One) reads.0 [] commands (script_refused 31 2) e (computed_reading bad_script)
+    reads.1).2
 
 -- a true formula has status 10
 pub answered_true : IsVerdict solve_words (holds bare) 10

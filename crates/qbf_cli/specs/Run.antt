@@ -18,7 +18,7 @@ use Rattle.session.specs.Endings.{IsUnread}
 use Rattle.session.specs.Inputs.{Format, Says, format_of}
 use Rattle.session.specs.Inputs.Format.{as_circuit, as_formula}
 use Rattle.session.specs.Jobs.{LeavesOutput}
-use Rattle.session.specs.Scripts.{AreAnswered, IsScriptEnding}
+use Rattle.session.specs.Scripts.{AreAnswered, IsScriptEnding, IsScriptOf}
 use Rattle.session.specs.Terms.{Terms, terms_of}
 use Rattle.session.specs.Solve.{HasAnswer, IsDone, IsEnding, IsShort, OfAnswer, Solves}
 use Rattle.session.specs.declared.ending.Ending.{Ending}
@@ -37,7 +37,7 @@ use Rattle.qcir.specs.Truth.{circuit_truth}
 use Rattle.qcir_reader.specs.Rules.{parsed as circuit}
 use Rattle.qcir_reader.specs.Reads.{Reads as ReadsCircuit}
 use Rattle.qscript.specs.declared.command.Command.{Command as ScriptCommand}
-use Rattle.qscript.specs.Reads.{Ending as ScriptEnding, ReadsScript, done, limit as script_limit, refused as script_refused}
+use Rattle.qscript.specs.Reads.{Ending as ScriptEnding, done, limit as script_limit, refused as script_refused}
 use Rattle.generate.specs.Made.{made}
 use Rattle.qdimacs_out.specs.Texts.{formula_text}
 use Rattle.samples.specs.Samples.{LeavesText, counts_text}
@@ -72,7 +72,7 @@ IsLimited format text = (quantity : Quantity) × (at : ℕ) × Says format text 
 
 -- The text is a script with this ending.
 abbrev pub EndsIn : Text → ScriptEnding → Type 0
-EndsIn text ending = (commands : List ScriptCommand) × ReadsScript text commands ending
+EndsIn text ending = (commands : List ScriptCommand) × IsScriptOf text commands ending
 
 -- The text is a script that is malformed.
 abbrev pub IsRefusedScript : Text → Type 0

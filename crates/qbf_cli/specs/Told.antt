@@ -7,6 +7,7 @@ use Rattle.command.specs.Forms.{Asks, Text}
 use Rattle.command.specs.declared.command.Command.{Command}
 use Rattle.command.specs.declared.command.Command.TheVariants.{Solve, Trace, Cert, Check, Script, Gen, Demo}
 use Rattle.qscript.specs.declared.command.Command.{Command as ScriptCommand}
+use Rattle.versions.specs.declared.version.Version.{Version}
 use Rattle.qscript.specs.Reads.{Ending as ScriptEnding, ReadsScript}
 use Rattle.session.specs.declared.answer.Answer.{Answer}
 use Rattle.session.specs.Replies.{Leads, Output}
@@ -18,7 +19,7 @@ use Rattle.session.specs.declared.ending.Ending.TheVariants.{Done}
 use Rattle.session.specs.Checks.{IsCheckOn, check_ending}
 use Rattle.session.specs.Jobs.{IsReplyOn}
 use Rattle.session.specs.Solve.{HasAnswer, OfAnswer}
-use Rattle.session.specs.Standing.{Standing, start}
+use Rattle.session.specs.Standing.{Standing, start_in}
 use Rattle.session.specs.Terms.{Terms, terms_of}
 use Rattle.session.specs.declared.ending.Job.{Job}
 use Rattle.session.specs.declared.ending.Job.TheVariants.{Trace as TraceJob, Cert as CertJob}
@@ -51,17 +52,18 @@ pub record IsCheckOutput (decide : Bool) (terms : Terms) (known : Option Text) (
   pub nothing : Contains (2 ∷ 3 ∷ 5 ∷ []) status → Keeps written.0 written.1 × (stops ≡ [])
 
 -- What a script leaves on the output: allowed replies to commands, all of them, or after a write fault a front of them.
--- The commands are the first of the text's script, if the text is told, and all of them where it was read to its
+-- The commands are the first of the text's script, by the version that its header names, if the text is told, and all of them where it was read to its
 -- ending. What is told of searches is an entry for each UNKNOWN among the replies, in their order.
 pub record IsScriptOutput (terms : Terms) (known : Option Text) (written : Option Text × Option Text)
     (stops : List Account) (status : ℕ) : Type 0 where
+  pub version : Option Version
   pub commands : List ScriptCommand
   pub out : Output
   pub after : Standing
-  pub allowed : Leads terms start commands out after
-  pub first : IfSome known (λ text. AreFirst text commands)
+  pub allowed : Leads terms (start_in version) commands out after
+  pub first : IfSome known (λ text. AreFirst text version commands)
   pub all : Contains (0 ∷ 2 ∷ 6 ∷ []) status →
-      IfSome known (λ text. (ending : ScriptEnding) × ReadsScript text commands ending)
+      IfSome known (λ text. (ending : ScriptEnding) × ReadsScript text version commands ending)
   pub front : AppendsFront written.0 written.1 out.text
   pub whole : status ≢ 4 → Appends written.0 written.1 out.text
   pub told : stops ≡ out.stops

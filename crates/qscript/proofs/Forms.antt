@@ -1,6 +1,6 @@
 -- Words that begin a line are those of a draft, and the other way round.
 use Rattle.std.proofs.Common.{◌≡◌, ◌≢◌, ◌⊎◌, inl, inr, ⊎_elim, ℕ, suc, ℤ, pos, negsuc, Bool, true, false, List, [], ◌∷◌, ◌++◌, map, Option, None, Some, refl, sym, ap, subst, ◌∙◌, arith}
-use Rattle.std.specs.Prelude.{codes, option_map, nat_abs, if◌then◌else◌}
+use Rattle.std.specs.Prelude.{codes, option_map, nat_abs, if◌then◌else◌, ◌==◌}
 use Rattle.std.specs.List.{AllByRecursion}
 use Rattle.std.specs.Str.{bytes_eq}
 use Rattle.std.proofs.lemmas.List.{map-append, append-nil, append_assoc}
@@ -12,15 +12,17 @@ use Rattle.prefix.specs.declared.quant.Quant.{Quant}
 use Rattle.prefix.specs.declared.quant.Quant.TheVariants.{Exists, Forall}
 use Rattle.qdimacs.specs.Rules.{is_text, quant_of, is_zero}
 use Rattle.qdimacs.specs.Reads.{quant_word}
+use Rattle.versions.specs.declared.version.Version.{Version}
+use Rattle.versions.specs.declared.version.Version.TheVariants.{One, Two}
 use Rattle.qscript.specs.declared.command.Command.{Command}
 use Rattle.qscript.specs.declared.command.Command.TheVariants.{Scope as ScopeCommand, Var as VarCommand, Clause as ClauseCommand, Push, Pop, Assume as AssumeCommand, Solve, Value as ValueCommand, Relevant, Trace, Cert}
 use Rattle.qscript.specs.declared.draft.Line.{Line}
 use Rattle.qscript.specs.declared.draft.Line.TheVariants.{Header, Command as Orders}
 use Rattle.qscript.specs.declared.draft.Draft.{Draft}
 use Rattle.qscript.specs.declared.draft.Draft.TheVariants.{Problem, Format, Scope, ScopeOf, Var, VarOf, Clause, Assume, Value, Whole}
-use Rattle.qscript.specs.Lines.{number, spelling, clause_words, literals_in, AreLiterals, IsExpected}
+use Rattle.qscript.specs.Lines.{number, version_number, spelling, clause_words, literals_in, AreLiterals, IsExpected}
 use Rattle.qscript.specs.Reads.{IsFront, IsWhole, misfit}
-use Rattle.qscript.specs.Run.{entry, singles, openings, alone, or_else, keyword, begun, natural, is_one, after, whole, misfit_of}
+use Rattle.qscript.specs.Run.{entry, singles, openings, alone, or_else, keyword, begun, natural, version_of, after, whole, misfit_of}
 
 -- the words of a draft
 abbrev pub words_of : Draft → List Word
@@ -73,11 +75,16 @@ text_is t (Text bytes) h = ap Text ((bytes_eq-Decides bytes t).0 h)
 text_is t (Num n) h = cc
 text_is t Other h = cc
 
-one_is : (w : Word) → is_one w ≡ true → w ≡ number 1
-one_is (Num (pos n)) h = ap (λ m. Num (pos m)) (eqb-true n 1 h)
-one_is (Num (negsuc n)) h = cc
-one_is (Text t) h = cc
-one_is Other h = cc
+version_is : (w : Word) (v : Version) → version_of w ≡ Some v → w ≡ number (version_number v)
+version_is (Num (pos n)) v e = by (n == 1) (n == 2) refl refl e
+  where
+    by : (b c : Bool) → (n == 1) ≡ b → (n == 2) ≡ c → (if b then Some One else if c then Some Two else None) ≡ Some v → number n ≡ number (version_number v)
+    by true c e1 e2 e = let same : One ≡ v = cc in ap number (eqb-true n 1 e1) ∙ ap (λ v. number (version_number v)) same
+    by false true e1 e2 e = let same : Two ≡ v = cc in ap number (eqb-true n 2 e2) ∙ ap (λ v. number (version_number v)) same
+    by false false e1 e2 e = cc
+version_is (Num (negsuc n)) v e = cc
+version_is (Text t) v e = cc
+version_is Other v e = cc
 
 quant_is : (w : Word) (q : Quant) → quant_of w ≡ Some q → w ≡ quant_word q
 quant_is w q e = by (is_text (codes "e") w) (is_text (codes "a") w) refl refl e
@@ -134,7 +141,8 @@ pub after_word : (h : Bool) (d more : Draft) (w : Word) → Sound h d → after 
 after_word h Problem more w s e =
     let c = chosen (is_text (codes "qscript") w) Format more e in along h Format more _ c.1 (behind h Format Problem _ w (text_is (codes "qscript") w c.0) (refl, s))
 after_word h Format more w s e =
-    let c = chosen (is_one w) (Whole Header) more e in along h (Whole Header) more _ c.1 (behind h (Whole Header) Format _ w (one_is w c.0) (refl, subst (λ h. IsExpected h Header) (sym s) tt))
+    let m = mapped (λ v. Whole (Header v)) (version_of w) more e in
+    along h (Whole (Header m.0)) more _ m.2 (behind h (Whole (Header m.0)) Format _ w (version_is w m.0 m.1) (refl, subst (λ h. IsExpected h (Header m.0)) (sym s) tt))
 after_word h Scope more w s e =
     let m = mapped ScopeOf (quant_of w) more e in along h (ScopeOf m.0) more _ m.2 (behind h (ScopeOf m.0) Scope _ w (quant_is w m.0 m.1) (refl, s))
 after_word h (ScopeOf q) more w s e =
@@ -224,9 +232,10 @@ clause_runs front (l ∷ ls) all a e =
 
 -- the words of a line give a draft of this line
 pub spelled_runs : (h : Bool) (l : Line) → IsExpected h l → (d : Draft) × (runs h (spelling l) ≡ Some d) × (whole d ≡ Some l)
-spelled_runs false Header x = (Whole Header, refl, refl)
+spelled_runs false (Header One) x = (Whole (Header One), refl, refl)
+spelled_runs false (Header Two) x = (Whole (Header Two), refl, refl)
 spelled_runs false (Orders c) x = absurd x
-spelled_runs true Header x = absurd x
+spelled_runs true (Header v) x = absurd x
 spelled_runs true (Orders (ScopeCommand Exists None)) x = (ScopeOf Exists, refl, refl)
 spelled_runs true (Orders (ScopeCommand Forall None)) x = (ScopeOf Forall, refl, refl)
 spelled_runs true (Orders (ScopeCommand Exists (Some n))) x = (Whole (Orders (ScopeCommand Exists (Some n))), refl, refl)
@@ -244,8 +253,8 @@ spelled_runs true (Orders Cert) x = (Whole (Orders Cert), refl, refl)
 
 -- a draft can be finished
 front_of : (h : Bool) (d : Draft) → Sound h d → IsFront h (words_of d)
-front_of h Problem s = record { line = Header; more = Text (codes "qscript") ∷ number 1 ∷ []; expected = rw s tt; spelled = refl }
-front_of h Format s = record { line = Header; more = number 1 ∷ []; expected = rw s tt; spelled = refl }
+front_of h Problem s = record { line = Header One; more = Text (codes "qscript") ∷ number 1 ∷ []; expected = rw s tt; spelled = refl }
+front_of h Format s = record { line = Header One; more = number 1 ∷ []; expected = rw s tt; spelled = refl }
 front_of h Scope s = record { line = Orders (ScopeCommand Exists None); more = quant_word Exists ∷ []; expected = rw s tt; spelled = refl }
 front_of h (ScopeOf q) s = record { line = Orders (ScopeCommand q None); more = []; expected = rw s tt; spelled = refl }
 front_of h Var s = record { line = Orders (VarCommand 0 0); more = number 0 ∷ number 0 ∷ []; expected = rw s tt; spelled = refl }
@@ -257,7 +266,7 @@ front_of h (Whole l) s = record { line = l; more = []; expected = s; spelled = s
 
 pub no_word : (h : Bool) → IsFront h []
 no_word true = record { line = Orders Push; more = Text (codes "push") ∷ []; expected = tt; spelled = refl }
-no_word false = record { line = Header; more = spelling Header; expected = tt; spelled = refl }
+no_word false = record { line = Header One; more = spelling (Header One); expected = tt; spelled = refl }
 
 follows_step : (h : Bool) (d : Draft) (w : Word) (ws : List Word) (e : Draft) (o : Option Draft) → Sound h d → after d w ≡ o → ((m : Draft) → Sound h m → follows (Some m) ws ≡ Some e → Spells h e (words_of m ++ ws)) → follows o ws ≡ Some e → Spells h e (words_of d ++ w ∷ ws)
 follows_step h d w ws e None s a later f = cc
@@ -308,7 +317,7 @@ misfit_is h w ws (VarOf v) s = rw s refl
 misfit_is h w ws (Clause ls) s = rw s.0 refl
 misfit_is h w ws Assume s = rw s refl
 misfit_is h w ws Value s = rw s refl
-misfit_is true w ws (Whole Header) s = absurd s
+misfit_is true w ws (Whole (Header v)) s = absurd s
 misfit_is true w ws (Whole (Orders c)) s = refl
-misfit_is false w ws (Whole Header) s = refl
+misfit_is false w ws (Whole (Header v)) s = refl
 misfit_is false w ws (Whole (Orders c)) s = absurd s

@@ -1,5 +1,5 @@
 -- What is computed word by word is the one reading of a text.
-use Rattle.std.proofs.Common.{◌≡◌, inl, inr, ℕ, Bool, true, false, List, [], ◌∷◌, ◌++◌, length, take, Option, None, Some, refl, sym, ap, subst, ◌∙◌}
+use Rattle.std.proofs.Common.{◌≡◌, ℕ, Bool, true, false, List, [], ◌∷◌, ◌++◌, length, take, Option, None, Some, refl, sym, ap, subst, ◌∙◌}
 use Rattle.std.specs.Prelude.{nat_le, if◌then◌else◌, ◌==◌}
 use Rattle.std.proofs.lemmas.List.{map-append, append_assoc}
 use Rattle.std.proofs.lemmas.Bool.{eqb-true, eq-eqb}
@@ -7,13 +7,15 @@ use Rattle.lexer.specs.declared.token.Token.{Token}
 use Rattle.lexer.specs.declared.token.Word.{Word}
 use Rattle.lexer.specs.declared.token.Comments.TheVariants.{Script as ScriptComments}
 use Rattle.lexer.specs.Words.{Item, word, bad_byte, number_range, too_long, the_end, items, items_of_lines, lines_of, seen, ending, max_bytes, last_line}
+use Rattle.versions.specs.declared.version.Version.{Version}
 use Rattle.qscript.specs.declared.command.Command.{Command}
 use Rattle.qscript.specs.declared.draft.Line.{Line}
 use Rattle.qscript.specs.declared.draft.Line.TheVariants.{Header, Command as Orders}
 use Rattle.qscript.specs.declared.draft.Draft.{Draft}
 use Rattle.qscript.specs.Lines.{spelling, IsExpected}
 use Rattle.qscript.specs.Reads.{Ending, refused, limit, on_line, is_on, BeginsWith, IsFront, misfit, at_end, DecidesOn, DecidesOff, Decides, StopsAt, ReadsCommands, ReadsItems, ReadsScript}
-use Rattle.qscript.specs.Run.{Script, between, within, script_from, script_of, begun, after, whole, misfit_of, misfit_first, with_line, stopped, closed, go_on, go_on_if, line_after, line_begun, begin}
+use Rattle.qscript.specs.Run.{Reading, between, within, reading_from, reading_of, begun, after, whole, misfit_of, misfit_first, with_line, ends, closed, go_on, go_on_if, line_after, line_begun, begin}
+use Rattle.qscript.specs.Worked.{IsOnly}
 use Rattle.qscript.proofs.Forms.{Spells, words_of, follows, runs, follows_more, runs_spells, runs_front, front_runs, whole_runs, whole_words, spelled_runs, misfit_is, no_word}
 
 same_number : (n : ℕ) → (n == n) ≡ true
@@ -21,107 +23,111 @@ same_number n = eq-eqb n n refl
 
 -- From the relation to the computed script.
 
-line_goes : (rest : List Item) (n : ℕ) (ws : List Word) (d e : Draft) (o : Option Draft) → ((m : Draft) → follows (Some m) ws ≡ Some e → script_from (on_line n ws ++ rest) (within n m) ≡ script_from rest (within n e)) → follows o ws ≡ Some e
-    → line_after n d o (script_from (on_line n ws ++ rest)) ≡ script_from rest (within n e)
+line_goes : (rest : List Item) (n : ℕ) (ws : List Word) (d e : Draft) (o : Option Draft) → ((m : Draft) → follows (Some m) ws ≡ Some e → reading_from (on_line n ws ++ rest) (within n m) ≡ reading_from rest (within n e)) → follows o ws ≡ Some e
+    → line_after n d o (reading_from (on_line n ws ++ rest)) ≡ reading_from rest (within n e)
 line_goes rest n ws d e None later f = cc
 line_goes rest n ws d e (Some m) later f = later m f
 
-line_read : (rest : List Item) (n : ℕ) (ws : List Word) (d e : Draft) → follows (Some d) ws ≡ Some e → script_from (on_line n ws ++ rest) (within n d) ≡ script_from rest (within n e)
-line_read rest n [] d e f = let same : d ≡ e = cc in ap (λ d. script_from rest (within n d)) same
-line_read rest n (w ∷ ws) d e f = ap (λ b. go_on_if b n d (word (record { word = w; line = n })) (script_from (on_line n ws ++ rest))) (same_number n) ∙ line_goes rest n ws d e (after d w) (λ m g. line_read rest n ws m e g) f
+line_read : (rest : List Item) (n : ℕ) (ws : List Word) (d e : Draft) → follows (Some d) ws ≡ Some e → reading_from (on_line n ws ++ rest) (within n d) ≡ reading_from rest (within n e)
+line_read rest n [] d e f = let same : d ≡ e = cc in ap (λ d. reading_from rest (within n d)) same
+line_read rest n (w ∷ ws) d e f = ap (λ b. go_on_if b n d (word (record { word = w; line = n })) (reading_from (on_line n ws ++ rest))) (same_number n) ∙ line_goes rest n ws d e (after d w) (λ m g. line_read rest n ws m e g) f
 
-line_entered : (h : Bool) (rest : List Item) (n : ℕ) (ws : List Word) (d : Draft) → runs h ws ≡ Some d → script_from (on_line n ws ++ rest) (between h) ≡ script_from rest (within n d)
+line_entered : (h : Bool) (rest : List Item) (n : ℕ) (ws : List Word) (d : Draft) → runs h ws ≡ Some d → reading_from (on_line n ws ++ rest) (between h) ≡ reading_from rest (within n d)
 line_entered h rest n [] d f = cc
 line_entered h rest n (w ∷ ws) d f = by (begun h w) f
   where
-    by : (o : Option Draft) → follows o ws ≡ Some d → line_begun h n o (script_from (on_line n ws ++ rest)) ≡ script_from rest (within n d)
+    by : (o : Option Draft) → follows o ws ≡ Some d → line_begun h n o (reading_from (on_line n ws ++ rest)) ≡ reading_from rest (within n d)
     by None f = cc
     by (Some m) f = line_read rest n ws m d f
 
 -- a whole line
-line_computed : (h : Bool) (all : List Item) (l : Line) (rest : List Item) → BeginsWith h all l rest → script_from all (between h) ≡ with_line l (script_from rest (between true))
+line_computed : (h : Bool) (all : List Item) (l : Line) (rest : List Item) → BeginsWith h all l rest → reading_from all (between h) ≡ with_line l (reading_from rest (between true))
 line_computed h all l [] b = absurd b.alone
 line_computed h all l (item ∷ rest) b =
     let r : (d : Draft) × (runs h (spelling l) ≡ Some d) × (whole d ≡ Some l) = spelled_runs h l b.expected in
-    ap (λ is. script_from is (between h)) b.whole ∙ line_entered h (item ∷ rest) b.number (spelling l) r.0 r.1
-    ∙ ap (λ x. go_on_if x b.number r.0 item (script_from rest)) b.alone
-    ∙ ap (λ o. closed b.number r.0 o (begin true item (script_from rest))) r.2
+    ap (λ is. reading_from is (between h)) b.whole ∙ line_entered h (item ∷ rest) b.number (spelling l) r.0 r.1
+    ∙ ap (λ x. go_on_if x b.number r.0 item (reading_from rest)) b.alone
+    ∙ ap (λ o. closed b.number r.0 o (begin true item (reading_from rest))) r.2
 
 -- what ends the script where no line has begun
 first_misfit : (h : Bool) → misfit_first h ≡ misfit h []
 first_misfit true = refl
 first_misfit false = refl
 
-first_on : (h : Bool) (n : ℕ) (item : Item) (rest : List Item) (e : Ending) → is_on n item ≡ true → DecidesOn h n [] item e → begin h item (script_from rest) ≡ stopped e
+first_on : (h : Bool) (n : ℕ) (item : Item) (rest : List Item) (e : Ending) → is_on n item ≡ true → DecidesOn h n [] item e → begin h item (reading_from rest) ≡ ends e
 first_on h n (word t) rest e on d = by (begun h t.word) refl
   where
-    by : (o : Option Draft) → begun h t.word ≡ o → line_begun h t.line o (script_from rest) ≡ stopped e
-    by None b = ap (λ k. stopped (refused k t.line)) (first_misfit h) ∙ ap (λ m. stopped (refused (misfit h []) m)) (eqb-true t.line n on) ∙ ap stopped (sym d.1)
+    by : (o : Option Draft) → begun h t.word ≡ o → line_begun h t.line o (reading_from rest) ≡ ends e
+    by None b = ap (λ k. ends (refused k t.line)) (first_misfit h) ∙ ap (λ m. ends (refused (misfit h []) m)) (eqb-true t.line n on) ∙ ap ends (sym d.1)
     by (Some m) b = absurd (d.0 (runs_front h (t.word ∷ []) m (ap (λ o. follows o []) b)))
-first_on h n (bad_byte line) rest e on d = ap (λ m. stopped (refused 7 m)) (eqb-true line n on) ∙ ap stopped (sym d)
-first_on h n (number_range line) rest e on d = ap (λ m. stopped (refused 8 m)) (eqb-true line n on) ∙ ap stopped (sym d)
-first_on h n (too_long line) rest e on d = ap (λ m. stopped (limit m)) (eqb-true line n on) ∙ ap stopped (sym d)
+first_on h n (bad_byte line) rest e on d = ap (λ m. ends (refused 7 m)) (eqb-true line n on) ∙ ap ends (sym d)
+first_on h n (number_range line) rest e on d = ap (λ m. ends (refused 8 m)) (eqb-true line n on) ∙ ap ends (sym d)
+first_on h n (too_long line) rest e on d = ap (λ m. ends (limit m)) (eqb-true line n on) ∙ ap ends (sym d)
 first_on h n (the_end line) rest e on d = absurd d
 
-first_off : (h : Bool) (n : ℕ) (item : Item) (rest : List Item) (e : Ending) → DecidesOff h n [] item e → begin h item (script_from rest) ≡ stopped e
+first_off : (h : Bool) (n : ℕ) (item : Item) (rest : List Item) (e : Ending) → DecidesOff h n [] item e → begin h item (reading_from rest) ≡ ends e
 first_off h n (word t) rest e d = absurd d
 first_off h n (bad_byte line) rest e d = absurd d
 first_off h n (number_range line) rest e d = absurd d
 first_off h n (too_long line) rest e d = absurd d
-first_off h n (the_end line) rest e d = ap stopped (sym d)
+first_off h n (the_end line) rest e d = ap ends (sym d)
 
 -- what ends it in a line
-later_on : (h : Bool) (n : ℕ) (w : Word) (ws : List Word) (d : Draft) (item : Item) (rest : List Item) (e : Ending) → runs h (w ∷ ws) ≡ Some d → is_on n item ≡ true → DecidesOn h n (w ∷ ws) item e → go_on n d item (script_from rest) ≡ stopped e
+later_on : (h : Bool) (n : ℕ) (w : Word) (ws : List Word) (d : Draft) (item : Item) (rest : List Item) (e : Ending) → runs h (w ∷ ws) ≡ Some d → is_on n item ≡ true → DecidesOn h n (w ∷ ws) item e → go_on n d item (reading_from rest) ≡ ends e
 later_on h n w ws d (word t) rest e r on dec = by (after d t.word) refl
   where
-    by : (o : Option Draft) → after d t.word ≡ o → line_after n d o (script_from rest) ≡ stopped e
-    by None a = ap (λ k. stopped (refused k n)) (misfit_is h w ws d (runs_spells h (w ∷ ws) d r).1) ∙ ap stopped (sym dec.1)
+    by : (o : Option Draft) → after d t.word ≡ o → line_after n d o (reading_from rest) ≡ ends e
+    by None a = ap (λ k. ends (refused k n)) (misfit_is h w ws d (runs_spells h (w ∷ ws) d r).1) ∙ ap ends (sym dec.1)
     by (Some m) a = absurd (dec.0 (runs_front h (w ∷ (ws ++ t.word ∷ [])) m (follows_more (begun h w) ws t.word d r ∙ a)))
-later_on h n w ws d (bad_byte line) rest e r on dec = ap (λ m. stopped (refused 7 m)) (eqb-true line n on) ∙ ap stopped (sym dec)
-later_on h n w ws d (number_range line) rest e r on dec = ap (λ m. stopped (refused 8 m)) (eqb-true line n on) ∙ ap stopped (sym dec)
-later_on h n w ws d (too_long line) rest e r on dec = ap (λ m. stopped (limit m)) (eqb-true line n on) ∙ ap stopped (sym dec)
+later_on h n w ws d (bad_byte line) rest e r on dec = ap (λ m. ends (refused 7 m)) (eqb-true line n on) ∙ ap ends (sym dec)
+later_on h n w ws d (number_range line) rest e r on dec = ap (λ m. ends (refused 8 m)) (eqb-true line n on) ∙ ap ends (sym dec)
+later_on h n w ws d (too_long line) rest e r on dec = ap (λ m. ends (limit m)) (eqb-true line n on) ∙ ap ends (sym dec)
 later_on h n w ws d (the_end line) rest e r on dec = absurd dec
 
-later_off : (h : Bool) (n : ℕ) (w : Word) (ws : List Word) (d : Draft) (item : Item) (rest : List Item) (e : Ending) → runs h (w ∷ ws) ≡ Some d → DecidesOff h n (w ∷ ws) item e → closed n d (whole d) (begin true item (script_from rest)) ≡ stopped e
+later_off : (h : Bool) (n : ℕ) (w : Word) (ws : List Word) (d : Draft) (item : Item) (rest : List Item) (e : Ending) → runs h (w ∷ ws) ≡ Some d → DecidesOff h n (w ∷ ws) item e → closed n d (whole d) (begin true item (reading_from rest)) ≡ ends e
 later_off h n w ws d item rest e r dec = by (whole d) refl
   where
-    by : (o : Option Line) → whole d ≡ o → closed n d o (begin true item (script_from rest)) ≡ stopped e
-    by None a = ap (λ k. stopped (refused k n)) (misfit_is h w ws d (runs_spells h (w ∷ ws) d r).1) ∙ ap stopped (sym dec.1)
+    by : (o : Option Line) → whole d ≡ o → closed n d o (begin true item (reading_from rest)) ≡ ends e
+    by None a = ap (λ k. ends (refused k n)) (misfit_is h w ws d (runs_spells h (w ∷ ws) d r).1) ∙ ap ends (sym dec.1)
     by (Some l) a =
         let s : Spells h d (w ∷ ws) = runs_spells h (w ∷ ws) d r in
         let x : (spelling l ≡ words_of d) × IsExpected h l = whole_words h d l s.1 a in
         absurd (dec.0 (l, x.1, x.0 ∙ s.0))
 
-stop_computed : (h : Bool) (n : ℕ) (read : List Word) (next : Item) (rest : List Item) (e : Ending) (b : Bool) → IsFront h read → is_on n next ≡ b → Decides b h n read next e → script_from (on_line n read ++ next ∷ rest) (between h) ≡ stopped e
+stop_computed : (h : Bool) (n : ℕ) (read : List Word) (next : Item) (rest : List Item) (e : Ending) (b : Bool) → IsFront h read → is_on n next ≡ b → Decides b h n read next e → reading_from (on_line n read ++ next ∷ rest) (between h) ≡ ends e
 stop_computed h n [] next rest e true f on d = first_on h n next rest e on d
 stop_computed h n [] next rest e false f on d = first_off h n next rest e d
 stop_computed h n (w ∷ ws) next rest e true f on d =
     let r : (d : Draft) × (runs h (w ∷ ws) ≡ Some d) = front_runs h w ws f in
-    line_entered h (next ∷ rest) n (w ∷ ws) r.0 r.1 ∙ ap (λ b. go_on_if b n r.0 next (script_from rest)) on ∙ later_on h n w ws r.0 next rest e r.1 on d
+    line_entered h (next ∷ rest) n (w ∷ ws) r.0 r.1 ∙ ap (λ b. go_on_if b n r.0 next (reading_from rest)) on ∙ later_on h n w ws r.0 next rest e r.1 on d
 stop_computed h n (w ∷ ws) next rest e false f on d =
     let r : (d : Draft) × (runs h (w ∷ ws) ≡ Some d) = front_runs h w ws f in
-    line_entered h (next ∷ rest) n (w ∷ ws) r.0 r.1 ∙ ap (λ b. go_on_if b n r.0 next (script_from rest)) on ∙ later_off h n w ws r.0 next rest e r.1 d
+    line_entered h (next ∷ rest) n (w ∷ ws) r.0 r.1 ∙ ap (λ b. go_on_if b n r.0 next (reading_from rest)) on ∙ later_off h n w ws r.0 next rest e r.1 d
 
-stops_computed : (h : Bool) (all : List Item) (e : Ending) → StopsAt h all e → script_from all (between h) ≡ stopped e
-stops_computed h all e s = ap (λ is. script_from is (between h)) s.whole ∙ stop_computed h s.number s.read s.next s.rest e (is_on s.number s.next) s.front refl s.decides
+stops_computed : (h : Bool) (all : List Item) (e : Ending) → StopsAt h all e → reading_from all (between h) ≡ ends e
+stops_computed h all e s = ap (λ is. reading_from is (between h)) s.whole ∙ stop_computed h s.number s.read s.next s.rest e (is_on s.number s.next) s.front refl s.decides
 
-commands_computed : (all : List Item) (cs : List Command) (e : Ending) → ReadsCommands all cs e → script_from all (between true) ≡ (cs, e)
+-- a reading of these parts
+abbrev reads : Option Version → List Command → Ending → Reading
+reads version cs e = record { version = version; script = (cs, e) }
+
+commands_computed : (all : List Item) (cs : List Command) (e : Ending) → ReadsCommands all cs e → reading_from all (between true) ≡ reads None cs e
 commands_computed all [] e r = stops_computed true all e r
 commands_computed all (c ∷ cs) e r = line_computed true all (Orders c) r.0 r.1 ∙ ap (with_line (Orders c)) (commands_computed r.0 cs e r.2)
 
-items_computed : (all : List Item) (cs : List Command) (e : Ending) → ReadsItems all cs e → script_from all (between false) ≡ (cs, e)
-items_computed all cs e (inl r) = stops_computed false all e r.1 ∙ ap (λ cs. (cs, e)) (sym r.0)
-items_computed all cs e (inr r) = line_computed false all Header r.0 r.1 ∙ commands_computed r.0 cs e r.2
+items_computed : (all : List Item) (version : Option Version) (cs : List Command) (e : Ending) → ReadsItems all version cs e → reading_from all (between false) ≡ reads version cs e
+items_computed all None cs e r = stops_computed false all e r.1 ∙ ap (λ cs. reads None cs e) (sym r.0)
+items_computed all (Some v) cs e r = line_computed false all (Header v) r.0 r.1 ∙ ap (with_line (Header v)) (commands_computed r.0 cs e r.2)
 
-pub reading_computed : (text : List ℕ) (cs : List Command) (e : Ending) → ReadsScript text cs e → script_of text ≡ (cs, e)
-reading_computed text cs e r = items_computed (items ScriptComments text) cs e r
+pub reading_computed : (text : List ℕ) (version : Option Version) (cs : List Command) (e : Ending) → ReadsScript text version cs e → reading_of text ≡ reads version cs e
+reading_computed text version cs e r = items_computed (items ScriptComments text) version cs e r
 
 -- From the computed script to the relation.
 
--- the script of these items by the relation
-abbrev Is : Bool → List Item → Script → Type 0
-Is true all s = ReadsCommands all s.0 s.1
-Is false all s = ReadsItems all s.0 s.1
+-- the reading of these items by the relation
+abbrev Is : Bool → List Item → Reading → Type 0
+Is true all r = ReadsCommands all r.script.0 r.script.1
+Is false all r = ReadsItems all r.version r.script.0 r.script.1
 
 -- Something that is no word comes.
 abbrev HasStop : List Item → Type 0
@@ -132,18 +138,18 @@ HasStop (number_range line ∷ rest) = Unit {0}
 HasStop (too_long line ∷ rest) = Unit {0}
 HasStop (the_end line ∷ rest) = Unit {0}
 
-stop_is : (h : Bool) (all : List Item) (e : Ending) → StopsAt h all e → Is h all (stopped e)
+stop_is : (h : Bool) (all : List Item) (e : Ending) → StopsAt h all e → Is h all (ends e)
 stop_is true all e s = s
-stop_is false all e s = inl (refl, s)
+stop_is false all e s = (refl, s)
 
-line_is : (h : Bool) (all : List Item) (l : Line) (rest : List Item) (s : Script) → BeginsWith h all l rest → Is true rest s → Is h all (with_line l s)
-line_is true all Header rest s b r = absurd b.expected
+line_is : (h : Bool) (all : List Item) (l : Line) (rest : List Item) (s : Reading) → BeginsWith h all l rest → Is true rest s → Is h all (with_line l s)
+line_is true all (Header v) rest s b r = absurd b.expected
 line_is true all (Orders c) rest s b r = (rest, b, r)
-line_is false all Header rest s b r = inr (rest, b, r)
+line_is false all (Header v) rest s b r = (rest, b, r)
 line_is false all (Orders c) rest s b r = absurd b.expected
 
 abbrev Entered : List Item → Type 0
-Entered rest = (h : Bool) (n : ℕ) (w : Word) (ws : List Word) (d : Draft) → runs h (w ∷ ws) ≡ Some d → Is h (on_line n (w ∷ ws) ++ rest) (script_from rest (within n d))
+Entered rest = (h : Bool) (n : ℕ) (w : Word) (ws : List Word) (d : Draft) → runs h (w ∷ ws) ≡ Some d → Is h (on_line n (w ∷ ws) ++ rest) (reading_from rest (within n d))
 
 decides_on : (h : Bool) (n : ℕ) (read : List Word) (item : Item) (e : Ending) → is_on n item ≡ true → DecidesOn h n read item e → Decides (is_on n item) h n read item e
 decides_on h n read item e on d = subst (λ b. Decides b h n read item e) (sym on) d
@@ -152,10 +158,10 @@ decides_off : (h : Bool) (n : ℕ) (read : List Word) (item : Item) (e : Ending)
 decides_off h n read item e off d = subst (λ b. Decides b h n read item e) (sym off) d
 
 -- an item where a line may begin
-begin_is : (h : Bool) (item : Item) (rest : List Item) → HasStop (item ∷ rest) → (HasStop rest → Entered rest) → Is h (item ∷ rest) (begin h item (script_from rest))
+begin_is : (h : Bool) (item : Item) (rest : List Item) → HasStop (item ∷ rest) → (HasStop rest → Entered rest) → Is h (item ∷ rest) (begin h item (reading_from rest))
 begin_is h (word t) rest stop later = by (begun h t.word) refl
   where
-    by : (o : Option Draft) → begun h t.word ≡ o → Is h (word t ∷ rest) (line_begun h t.line o (script_from rest))
+    by : (o : Option Draft) → begun h t.word ≡ o → Is h (word t ∷ rest) (line_begun h t.line o (reading_from rest))
     by (Some d) b = later stop h t.line t.word [] d (ap (λ o. follows o []) b)
     by None b = stop_is h (word t ∷ rest) (refused (misfit_first h) t.line) (record {
       number = t.line;
@@ -184,17 +190,17 @@ one_more n ws t rest on =
     ∙ ap (λ m. on_line n ws ++ word (record { word = t.word; line = m }) ∷ rest) (sym same)
 
 -- what ends the script in a line
-stop_in : (h : Bool) (n : ℕ) (w : Word) (ws : List Word) (d : Draft) (item : Item) (rest : List Item) (e : Ending) → runs h (w ∷ ws) ≡ Some d → Decides (is_on n item) h n (w ∷ ws) item e → Is h (on_line n (w ∷ ws) ++ item ∷ rest) (stopped e)
+stop_in : (h : Bool) (n : ℕ) (w : Word) (ws : List Word) (d : Draft) (item : Item) (rest : List Item) (e : Ending) → runs h (w ∷ ws) ≡ Some d → Decides (is_on n item) h n (w ∷ ws) item e → Is h (on_line n (w ∷ ws) ++ item ∷ rest) (ends e)
 stop_in h n w ws d item rest e r dec = stop_is h (on_line n (w ∷ ws) ++ item ∷ rest) e (record { number = n; read = w ∷ ws; next = item; rest = rest; whole = refl; front = runs_front h (w ∷ ws) d r; decides = dec })
 
-go_is : (h : Bool) (n : ℕ) (w : Word) (ws : List Word) (d : Draft) (item : Item) (rest : List Item) → runs h (w ∷ ws) ≡ Some d → is_on n item ≡ true → HasStop (item ∷ rest) → (HasStop rest → Entered rest) → Is h (on_line n (w ∷ ws) ++ item ∷ rest) (go_on n d item (script_from rest))
+go_is : (h : Bool) (n : ℕ) (w : Word) (ws : List Word) (d : Draft) (item : Item) (rest : List Item) → runs h (w ∷ ws) ≡ Some d → is_on n item ≡ true → HasStop (item ∷ rest) → (HasStop rest → Entered rest) → Is h (on_line n (w ∷ ws) ++ item ∷ rest) (go_on n d item (reading_from rest))
 go_is h n w ws d (word t) rest r on stop later = by (after d t.word) refl
   where
     more : follows (begun h w) (ws ++ t.word ∷ []) ≡ after d t.word
     more = follows_more (begun h w) ws t.word d r
 
-    by : (o : Option Draft) → after d t.word ≡ o → Is h (on_line n (w ∷ ws) ++ word t ∷ rest) (line_after n d o (script_from rest))
-    by (Some m) a = subst (λ is. Is h is (script_from rest (within n m))) (one_more n (w ∷ ws) t rest on) (later stop h n w (ws ++ t.word ∷ []) m (more ∙ a))
+    by : (o : Option Draft) → after d t.word ≡ o → Is h (on_line n (w ∷ ws) ++ word t ∷ rest) (line_after n d o (reading_from rest))
+    by (Some m) a = subst (λ is. Is h is (reading_from rest (within n m))) (one_more n (w ∷ ws) t rest on) (later stop h n w (ws ++ t.word ∷ []) m (more ∙ a))
     by None a = stop_in h n w ws d (word t) rest (refused (misfit_of d) n) r (decides_on h n (w ∷ ws) (word t) (refused (misfit_of d) n) on (
       (λ f. let x : (d : Draft) × (runs h (w ∷ (ws ++ t.word ∷ [])) ≡ Some d) = front_runs h w (ws ++ t.word ∷ []) f in
           absurd (let g : None ≡ Some x.0 = sym a ∙ sym more ∙ x.1 in cc)),
@@ -205,15 +211,15 @@ go_is h n w ws d (number_range line) rest r on stop later = stop_in h n w ws d (
 go_is h n w ws d (too_long line) rest r on stop later = stop_in h n w ws d (too_long line) rest (limit line) r (decides_on h n (w ∷ ws) (too_long line) (limit line) on (ap limit (eqb-true line n on)))
 go_is h n w ws d (the_end line) rest r on stop later = cc
 
-closed_is : (h : Bool) (n : ℕ) (w : Word) (ws : List Word) (d : Draft) (item : Item) (rest : List Item) → runs h (w ∷ ws) ≡ Some d → is_on n item ≡ false → Is true (item ∷ rest) (begin true item (script_from rest))
-    → Is h (on_line n (w ∷ ws) ++ item ∷ rest) (closed n d (whole d) (begin true item (script_from rest)))
+closed_is : (h : Bool) (n : ℕ) (w : Word) (ws : List Word) (d : Draft) (item : Item) (rest : List Item) → runs h (w ∷ ws) ≡ Some d → is_on n item ≡ false → Is true (item ∷ rest) (begin true item (reading_from rest))
+    → Is h (on_line n (w ∷ ws) ++ item ∷ rest) (closed n d (whole d) (begin true item (reading_from rest)))
 closed_is h n w ws d item rest r off behind = by (whole d) refl
   where
-    by : (o : Option Line) → whole d ≡ o → Is h (on_line n (w ∷ ws) ++ item ∷ rest) (closed n d o (begin true item (script_from rest)))
+    by : (o : Option Line) → whole d ≡ o → Is h (on_line n (w ∷ ws) ++ item ∷ rest) (closed n d o (begin true item (reading_from rest)))
     by (Some l) a =
         let s : Spells h d (w ∷ ws) = runs_spells h (w ∷ ws) d r in
         let x : (spelling l ≡ words_of d) × IsExpected h l = whole_words h d l s.1 a in
-        line_is h (on_line n (w ∷ ws) ++ item ∷ rest) l (item ∷ rest) (begin true item (script_from rest)) (record {
+        line_is h (on_line n (w ∷ ws) ++ item ∷ rest) l (item ∷ rest) (begin true item (reading_from rest)) (record {
           number = n;
           expected = x.1;
           whole = ap (λ ws. on_line n ws ++ item ∷ rest) (sym (x.0 ∙ s.0));
@@ -227,7 +233,7 @@ closed_is h n w ws d item rest r off behind = by (whole d) refl
 within_is : (item : Item) (rest : List Item) → HasStop (item ∷ rest) → (HasStop rest → Entered rest) → Entered (item ∷ rest)
 within_is item rest stop later h n w ws d r = by (is_on n item) refl
   where
-    by : (b : Bool) → is_on n item ≡ b → Is h (on_line n (w ∷ ws) ++ item ∷ rest) (go_on_if b n d item (script_from rest))
+    by : (b : Bool) → is_on n item ≡ b → Is h (on_line n (w ∷ ws) ++ item ∷ rest) (go_on_if b n d item (reading_from rest))
     by true on = go_is h n w ws d item rest r on stop later
     by false off = closed_is h n w ws d item rest r off (begin_is true item rest stop later)
 
@@ -235,7 +241,7 @@ entered : (all : List Item) → HasStop all → Entered all
 entered [] stop = absurd stop
 entered (item ∷ rest) stop = within_is item rest stop (entered rest)
 
-between_is : (h : Bool) (all : List Item) → HasStop all → Is h all (script_from all (between h))
+between_is : (h : Bool) (all : List Item) → HasStop all → Is h all (reading_from all (between h))
 between_is h [] stop = absurd stop
 between_is h (item ∷ rest) stop = begin_is h item rest stop (entered rest)
 
@@ -251,9 +257,14 @@ ending_stops : (fits : Bool) (line cut : ℕ) → HasStop ((if fits then the_end
 ending_stops true line cut = tt
 ending_stops false line cut = tt
 
-pub computed_reading : (text : List ℕ) → ReadsScript text (script_of text).0 (script_of text).1
+pub computed_reading : (text : List ℕ) → ReadsScript text (reading_of text).version (reading_of text).script.0 (reading_of text).script.1
 computed_reading text = between_is false (items ScriptComments text)
     (has_stop (items_of_lines ScriptComments true 1 (lines_of (seen ScriptComments max_bytes text))) (ending 1 max_bytes text) (ending_stops (nat_le (length text) max_bytes) (last_line 1 text) (last_line 1 (take max_bytes text))))
 
-pub one_reading : (text : List ℕ) (cs ds : List Command) (e f : Ending) → ReadsScript text cs e → ReadsScript text ds f → (cs ≡ ds) × (e ≡ f)
-one_reading text cs ds e f r s = let same : (cs, e) ≡ (ds, f) = sym (reading_computed text cs e r) ∙ reading_computed text ds f s in (ap (λ p. p.0) same, ap (λ p. p.1) same)
+pub one_reading : (text : List ℕ) (v w : Option Version) (cs ds : List Command) (e f : Ending) → ReadsScript text v cs e → ReadsScript text w ds f → (v ≡ w) × (cs ≡ ds) × (e ≡ f)
+one_reading text v w cs ds e f r s =
+    let same : reads v cs e ≡ reads w ds f = sym (reading_computed text v cs e r) ∙ reading_computed text w ds f s in
+    (ap (λ (p : Reading). p.version) same, ap (λ (p : Reading). p.script.0) same, ap (λ (p : Reading). p.script.1) same)
+
+pub only_reading : (text : List ℕ) → IsOnly text (reading_of text).version (reading_of text).script.0 (reading_of text).script.1
+only_reading text = (computed_reading text, λ v ds f r. one_reading text v (reading_of text).version ds (reading_of text).script.0 f (reading_of text).script.1 r (computed_reading text))

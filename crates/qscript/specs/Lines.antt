@@ -4,6 +4,8 @@ use Rattle.std.specs.List.{AllByRecursion}
 use Rattle.lexer.specs.declared.token.Word.{Word}
 use Rattle.lexer.specs.declared.token.Word.TheVariants.{Num, Text}
 use Rattle.qdimacs.specs.Reads.{quant_word}
+use Rattle.versions.specs.declared.version.Version.{Version}
+use Rattle.versions.specs.declared.version.Version.TheVariants.{One, Two}
 use Rattle.qscript.specs.declared.command.Command.{Command}
 use Rattle.qscript.specs.declared.command.Command.TheVariants.{Scope, Var, Clause, Push, Pop, Assume, Solve, Value, Relevant, Trace, Cert}
 use Rattle.qscript.specs.declared.draft.Line.{Line}
@@ -35,9 +37,14 @@ command_words Relevant = Text (codes "relevant") ∷ []
 command_words Trace = Text (codes "trace") ∷ []
 command_words Cert = Text (codes "cert") ∷ []
 
+-- the number by which a header names a version
+abbrev pub version_number : Version → ℕ
+version_number One = 1
+version_number Two = 2
+
 -- what a line is written by
 abbrev pub spelling : Line → List Word
-spelling Header = Text (codes "p") ∷ Text (codes "qscript") ∷ number 1 ∷ []
+spelling (Header version) = Text (codes "p") ∷ Text (codes "qscript") ∷ number (version_number version) ∷ []
 spelling (Orders c) = command_words c
 
 -- the literals of a command
@@ -60,11 +67,11 @@ AreLiterals ls = AllByRecursion (λ l. l ≢ pos 0) ls
 
 -- Where the header has been read each line is a command, else it is the header.
 abbrev pub IsExpected : Bool → Line → Type 0
-IsExpected false Header = Unit {0}
+IsExpected false (Header version) = Unit {0}
 IsExpected false (Orders c) = ⊥
-IsExpected true Header = ⊥
+IsExpected true (Header version) = ⊥
 IsExpected true (Orders c) = AreLiterals (literals_in c)
 
 abbrev pub is_header_line : Line → Bool
-is_header_line Header = true
+is_header_line (Header version) = true
 is_header_line (Orders c) = false

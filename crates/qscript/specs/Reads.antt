@@ -1,8 +1,10 @@
--- What a text is as a script: the commands of its lines before the first malformed one, and how it ends.
-use Rattle.std.specs.Prelude.{◌≡◌, ◌⊎◌, ℕ, Bool, true, false, ◌==◌, List, [], ◌∷◌, ◌++◌, map}
+-- What a text is as a script: the version that its header names, the commands of its lines before the first malformed
+-- one, and how it ends.
+use Rattle.std.specs.Prelude.{◌≡◌, ℕ, Bool, true, false, ◌==◌, List, [], ◌∷◌, ◌++◌, map, Option, None, Some}
 use Rattle.lexer.specs.declared.token.Word.{Word}
 use Rattle.lexer.specs.declared.token.Comments.TheVariants.{Script}
 use Rattle.lexer.specs.Words.{Item, word, bad_byte, number_range, too_long, the_end, items}
+use Rattle.versions.specs.declared.version.Version.{Version}
 use Rattle.qscript.specs.declared.command.Command.{Command}
 use Rattle.qscript.specs.declared.draft.Line.{Line}
 use Rattle.qscript.specs.declared.draft.Line.TheVariants.{Header, Command as Orders}
@@ -98,11 +100,13 @@ ReadsCommands all [] ending = StopsAt true all ending
 ReadsCommands all (c ∷ cs) ending = (rest : List Item) × BeginsWith true all (Orders c) rest
     × ReadsCommands rest cs ending
 
--- The whole script: a header that ends it, or the header's line and what stands behind it.
-abbrev pub ReadsItems : List Item → List Command → Ending → Type 0
-ReadsItems all cs ending = ((cs ≡ []) × StopsAt false all ending)
-    ⊎ ((rest : List Item) × BeginsWith false all Header rest × ReadsCommands rest cs ending)
+-- The whole script: a header that is refused, so that no version is named and no command comes, or the line of a header
+-- that names the version, and what stands behind it.
+abbrev pub ReadsItems : List Item → Option Version → List Command → Ending → Type 0
+ReadsItems all None cs ending = (cs ≡ []) × StopsAt false all ending
+ReadsItems all (Some version) cs ending = (rest : List Item) × BeginsWith false all (Header version) rest
+    × ReadsCommands rest cs ending
 
 -- what a text of these bytes is as a script
-abbrev pub ReadsScript : List ℕ → List Command → Ending → Type 0
-ReadsScript text cs ending = ReadsItems (items Script text) cs ending
+abbrev pub ReadsScript : List ℕ → Option Version → List Command → Ending → Type 0
+ReadsScript text version cs ending = ReadsItems (items Script text) version cs ending

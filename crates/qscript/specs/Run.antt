@@ -7,6 +7,8 @@ use Rattle.lexer.specs.declared.token.Comments.TheVariants.{Script as ScriptComm
 use Rattle.lexer.specs.Words.{Item, word, bad_byte, number_range, too_long, the_end, items}
 use Rattle.qdimacs.specs.Rules.{is_text, is_natural, quant_of, is_zero}
 use Rattle.qdimacs.specs.Run.{natural_of}
+use Rattle.versions.specs.declared.version.Version.{Version}
+use Rattle.versions.specs.declared.version.Version.TheVariants.{One, Two}
 use Rattle.qscript.specs.declared.command.Command.{Command}
 use Rattle.qscript.specs.declared.command.Command.TheVariants.{Scope as ScopeCommand, Var as VarCommand, Clause as ClauseCommand, Push, Pop, Assume as AssumeCommand, Solve, Value as ValueCommand, Relevant, Trace, Cert}
 use Rattle.qscript.specs.declared.draft.Line.{Line}
@@ -19,6 +21,11 @@ use Rattle.qscript.specs.Reads.{Ending, done, refused, limit, is_on, at_end}
 -- the commands to come, and the ending
 abbrev pub Script : Type 0
 Script = List Command × Ending
+
+-- the version that the header to come names, where one comes and isn't refused, and what is to come behind it
+pub record Reading : Type 0 where
+  pub version : Option Version
+  pub script : Script
 
 -- the first of the entries that has this text
 abbrev pub entry : {A : Type 0} → List (List ℕ × A) → List ℕ → Option A
@@ -55,11 +62,12 @@ begun true Other = None
 abbrev pub natural : Word → Option ℕ
 natural w = if is_natural w then Some (natural_of w) else None
 
-abbrev pub is_one : Word → Bool
-is_one (Num (pos n)) = n == 1
-is_one (Num (negsuc n)) = false
-is_one (Text t) = false
-is_one Other = false
+-- the version that a word names
+abbrev pub version_of : Word → Option Version
+version_of (Num (pos n)) = if n == 1 then Some One else if n == 2 then Some Two else None
+version_of (Num (negsuc n)) = None
+version_of (Text t) = None
+version_of Other = None
 
 -- a clause with one more number
 abbrev pub clause_after : List ℤ → Word → Option Draft
@@ -75,7 +83,7 @@ assume_after Other = None
 -- the line with one more word
 abbrev pub after : Draft → Word → Option Draft
 after Problem w = if is_text (codes "qscript") w then Some Format else None
-after Format w = if is_one w then Some (Whole Header) else None
+after Format w = option_map (λ v. Whole (Header v)) (version_of w)
 after Scope w = option_map ScopeOf (quant_of w)
 after (ScopeOf q) w = option_map (λ n. Whole (Orders (ScopeCommand q (Some n)))) (natural w)
 after Var w = option_map VarOf (natural w)
@@ -119,61 +127,65 @@ pub data Front : Type 0 where
   between : Bool → Front
   within : ℕ → Draft → Front
 
--- a line in front of a script
-abbrev pub with_line : Line → Script → Script
-with_line Header s = s
-with_line (Orders c) s = (c ∷ s.0, s.1)
+-- A line in front of a reading. No header comes behind a command.
+abbrev pub with_line : Line → Reading → Reading
+with_line (Header v) r = record { version = Some v; script = r.script }
+with_line (Orders c) r = record { version = None; script = (c ∷ r.script.0, r.script.1) }
 
 abbrev pub stopped : Ending → Script
 stopped e = ([], e)
+
+-- no line is to come, but the ending
+abbrev pub ends : Ending → Reading
+ends e = record { version = None; script = stopped e }
 
 -- the number of a first word that begins no line
 abbrev pub misfit_first : Bool → ℕ
 misfit_first false = 30
 misfit_first true = 31
 
-abbrev pub line_begun : Bool → ℕ → Option Draft → (Front → Script) → Script
+abbrev pub line_begun : Bool → ℕ → Option Draft → (Front → Reading) → Reading
 line_begun headed n (Some d) rest = rest (within n d)
-line_begun headed n None rest = stopped (refused (misfit_first headed) n)
+line_begun headed n None rest = ends (refused (misfit_first headed) n)
 
 -- an item where a line may begin
-abbrev pub begin : Bool → Item → (Front → Script) → Script
+abbrev pub begin : Bool → Item → (Front → Reading) → Reading
 begin headed (word t) rest = line_begun headed t.line (begun headed t.word) rest
-begin headed (bad_byte line) rest = stopped (refused 7 line)
-begin headed (number_range line) rest = stopped (refused 8 line)
-begin headed (too_long line) rest = stopped (limit line)
-begin headed (the_end line) rest = stopped (at_end headed line)
+begin headed (bad_byte line) rest = ends (refused 7 line)
+begin headed (number_range line) rest = ends (refused 8 line)
+begin headed (too_long line) rest = ends (limit line)
+begin headed (the_end line) rest = ends (at_end headed line)
 
 -- a line that has ended, in front of what stands behind it
-abbrev pub closed : ℕ → Draft → Option Line → Script → Script
+abbrev pub closed : ℕ → Draft → Option Line → Reading → Reading
 closed n d (Some l) behind = with_line l behind
-closed n d None behind = stopped (refused (misfit_of d) n)
+closed n d None behind = ends (refused (misfit_of d) n)
 
-abbrev pub line_after : ℕ → Draft → Option Draft → (Front → Script) → Script
+abbrev pub line_after : ℕ → Draft → Option Draft → (Front → Reading) → Reading
 line_after n d (Some more) rest = rest (within n more)
-line_after n d None rest = stopped (refused (misfit_of d) n)
+line_after n d None rest = ends (refused (misfit_of d) n)
 
 -- an item on the line
-abbrev pub go_on : ℕ → Draft → Item → (Front → Script) → Script
+abbrev pub go_on : ℕ → Draft → Item → (Front → Reading) → Reading
 go_on n d (word t) rest = line_after n d (after d t.word) rest
-go_on n d (bad_byte line) rest = stopped (refused 7 line)
-go_on n d (number_range line) rest = stopped (refused 8 line)
-go_on n d (too_long line) rest = stopped (limit line)
-go_on n d (the_end line) rest = stopped done
+go_on n d (bad_byte line) rest = ends (refused 7 line)
+go_on n d (number_range line) rest = ends (refused 8 line)
+go_on n d (too_long line) rest = ends (limit line)
+go_on n d (the_end line) rest = ends done
 
-abbrev pub go_on_if : Bool → ℕ → Draft → Item → (Front → Script) → Script
+abbrev pub go_on_if : Bool → ℕ → Draft → Item → (Front → Reading) → Reading
 go_on_if true n d item rest = go_on n d item rest
 go_on_if false n d item rest = closed n d (whole d) (begin true item rest)
 
-abbrev pub step : Front → Item → (Front → Script) → Script
+abbrev pub step : Front → Item → (Front → Reading) → Reading
 step (between headed) item rest = begin headed item rest
 step (within n d) item rest = go_on_if (is_on n item) n d item rest
 
--- the script of these items
-abbrev pub script_from : List Item → Front → Script
-script_from [] front = stopped done
-script_from (item ∷ items) front = step front item (script_from items)
+-- the reading of these items
+abbrev pub reading_from : List Item → Front → Reading
+reading_from [] front = ends done
+reading_from (item ∷ items) front = step front item (reading_from items)
 
 -- what a text of these bytes is as a script
-abbrev pub script_of : List ℕ → Script
-script_of text = script_from (items ScriptComments text) (between false)
+abbrev pub reading_of : List ℕ → Reading
+reading_of text = reading_from (items ScriptComments text) (between false)

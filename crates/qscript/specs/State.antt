@@ -6,12 +6,13 @@ use Rattle.lexer.specs.Words.{Item as LexerItem, word, bad_byte, number_range, t
 use Rattle.qdimacs.specs.declared.refusal.Quantity.TheVariants.{Bytes}
 use Rattle.qdimacs.specs.declared.refusal.ReadRefusal.{ReadRefusal}
 use Rattle.qdimacs.specs.declared.refusal.ReadRefusal.TheVariants.{Refused, Limit, ReadFault, NoMemory}
+use Rattle.versions.specs.declared.version.Version.{Version}
 use Rattle.qscript.specs.declared.command.Command.{Command}
 use Rattle.qscript.specs.declared.draft.Line.{Line}
 use Rattle.qscript.specs.declared.words.Item.{Item}
 use Rattle.qscript.specs.declared.words.Item.TheVariants.{Word, BadByte, NumberRange, TooLong, End}
 use Rattle.qscript.specs.Reads.{done, refused, limit}
-use Rattle.qscript.specs.Run.{Script, stopped, Front, between, script_from, with_line}
+use Rattle.qscript.specs.Run.{Script, Reading, stopped, ends, Front, between, reading_from, with_line}
 
 -- The lexer, the item behind the last line, which was read to see that this line had ended, whether the header has been
 -- read, and whether a call was refused.
@@ -40,17 +41,26 @@ abbrev pub ahead_items : Option Item → Option (List LexerItem) → Option (Lis
 ahead_items None behind = behind
 ahead_items (Some item) behind = in_front item behind
 
--- the script of the items, where these are known
-abbrev pub script_at : Front → Option (List LexerItem) → Option Script
-script_at front items = option_map (λ is. script_from is front) items
+-- the reading of the items, where these are known
+abbrev pub reading_at : Front → Option (List LexerItem) → Option Reading
+reading_at front items = option_map (λ is. reading_from is front) items
 
--- The script to come, where the desk tells what it has left.
-abbrev pub script_ahead : Front → Option Item → LexerState → Option (List ℕ) → Option Script
-script_ahead front ahead lexer left = script_at front (ahead_items ahead (upcoming_words lexer left))
+-- The reading to come, where the desk tells what it has left.
+abbrev pub reading_ahead : Front → Option Item → LexerState → Option (List ℕ) → Option Reading
+reading_ahead front ahead lexer left = reading_at front (ahead_items ahead (upcoming_words lexer left))
+
+-- the commands and the ending of a reading
+abbrev pub script_in : Option Reading → Option Script
+script_in reading = option_map (λ r. r.script) reading
+
+-- The version that the header to come names, the commands to come and the ending, where the desk tells what it has
+-- left.
+abbrev pub reading : State → Option (List ℕ) → Option Reading
+reading s left = reading_ahead (between s.headed) s.ahead s.lexer left
 
 -- The commands to come and the ending, where the desk tells what it has left.
 abbrev pub upcoming : State → Option (List ℕ) → Option Script
-upcoming s left = script_ahead (between s.headed) s.ahead s.lexer left
+upcoming s left = script_in (reading s left)
 
 -- The end of the text has been seen.
 abbrev pub is_end : Option Item → Bool
@@ -114,9 +124,26 @@ IsRefusal (Limit quantity line) script = (quantity ≡ Bytes) × IfSome script (
 IsRefusal ReadFault script = Unit {0}
 IsRefusal NoMemory script = Unit {0}
 
--- The line is the first of the script, and the script to come is the rest.
-abbrev pub Leaves : Line → Option Script → Option Script → Type 0
-Leaves line before after = IfSome before (λ s. (rest : Script) × (s ≡ with_line line rest) × (after ≡ Some rest))
+-- The same of the whole reading, in front of any line: no version is named.
+abbrev pub EndsReading : ReadRefusal → Option Reading → Type 0
+EndsReading (Refused number line) reading = IfSome reading (λ r. r ≡ ends (refused number line))
+EndsReading (Limit quantity line) reading = (quantity ≡ Bytes) × IfSome reading (λ r. r ≡ ends (limit line))
+EndsReading ReadFault reading = Unit {0}
+EndsReading NoMemory reading = Unit {0}
+
+-- The line is the first of the reading, and the reading to come is the rest.
+abbrev pub Leaves : Line → Option Reading → Option Reading → Type 0
+Leaves line before after = IfSome before (λ r. (rest : Reading) × (r ≡ with_line line rest) × (after ≡ Some rest))
+
+-- No line is to come, the script ends well, and it stays so.
+abbrev pub IsOver : Option Reading → Option Reading → Type 0
+IsOver before after = IfSome before (λ r. (r ≡ ends done) × (after ≡ Some r))
+
+-- The answer to the header is the version that it names, and the script to come is what stands behind it; or the script
+-- ends there, and no version is named.
+abbrev pub Heads : Result Version ReadRefusal → Option Reading → Option Script → Type 0
+Heads (Ok version) before after = IfSome before (λ r. (r.version ≡ Some version) × (after ≡ Some r.script))
+Heads (Err e) before after = EndsReading e before
 
 -- The command is the first of the script, and the script to come is the rest.
 abbrev pub IsFirst : Command → Option Script → Option Script → Type 0

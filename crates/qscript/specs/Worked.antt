@@ -1,20 +1,26 @@
--- Worked scripts, of which the reading is computed.
-use Rattle.std.specs.Prelude.{◌≡◌, ℕ, pos, negsuc, true, ◌==◌, if◌then◌else◌, List, [], ◌∷◌, ◌++◌, map, codes, Some, None}
+-- Worked scripts, of which the reading is computed, and headers.
+use Rattle.std.specs.Prelude.{◌≡◌, ℕ, pos, negsuc, true, false, ◌==◌, if◌then◌else◌, List, [], ◌∷◌, ◌++◌, map, codes, Option, Some, None}
 use Rattle.prefix.specs.declared.quant.Quant.TheVariants.{Exists, Forall}
 use Rattle.lexer.specs.declared.token.Word.TheVariants.{Text}
 use Rattle.lexer.specs.Words.{Item, word, too_long}
+use Rattle.versions.specs.declared.version.Version.{Version}
+use Rattle.versions.specs.declared.version.Version.TheVariants.{One, Two}
 use Rattle.qscript.specs.declared.command.Command.{Command}
 use Rattle.qscript.specs.declared.command.Command.TheVariants.{Scope, Var, Clause, Push, Pop, Assume, Solve, Value, Relevant, Trace, Cert}
-use Rattle.qscript.specs.Reads.{done, refused, limit}
-use Rattle.qscript.specs.Run.{Script, between, script_from, script_of}
+use Rattle.qscript.specs.Reads.{Ending, ReadsScript, done, refused, limit}
+use Rattle.qscript.specs.Run.{Script, between, ends, reading_from, reading_of}
 
 -- a text in which a stroke stands for each line end
 abbrev pub text : List ℕ → List ℕ
 text bytes = map (λ b. if b == 47 then 10 else b) bytes
 
--- the reading of a script behind its header
+-- the commands and the ending of a text
+abbrev pub script_of : List ℕ → Script
+script_of bytes = (reading_of (text bytes)).script
+
+-- those of a script behind its header
 abbrev pub behind_header : List ℕ → Script
-behind_header bytes = script_of (text (codes "p qscript 1/" ++ bytes))
+behind_header bytes = script_of (codes "p qscript 1/" ++ bytes)
 
 abbrev pub well : List Command → Script
 well cs = (cs, done)
@@ -35,16 +41,11 @@ pub record WorkedScripts : Type 0 where
   pub header_alone : behind_header [] ≡ well []
   pub any_number : behind_header (codes "scope e 0/assume 2000000/clause 0/")
       ≡ well (Scope Exists (Some 0) ∷ Assume (pos 2000000) ∷ Clause [] ∷ [])
-  pub comments : script_of (text (codes "c x// p  qscript 1" ++ 13 ∷ codes "/c solve/ c x/solve/c"))
+  pub comments : script_of (codes "c x// p  qscript 1" ++ 13 ∷ codes "/c solve/ c x/solve/c")
       ≡ well (Solve ∷ [])
   pub long_word_is_no_comment : behind_header (codes "cx/") ≡ fails 2 31
   pub number_is_no_command : behind_header (codes "5/") ≡ fails 2 31
   pub commands_before_stay : behind_header (codes "solve/jump/") ≡ (Solve ∷ [], refused 31 3)
-  pub other_version : script_of (text (codes "p qscript 9/")) ≡ fails 1 30
-  pub no_header : script_of (text (codes "solve/")) ≡ fails 1 30
-  pub no_word : script_of (text (codes "c/ /")) ≡ fails 3 30
-  pub header_goes_on : script_of (text (codes "p qscript 1 1/")) ≡ fails 1 30
-  pub header_over_lines : script_of (text (codes "p qscript/1/")) ≡ fails 1 30
   pub clause_without_zero : behind_header (codes "clause 1/0/") ≡ fails 2 32
   pub clause_cut_by_the_end : behind_header (codes "clause 1") ≡ fails 2 32
   pub two_zeros : behind_header (codes "clause 1 0 0/") ≡ fails 2 32
@@ -62,5 +63,43 @@ pub record WorkedScripts : Type 0 where
   pub command_before_bad_byte : behind_header (codes "solve/" ++ 139 ∷ []) ≡ (Solve ∷ [], refused 7 3)
   pub word_before_bad_byte : behind_header (codes "clause x " ++ 139 ∷ []) ≡ fails 2 32
   pub bad_byte_in_the_line : behind_header (codes "clause 1 " ++ 139 ∷ []) ≡ fails 2 7
-  pub limit_behind_a_line : script_from (solve_on 2 ∷ too_long 3 ∷ []) (between true) ≡ (Solve ∷ [], limit 3)
-  pub limit_in_a_line : script_from (solve_on 2 ∷ too_long 2 ∷ []) (between true) ≡ ([], limit 2)
+  pub limit_behind_a_line : (reading_from (solve_on 2 ∷ too_long 3 ∷ []) (between true)).script ≡ (Solve ∷ [], limit 3)
+  pub limit_in_a_line : (reading_from (solve_on 2 ∷ too_long 2 ∷ []) (between true)).script ≡ ([], limit 2)
+  pub limit_in_the_header : reading_from (solve_on 1 ∷ too_long 1 ∷ []) (between false) ≡ ends (refused 30 1)
+  pub limit_before_the_header : reading_from (too_long 2 ∷ []) (between false) ≡ ends (limit 2)
+
+-- The text is this as a script, and nothing else.
+abbrev pub IsOnly : List ℕ → Option Version → List Command → Ending → Type 0
+IsOnly bytes version cs e = ReadsScript bytes version cs e × ((v : Option Version) (ds : List Command) (f : Ending)
+    → ReadsScript bytes v ds f → (v ≡ version) × (ds ≡ cs) × (f ≡ e))
+
+-- The header names this version, and these commands come.
+abbrev pub Names : Version → List ℕ → List Command → Type 0
+Names version bytes cs = IsOnly (text bytes) (Some version) cs done
+
+-- The header is refused by this number on this line: no version is named, and no command comes.
+abbrev pub Refuses : ℕ → ℕ → List ℕ → Type 0
+Refuses line number bytes = IsOnly (text bytes) None [] (refused number line)
+
+pub record WorkedHeaders : Type 0 where
+  pub first_version : Names One (codes "p qscript 1/solve/") (Solve ∷ [])
+  pub second_version : Names Two (codes "p qscript 2/solve/") (Solve ∷ [])
+  pub first_alone : Names One (codes "p qscript 1") []
+  pub second_alone : Names Two (codes "c 1// p  qscript 02") []
+  pub malformed_behind : IsOnly (text (codes "p qscript 2/jump/")) (Some Two) [] (refused 31 2)
+  pub second_header : IsOnly (text (codes "p qscript 2/p qscript 1/")) (Some Two) [] (refused 31 2)
+  pub third_version : Refuses 1 30 (codes "p qscript 3/")
+  pub ninth_version : Refuses 1 30 (codes "p qscript 9/")
+  pub version_of_none : Refuses 1 30 (codes "p qscript 0/")
+  pub negative_version : Refuses 1 30 (codes "p qscript -1/")
+  pub no_version : Refuses 1 30 (codes "p qscript")
+  pub header_goes_on : Refuses 1 30 (codes "p qscript 1 1/")
+  pub both_versions : Refuses 1 30 (codes "p qscript 1 2/")
+  pub header_over_lines : Refuses 1 30 (codes "p qscript/2/")
+  pub other_format : Refuses 2 30 (codes "/p cnf 2 1/")
+  pub no_text : Refuses 1 30 []
+  pub no_word : Refuses 3 30 (codes "c/ /")
+  pub command_first : Refuses 1 30 (codes "solve/p qscript 1/")
+  pub bad_byte_in_the_header : Refuses 1 7 (codes "p qscript 2 " ++ 139 ∷ [])
+  pub bad_byte_behind_a_word : Refuses 1 30 (codes "p qscript 3 " ++ 139 ∷ [])
+  pub number_range_in_the_header : Refuses 1 8 (codes "p qscript 9223372036854775808/")

@@ -1,9 +1,9 @@
 //! A line of a script while its words come.
-ghost use Rattle.std.specs.Prelude.{◌≡◌, List, IfOk, IfErr, ◌⊎◌, false, not, if◌then◌else◌, Some, None, option_map};
+ghost use Rattle.std.specs.Prelude.{◌≡◌, List, IfOk, IfErr, OnErr, ◌⊎◌, false, not, if◌then◌else◌, Some, None, option_map};
 ghost use Rattle.lexer.specs.declared.token.Word.TheVariants.{Text};
 ghost use Rattle.qdimacs.specs.Rules.{is_text as is_text_word, quant_of as quant_of_word};
 ghost use Rattle.qscript.specs.Lines.{is_header_line};
-ghost use Rattle.qscript.specs.Run.{begun, keyword, alone, after, whole, is_header, misfit_of, misfit_first, natural, is_one as is_one_word};
+ghost use Rattle.qscript.specs.Run.{begun, keyword, alone, after, whole, is_header, misfit_of, misfit_first, natural, version_of as version_of_word};
 
 use crate::command::{Command, NumList};
 use crate::words::{BAD_ARGUMENT, BAD_COMMAND, NO_HEADER, refused};
@@ -11,11 +11,12 @@ use lexer::Word;
 use prefix::Quant;
 use qdimacs::ReadRefusal;
 use std::alloc::{AllocError, Global};
+use versions::Version;
 
-// A whole line: the header, or a command.
+// A whole line: the header with the version that it names, or a command.
 #[derive(Drop)]
 pub(crate) enum Line {
-    Header,
+    Header(Version),
     Command(Command),
 }
 
@@ -49,9 +50,10 @@ impl Draft {
         }
     }
 
-    // The line with one more word, where that may stand there.
+    // The line with one more word, where that may stand there. Only a clause takes memory.
     fn with(self, word: &Word) -> Result<Option<Self>, AllocError>
-        ensures { IfOk result (λ next. next ≡ after self word.now) }
+        ensures ok { IfOk result (λ next. next ≡ after self word.now) }
+        ensures err { OnErr result (is_header self ≡ false) }
     {
         match self {
             Draft::Problem => Ok(format_behind(word)),
@@ -125,7 +127,7 @@ impl Draft {
     // The line on which one more word stands.
     pub(crate) fn take(self, word: &Word, line: u32) -> Result<Self, ReadRefusal>
         ensures ok { IfOk result (λ more. after self word.now ≡ Some more) }
-        ensures err { IfErr result (λ e. (e ≡ ReadRefusal.NoMemory)
+        ensures err { IfErr result (λ e. ((e ≡ ReadRefusal.NoMemory) × (is_header self ≡ false))
             ⊎ ((after self word.now ≡ None) × (e ≡ ReadRefusal.Refused (misfit_of self) line))) }
     {
         let misfit = self.misfit();
@@ -154,7 +156,7 @@ impl Line {
         ensures { result ≡ is_header_line self.now }
     {
         match self {
-            Line::Header => true,
+            Line::Header(_) => true,
             Line::Command(_) => false,
         }
     }
@@ -167,11 +169,15 @@ fn is_text(word: &Word, text: &[u8]) -> bool
     matches!(word, Word::Text(bytes) if bytes.as_slice() == text)
 }
 
-// Whether a word is the number 1.
-fn is_one(word: &Word) -> bool
-    ensures { result ≡ is_one_word word.now }
+// The version that a word names.
+fn version_of(word: &Word) -> Option<Version>
+    ensures { result ≡ version_of_word word.now }
 {
-    matches!(word, Word::Num(n) if *n == 1)
+    match word {
+        Word::Num(n) if *n == 1 => Some(Version::One),
+        Word::Num(n) if *n == 2 => Some(Version::Two),
+        _ => None,
+    }
 }
 
 // The number that a word is, where it isn't negative.
@@ -262,11 +268,8 @@ fn format_behind(word: &Word) -> Option<Draft>
 fn version_behind(word: &Word) -> Option<Draft>
     ensures { result ≡ after Draft.Format word.now }
 {
-    if is_one(word) {
-        Some(Draft::Whole(Line::Header))
-    } else {
-        None
-    }
+    let version = version_of(word)?;
+    Some(Draft::Whole(Line::Header(version)))
 }
 
 // A scope's quantifier.

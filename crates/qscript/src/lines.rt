@@ -4,7 +4,7 @@ ghost use Rattle.lexer.specs.State.{Stays};
 ghost use Rattle.ports.specs.Causes.{Rose};
 ghost use Rattle.qscript.specs.Lines.{is_header_line};
 ghost use Rattle.qscript.specs.Run.{between, within, is_header};
-ghost use Rattle.qscript.specs.State.{script_ahead, is_end, is_fault, IsReady, EndsWith, IsRefusal, Leaves, IsDone, IsFirst, Answers, GoesOn, most_to_come};
+ghost use Rattle.qscript.specs.State.{reading_ahead, script_in, is_end, is_fault, IsReady, EndsWith, EndsReading, Leaves, IsOver, Heads, Answers, GoesOn, most_to_come};
 
 use crate::command::Command;
 use crate::draft::{Draft, Line};
@@ -12,6 +12,7 @@ use crate::words::{Item, NO_HEADER, Words, refused};
 use ports::Desk;
 use qdimacs::ReadRefusal;
 use std::alloc::Global;
+use versions::Version;
 
 // Reads the words behind those of a line up to the line's end. The first item behind it is put back.
 fn rest_of_line<D: Desk>(
@@ -23,11 +24,12 @@ fn rest_of_line<D: Desk>(
     requires ahead { words.old.ahead ≡ None }
     requires ready { words.old.lexer.failed ≡ false }
     ensures script { IfOk result (λ l. Leaves l
-        (script_ahead (within line draft) words.old.ahead words.old.lexer (D.left desk.old))
-        (script_ahead (between true) words.new.ahead words.new.lexer (D.left desk.new))) }
-    ensures refusal { IfErr result (λ e. IsRefusal e
-        (script_ahead (within line draft) words.old.ahead words.old.lexer (D.left desk.old))) }
+        (reading_ahead (within line draft) words.old.ahead words.old.lexer (D.left desk.old))
+        (reading_ahead (between true) words.new.ahead words.new.lexer (D.left desk.new))) }
+    ensures refusal { IfErr result (λ e. EndsReading e
+        (reading_ahead (within line draft) words.old.ahead words.old.lexer (D.left desk.old))) }
     ensures header { IfOk result (λ l. is_header_line l ≡ is_header draft) }
+    ensures memory { is_header draft ≡ true → ¬ IsErrOf result ReadRefusal.NoMemory }
     ensures ready { OnOk result (IsReady words.new.ahead words.new.lexer.failed) }
     ensures fewer { OnOk result (most_to_come words.new.ahead words.new.lexer.room ≤ words.old.lexer.room) }
     ensures end { OnOk result (EndsWith words.new.ahead (D.left desk.new)) }
@@ -60,22 +62,23 @@ fn first_of_line<D: Desk>(
 ) -> Result<Option<(Draft, u32)>, ReadRefusal>
     requires { IsReady words.old.ahead words.old.lexer.failed }
     ensures begun { IfOk result (λ found. IfSome found (λ b. Stays
-        (script_ahead (between headed) words.old.ahead words.old.lexer (D.left desk.old))
-        (script_ahead (within b.1 b.0) words.new.ahead words.new.lexer (D.left desk.new)))) }
+        (reading_ahead (between headed) words.old.ahead words.old.lexer (D.left desk.old))
+        (reading_ahead (within b.1 b.0) words.new.ahead words.new.lexer (D.left desk.new)))) }
     ensures header { IfOk result (λ found. IfSome found (λ b. is_header b.0 ≡ not headed)) }
     ensures word { IfOk result (λ found. IfSome found (λ _. (words.new.ahead ≡ None) × (words.new.lexer.failed ≡ false)
         × (D.faults desk.new ≡ D.faults desk.old))) }
     ensures fewer { IfOk result (λ found. IfSome found (λ _. words.new.lexer.room
         < most_to_come words.old.ahead words.old.lexer.room)) }
-    ensures done { IfOk result (λ found. IfNone found (IsDone
-        (script_ahead (between headed) words.old.ahead words.old.lexer (D.left desk.old))
-        (script_ahead (between headed) words.new.ahead words.new.lexer (D.left desk.new)))) }
+    ensures done { IfOk result (λ found. IfNone found (IsOver
+        (reading_ahead (between headed) words.old.ahead words.old.lexer (D.left desk.old))
+        (reading_ahead (between headed) words.new.ahead words.new.lexer (D.left desk.new)))) }
     ensures end { IfOk result (λ found. IfNone found ((headed ≡ true) × (is_end words.new.ahead ≡ true)
         × (words.new.lexer.failed ≡ false) × (D.faults desk.new ≡ D.faults desk.old)
         × (EndsWith words.old.ahead (D.left desk.old) → EndsWith words.new.ahead (D.left desk.new)))) }
-    ensures refusal { IfErr result (λ e. IsRefusal e
-        (script_ahead (between headed) words.old.ahead words.old.lexer (D.left desk.old))) }
+    ensures refusal { IfErr result (λ e. EndsReading e
+        (reading_ahead (between headed) words.old.ahead words.old.lexer (D.left desk.old))) }
     ensures unstopped { OnOk result (is_fault words.old.ahead ≡ false) }
+    ensures memory { ¬ IsErrOf result ReadRefusal.NoMemory }
     ensures telling { OnOk result (GoesOn words.new.ahead (D.left desk.old) (D.left desk.new)) }
     ensures later { D.faults desk.old ≤ D.faults desk.new }
     ensures rose { IsErrOf result ReadRefusal.ReadFault → Rose (D.faults desk.old) (D.faults desk.new) }
@@ -97,14 +100,17 @@ fn first_of_line<D: Desk>(
     Ok(Some((draft, line)))
 }
 
-// Reads the header.
-fn header<D: Desk>(alloc: Global, words: &mut Words, desk: &mut D) -> Result<(), ReadRefusal>
+// Reads the header, and answers the version that it names.
+pub(crate) fn header<D: Desk>(
+    alloc: Global,
+    words: &mut Words,
+    desk: &mut D,
+) -> Result<Version, ReadRefusal>
     requires { IsReady words.old.ahead words.old.lexer.failed }
-    ensures script { OnOk result (Stays
-        (script_ahead (between false) words.old.ahead words.old.lexer (D.left desk.old))
-        (script_ahead (between true) words.new.ahead words.new.lexer (D.left desk.new))) }
-    ensures refusal { IfErr result (λ e. IsRefusal e
-        (script_ahead (between false) words.old.ahead words.old.lexer (D.left desk.old))) }
+    ensures script { Heads result
+        (reading_ahead (between false) words.old.ahead words.old.lexer (D.left desk.old))
+        (script_in (reading_ahead (between true) words.new.ahead words.new.lexer (D.left desk.new))) }
+    ensures memory { ¬ IsErrOf result ReadRefusal.NoMemory }
     ensures ready { OnOk result (IsReady words.new.ahead words.new.lexer.failed) }
     ensures fewer { OnOk result (most_to_come words.new.ahead words.new.lexer.room
         < most_to_come words.old.ahead words.old.lexer.room) }
@@ -119,10 +125,10 @@ fn header<D: Desk>(alloc: Global, words: &mut Words, desk: &mut D) -> Result<(),
     ensures stays { (n : List ℕ) → D.steady desk.old n → D.steady desk.new n }
 {
     match first_of_line(alloc, words, desk, false)? {
-        Some((draft, line)) => {
-            let _ = rest_of_line(words, desk, draft, line)?;
-            Ok(())
-        }
+        Some((draft, line)) => match rest_of_line(words, desk, draft, line)? {
+            Line::Header(version) => Ok(version),
+            Line::Command(_) => unreachable!(),
+        },
         None => unreachable!(),
     }
 }
@@ -135,8 +141,8 @@ pub(crate) fn command<D: Desk>(
 ) -> Result<Option<Command>, ReadRefusal>
     requires { IsReady words.old.ahead words.old.lexer.failed }
     ensures script { Answers result
-        (script_ahead (between true) words.old.ahead words.old.lexer (D.left desk.old))
-        (script_ahead (between true) words.new.ahead words.new.lexer (D.left desk.new)) }
+        (script_in (reading_ahead (between true) words.old.ahead words.old.lexer (D.left desk.old)))
+        (script_in (reading_ahead (between true) words.new.ahead words.new.lexer (D.left desk.new))) }
     ensures ready { OnOk result (IsReady words.new.ahead words.new.lexer.failed) }
     ensures end { OnOk result (EndsWith words.old.ahead (D.left desk.old) →
         EndsWith words.new.ahead (D.left desk.new)) }
@@ -157,7 +163,7 @@ pub(crate) fn command<D: Desk>(
     };
     match rest_of_line(words, desk, draft, line)? {
         Line::Command(command) => Ok(Some(command)),
-        Line::Header => unreachable!(),
+        Line::Header(_) => unreachable!(),
     }
 }
 
@@ -169,8 +175,8 @@ pub(crate) fn first_command<D: Desk>(
 ) -> Result<Option<Command>, ReadRefusal>
     requires { IsReady words.old.ahead words.old.lexer.failed }
     ensures script { Answers result
-        (script_ahead (between false) words.old.ahead words.old.lexer (D.left desk.old))
-        (script_ahead (between true) words.new.ahead words.new.lexer (D.left desk.new)) }
+        (script_in (reading_ahead (between false) words.old.ahead words.old.lexer (D.left desk.old)))
+        (script_in (reading_ahead (between true) words.new.ahead words.new.lexer (D.left desk.new))) }
     ensures ready { OnOk result (IsReady words.new.ahead words.new.lexer.failed) }
     ensures end { OnOk result (EndsWith words.new.ahead (D.left desk.new)) }
     ensures fewer { IfOk result (λ c. IfSome c (λ _. most_to_come words.new.ahead words.new.lexer.room
@@ -185,6 +191,6 @@ pub(crate) fn first_command<D: Desk>(
     ensures content { (n : List ℕ) → D.content desk.new n ≡ D.content desk.old n }
     ensures stays { (n : List ℕ) → D.steady desk.old n → D.steady desk.new n }
 {
-    header(alloc, words, desk)?;
+    let _ = header(alloc, words, desk)?;
     command(alloc, words, desk)
 }

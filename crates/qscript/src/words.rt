@@ -6,7 +6,7 @@ ghost use Rattle.ports.specs.Causes.{HasCause, Rose};
 ghost use Rattle.qdimacs.specs.declared.refusal.Quantity.TheVariants.{Bytes};
 ghost use Rattle.qscript.specs.Reads.{is_on};
 ghost use Rattle.qscript.specs.Run.{Front};
-ghost use Rattle.qscript.specs.State.{item_of, in_front, script_at, script_ahead, is_end, is_fault, is_word, IsFault, IsReady, EndsWith, GoesOn, most_to_come};
+ghost use Rattle.qscript.specs.State.{item_of, in_front, reading_at, reading_ahead, is_end, is_fault, is_word, IsFault, IsReady, EndsWith, GoesOn, most_to_come};
 
 use lexer::{LexRefusal, Lexer, Token};
 use ports::Desk;
@@ -85,8 +85,8 @@ impl Words {
     pub(crate) fn next<D: Desk>(&mut self, desk: &mut D) -> Result<Item, ReadRefusal>
         requires { IsReady self.old.ahead self.old.lexer.failed }
         ensures script { IfOk result (λ item. (front : Front) →
-            Stays (script_ahead front self.old.ahead self.old.lexer (D.left desk.old))
-            (script_ahead front (Some item) self.new.lexer (D.left desk.new))) }
+            Stays (reading_ahead front self.old.ahead self.old.lexer (D.left desk.old))
+            (reading_ahead front (Some item) self.new.lexer (D.left desk.new))) }
         ensures ahead { self.new.ahead ≡ None }
         ensures ready { IfOk result (λ item. IsReady (Some item) self.new.lexer.failed) }
         ensures held { IfOk result (λ item. is_fault self.old.ahead ≡ true → is_fault (Some item) ≡ true) }

@@ -1,7 +1,9 @@
 //! Worked values of the definitions.
-ghost use Rattle.qscript.specs.Worked.{WorkedScripts};
+ghost use Rattle.qscript.specs.Worked.{WorkedHeaders, WorkedScripts};
 
-/// Scripts with their commands, and malformed ones with their refusals.
+/// Scripts with their commands, and malformed ones with their refusals; headers with the version that they name, and
+/// refused ones.
 pub fn worked_scripts()
-    ensures { WorkedScripts }
+    ensures scripts { WorkedScripts }
+    ensures headers { WorkedHeaders }
 {}

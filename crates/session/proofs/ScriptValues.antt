@@ -1,7 +1,9 @@
 -- Worked values of scripts: two commands, each of which is refused.
-use Rattle.std.proofs.Common.{◌≡◌, ◌≢◌, ◌∙◌, ◌⊎◌, ℕ, zero, suc, List, [], ◌∷◌, ◌++◌, length, take, Some, inl, inr, ⊎_elim, refl, sym, ap, subst, arith}
+use Rattle.std.proofs.Common.{◌≡◌, ◌≢◌, ◌∙◌, ◌⊎◌, ℕ, zero, suc, List, [], ◌∷◌, ◌++◌, length, take, Option, Some, inl, inr, ⊎_elim, refl, sym, ap, subst, arith}
 use Rattle.std.specs.Fmt.{digits}
 use Rattle.trail.specs.State.{Account}
+use Rattle.versions.specs.declared.version.Version.{Version}
+use Rattle.versions.specs.declared.version.Version.TheVariants.{One}
 use Rattle.qscript.specs.declared.command.Command.{Command}
 use Rattle.qscript.specs.declared.command.Command.TheVariants.{Pop}
 use Rattle.qscript.specs.Reads.{Ending as ScriptEnding, ReadsScript, done}
@@ -10,12 +12,12 @@ use Rattle.session.specs.declared.ending.Ending.{Ending}
 use Rattle.session.specs.declared.ending.Ending.TheVariants.{WriteFault}
 use Rattle.session.specs.Replies.{IsReply, Leads, Output, joined, refused_text, says}
 use Rattle.session.specs.Scripts.{AreAnswered, AreFirst, IsReadOut}
-use Rattle.session.specs.Standing.{Standing, start}
+use Rattle.session.specs.Standing.{Standing, start, start_in}
 use Rattle.session.specs.Terms.{Terms}
 use Rattle.session.specs.WorkedScripts.{one_refusal, two_pops, two_refusals}
 
 -- both commands are read
-pub both_read : ReadsScript two_pops (Pop ∷ Pop ∷ []) done
+pub both_read : ReadsScript two_pops (Some One) (Pop ∷ Pop ∷ []) done
 both_read = computed_reading two_pops
 
 -- the commands in front of some others are none, one or both
@@ -36,15 +38,26 @@ some_of (c ∷ d ∷ f ∷ commands) rest e =
     absurd (let n : suc (suc (suc (length (commands ++ rest)))) ≡ 2 = ap (λ (cs : List Command). length cs) e in
     omega (arith, n))
 
-pub first_ones : (commands : List Command) → AreFirst two_pops commands → AreSome commands
-first_ones commands (rest, ending, reads) =
+pub first_ones : (version : Option Version) (commands : List Command) → AreFirst two_pops version commands
+    → AreSome commands
+first_ones version commands (rest, ending, reads) =
     some_of commands rest
-    (one_reading two_pops (commands ++ rest) (Pop ∷ Pop ∷ []) ending done reads both_read).0
+    (one_reading two_pops version (Some One) (commands ++ rest) (Pop ∷ Pop ∷ []) ending done reads both_read).1
 
-pub all_ones : (commands : List Command) (ending : ScriptEnding) → ReadsScript two_pops commands ending
-    → commands ≡ Pop ∷ Pop ∷ []
-all_ones commands ending reads =
-    (one_reading two_pops commands (Pop ∷ Pop ∷ []) ending done reads both_read).0
+-- they are by version 1
+pub first_version : (version : Option Version) (commands : List Command) → AreFirst two_pops version commands
+    → version ≡ Some One
+first_version version commands (rest, ending, reads) =
+    (one_reading two_pops version (Some One) (commands ++ rest) (Pop ∷ Pop ∷ []) ending done reads both_read).0
+
+pub at_start : (version : Option Version) (commands : List Command) → AreFirst two_pops version commands
+    → start_in version ≡ start
+at_start version commands first = ap start_in (first_version version commands first)
+
+pub all_ones : (version : Option Version) (commands : List Command) (ending : ScriptEnding)
+    → ReadsScript two_pops version commands ending → commands ≡ Pop ∷ Pop ∷ []
+all_ones version commands ending reads =
+    (one_reading two_pops version (Some One) commands (Pop ∷ Pop ∷ []) ending done reads both_read).1
 
 -- the replies to them, on any terms
 module _ (terms : Terms) where
@@ -113,9 +126,13 @@ head_of_front (suc n) (x ∷ text) is = is
 -- commands that were answered with this on an empty output
 module _ (terms : Terms) (text : List ℕ) (stops : List Account) (ending : Ending)
     (replied : AreAnswered terms (Some two_pops) (Some [], Some text) ([], stops) ending) where
+  leads : Leads terms start replied.commands replied.out replied.after
+  leads = subst (λ s. Leads terms s replied.commands replied.out replied.after)
+      (at_start replied.version replied.commands replied.first) replied.allowed
+
   of_some : (replied.out ≡ says []) ⊎ (replied.out ≡ says one_refusal) ⊎ (replied.out ≡ says two_refusals)
-  of_some = some_reply terms replied.commands (first_ones replied.commands replied.first) replied.out replied.after
-      replied.allowed
+  of_some = some_reply terms replied.commands (first_ones replied.version replied.commands replied.first) replied.out
+      replied.after leads
 
   -- where there was no write fault, the text is that of whole replies
   pub whole_length : ending ≢ WriteFault → (length text ≡ 0) ⊎ (length text ≡ 11) ⊎ (length text ≡ 22)
@@ -129,8 +146,8 @@ module _ (terms : Terms) (text : List ℕ) (stops : List Account) (ending : Endi
       let all = replied.all read in
       let is : text ≡ replied.out.text = replied.whole sound in
       let two = two_replies terms replied.out replied.after
-      (subst (λ cs. Leads terms start cs replied.out replied.after) (all_ones replied.commands all.0 all.1)
-      replied.allowed) in
+      (subst (λ cs. Leads terms start cs replied.out replied.after) (all_ones replied.version replied.commands all.0 all.1)
+      leads) in
       ap (λ (t : List ℕ). length t) is ∙ ap (λ (o : Output). length o.text) two
 
   -- a front begins as a reply does

@@ -8,6 +8,7 @@ use Rattle.calculus.specs.Derivations.Reason.{Input}
 use Rattle.calculus.specs.Verdicts.{IsProof}
 use Rattle.frames.specs.Commands.{Solve as Decide, Verdict}
 use Rattle.frames.specs.Fold.{state_after}
+use Rattle.versions.specs.declared.version.Version.TheVariants.{One}
 use Rattle.qscript.proofs.Outcomes.{computed_reading, one_reading}
 use Rattle.session.specs.Worked.{contradiction}
 use Rattle.session.specs.declared.ending.Ending.TheVariants.{Done, Refused}
@@ -24,11 +25,12 @@ no_silence h = at h.0 h.1
         ap (λ (o : Output). o.text) l.3 ∙ ap (λ (o : Output). o.text ++ l.1.text) l.4.0 in cc)
 
 pub empty_script : IsScriptEnding (codes "p qscript 1\n") (Done 0)
-empty_script = (refl, [], computed_reading (codes "p qscript 1\n"))
+empty_script = (refl, [], (Some One, computed_reading (codes "p qscript 1\n")))
 
 pub empty_ends : IsScriptEnding (codes "p qscript 1\n") (Refused 30 1) → ⊥
 empty_ends r = absurd (let same : done ≡ refused 30 1 =
-    (one_reading (codes "p qscript 1\n") [] r.0 done (refused 30 1) (computed_reading (codes "p qscript 1\n")) r.1).1
+    (one_reading (codes "p qscript 1\n") (Some One) r.1.0 [] r.0 done (refused 30 1)
+    (computed_reading (codes "p qscript 1\n")) r.1.1).2
     in cc)
 
 -- the empty clause is a proof by itself

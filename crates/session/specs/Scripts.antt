@@ -4,6 +4,7 @@ use Rattle.std.specs.Io.KnownBytes.{Appends}
 use Rattle.ports.specs.Bytes.{AppendsFront}
 use Rattle.trail.specs.State.{Account}
 use Rattle.qdimacs.specs.declared.refusal.Quantity.TheVariants.{Bytes}
+use Rattle.versions.specs.declared.version.Version.{Version}
 use Rattle.qscript.specs.declared.command.Command.{Command}
 use Rattle.ports.specs.Writing.{Stops, Wrote}
 use Rattle.engine.specs.State.{EngineState}
@@ -12,17 +13,21 @@ use Rattle.qscript.specs.Reads.{Ending as ScriptEnding, ReadsScript, done, limit
 use Rattle.session.specs.declared.ending.Ending.{Ending}
 use Rattle.session.specs.declared.ending.Ending.TheVariants.{Done, Refused, Limit, CheckLimit, ReadFault, WriteFault, NoMemory}
 use Rattle.session.specs.Replies.{Leads, Output, Text}
-use Rattle.session.specs.Standing.{Standing, start}
+use Rattle.session.specs.Standing.{Standing, start_in}
 use Rattle.session.specs.State.{Holds}
 use Rattle.session.specs.Terms.{Terms}
+
+-- The text is a script of these commands with this ending, whatever version its header names.
+abbrev pub IsScriptOf : List ℕ → List Command → ScriptEnding → Type 0
+IsScriptOf text commands ending = (version : Option Version) × ReadsScript text version commands ending
 
 -- The ending is that of the script: all of it was answered, or a line is malformed or beyond the limit. Faults and want
 -- of memory say nothing of it.
 abbrev pub IsScriptEnding : List ℕ → Ending → Type 0
-IsScriptEnding text (Done status) = (status ≡ 0) × (commands : List Command) × ReadsScript text commands done
-IsScriptEnding text (Refused number line) = (commands : List Command) × ReadsScript text commands (refused number line)
+IsScriptEnding text (Done status) = (status ≡ 0) × (commands : List Command) × IsScriptOf text commands done
+IsScriptEnding text (Refused number line) = (commands : List Command) × IsScriptOf text commands (refused number line)
 IsScriptEnding text (Limit quantity line) = (quantity ≡ Bytes)
-    × (commands : List Command) × ReadsScript text commands (limit line)
+    × (commands : List Command) × IsScriptOf text commands (limit line)
 IsScriptEnding text (CheckLimit quantity) = ⊥
 IsScriptEnding text ReadFault = ⊤
 IsScriptEnding text WriteFault = ⊤
@@ -48,22 +53,24 @@ EndsScript ReadFault = ⊤
 EndsScript WriteFault = ⊤
 EndsScript NoMemory = ⊤
 
--- These commands are the first of the text's script.
-abbrev pub AreFirst : List ℕ → List Command → Type 0
-AreFirst text commands = (rest : List Command) × (ending : ScriptEnding) × ReadsScript text (commands ++ rest) ending
+-- These commands are the first of the text's script, which is of this version.
+abbrev pub AreFirst : List ℕ → Option Version → List Command → Type 0
+AreFirst text version commands =
+    (rest : List Command) × (ending : ScriptEnding) × ReadsScript text version (commands ++ rest) ending
 
--- Commands were answered: the first of the text's script, if the text is told, and all of them where it was read to its
+-- Commands were answered, by the version that the header names: the first of the text's script, if the text is told, and all of them where it was read to its
 -- ending. The replies are allowed ones; all of them were written, or after a write fault a front of them. The list of
 -- what is told of searches that stopped got an entry for each `UNKNOWN` among them. `written` is what stood on the
 -- output and stands on it, `stops` the list before and after.
 pub record AreAnswered (terms : Terms) (known : Option (List ℕ)) (written : Option (List ℕ) × Option (List ℕ))
     (stops : List Account × List Account) (ending : Ending) : Type 0 where
+  pub version : Option Version
   pub commands : List Command
   pub out : Output
   pub after : Standing
-  pub allowed : Leads terms start commands out after
-  pub first : IfSome known (λ text. AreFirst text commands)
-  pub all : IsReadOut ending → IfSome known (λ text. (e : ScriptEnding) × ReadsScript text commands e)
+  pub allowed : Leads terms (start_in version) commands out after
+  pub first : IfSome known (λ text. AreFirst text version commands)
+  pub all : IsReadOut ending → IfSome known (λ text. (e : ScriptEnding) × ReadsScript text version commands e)
   pub front : AppendsFront written.0 written.1 out.text
   pub whole : ending ≢ WriteFault → Appends written.0 written.1 out.text
   pub told : stops.1 ≡ stops.0 ++ out.stops
@@ -71,8 +78,9 @@ pub record AreAnswered (terms : Terms) (known : Option (List ℕ)) (written : Op
 
 -- The output has room for all allowed replies to the first commands of the text's script, if the text is told.
 abbrev pub RoomForReplies : Terms → Option (List ℕ) → (ℕ → Type 0) → Type 0
-RoomForReplies terms known has_room = (commands : List Command) (out : Output) (after : Standing) →
-    Leads terms start commands out after → IfSome known (λ text. AreFirst text commands) → has_room (length out.text)
+RoomForReplies terms known has_room = (version : Option Version) (commands : List Command) (out : Output)
+    (after : Standing) → Leads terms (start_in version) commands out after
+    → IfSome known (λ text. AreFirst text version commands) → has_room (length out.text)
 
 -- the ending that a result stands for
 abbrev pub ending_of : Result (Unit {0}) Ending → Ending

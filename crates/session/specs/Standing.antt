@@ -1,10 +1,12 @@
 -- What the commands of a script come to with their replies.
-use Rattle.std.specs.Prelude.{◌≡◌, List, [], Some}
+use Rattle.std.specs.Prelude.{◌≡◌, List, [], Option, None, Some}
 use Rattle.prefix.specs.Literal.{Literal}
 use Rattle.prefix.specs.Scopes.{quantifier_at}
 use Rattle.calculus.specs.Derivations.{Inference}
 use Rattle.calculus.specs.Verdicts.{IsProof}
-use Rattle.frames.specs.Fold.{Given, ScriptState, new_script}
+use Rattle.versions.specs.declared.version.Version.{Version}
+use Rattle.versions.specs.declared.version.Version.TheVariants.{One}
+use Rattle.frames.specs.Fold.{Given, ScriptState, script_in}
 use Rattle.frames.specs.State.{OpenFormula, clauses_in}
 use Rattle.engine.specs.Asks.{AreFirstValues}
 use Rattle.engine.specs.Refusals.{winner_of}
@@ -20,9 +22,18 @@ pub record Standing : Type 0 where
   pub script : ScriptState
   pub witness : Witness
 
--- no command was given
+-- no command was given, in a script of a version
+abbrev pub start_of : Version → Standing
+start_of version = record { script = script_in version; witness = record { proof = []; values = [] } }
+
+-- the same of version 1
 abbrev pub start : Standing
-start = record { script = new_script; witness = record { proof = []; values = [] } }
+start = start_of One
+
+-- the same by what a header names; where it names no version, no command is given
+abbrev pub start_in : Option Version → Standing
+start_in None = start
+start_in (Some version) = start_of version
 
 -- a proof of the verdict, and values of the first scope where this is the winner's
 pub record IsWitness (formula : OpenFormula) (given : Given) (witness : Witness) : Type 0 where

@@ -1,5 +1,6 @@
 -- Worked values: what the work on a script comes to.
-use Rattle.std.specs.Prelude.{◌≤◌, ℕ, List, [], ◌∷◌, codes, Some}
+use Rattle.std.specs.Prelude.{◌≤◌, ℕ, List, [], ◌∷◌, codes, None, Some}
+use Rattle.versions.specs.declared.version.Version.TheVariants.{One, Two}
 use Rattle.qscript.specs.declared.command.Command.TheVariants.{Pop, Push}
 use Rattle.session.specs.declared.ending.Ending.{Ending}
 use Rattle.session.specs.declared.ending.Ending.TheVariants.{Done, NoMemory, ReadFault, Refused, WriteFault}
@@ -23,12 +24,15 @@ abbrev pub Replied : List ℕ → Ending → Type 0
 Replied text ending = AreAnswered (terms_of 0 0) (Some two_pops) (Some [], Some text) ([], []) ending
 
 pub record WorkedScripts : Type 0 where
-  -- the first commands of a script, none and all of them among these
-  pub none_first : AreFirst two_pops []
-  pub one_first : AreFirst two_pops (Pop ∷ [])
-  pub both_first : AreFirst two_pops (Pop ∷ Pop ∷ [])
-  pub other_first : AreFirst two_pops (Push ∷ []) → ⊥
-  pub too_many : AreFirst two_pops (Pop ∷ Pop ∷ Pop ∷ []) → ⊥
+  -- the first commands of a script, none and all of them among these, by the version of its header
+  pub none_first : AreFirst two_pops (Some One) []
+  pub one_first : AreFirst two_pops (Some One) (Pop ∷ [])
+  pub both_first : AreFirst two_pops (Some One) (Pop ∷ Pop ∷ [])
+  pub other_first : AreFirst two_pops (Some One) (Push ∷ []) → ⊥
+  pub too_many : AreFirst two_pops (Some One) (Pop ∷ Pop ∷ Pop ∷ []) → ⊥
+  pub other_version : AreFirst two_pops (Some Two) [] → ⊥
+  pub no_version : AreFirst two_pops None [] → ⊥
+  pub second_version : AreFirst (codes "p qscript 2\npop\n") (Some Two) (Pop ∷ [])
   -- a script that is answered got all of its replies
   pub both : Replied two_refusals (Done 0)
   pub one_alone : Replied one_refusal (Done 0) → ⊥

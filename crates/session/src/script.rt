@@ -3,12 +3,12 @@ ghost use Rattle.std.specs.Prelude.{◌≡◌, ◌≢◌, ◌<◌, ◌++◌, ℕ
 ghost use Rattle.ports.specs.Bytes.{AllFlushed};
 ghost use Rattle.ports.specs.Causes.{IsCounted};
 ghost use Rattle.qscript.specs.declared.command.Command.{Command as AnyCommand};
-ghost use Rattle.qscript.specs.Reads.{Ending as ScriptEnding, ReadsScript};
+ghost use Rattle.qscript.specs.Reads.{Ending as ScriptEnding};
 ghost use Rattle.qscript.specs.State.{EndsWith, is_fault, upcoming};
-ghost use Rattle.session.specs.Scripts.{Answers, AreAnswered, IsLeftAt, IsScriptEnding, IsSentAt, RoomForReplies, ending_of};
+ghost use Rattle.session.specs.Scripts.{Answers, AreAnswered, IsLeftAt, IsScriptEnding, IsScriptOf, IsSentAt, RoomForReplies, ending_of};
 ghost use Rattle.session.specs.Steps.{Goes, listed};
 ghost use Rattle.session.specs.Solve.{IsDone};
-ghost use Rattle.session.specs.Standing.{Standing, start};
+ghost use Rattle.session.specs.Standing.{Standing, start_of};
 ghost use Rattle.session.specs.State.{Holds};
 ghost use Rattle.session.specs.Terms.{terms_of};
 
@@ -20,6 +20,7 @@ use qscript::{Command, ScriptReader, each_script_has_one_reading};
 use std::alloc::Global;
 use steps::NoMemory;
 use trail::Stopped;
+use versions::Version;
 
 /// Reads the script that is left of the chosen input, and replies to its commands as they come; each solve takes at
 /// most so many steps, and begins anew at most so often. The output is flushed once, at the end.
@@ -87,53 +88,26 @@ fn answer_script<D: Desk, S: Sink>(
 {
     each_script_has_one_reading();
     let mut reader = ScriptReader::new(alloc)?;
-    let mut session = session_with(alloc, budget, restarts)?;
-    answer_and_flush(&mut session, &mut reader, desk, sink, stops)
+    let version = reader.read_header(desk)?;
+    let mut session = session_with(alloc, version, budget, restarts)?;
+    answer_commands(&mut session, &mut reader, desk, sink, stops)?;
+    Ok(sink.flush()?)
 }
 
-// A session of no commands with this budget, each solve of which may begin anew so often.
-fn session_with(alloc: Global, budget: u64, restarts: u32) -> Result<Session, NoMemory>
+// A session of no commands in this version, with this budget, each solve of which may begin anew so often.
+fn session_with(
+    alloc: Global,
+    version: Version,
+    budget: u64,
+    restarts: u32,
+) -> Result<Session, NoMemory>
     ensures made { IsOk result }
     ensures terms { IfOk result (λ s. s.terms ≡ terms_of budget restarts) }
-    ensures holds { IfOk result (λ s. Holds (terms_of budget restarts) s.engine start) }
+    ensures holds { IfOk result (λ s. Holds (terms_of budget restarts) s.engine (start_of version)) }
 {
-    let mut session = Session::new(alloc, budget)?;
+    let mut session = Session::with_version(alloc, budget, version)?;
     session.set_restarts(restarts);
     Ok(session)
-}
-
-// Replies to the script that a reader is in front of, and flushes.
-fn answer_and_flush<D: Desk, S: Sink>(
-    session: &mut Session,
-    reader: &mut ScriptReader,
-    desk: &mut D,
-    sink: &mut S,
-    stops: &mut Vec<Stopped>,
-) -> Result<(), Ending>
-    requires holds { Holds session.old.terms session.old.engine start }
-    requires ready { reader.old.failed ≡ false }
-    requires fresh { reader.old.ahead ≡ None }
-    requires script { (text : List ℕ) (commands : List AnyCommand) (e : ScriptEnding) → ReadsScript text commands e →
-        upcoming reader.old (Some text) ≡ Some (commands, e) }
-    ensures ending { IfSome (D.left desk.old) (λ text. IsScriptEnding text (ending_of result)) }
-    ensures err { IfErr result (λ e. ¬ IsDone e) }
-    ensures read { OnOk result (IfSome (D.left desk.old) (λ _. D.left desk.new ≡ Some [])) }
-    ensures read_fault { IsCounted (IsErrOf result Ending.ReadFault) (IsOk result) (D.faults desk.old)
-        (D.faults desk.new) }
-    ensures flows { D.flows desk.old → ¬ IsErrOf result Ending.ReadFault × D.flows desk.new }
-    ensures write_fault { IsCounted (IsErrOf result Ending.WriteFault) (IsOk result) (S.faults sink.old)
-        (S.faults sink.new) }
-    ensures room { RoomForReplies session.old.terms (D.left desk.old) (S.has_room sink.old) →
-        ¬ IsErrOf result Ending.WriteFault }
-    ensures answered { AreAnswered session.old.terms (D.left desk.old) (S.written sink.old, S.written sink.new)
-        (stops.old.items, stops.new.items) (ending_of result) }
-    ensures flushed { OnOk result (AllFlushed (S.written sink.new) (S.flushed sink.old) (S.flushed sink.new)) }
-    ensures content { (n : List ℕ) → D.content desk.new n ≡ D.content desk.old n }
-    ensures stays { (n : List ℕ) → D.steady desk.old n → D.steady desk.new n }
-{
-    each_script_has_one_reading();
-    answer_commands(session, reader, desk, sink, stops)?;
-    Ok(sink.flush()?)
 }
 
 // Replies to the commands that a reader has before it.
@@ -146,12 +120,12 @@ fn answer_commands<D: Desk, S: Sink>(
 ) -> Result<(), Ending>
     requires ready { reader.old.failed ≡ false }
     requires end { EndsWith reader.old.ahead (D.left desk.old) }
-    requires telling { is_fault reader.old.ahead ≡ false }
     ensures replied { (s : Standing) → Holds session.old.terms session.old.engine s → Answers session.old.terms s
         (upcoming reader.old (D.left desk.old)) (IsLeftAt result)
         (λ text. IsSentAt S.written S.flushed S.faults S.has_room sink.old sink.new text result)
         (stops.old.items, stops.new.items) }
     ensures read { OnOk result (IfSome (D.left desk.old) (λ _. D.left desk.new ≡ Some [])) }
+    ensures unstopped { OnOk result (is_fault reader.old.ahead ≡ false) }
     ensures read_fault { IsCounted (IsErrOf result Ending.ReadFault) (IsOk result) (D.faults desk.old)
         (D.faults desk.new) }
     ensures flows { D.flows desk.old → ¬ IsErrOf result Ending.ReadFault × D.flows desk.new }

@@ -2,7 +2,7 @@
 ghost use Rattle.std.specs.Prelude.{◌≡◌, ℕ, Ok, Err, Some, IsOk, IfOk, IfSome, OnErr, MatchResult};
 ghost use Rattle.frames.specs.Refusal.{number_of};
 ghost use Rattle.engine.specs.Asks.{IsVerdictOf, PlaysFirst};
-ghost use Rattle.session.specs.Standing.{Standing, start};
+ghost use Rattle.session.specs.Standing.{Standing, start, start_of};
 ghost use Rattle.session.specs.State.{Holds};
 ghost use Rattle.session.specs.Replies.{refusal_number};
 ghost use Rattle.session.specs.Steps.{IsDecided, IsQuestion, IsSent, LeavesAtWant, Refuses, Steps as StepsOf, left_by, reply_of};
@@ -19,6 +19,7 @@ use qscript::Command;
 use std::alloc::Global;
 use std::marker::Model;
 use steps::{NoMemory, Steps};
+use versions::Version;
 
 /// An engine that takes the commands of a script and writes their replies. Contracts see the terms of each solve and
 /// the engine.
@@ -43,18 +44,27 @@ impl Model for Session {
 }
 
 impl Session {
-    /// A session of no commands, in which each solve takes at most so many steps, and never begins anew until
-    /// `set_restarts` allows it. This takes no memory.
+    /// A session of no commands, in version 1, in which each solve takes at most so many steps, and never begins anew
+    /// until `set_restarts` allows it. This takes no memory.
     pub fn new(alloc: Global, budget: u64) -> Result<Self, NoMemory>
         ensures made { IsOk result }
         ensures terms { IfOk result (λ s. s.terms ≡ terms_of budget 0) }
         ensures holds { IfOk result (λ s. Holds (terms_of budget 0) s.engine start) }
     {
+        Self::with_version(alloc, budget, Version::One)
+    }
+
+    /// The same in a version of the script format, which says how long a variable stays.
+    pub fn with_version(alloc: Global, budget: u64, version: Version) -> Result<Self, NoMemory>
+        ensures made { IsOk result }
+        ensures terms { IfOk result (λ s. s.terms ≡ terms_of budget 0) }
+        ensures holds { IfOk result (λ s. Holds (terms_of budget 0) s.engine (start_of version)) }
+    {
         Ok(Self {
             budget,
             restarts: 0,
             greatest: 0,
-            engine: Engine::new(alloc)?,
+            engine: Engine::with_version(alloc, version)?,
         })
     }
 

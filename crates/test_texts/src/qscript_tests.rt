@@ -42,6 +42,81 @@ fn commands<D: Desk>(
     Ok(to)
 }
 
+// The version that the header names, or its refusal; and then each command, as `read` has them.
+fn read_headed(
+    alloc: Global,
+    text: &str,
+    greatest: usize,
+    failing: Vec<u64>,
+) -> Result<Vec<u8>, Fail>
+    requires { 0 < greatest }
+{
+    let mut desk = failing_desk(alloc, text.as_bytes(), greatest, failing)?;
+    let mut reader = ScriptReader::new(alloc)?;
+    let mut to = Vec::new(alloc);
+    match reader.read_header(&mut desk) {
+        Ok(version) => to.extend_from_slice(format!(in alloc; "{version:?}: ")?.as_bytes())?,
+        Err(refusal) => to.extend_from_slice(format!(in alloc; "{refusal}")?.as_bytes())?,
+    }
+    let behind = commands(alloc, &mut reader, &mut desk)?;
+    to.extend_from_slice(behind.as_slice())?;
+    Ok(to)
+}
+
+#[test]
+fn headers_name_their_version(rt: HostRuntime) -> Result<(), Fail> {
+    let alloc = rt.alloc();
+    for (text, want) in [
+        ("p qscript 1\nsolve\npop", "One: Solve; Pop; end"),
+        ("p qscript 2\nsolve\npop", "Two: Solve; Pop; end"),
+        ("c x\n\n p  qscript\t02\r\nc\npop\n", "Two: Pop; end"),
+        ("p qscript 1", "One: end"),
+        ("p qscript 2\n", "Two: end"),
+        ("p qscript 2\njump\n", "Two: line 2: refused with number 31"),
+        (
+            "p qscript 2\np qscript 1\n",
+            "Two: line 2: refused with number 31",
+        ),
+        ("p qscript 2\n\u{e9}", "Two: line 2: refused with number 7"),
+    ] {
+        for greatest in [1, 4096] {
+            let answer = read_headed(alloc, text, greatest, Vec::new(alloc))?;
+            assert_eq!(rt; answer.as_slice(), want.as_bytes(), "{text}");
+        }
+    }
+    Ok(())
+}
+
+#[test]
+fn other_headers_are_refused(rt: HostRuntime) -> Result<(), Fail> {
+    let alloc = rt.alloc();
+    for (text, want) in [
+        ("", "line 1: refused with number 30"),
+        ("c\n\n", "line 3: refused with number 30"),
+        ("\nsolve\np qscript 1", "line 2: refused with number 30"),
+        ("p qscript", "line 1: refused with number 30"),
+        ("p qscript\n2", "line 1: refused with number 30"),
+        ("p qscript 0", "line 1: refused with number 30"),
+        ("p qscript -1", "line 1: refused with number 30"),
+        ("p qscript 3", "line 1: refused with number 30"),
+        ("p qscript 9", "line 1: refused with number 30"),
+        ("p qscript 1 1", "line 1: refused with number 30"),
+        ("p qscript 2 x", "line 1: refused with number 30"),
+        ("p cnf 2", "line 1: refused with number 30"),
+        ("p qscript 2 \u{e9}", "line 1: refused with number 7"),
+        (
+            "p qscript 9223372036854775808",
+            "line 1: refused with number 8",
+        ),
+    ] {
+        let headed = read_headed(alloc, text, 4096, Vec::new(alloc))?;
+        assert_eq!(rt; headed.as_slice(), want.as_bytes(), "{text}");
+        let answer = read(alloc, text, 4096, Vec::new(alloc))?;
+        assert_eq!(rt; answer.as_slice(), want.as_bytes(), "{text}");
+    }
+    Ok(())
+}
+
 #[test]
 fn scripts_are_read_as_their_commands(rt: HostRuntime) -> Result<(), Fail> {
     let alloc = rt.alloc();
@@ -63,6 +138,7 @@ fn scripts_are_read_as_their_commands(rt: HostRuntime) -> Result<(), Fail> {
             "p qscript 1\r\nc x\n\nclause 0\r\n",
             "Clause(NumList { numbers: [] }); end",
         ),
+        ("p qscript 2\nsolve\n", "Solve; end"),
     ] {
         for greatest in [1, 4096] {
             let answer = read(alloc, text, greatest, Vec::new(alloc))?;
@@ -76,8 +152,6 @@ fn scripts_are_read_as_their_commands(rt: HostRuntime) -> Result<(), Fail> {
 fn malformed_lines_are_refused(rt: HostRuntime) -> Result<(), Fail> {
     let alloc = rt.alloc();
     for (text, want) in [
-        ("solve", "line 1: refused with number 30"),
-        ("p qscript 9", "line 1: refused with number 30"),
         ("p qscript 1\ncx", "line 2: refused with number 31"),
         ("p qscript 1\n5", "line 2: refused with number 31"),
         ("p qscript 1\nvar 1", "line 2: refused with number 32"),
@@ -109,6 +183,8 @@ fn a_failed_read_is_told(rt: HostRuntime) -> Result<(), Fail> {
         answer.as_slice(),
         b"Solve; the text can't be read".as_slice()
     );
+    let headed = read_headed(alloc, "p qscript 1\n", 16, vec![in alloc; 2]?)?;
+    assert_eq!(rt; headed.as_slice(), b"the text can't be read".as_slice());
     Ok(())
 }
 

@@ -139,6 +139,47 @@ clause 3 0/assume -3/solve/",
     Ok(())
 }
 
+// In version 2 a variable leaves with its frame, with the assumption over it; in version 1 it stays. Its number may be
+// added again, also in a scope of the other quantifier, and is then solved, traced and certified.
+#[test]
+fn variables_leave_in_version_two(rt: HostRuntime) -> Result<(), Fail> {
+    let alloc = rt.alloc();
+    for (script, want) in [
+        (
+            "p qscript 2/scope e/push/var 1 1/clause -1 0/solve/pop/var 1 1/clause 1 0/solve/value 1/",
+            "SAT/SAT/value 1/",
+        ),
+        (
+            "p qscript 1/scope e/push/var 1 1/clause -1 0/solve/pop/var 1 1/clause 1 0/solve/value 1/",
+            "SAT/refused 1/SAT/value 1/",
+        ),
+        (
+            "p qscript 2/scope e/push/var 1 1/assume 1/pop/var 1 1/clause -1 0/solve/",
+            "SAT/",
+        ),
+        (
+            "p qscript 1/scope e/push/var 1 1/assume 1/pop/var 1 1/clause -1 0/solve/",
+            "refused 44/UNSAT/",
+        ),
+        (
+            "p qscript 2/scope a/scope e/var 2 2/push/var 1 2/clause 1 2 0/clause -1 -2 0/solve/pop/var 1 1/\
+clause 1 2 0/clause -1 -2 0/solve/cert/",
+            "SAT/SAT/aag 1 1 0 1 0/2/3/i0 1/o0 2/c/skolem/",
+        ),
+        (
+            "p qscript 2/scope e/scope a/push/var 1 1/clause 1 0/solve/pop/var 1 2/clause 1 0/solve/trace/",
+            "SAT/UNSAT/p qrp 1 2/a 1 0/1 1 0 0/2 0 1 0/r UNSAT/",
+        ),
+        ("p qscript 2/pop/var 1 1/", "refused 40/refused 3/"),
+    ] {
+        assert!(rt;
+            replies(alloc, &["qbf", "script"], script, want, 0)?,
+            "{script:?}"
+        );
+    }
+    Ok(())
+}
+
 #[test]
 fn refused_commands_change_nothing(rt: HostRuntime) -> Result<(), Fail> {
     let alloc = rt.alloc();

@@ -2,14 +2,14 @@ use Rattle.std.proofs.Common.{◌≡◌, ◌≤◌, ℕ, true, false, List, None
 use Rattle.std.specs.Prelude.{IfSome, is_some}
 use Rattle.lexer.specs.State.{Stays}
 use Rattle.qscript.specs.Run.{within, is_header}
-use Rattle.qscript.specs.State.{script_ahead}
+use Rattle.qscript.specs.State.{reading_ahead}
 use Rattle.qscript.proofs.lines.rest_of_line.Given as goal
 
 abbrev pub invariant-loop-draft : goal.invariant-loop-draft
 invariant-loop-draft g l =
     let desk = g.D.Desk in
     record {
-      script : Stays (script_ahead (within l.fn.line l.fn.draft) l.fn.words.ahead l.fn.words.lexer (g.D.Desk.left l.fn.desk)) (script_ahead (within l.line l.draft) l.words.ahead l.words.lexer (g.D.Desk.left l.desk));
+      script : Stays (reading_ahead (within l.fn.line l.fn.draft) l.fn.words.ahead l.fn.words.lexer (g.D.Desk.left l.fn.desk)) (reading_ahead (within l.line l.draft) l.words.ahead l.words.lexer (g.D.Desk.left l.desk));
       ahead : l.words.ahead ≡ None;
       ready : l.words.lexer.failed ≡ false;
       header : is_header l.draft ≡ is_header l.fn.draft;

@@ -19,6 +19,7 @@ loop-command-init g c =
       under = λ s holds. begun written flushed faults has_room c.args.session.now.terms s
           (upcoming c.args.reader.now (g.D.Desk.left c.args.desk.now)) c.args.session.now.engine c.args.sink.now
           c.args.stops.now.items holds;
+      sound = λ sound. sound;
       end = c.requires.end;
       telling = goes_itself c.args.reader.now.ahead (g.D.Desk.left c.args.desk.now);
       later = omega arith;
@@ -134,6 +135,7 @@ loop-command-preserved-in_ok-answer g c =
           c.answer.new.sink c.args.stops.now.items c.loop-command.stops.items c.answer.new.stops.items
           (inv.under s holds) (rw c.in-Some.is at next.script)
           (rw inv.terms at c.in_ok-answer.ensures.goes);
+      sound = λ sound. inv.sound next.unstopped;
       end = next.end inv.end;
       telling = goes_on c.loop-command.reader.ahead c.next_command.new.self.ahead (g.D.Desk.left c.args.desk.now)
           (g.D.Desk.left c.loop-command.desk) (g.D.Desk.left c.next_command.new.desk) next.unstopped inv.telling
@@ -169,6 +171,7 @@ loop-command-preserved g c =
           c.answer.new.sink c.args.stops.now.items c.loop-command.stops.items c.answer.new.stops.items
           (inv.under s holds) (rw c.in-Some.is at next.script)
           (rw inv.terms at c.in_ok-answer.ensures.goes);
+      sound = λ sound. inv.sound next.unstopped;
       end = next.end inv.end;
       telling = goes_on c.loop-command.reader.ahead c.next_command.new.self.ahead (g.D.Desk.left c.args.desk.now)
           (g.D.Desk.left c.loop-command.desk) (g.D.Desk.left c.next_command.new.desk) next.unstopped inv.telling
@@ -214,3 +217,6 @@ returns-clause-content g c = search rules
 -- src/script.rt:84:1
 pub returns-clause-stays : goal.returns-clause-stays
 returns-clause-stays g c = search rules
+
+pub returns-clause-unstopped : goal.returns-clause-unstopped
+returns-clause-unstopped g c = c.loop-command.invariant.sound c.in_ok-command.ensures.unstopped

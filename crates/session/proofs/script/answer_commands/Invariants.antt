@@ -14,6 +14,7 @@ invariant-loop-command g l = record {
       (upcoming l.fn.reader (g.D.Desk.left l.fn.desk)) (upcoming l.reader (g.D.Desk.left l.desk)) l.session.engine
       (λ text. Wrote g.S.Sink.written g.S.Sink.flushed g.S.Sink.faults g.S.Sink.has_room l.fn.sink l.sink text)
       (l.fn.stops.items, l.stops.items);
+  sound : is_fault l.reader.ahead ≡ false → is_fault l.fn.reader.ahead ≡ false;
   end : EndsWith l.reader.ahead (g.D.Desk.left l.desk);
   telling : GoesOn l.reader.ahead (g.D.Desk.left l.fn.desk) (g.D.Desk.left l.desk);
   later : g.D.Desk.faults l.fn.desk ≤ g.D.Desk.faults l.desk;

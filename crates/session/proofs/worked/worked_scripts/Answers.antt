@@ -1,14 +1,16 @@
-use Rattle.std.proofs.Common.{◌≡◌, ◌≤◌, List, [], ◌∷◌, length, codes, refl, ap, arith, ⊎_elim}
+use Rattle.std.proofs.Common.{◌≡◌, ◌≤◌, List, [], ◌∷◌, length, codes, None, Some, refl, ap, subst, arith, ⊎_elim}
 use Rattle.qscript.specs.declared.command.Command.{Command}
 use Rattle.qscript.specs.declared.command.Command.TheVariants.{Pop, Push}
 use Rattle.qscript.specs.Reads.{done}
 use Rattle.session.specs.declared.ending.Ending.TheVariants.{Done, NoMemory, ReadFault, Refused, WriteFault}
-use Rattle.session.specs.Replies.{says}
+use Rattle.versions.specs.declared.version.Version.TheVariants.{One, Two}
+use Rattle.qscript.proofs.Outcomes.{computed_reading}
+use Rattle.session.specs.Replies.{Leads, says}
 use Rattle.session.specs.Standing.{start}
 use Rattle.session.specs.Terms.{terms_of}
 use Rattle.session.specs.Worked.{at_thirty_six}
 use Rattle.session.specs.WorkedScripts.{one_refusal, two_refusals}
-use Rattle.session.proofs.ScriptValues.{both_read, first_ones, front_head, leads_one, leads_two, none_told, read_length, reply_length, some_reply, too_short, whole_length}
+use Rattle.session.proofs.ScriptValues.{at_start, both_read, first_ones, first_version, front_head, leads_one, leads_two, none_told, read_length, reply_length, some_reply, too_short, whole_length}
 use Rattle.session.proofs.worked.worked_scripts.Goals as goal
 
 pub returns : goal.returns
@@ -19,13 +21,18 @@ returns c = record {
   other_first = λ h. ⊎_elim (λ e. absurd (let f : Push ∷ [] ≡ [] = e in cc))
       (⊎_elim (λ e. absurd (let f : Push ∷ [] ≡ Pop ∷ [] = e in let g : Push ≡ Pop = cc in cc))
       (λ e. absurd (let n : 1 ≡ 2 = ap (λ (cs : List Command). length cs) e in omega (arith, n))))
-      (first_ones (Push ∷ []) h);
+      (first_ones (Some One) (Push ∷ []) h);
   too_many = λ h. ⊎_elim
       (λ e. absurd (let n : 3 ≡ 0 = ap (λ (cs : List Command). length cs) e in omega (arith, n)))
       (⊎_elim (λ e. absurd (let n : 3 ≡ 1 = ap (λ (cs : List Command). length cs) e in omega (arith, n)))
       (λ e. absurd (let n : 3 ≡ 2 = ap (λ (cs : List Command). length cs) e in omega (arith, n))))
-      (first_ones (Pop ∷ Pop ∷ Pop ∷ []) h);
+      (first_ones (Some One) (Pop ∷ Pop ∷ Pop ∷ []) h);
+  other_version = λ h. absurd (let f : Some Two ≡ Some One = first_version (Some Two) [] h in
+      let g : Two ≡ One = cc in cc);
+  no_version = λ h. absurd (let f : None ≡ Some One = first_version None [] h in cc);
+  second_version = ([], done, computed_reading (codes "p qscript 2\npop\n"));
   both = record {
+    version = Some One;
     commands = Pop ∷ Pop ∷ [];
     out = says two_refusals;
     after = start;
@@ -42,6 +49,7 @@ returns c = record {
   one_alone_refused = λ h. absurd (let n : 11 ≡ 22 = read_length (terms_of 0 0) one_refusal [] (Refused 31 4) h tt
       (λ e. absurd (let f : Refused 31 4 ≡ WriteFault = e in cc)) in omega (arith, n));
   one = record {
+    version = Some One;
     commands = Pop ∷ [];
     out = says one_refusal;
     after = start;
@@ -54,6 +62,7 @@ returns c = record {
     ends = tt;
   };
   none_read = record {
+    version = Some One;
     commands = [];
     out = says [];
     after = start;
@@ -72,6 +81,7 @@ returns c = record {
       (λ e. absurd (let f : ReadFault ≡ WriteFault = e in cc)))
       (λ e. omega (arith, e)) (λ e. omega (arith, e)) (λ e. omega (arith, e));
   front = record {
+    version = Some One;
     commands = Pop ∷ Pop ∷ [];
     out = says two_refusals;
     after = start;
@@ -90,11 +100,12 @@ returns c = record {
       (λ e. omega (arith, e)) (λ e. omega (arith, e)) (λ e. omega (arith, e));
   told = λ h. absurd (let f : at_thirty_six ∷ [] ≡ [] =
       none_told (terms_of 0 0) two_refusals (at_thirty_six ∷ []) (Done 0) h in cc);
-  room = λ commands out after leads first.
-      let long = reply_length out (some_reply (terms_of 0 0) commands (first_ones commands first) out after leads)
+  room = λ version commands out after leads first.
+      let long = reply_length out (some_reply (terms_of 0 0) commands (first_ones version commands first) out after
+      (subst (λ s. Leads (terms_of 0 0) s commands out after) (at_start version commands first) leads))
       (length out.text) refl in
       ⊎_elim (λ n. omega (arith, n)) (⊎_elim (λ n. omega (arith, n)) (λ n. omega (arith, n))) long;
-  no_room = λ room. absurd (let few : 22 ≤ 21 = room (Pop ∷ Pop ∷ []) (says two_refusals) start
+  no_room = λ room. absurd (let few : 22 ≤ 21 = room (Some One) (Pop ∷ Pop ∷ []) (says two_refusals) start
       (leads_two (terms_of 0 0))
       ([], done, both_read) in omega (arith, few));
 }

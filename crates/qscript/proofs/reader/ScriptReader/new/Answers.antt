@@ -1,8 +1,9 @@
 use Rattle.std.proofs.Common.{ap, ◌∙◌, Some, false}
 use Rattle.qscript.specs.Run.{between}
-use Rattle.qscript.specs.State.{script_at}
+use Rattle.qscript.specs.State.{reading_at}
 use Rattle.qscript.proofs.Outcomes.{reading_computed}
 use Rattle.qscript.proofs.reader.ScriptReader.new.Goals as goal
 
 pub returns-clause-script : goal.returns-clause-script
-returns-clause-script c = λ text cs e r. ap (script_at (between false)) (c.in_ok-lexer.ensures.items text) ∙ ap Some (reading_computed text cs e r)
+returns-clause-script c = λ text version cs e r.
+    ap (reading_at (between false)) (c.in_ok-lexer.ensures.items text) ∙ ap Some (reading_computed text version cs e r)
