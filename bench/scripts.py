@@ -2,8 +2,8 @@
 """Runs qbf on scripts that grow, and prints processor seconds, microseconds a command, and memory.
 
 Each script opens a frame, puts ten clauses into it, solves and drops the frame, again and again: `small` over an empty
-formula, `base` over one of so many clauses that stay. The time is to be linear in the number of commands; a round over
-a base decides its variables.
+formula, `base` over one of so many clauses that stay, and `leave` with ten variables of its own in version 2, which
+leave with the frame. The time is to be linear in the number of commands; a round over a base decides its variables.
 
 usage: scripts.py        QBF=COMMAND in the environment: another command than bin/qbf script
 """
@@ -35,6 +35,25 @@ def script(commands, variables, base):
     return "".join(lines)
 
 
+def leaving(commands):
+    """A script of version 2 of so many commands, 23 a round: ten variables come and leave, with ten clauses over them."""
+    draw = random.Random(1)
+    lines = ["p qscript 2\n", "scope e\n", "scope a\n", "scope e\n"]
+    for _ in range(commands // 23):
+        lines.append("push\n")
+        lines += [f"var {v} {1 + v % 3}\n" for v in range(1, 11)]
+        lines += [clause(draw, 10) for _ in range(10)]
+        lines += ["solve\n", "pop\n"]
+    return "".join(lines)
+
+
+def scripts(commands):
+    """Scripts of so many commands, by their names."""
+    yield "small", script(commands, 30, 0)
+    yield "base", script(commands, 300, 1000)
+    yield "leave", leaving(commands)
+
+
 def cost(command):
     """The processor seconds that a command took, and its greatest memory in megabytes."""
     child = os.fork()
@@ -51,9 +70,9 @@ def main():
     command = os.environ.get("QBF", f"{root}/bin/qbf script").split()
     with tempfile.TemporaryDirectory() as folder:
         path = Path(folder) / "script"
-        for name, variables, base in [("small", 30, 0), ("base", 300, 1000)]:
-            for commands in [12_500, 25_000, 50_000, 100_000]:
-                path.write_text(script(commands, variables, base))
+        for commands in [12_500, 25_000, 50_000, 100_000, 200_000, 400_000]:
+            for name, text in scripts(commands):
+                path.write_text(text)
                 seconds, megabytes = cost([*command, str(path)])
                 print(f"{name:6} {commands:7} commands {seconds:6.2f} s {1e6 * seconds / commands:6.1f} us a command"
                       f" {megabytes:4} MB")

@@ -42,7 +42,7 @@ def agrees(words, text, status, error):
     why = None
     try:
         if words[0] == "script":
-            _, why = read_script(text)
+            _, _, why = read_script(text)
         elif "--qcir" in words:
             read_circuit(text)
         else:

@@ -34,7 +34,7 @@ sys.dont_write_bytecode = True
 from circuits import at_random, by_hand, with_gates, with_guesses
 from reading import Refused, read_formula, read_script
 from rules import SECONDS, TRUE, FALSE, Circuit, Trace, check_circuit, check_trace, require, text_of, whole
-from sessions import check_replies, drawn_commands, script_of
+from sessions import check_replies, drawn_commands, leaving_commands, script_of
 
 EXAMPLES = Path(__file__).resolve().parent.parent / "examples"
 JOBS = ("solve", "solve --qdo", "trace", "cert")
@@ -68,7 +68,8 @@ def formulas():
 
 def scripts():
     yield from (path.read_bytes() for path in sorted(EXAMPLES.glob("*.qscript")))
-    yield from (script_of(drawn_commands(seed)).encode() for seed in range(40))
+    yield from (script_of(drawn_commands(seed), 1 + seed % 2).encode() for seed in range(40))
+    yield from (script_of(leaving_commands(seed, 40), 2).encode() for seed in range(20))
 
 
 # The changes. Each makes another text of a text, by draws; `other` is a text of the same kind.
@@ -249,12 +250,14 @@ def check_result(formula, header, status, out):
 
 
 def check_script(mutant, status, out, err):
-    commands, why = read_script(mutant.text)
+    version, commands, why = read_script(mutant.text)
     wanted = (why.status, str(why)) if why else (0, "")
     require((status, err) == wanted, f"{status}, {out!r} and {err!r} where {wanted} is right")
     variables = {rest[0] for word, rest in commands if word == "var"}
-    if len(variables) <= TABLE:
-        check_replies(commands, mutant.budget, out)
+    if version is None:
+        require(out == "", f"output {out!r} without a header")
+    elif len(variables) <= TABLE:
+        check_replies(commands, mutant.budget, version, out)
     return "malformed" if why else "answered"
 
 

@@ -17,7 +17,8 @@ VARIABLES, SCOPES, CLAUSES = 1_048_576, 65_536, 2**24
 QUANTIFIERS = {b"e": "e", b"a": "a"}
 
 # The versions of scripts, each with its commands.
-COMMANDS = {1: "scope var clause push pop assume solve value relevant trace cert".split()}
+FIRST = "scope var clause push pop assume solve value relevant trace cert".split()
+COMMANDS = {1: FIRST, 2: FIRST}
 
 
 class Refused(Exception):
@@ -241,8 +242,11 @@ def read_command(line, words, version):
 
 
 def read_script(text):
-    """The commands of a script up to its first malformed line, and what refuses that, or None."""
-    commands = []
+    """The version of a script, its commands up to the first malformed line, and what refuses that, or None.
+
+    Where the header is refused there is no version, and no command.
+    """
+    version, commands = None, []
     lines = words_by_line(text, lambda word: word == b"c")
     try:
         head = next(lines, None)
@@ -252,8 +256,8 @@ def read_script(text):
         for line, words in lines:
             commands.append(read_command(line, words, version))
     except Refused as why:
-        return commands, why
-    return commands, None
+        return version, commands, why
+    return version, commands, None
 
 
 # Circuits.
