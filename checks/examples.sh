@@ -149,9 +149,10 @@ page_script gate 'A synthesis session' 1
 page_script plan 'A planning session' 1
 page_script horizon 'A planning session in version 2' 1
 page_script counter 'A model-checking session' 1
+page_script conflict 'A specification in conflict' 1
 refused 7 2 'p qscript 1\nsolve\001\n'
 refused 8 3 'p qscript 1\nscope e\nvar 9223372036854775808 1\n'
-refused 30 1 'p qscript 3\n'
+refused 30 1 'p qscript 4\n'
 refused 31 2 'p qscript 1\n1 2 0\n'
 refused 32 2 'p qscript 1\nclause x \001\n'
 

@@ -34,7 +34,7 @@ sys.dont_write_bytecode = True
 from circuits import at_random, by_hand, with_gates, with_guesses
 from reading import Refused, read_formula, read_script
 from rules import SECONDS, TRUE, FALSE, Circuit, Trace, check_circuit, check_trace, require, text_of, whole
-from sessions import check_replies, drawn_commands, leaving_commands, script_of
+from sessions import check_replies, drawn_commands, grouped_commands, leaving_commands, script_of
 
 EXAMPLES = Path(__file__).resolve().parent.parent / "examples"
 JOBS = ("solve", "solve --qdo", "trace", "cert")
@@ -70,6 +70,7 @@ def scripts():
     yield from (path.read_bytes() for path in sorted(EXAMPLES.glob("*.qscript")))
     yield from (script_of(drawn_commands(seed), 1 + seed % 2).encode() for seed in range(40))
     yield from (script_of(leaving_commands(seed, 40), 2).encode() for seed in range(20))
+    yield from (script_of(grouped_commands(seed, 40), 3).encode() for seed in range(20))
 
 
 # The changes. Each makes another text of a text, by draws; `other` is a text of the same kind.

@@ -18,7 +18,8 @@ QUANTIFIERS = {b"e": "e", b"a": "a"}
 
 # The versions of scripts, each with its commands.
 FIRST = "scope var clause push pop assume solve value relevant trace cert".split()
-COMMANDS = {1: FIRST, 2: FIRST}
+COMMANDS = {1: FIRST, 2: FIRST, 3: FIRST + "open close activate deactivate core".split()}
+GROUPS = ("open", "activate", "deactivate")
 
 
 class Refused(Exception):
@@ -201,14 +202,15 @@ def may_follow(command, before, word):
         return is_number(word) and 0 not in before
     if command == "assume":
         return place == 0 and is_number(word) and word != 0
-    return command == "value" and place == 0 and is_natural(word)
+    return command in ("value", *GROUPS) and place == 0 and is_natural(word)
 
 
 def is_whole(command, rest):
     """Whether a command may end behind these words."""
     if command == "clause":
         return bool(rest) and rest[-1] == 0
-    return len(rest) in {"scope": (1, 2), "var": (2,), "assume": (1,), "value": (1,)}.get(command, (0,))
+    many = {"scope": (1, 2), "var": (2,), "assume": (1,), "value": (1,), **dict.fromkeys(GROUPS, (1,))}
+    return len(rest) in many.get(command, (0,))
 
 
 def read_script_header(line, words):

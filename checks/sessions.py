@@ -1,7 +1,7 @@
 """Drawn scripts, and a plain model of what their commands come to: what checks/circuits.py checks `qbf script` by.
 
-The model keeps scopes, frames of clauses with the variables that leave with them, assumptions and the last verdict, by
-docs/SCRIPTS.md and docs/FRAMES.md.
+The model keeps scopes, frames of clauses with the variables that leave with them, groups of clauses, assumptions and the
+last verdict, by docs/SCRIPTS.md and docs/FRAMES.md.
 Truth is found by the whole table of the open formula; traces and circuits are checked by the rules of checks/rules.py.
 """
 
@@ -11,6 +11,7 @@ from rules import Circuit, Formula, Lines, Trace, check_circuit, check_trace, li
 
 GREATEST = 1_048_576
 QUESTIONS = ("value", "relevant", "trace", "cert")
+MOST_GROUPS = 65_536
 
 
 class Verdict:
@@ -53,6 +54,9 @@ class Model:
         self.version = version
         self.scopes = []
         self.frames = [([], [])]
+        self.groups = {}
+        self.active = set()
+        self.open = None
         self.assumed = []
         self.verdict = None
 
@@ -75,8 +79,23 @@ class Model:
             yield 3, not 1 <= rest[1] <= len(self.scopes)
         elif word == "clause":
             yield 41, self.is_unknown(rest)
+        elif word == "push":
+            yield 46, self.open is not None
         elif word == "pop":
             yield 40, len(self.frames) == 1
+        elif word == "open":
+            yield 47, not 1 <= rest[0] <= MOST_GROUPS
+            yield 46, self.open is not None
+            yield 49, len(self.frames) > 1
+        elif word == "close":
+            yield 48, self.open is None
+        elif word in ("activate", "deactivate"):
+            yield 47, not 1 <= rest[0] <= MOST_GROUPS
+            yield 48, rest[0] not in self.groups
+            yield 46, self.open is not None
+        elif word == "core":
+            yield 50, self.verdict is None
+            yield 53, self.verdict.truth
         elif word == "assume":
             yield 41, self.is_unknown(rest)
             yield 42, self.scope_of(abs(rest[0])) != 1
@@ -101,16 +120,36 @@ class Model:
             self.scopes.insert(place, (rest[0], []))
         elif word == "var":
             self.scopes[rest[1] - 1][1].append(rest[0])
-            if self.version == 2 and len(self.frames) > 1:
+            if self.version >= 2 and len(self.frames) > 1:
                 self.frames[-1][1].append(rest[0])
         elif word == "clause":
-            self.frames[-1][0].append(rest)
+            (self.frames[-1][0] if self.open is None else self.groups[self.open]).append(rest)
         elif word == "push":
             self.frames.append(([], []))
         elif word == "pop":
             self.leave(self.frames.pop()[1])
         elif word == "assume" and rest[0] not in self.assumed:
             self.assumed.append(rest[0])
+        else:
+            self.change_group(word, rest)
+
+    def change_group(self, word, rest):
+        if word == "open":
+            self.open = rest[0]
+            if rest[0] not in self.groups:
+                self.groups[rest[0]] = []
+                self.active.add(rest[0])
+        elif word == "close":
+            self.open = None
+        elif word == "activate":
+            self.active.add(rest[0])
+        elif word == "deactivate":
+            self.active.discard(rest[0])
+
+    def formula(self, groups):
+        """The clauses of all frames, and those of some groups."""
+        clauses = [clause for clauses, _ in self.frames for clause in clauses]
+        return Formula(self.scopes, clauses + [clause for group in sorted(groups) for clause in self.groups[group]])
 
     def leave(self, variables):
         """Takes variables out of their scopes, with the assumptions over them."""
@@ -119,17 +158,36 @@ class Model:
 
     def solve(self, lines):
         """A verdict is the truth and empties the assumptions; UNKNOWN comes under a low budget, and keeps them."""
-        formula = Formula(self.scopes, [clause for clauses, _ in self.frames for clause in clauses])
+        formula = self.formula(self.active)
         [said] = lines.take("(SAT|UNSAT|UNKNOWN)", "reply of solve")
         self.verdict = None
         if said == "UNKNOWN":
-            n = len(formula.level)
-            require(self.budget is not None and self.budget < (8 * n + 8) * 2 ** (n + 1), "UNKNOWN without need")
+            self.may_stop()
             return
         truth = formula.truth(self.assumed)
         require((said == "SAT") == truth, f"{said} of a formula that is {truth}, assumed {self.assumed}")
         self.verdict = Verdict(formula, self.assumed, truth)
         self.assumed = []
+
+    def may_stop(self):
+        n = sum(len(variables) for _, variables in self.scopes)
+        require(self.budget is not None and self.budget < (8 * n + 8) * 2 ** (n + 1), "UNKNOWN without need")
+
+    def core(self):
+        """Each active group in turn is left out where the formula is false without it, and without those left out."""
+        kept = set(self.active)
+        for group in sorted(self.active):
+            if not self.formula(kept - {group}).truth(self.verdict.assumed):
+                kept.remove(group)
+        return sorted(kept)
+
+    def ask_core(self, lines):
+        """The core, or UNKNOWN under a low budget; the verdict stays."""
+        [said] = lines.take("(UNKNOWN|core (?:[1-9][0-9]* )*0)", "reply of core")
+        if said == "UNKNOWN":
+            self.may_stop()
+        else:
+            require(said == " ".join(map(str, ["core", *self.core(), 0])), f"{said}, where {self.core()} is right")
 
     def ask(self, lines, word, rest):
         """The reply to an accepted question."""
@@ -148,6 +206,8 @@ class Model:
             require((trace.verdict == "SAT") == verdict.truth, f"a trace of {trace.verdict}")
             check_trace(verdict.formula, trace, verdict.assumed)
             verdict.tell_last([abs(literal) for literal in trace.steps[-1][0]])
+        elif word == "core":
+            self.ask_core(lines)
         else:
             self.ask_circuit(lines)
 
@@ -168,7 +228,7 @@ class Model:
             lines.take(f"refused {number}", f"reply of {word}")
         elif word == "solve":
             self.solve(lines)
-        elif word in QUESTIONS:
+        elif word in (*QUESTIONS, "core"):
             self.ask(lines, word, rest)
         else:
             self.change(word, rest)
@@ -269,6 +329,42 @@ def leaving_commands(seed, count=200):
     return commands[:count]
 
 
+def drawn_group(draw, _):
+    """A group opened, closed, or made active or not, mostly a small one."""
+    word = draw.choices(("open", "close", "activate", "deactivate"), (4, 10, 26, 60))[0]
+    yield word, [] if word == "close" else [draw.choice((*range(1, 13), 0, MOST_GROUPS, MOST_GROUPS + 1))]
+
+
+def drawn_block(draw, variables):
+    """A group of one to twelve opened, a clause or two of it, and closed."""
+    yield "open", [draw.randint(1, 12)]
+    for _ in range(draw.randint(1, 2)):
+        yield "clause", some_literals(draw, variables, draw.choice((1, 2, 2, 2, 3, 3)))
+    yield "close", []
+
+
+def drawn_pop(draw, _):
+    yield draw.choice(("push", "pop", "pop", "pop")), []
+
+
+def drawn_core(draw, _):
+    yield "solve", []
+    yield "core", []
+
+
+def grouped_commands(seed, count=200):
+    """So many commands over few variables, with groups that are filled, made active or not, and cores."""
+    draw = random.Random(seed)
+    scopes, variables = draw.randint(1, 3), list(range(1, draw.randint(4, 8)))
+    commands = [("scope", ["ea"[(place + seed) % 2]]) for place in range(scopes)]
+    commands += [("var", [variable, draw.randint(1, scopes)]) for variable in variables]
+    kinds = {drawn_block: 30, drawn_clause: 2, drawn_group: 24, drawn_core: 24, drawn_pop: 6, drawn_questions: 2}
+    kinds[drawn_assumption] = 6
+    while len(commands) < count:
+        commands += draw.choices(list(kinds), list(kinds.values()))[0](draw, variables)
+    return commands[:count]
+
+
 def scripts():
     """Each with its name, its commands, the budget of its verdicts, and its version."""
     for seed in range(120):
@@ -279,3 +375,7 @@ def scripts():
         yield f"script_whose_variables_leave_{seed}", list(drawn_commands(seed)), None, 2
     for seed in range(190, 240):
         yield f"script_whose_variables_come_again_{seed}", leaving_commands(seed), None, 2
+    for seed in range(240, 300):
+        yield f"script_with_groups_{seed}", grouped_commands(seed), None, 3
+    for seed in range(300, 320):
+        yield f"script_with_groups_and_budget_{seed}", grouped_commands(seed), seed % 20, 3

@@ -1,9 +1,10 @@
 -- Choices, one at a time.
-use Rattle.std.proofs.Common.{◌≡◌, ℕ, ◌+◌, ◌<◌, ◌≤◌, ◌⊎◌, ◌&&◌, ◌||◌, Bool, true, false, List, [], ◌∷◌, ◌++◌, length, take, get_or, Contains, Option, Some, None, is_some, refl, sym, subst, ap, ap₂, ◌∙◌, inl, inr, ⊎_elim, arith, nat_eq, nat_lt}
+use Rattle.std.proofs.Common.{◌≡◌, ℕ, ◌+◌, ◌<◌, ◌≤◌, ◌⊎◌, ◌&&◌, ◌||◌, Bool, true, false, List, [], ◌∷◌, ◌++◌, length, map, take, drop, get_or, Contains, Option, Some, None, is_some, refl, sym, subst, ap, ap₂, ◌∙◌, inl, inr, ⊎_elim, arith, append_assoc, nat_eq, nat_lt}
 use Rattle.std.specs.Prelude.{IsTrue}
 use Rattle.std.specs.Bool.{beq}
+use Rattle.std.specs.List.{flat_map}
 use Rattle.std.proofs.lemmas.Bool.{cases_Bool, cases_lt, and_parts, and_from, eqb-true, eq-eqb, ltb-true, lt-ltb, cond-true, cond-false, true≢false, false≢true}
-use Rattle.std.proofs.lemmas.List.{get_or_default, take_more}
+use Rattle.std.proofs.lemmas.List.{drop_more, map-append, take_more}
 use Rattle.std.proofs.lemmas.List.Elements.{Contains-push, Contains-push_cases, Contains-append_left}
 use Rattle.prefix.specs.declared.quant.Quant.{Quant}
 use Rattle.prefix.specs.declared.quant.Quant.TheVariants.{Exists, Forall}
@@ -13,18 +14,39 @@ use Rattle.truth.specs.Matrix.{Values, clause_true, is_true_of, literal_true, sa
 use Rattle.calculus.specs.Rows.{Row, depth_of, is_of, is_pivot}
 use Rattle.calculus.specs.Search.{IsOrderedAfter, IsOrderedTrail, Trail, value_on}
 use Rattle.calculus.proofs.Levels.{has_quantifier}
-use Rattle.calculus.proofs.Lists.{any_at, contains_cons, contains_nil}
+use Rattle.calculus.proofs.Lists.{any_at, contains_cons, contains_head, contains_nil, contains_tail}
 use Rattle.calculus.proofs.Trails.{value_past}
-use Rattle.cover.specs.Choices.{AreChoices, AreHit, AreHitBut, AreHitWith, Choices, Chooses, IsHit, IsInnermost, IsListed, MayCover, chosen_at, has_sign, is_chosen, is_better, is_true_one}
+use Rattle.cover.specs.Choices.{AreChoices, AreChosenBut, AreHit, AreHitBut, AreHitWith, Choices, Chooses, IsHit, IsInnermost, MayCover, chosen_at, has_sign, is_chosen, is_better, is_true_one}
 
 pub one_more : {X : Type 0} (xs : List X) (i : ℕ) (v : X) → i < length xs → v ≡ get_or xs i v
     → take (i + 1) xs ≡ take i xs ++ v ∷ []
 one_more xs i v below is = take_more xs i v below ∙ ap (λ l. take i xs ++ l ∷ []) (sym is)
 
--- of some clauses of a matrix each one is hit, but for those at these places
-abbrev pub AreHitAmong : List ℕ → List Row → List Row → Choices → Type 0
-AreHitAmong places matrix clauses table =
-    (clause : Row) → Contains clauses clause → IsListed places matrix clause ⊎ IsHit table clause
+-- one more clause of a part is passed
+pub one_longer : (before part : List Row) (i : ℕ) (clause : Row) → i < length part → clause ≡ get_or part i clause
+    → before ++ take (i + 1) part ≡ (before ++ take i part) ++ clause ∷ []
+one_longer before part i clause below is =
+    ap (λ (r : List Row). before ++ r) (one_more part i clause below is)
+    ∙ sym (append_assoc before (take i part) (clause ∷ []))
+
+-- one more is listed
+pub one_listed : {X : Type 0} (xs ys : List X) (x : X) → ys ≡ xs ++ x ∷ [] → (f : X → Row)
+    → map f ys ≡ map f xs ++ f x ∷ []
+one_listed xs ys x e f = ap (map f) e ∙ map-append f xs (x ∷ [])
+
+-- of what is listed one is left behind
+pub one_behind : {X : Type 0} (xs : List X) (i : ℕ) (x : X) → i < length xs → x ≡ get_or xs i x → (f : X → Row)
+    → map f (drop i xs) ≡ f x ∷ map f (drop (i + 1) xs)
+one_behind xs i x below is f =
+    ap (map f) (drop_more xs i x below ∙ ap (λ y. y ∷ drop (i + 1) xs) (sym is))
+
+-- one more part is passed
+pub one_part : {X : Type 0} (f : X → List Row) (before : List Row) (xs : List X) (i : ℕ) (x : X) → i < length xs
+    → x ≡ get_or xs i x
+    → (before ++ f x) ++ flat_map f (drop (i + 1) xs) ≡ before ++ flat_map f (drop i xs)
+one_part {X} f before xs i x below is =
+    append_assoc before (f x) (flat_map f (drop (i + 1) xs))
+    ∙ ap (λ (ys : List X). before ++ flat_map f ys) (ap (λ y. y ∷ drop (i + 1) xs) is ∙ sym (drop_more xs i x below))
 
 clash : (b : Bool) → b ≡ true → b ≡ false → ⊥
 clash b t f = true≢false (sym t ∙ f)
@@ -232,7 +254,7 @@ module _ (scopes : List Scope) (values : Values) (matrix : List Row) where
     pub hit_now : (clause : Row) → Contains clause m → IsHit new clause
     hit_now clause i = (m, i, chosen_new m.variable refl)
 
-  -- the two loops, one clause further
+  -- what may stand in a cover
 
   pub may_existential : (clause : Row) (m : Literal) → Contains matrix clause
       → IsInnermost Exists scopes values clause (Some m) → MayCover scopes values matrix m
@@ -262,78 +284,6 @@ module _ (scopes : List Scope) (values : Values) (matrix : List Row) where
         alone = λ universal l i. none l i;
       }
 
-  -- the existential ones
-  pub existential_skip : (clauses : List Row) (table : Choices) (clause : Row)
-      → IsInnermost Exists scopes values clause None → AreHitWith Exists scopes values clauses table
-      → AreHitWith Exists scopes values (clauses ++ clause ∷ []) table
-  existential_skip clauses table clause none before c l i j one =
-      ⊎_elim
-      (λ k. before c l k j one)
-      (λ e. absurd (clash (is_true_one Exists scopes values l) one
-      (none l (subst (λ (r : Row). Contains r l) (sym e) j))))
-      (Contains-push_cases clauses clause c i)
-
-  pub existential_takes : (clauses : List Row) (old new : Choices) (clause : Row) (m : Literal) → Contains matrix clause
-      → IsInnermost Exists scopes values clause (Some m) → AreChoices scopes values matrix old → Chooses old new m
-      → AreHitWith Exists scopes values clauses old → AreChoices scopes values matrix new
-      × AreHitWith Exists scopes values (clauses ++ clause ∷ []) new
-  existential_takes clauses old new clause m stands taken are chooses before =
-      let may = may_existential clause m stands taken in (
-        choices_more old new m are chooses may,
-        λ c l i j one. ⊎_elim
-            (λ k. hit_stays old new m are chooses may c (before c l k j one))
-            (λ e. hit_now old new m are chooses may c (subst (λ (r : Row). Contains r m) e taken.0))
-            (Contains-push_cases clauses clause c i),
-      )
-
-  -- what isn't hit is listed
-  pub listed_more : (clauses : List Row) (places : List ℕ) (table : Choices) (place : ℕ) (clause : Row)
-      → place < length matrix → get_or matrix place clause ≡ clause → AreHitAmong places matrix clauses table
-      → AreHitAmong (places ++ place ∷ []) matrix (clauses ++ clause ∷ []) table
-  listed_more clauses places table place clause below is before c i =
-      ⊎_elim
-      (λ k. ⊎_elim
-      (λ listed. inl (listed.0, Contains-append_left places (place ∷ []) listed.0 listed.1, listed.2, listed.3))
-      inr
-      (before c k))
-      (λ e. inl (subst (λ (r : Row). IsListed (places ++ place ∷ []) matrix r) e
-      (place, Contains-push places place, below, is)))
-      (Contains-push_cases clauses clause c i)
-
-  pub hit_more : (clauses : List Row) (places : List ℕ) (old new : Choices) (clause : Row) (m : Literal)
-      → Contains matrix clause → IsInnermost Exists scopes values clause (Some m)
-      → AreChoices scopes values matrix old → Chooses old new m → AreHitAmong places matrix clauses old
-      → AreHitAmong places matrix (clauses ++ clause ∷ []) new
-  hit_more clauses places old new clause m stands taken are chooses before c i =
-      let may = may_existential clause m stands taken in
-      ⊎_elim
-      (λ k. ⊎_elim inl (λ hit. inr (hit_stays old new m are chooses may c hit)) (before c k))
-      (λ e. inr (hit_now old new m are chooses may c (subst (λ (r : Row). Contains r m) e taken.0)))
-      (Contains-push_cases clauses clause c i)
-
-  -- the universal ones
-  hit_next : (place : ℕ) (places : List ℕ) (table : Choices) (clause : Row) → place < length matrix
-      → get_or matrix place clause ≡ clause → IsHit table clause → AreHitBut (place ∷ places) matrix table
-      → AreHitBut places matrix table
-  hit_next place places table clause below is hit before c i =
-      ⊎_elim
-      (λ listed. ⊎_elim
-      (λ e.
-      let there : get_or matrix place c ≡ c = rw e listed.3 in
-      let same : clause ≡ c = sym is ∙ (get_or_default matrix place clause c below ∙ there) in
-      inr (subst (λ (r : Row). IsHit table r) same hit))
-      (λ rest. inl (listed.0, rest, listed.2, listed.3))
-      (contains_cons place places listed.0 listed.1))
-      inr
-      (before c i)
-
-  pub universal_skip : (place : ℕ) (places : List ℕ) (table : Choices) (clause : Row) → place < length matrix
-      → get_or matrix place clause ≡ clause → AreChoices scopes values matrix table
-      → ((l : Literal) × Contains clause l × IsTrue (is_chosen table l)) → AreHitBut (place ∷ places) matrix table
-      → AreHitBut places matrix table
-  universal_skip place places table clause below is are hit before =
-      hit_next place places table clause below is (hit.0, hit.1, chosen_is table are hit.0 hit.2) before
-
   -- a clause of which nothing is chosen has no true existential literal
   pub none_existential : (table : Choices) (clause : Row) → Contains matrix clause
       → AreHitWith Exists scopes values matrix table → ((l : Literal) → Contains clause l → is_chosen table l ≡ false)
@@ -352,27 +302,121 @@ module _ (scopes : List Scope) (values : Values) (matrix : List Row) where
       beq_self true = refl
       beq_self false = refl
 
-  pub universal_takes : (place : ℕ) (places : List ℕ) (old new : Choices) (clause : Row) (m : Literal)
-      → place < length matrix → get_or matrix place clause ≡ clause
-      → IsInnermost Forall scopes values clause (Some m) → AreChoices scopes values matrix old
-      → AreHitWith Exists scopes values matrix old → ((l : Literal) → Contains clause l → is_chosen old l ≡ false)
-      → Chooses old new m → AreHitBut (place ∷ places) matrix old → AreChoices scopes values matrix new
-      × AreHitWith Exists scopes values matrix new × AreHitBut places matrix new
-  universal_takes place places old new clause m below is taken are existential missed chooses before =
-      let stands : Contains matrix clause = (place, below, is) in
+-- with one clause more what may stand in a cover still may
+choices_longer : (scopes : List Scope) (values : Values) (clauses : List Row) (clause : Row) (table : Choices)
+    → AreChoices scopes values clauses table → AreChoices scopes values (clauses ++ clause ∷ []) table
+choices_longer scopes values clauses clause table are x l at =
+    let is = are x l at in (
+      is.0,
+      record {
+        is_true = is.1.is_true;
+        clause = is.1.clause;
+        stands = Contains-append_left clauses (clause ∷ []) is.1.clause is.1.stands;
+        holds = is.1.holds;
+        latest = is.1.latest;
+        alone = is.1.alone;
+      },
+    )
+
+-- the first pass, one clause further
+module _ (scopes : List Scope) (values : Values) (clauses others : List Row) (clause : Row) where
+  pub existential_skip : (table : Choices) → IsInnermost Exists scopes values clause None
+      → AreChosenBut scopes values others clauses table
+      → AreChosenBut scopes values (others ++ clause ∷ []) (clauses ++ clause ∷ []) table
+  existential_skip table none was = record {
+    choices = choices_longer scopes values clauses clause table was.choices;
+    existential =
+        λ c l i j one. ⊎_elim
+        (λ k. was.existential c l k j one)
+        (λ e. absurd (clash (is_true_one Exists scopes values l) one
+        (none l (subst (λ (r : Row). Contains r l) (sym e) j))))
+        (Contains-push_cases clauses clause c i);
+    hit =
+        λ c i. ⊎_elim
+        (λ k. ⊎_elim (λ o. inl (Contains-append_left others (clause ∷ []) c o)) inr (was.hit c k))
+        (λ e. inl (subst (λ (r : Row). Contains (others ++ clause ∷ []) r) e (Contains-push others clause)))
+        (Contains-push_cases clauses clause c i);
+    among =
+        λ c i. ⊎_elim
+        (λ o. Contains-append_left clauses (clause ∷ []) c (was.among c o))
+        (λ e. subst (λ (r : Row). Contains (clauses ++ clause ∷ []) r) e (Contains-push clauses clause))
+        (Contains-push_cases others clause c i);
+  }
+
+  pub existential_takes : (old new : Choices) (m : Literal) → IsInnermost Exists scopes values clause (Some m)
+      → Chooses old new m → AreChosenBut scopes values others clauses old
+      → AreChosenBut scopes values others (clauses ++ clause ∷ []) new
+  existential_takes old new m taken chooses was =
+      let longer = clauses ++ clause ∷ [] in
+      let are = choices_longer scopes values clauses clause old was.choices in
+      let may = may_existential scopes values longer clause m (Contains-push clauses clause) taken in
+      let stays = hit_stays scopes values longer old new m are chooses may in
+      let now : (c : Row) → clause ≡ c → IsHit new c =
+      λ c e. hit_now scopes values longer old new m are chooses may c
+      (subst (λ (r : Row). Contains r m) e taken.0) in
+      record {
+        choices = choices_more scopes values longer old new m are chooses may;
+        existential =
+            λ c l i j one. ⊎_elim (λ k. stays c (was.existential c l k j one)) (now c)
+            (Contains-push_cases clauses clause c i);
+        hit =
+            λ c i. ⊎_elim (λ k. ⊎_elim inl (λ h. inr (stays c h)) (was.hit c k)) (λ e. inr (now c e))
+            (Contains-push_cases clauses clause c i);
+        among = λ c o. Contains-append_left clauses (clause ∷ []) c (was.among c o);
+      }
+
+-- the second pass, one of the others further
+module _ (scopes : List Scope) (values : Values) (clauses others : List Row) (clause : Row) where
+  hit_next : (table : Choices) → IsHit table clause → AreHitBut (clause ∷ others) clauses table
+      → AreHitBut others clauses table
+  hit_next table hit before c i =
+      ⊎_elim
+      (λ listed. ⊎_elim (λ e. inr (subst (λ (r : Row). IsHit table r) e hit)) inl
+      (contains_cons clause others c listed))
+      inr
+      (before c i)
+
+  pub universal_skip : (table : Choices) → ((l : Literal) × Contains clause l × IsTrue (is_chosen table l))
+      → AreChosenBut scopes values (clause ∷ others) clauses table → AreChosenBut scopes values others clauses table
+  universal_skip table hit was = record {
+    choices = was.choices;
+    existential = was.existential;
+    hit = hit_next table (hit.0, hit.1, chosen_is scopes values clauses table was.choices hit.0 hit.2) was.hit;
+    among = λ c o. was.among c (contains_tail clause others c o);
+  }
+
+  pub universal_takes : (old new : Choices) (m : Literal) → IsInnermost Forall scopes values clause (Some m)
+      → ((l : Literal) → Contains clause l → is_chosen old l ≡ false) → Chooses old new m
+      → AreChosenBut scopes values (clause ∷ others) clauses old → AreChosenBut scopes values others clauses new
+  universal_takes old new m taken missed chooses was =
+      let stands : Contains clauses clause = was.among clause (contains_head clause others) in
       let may =
-      may_universal clause m stands taken.0 taken.1
-      (none_existential old clause stands existential missed) in (
-        choices_more old new m are chooses may,
-        λ c l i j one. hit_stays old new m are chooses may c (existential c l i j one),
-        hit_next place places new clause below is (hit_now old new m are chooses may clause taken.0)
-            (λ c i. ⊎_elim inl (λ hit. inr (hit_stays old new m are chooses may c hit)) (before c i)),
-      )
+      may_universal scopes values clauses clause m stands taken.0 taken.1
+      (none_existential scopes values clauses old clause stands was.existential missed) in
+      let stays = hit_stays scopes values clauses old new m was.choices chooses may in
+      record {
+        choices = choices_more scopes values clauses old new m was.choices chooses may;
+        existential = λ c l i j one. stays c (was.existential c l i j one);
+        hit =
+            hit_next new (hit_now scopes values clauses old new m was.choices chooses may clause taken.0)
+            (λ c i. ⊎_elim inl (λ h. inr (stays c h)) (was.hit c i));
+        among = λ c o. was.among c (contains_tail clause others c o);
+      }
 
 -- nothing is left
-pub hit_all : (matrix : List Row) (table : Choices) → AreHitBut [] matrix table → AreHit matrix table
-hit_all matrix table hit c i =
-    ⊎_elim (λ listed. absurd (contains_nil listed.0 listed.1)) (λ there. there) (hit c i)
+pub hit_all : (scopes : List Scope) (values : Values) (clauses : List Row) (table : Choices)
+    → AreChosenBut scopes values [] clauses table → AreHit clauses table
+hit_all scopes values clauses table was c i =
+    ⊎_elim (λ listed. absurd (contains_nil c listed)) (λ there. there) (was.hit c i)
+
+-- nothing is chosen yet
+pub none_chosen : (scopes : List Scope) (values : Values) → AreChosenBut scopes values [] [] []
+none_chosen scopes values = record {
+  choices = choices_nil scopes values [];
+  existential = λ c l i j one. absurd (contains_nil c i);
+  hit = λ c i. absurd (contains_nil c i);
+  among = λ c o. o;
+}
 
 -- a true clause without a true existential literal has a true universal one
 pub universal_there : (scopes : List Scope) (trail : Trail) (matrix : List Row) (table : Choices) (clause : Row)

@@ -1,5 +1,5 @@
 -- The worked values, literal by literal.
-use Rattle.std.proofs.Common.{◌≡◌, ℕ, ◌<◌, ◌≤◌, ◌⊎◌, false, true, [], ◌∷◌, length, get_or, Contains, Some, None, inl, inr, refl, ap, subst, sym, ⊎_elim, arith}
+use Rattle.std.proofs.Common.{◌≡◌, zero, suc, ◌<◌, ◌≤◌, ◌⊎◌, false, true, [], ◌∷◌, length, Contains, Some, None, inl, inr, refl, ap, subst, sym, ⊎_elim, arith}
 use Rattle.std.specs.Prelude.{IsTrue}
 use Rattle.std.proofs.lemmas.Bool.{true≢false, false≢true}
 use Rattle.prefix.specs.declared.quant.Quant.TheVariants.{Exists, Forall}
@@ -7,9 +7,9 @@ use Rattle.prefix.specs.Literal.{Literal}
 use Rattle.calculus.specs.Rows.{Row, depth_of}
 use Rattle.calculus.specs.Search.{is_bad_now}
 use Rattle.calculus.specs.Worked.{minus, plus}
-use Rattle.calculus.proofs.Lists.{contains_cons, contains_nil}
+use Rattle.calculus.proofs.Lists.{contains_cons, contains_head, contains_nil}
 use Rattle.prefix.specs.Scopes.{all_variables}
-use Rattle.cover.specs.Choices.{IsHit, IsListed, MayCover, chosen_at, is_true_one}
+use Rattle.cover.specs.Choices.{AreChoices, AreHitBut, IsHit, MayCover, chosen_at, is_true_one}
 use Rattle.cover.specs.Worked.{WorkedChoices, WorkedCovers, WorkedRows, lone, mixed, one_chosen, three_scopes, values}
 
 -- the literals of the two rows
@@ -58,22 +58,52 @@ either P a b clause i =
 differ : mixed ≡ lone → ⊥
 differ e = let same : 3 ≡ 2 = ap (λ (r : Row). length r) e in omega (arith, same)
 
-lone_listed : IsListed (1 ∷ []) (mixed ∷ lone ∷ []) lone
-lone_listed = (1, (0, omega arith, refl), omega arith, refl)
-
-not_first : IsListed (0 ∷ []) (mixed ∷ lone ∷ []) lone → ⊥
-not_first (i, there, below, is) =
-    ⊎_elim
-    (λ e. differ (subst (λ (j : ℕ). get_or (mixed ∷ lone ∷ []) j lone ≡ lone) (sym e) is))
-    (λ n. contains_nil i n)
-    (contains_cons 0 [] i there)
-
 not_hit : IsHit one_chosen lone → ⊥
 not_hit (l, i, at) =
     both (λ m. chosen_at one_chosen m.variable ≡ Some m → ⊥) (λ e. none_some e) (λ e. none_some e) l i at
   where
     none_some : {m : Literal} → None ≡ Some m → ⊥
     none_some e = cc
+
+hit_but_lone : AreHitBut (lone ∷ []) (mixed ∷ lone ∷ []) one_chosen
+hit_but_lone =
+    either (λ clause. Contains (lone ∷ []) clause ⊎ IsHit one_chosen clause) (inr (plus 3, third, refl))
+    (inl (contains_head lone []))
+
+-- 3 may stand in a cover of both clauses
+third_of_both : MayCover three_scopes values (mixed ∷ lone ∷ []) (plus 3)
+third_of_both = record {
+  is_true = refl;
+  clause = mixed;
+  stands = (0, omega arith, refl);
+  holds = third;
+  latest = λ p. no_later;
+  alone = λ p. absurd (false≢true p);
+}
+
+-- only 3 is chosen
+one_may : AreChoices three_scopes values (mixed ∷ lone ∷ []) one_chosen
+one_may zero l at = absurd (none_here at)
+  where
+    none_here : None ≡ Some l → ⊥
+    none_here e = cc
+one_may (suc zero) l at = absurd (none_here at)
+  where
+    none_here : None ≡ Some l → ⊥
+    none_here e = cc
+one_may (suc (suc zero)) l at = absurd (none_here at)
+  where
+    none_here : None ≡ Some l → ⊥
+    none_here e = cc
+one_may (suc (suc (suc zero))) l at =
+    let e : Some (plus 3) ≡ Some l = at in
+    let same : plus 3 ≡ l = cc in
+    subst (λ (m : Literal). (m.variable ≡ 3) × MayCover three_scopes values (mixed ∷ lone ∷ []) m) same
+    (refl, third_of_both)
+one_may (suc (suc (suc (suc x)))) l at = absurd (none_here at)
+  where
+    none_here : None ≡ Some l → ⊥
+    none_here e = cc
 
 pub choices : WorkedChoices
 choices = record {
@@ -90,11 +120,30 @@ choices = record {
         (λ t. (let h : 1 ≤ 1 = omega arith in h)) (λ t. absurd (false≢true t)) (λ t. absurd (false≢true t)),
   );
   no_other = both (λ l. is_true_one Exists three_scopes values l ≡ false) refl refl;
-  listed = lone_listed;
-  not_listed = not_first;
-  hit_but = either (λ clause. IsListed (1 ∷ []) (mixed ∷ lone ∷ []) clause ⊎ IsHit one_chosen clause)
-      (inr (plus 3, third, refl)) (inl lone_listed);
-  not_hit_but = λ hit. ⊎_elim not_first not_hit (hit lone (1, omega arith, refl));
+  hit_but = hit_but_lone;
+  not_hit_but = λ hit. ⊎_elim (λ listed. differ (alone lone listed)) not_hit (hit lone (1, omega arith, refl));
+  chosen_but = record {
+    choices = one_may;
+    existential =
+        λ clause l i j one. either (λ c. (m : Literal) → Contains c m
+        → IsTrue (is_true_one Exists three_scopes values m) → IsHit one_chosen c)
+        (λ m k t. (plus 3, third, refl))
+        (both (λ m. IsTrue (is_true_one Exists three_scopes values m) → IsHit one_chosen lone)
+        (λ t. absurd (false≢true t)) (λ t. absurd (false≢true t)))
+        clause i l j one;
+    hit = hit_but_lone;
+    among = λ clause i. ⊎_elim (λ e. subst (λ (r : Row). Contains (mixed ∷ lone ∷ []) r) e (1, omega arith, refl))
+        (λ n. absurd (contains_nil clause n)) (contains_cons lone [] clause i);
+  };
+  needs_both = λ h. ⊎_elim (λ n. contains_nil lone n) not_hit (h.hit lone (1, omega arith, refl));
+  of_no_clause = λ h. let may = (h.choices 3 (plus 3) refl).1 in
+      ⊎_elim
+      (λ e. both (λ l. plus 3 ≡ l → ⊥)
+      (λ q. (let w : 3 ≡ 1 = ap (λ (l : Literal). l.variable) q in omega (arith, w)))
+      (λ q. (let w : 3 ≡ 2 = ap (λ (l : Literal). l.variable) q in omega (arith, w)))
+      (plus 3) (subst (λ (r : Row). Contains r (plus 3)) (sym e) may.holds) refl)
+      (λ n. contains_nil may.clause n)
+      (contains_cons lone [] may.clause may.stands);
 }
 
 pub covers : WorkedCovers
@@ -138,17 +187,6 @@ first_known = (0, omega arith, refl)
 
 third_known : HasVariable (plus 3)
 third_known = (2, omega arith, refl)
-
--- 3 may stand in a cover of both clauses
-third_of_both : MayCover three_scopes values (mixed ∷ lone ∷ []) (plus 3)
-third_of_both = record {
-  is_true = refl;
-  clause = mixed;
-  stands = (0, omega arith, refl);
-  holds = third;
-  latest = λ p. no_later;
-  alone = λ p. absurd (false≢true p);
-}
 
 -- a row shares a literal with a clause
 abbrev Shares : Row → Row → Type 0

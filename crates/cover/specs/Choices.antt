@@ -1,5 +1,5 @@
 -- The literals that are chosen for a cover.
-use Rattle.std.specs.Prelude.{◌≡◌, ℕ, ◌<◌, ◌≤◌, ◌⊎◌, Bool, false, ◌&&◌, ◌||◌, ◌==◌, if◌then◌else◌, nat_lt, true, IsTrue, IsFalse, List, length, Contains, Option, Some, None, slice_index_or}
+use Rattle.std.specs.Prelude.{◌≡◌, ℕ, ◌≤◌, ◌⊎◌, Bool, false, ◌&&◌, ◌||◌, ◌==◌, if◌then◌else◌, nat_lt, true, IsTrue, IsFalse, List, Contains, Option, Some, None, slice_index_or}
 use Rattle.std.specs.Bool.{beq}
 use Rattle.prefix.specs.declared.quant.Quant.{Quant}
 use Rattle.prefix.specs.declared.quant.Quant.TheVariants.{Exists, Forall}
@@ -80,12 +80,15 @@ AreHitWith quantifier scopes values clauses table = (clause : Row) (l : Literal)
 abbrev pub AreHit : List Row → Choices → Type 0
 AreHit clauses table = (clause : Row) → Contains clauses clause → IsHit table clause
 
--- the clause stands at one of these places
-abbrev pub IsListed : List ℕ → List Row → Row → Type 0
-IsListed places clauses clause = (i : ℕ) × Contains places i × (i < length clauses)
-    × (slice_index_or clauses i clause ≡ clause)
+-- each clause is hit, but for these others
+abbrev pub AreHitBut : List Row → List Row → Choices → Type 0
+AreHitBut others clauses table = (clause : Row) → Contains clauses clause → Contains others clause ⊎ IsHit table clause
 
--- each clause is hit, but for those at these places
-abbrev pub AreHitBut : List ℕ → List Row → Choices → Type 0
-AreHitBut places clauses table = (clause : Row) → Contains clauses clause
-    → IsListed places clauses clause ⊎ IsHit table clause
+-- Literals are chosen for these clauses: one of each clause with a true existential literal, and one of each clause but
+-- for these others, which are some of them.
+pub record AreChosenBut (scopes : List Scope) (values : Values) (others clauses : List Row)
+    (table : Choices) : Type 0 where
+  pub choices : AreChoices scopes values clauses table
+  pub existential : AreHitWith Exists scopes values clauses table
+  pub hit : AreHitBut others clauses table
+  pub among : (clause : Row) → Contains others clause → Contains clauses clause

@@ -8,7 +8,7 @@ use Rattle.calculus.specs.Rows.{Row}
 use Rattle.calculus.specs.Worked.{existential, minus, plus, universal}
 use Rattle.calculus.specs.Search.{Trail}
 use Rattle.calculus.specs.Search.Cause.{Propagated}
-use Rattle.cover.specs.Choices.{AreHitBut, Choices, IsInnermost, IsListed, MayCover, is_better}
+use Rattle.cover.specs.Choices.{AreChosenBut, AreHitBut, Choices, IsInnermost, MayCover, is_better}
 use Rattle.cover.specs.Covers.{IsCover}
 
 -- a 1, e 2, e 3 4
@@ -40,11 +40,13 @@ pub record WorkedChoices : Type 0 where
   pub outer : IsInnermost Exists three_scopes values mixed (Some (plus 2)) → ⊥
   pub universal_one : IsInnermost Forall three_scopes values mixed (Some (minus 1))
   pub no_other : IsInnermost Exists three_scopes values lone None
-  -- of -1 2 3 and -1 -2 the second stands at place 1, and not at 0; where 3 is chosen all but the second are hit
-  pub listed : IsListed (1 ∷ []) (mixed ∷ lone ∷ []) lone
-  pub not_listed : IsListed (0 ∷ []) (mixed ∷ lone ∷ []) lone → ⊥
-  pub hit_but : AreHitBut (1 ∷ []) (mixed ∷ lone ∷ []) one_chosen
-  pub not_hit_but : AreHitBut (0 ∷ []) (mixed ∷ lone ∷ []) one_chosen → ⊥
+  -- where 3 is chosen, of -1 2 3 and -1 -2 all but the second are hit, and not all but the first
+  pub hit_but : AreHitBut (lone ∷ []) (mixed ∷ lone ∷ []) one_chosen
+  pub not_hit_but : AreHitBut (mixed ∷ []) (mixed ∷ lone ∷ []) one_chosen → ⊥
+  -- so 3 is chosen for both clauses but the second; for -1 -2 none is, and 3 stands in no clause of -1 -2 alone
+  pub chosen_but : AreChosenBut three_scopes values (lone ∷ []) (mixed ∷ lone ∷ []) one_chosen
+  pub needs_both : AreChosenBut three_scopes values [] (mixed ∷ lone ∷ []) one_chosen → ⊥
+  pub of_no_clause : AreChosenBut three_scopes values (lone ∷ []) (lone ∷ []) one_chosen → ⊥
 
 pub record WorkedCovers : Type 0 where
   -- 3 may stand in a cover of -1 2 3, but neither 2 nor -1; for -1 -2 it is -1

@@ -1,17 +1,17 @@
 //! Covers.
-ghost use Rattle.std.specs.Prelude.{◌≡◌, ◌<◌, [], length, All, IsTrue, IfOk, OnErr, OnOk, Contains};
-ghost use Rattle.prefix.specs.declared.quant.Quant.TheVariants.{Exists as exists};
+ghost use Rattle.std.specs.Prelude.{◌≡◌, [], ◌++◌, List, map, IsTrue, IfOk, OnErr, OnOk, Contains};
 ghost use Rattle.truth.specs.Matrix.{clause_true};
 ghost use Rattle.calculus.specs.Rows.{Row as Clause};
 ghost use Rattle.calculus.specs.Search.{value_on};
 ghost use Rattle.derive.specs.Growing.{GainsSteps};
 ghost use Rattle.derive.specs.State.{has_rows, open_clauses, IsLegalFor};
 ghost use Rattle.trail.specs.State.{IsTrailFor};
-ghost use Rattle.cover.specs.Choices.{AreChoices, AreHit, AreHitBut, AreHitWith};
+ghost use Rattle.cover.specs.Choices.{AreChosenBut};
 ghost use Rattle.cover.specs.Covers.{Covers};
 
 use super::choices::{choose, chosen_row, innermost, is_hit};
 use derive::{Derivation, StepId};
+use matrix::Matrix;
 use prefix::{Clauses, Cubes, Lit, LitList, Prefix};
 use steps::NoMemory;
 use trail::Trail;
@@ -23,7 +23,7 @@ pub fn cover(
     derivation: &mut Derivation,
     trail: &Trail,
     prefix: &Prefix,
-    matrix: &[LitList],
+    matrix: &Matrix<'_>,
 ) -> Result<StepId, NoMemory>
     requires rows { IsTrue (has_rows derivation.old) }
     requires trail { IsTrailFor prefix.now trail.now }
@@ -39,32 +39,50 @@ pub fn cover(
     let mut table = Vec::new(alloc);
     let mut others = Vec::new(alloc);
     choose_existential(trail, prefix, matrix, &mut table, &mut others)?;
-    choose_universal(trail, prefix, matrix, &others, &mut table)?;
+    choose_universal(trail, prefix, &others, &mut table)?;
     let row = chosen_row(alloc, &table)?;
     derivation.input_cube(&row)
 }
 
-// Chooses a literal of each clause with a true existential one, and lists the places of the others.
-fn choose_existential(
+// Chooses a literal of each clause with a true existential one, and lists the others.
+fn choose_existential<'a>(
     trail: &Trail,
     prefix: &Prefix,
-    matrix: &[LitList],
+    matrix: &'a Matrix<'_>,
     table: &mut Vec<Option<Lit>>,
-    others: &mut Vec<usize>,
+    others: &mut Vec<&'a LitList>,
 ) -> Result<(), NoMemory>
-    requires choices { AreChoices prefix.now (value_on trail.now.placed) matrix.now table.old.items }
-    requires none { others.old.items ≡ [] }
-    ensures choices { OnOk result (AreChoices prefix.now (value_on trail.now.placed) matrix.now table.new.items) }
-    ensures hit { OnOk result (AreHitWith exists prefix.now (value_on trail.now.placed) matrix.now table.new.items) }
-    ensures others { OnOk result (AreHitBut others.new.items matrix.now table.new.items) }
-    ensures within { OnOk result (All (λ i. i < length matrix.now) others.new.items) }
+    requires table { table.old.items ≡ [] }
+    requires others { others.old.items ≡ [] }
+    ensures { OnOk result (AreChosenBut prefix.now (value_on trail.now.placed) (map (λ row. row.now) others.new.items)
+        matrix.now table.new.items) }
 {
-    for place in 0..matrix.len() {
-        let clause = &matrix[place];
+    let parts = matrix.parts();
+    choose_in_part(trail, prefix, parts.first, table, others)?;
+    for part in parts.more {
+        choose_in_part(trail, prefix, part, table, others)?;
+    }
+    Ok(())
+}
+
+// Chooses a literal of each clause of a part with a true existential one, and lists the others behind those before.
+fn choose_in_part<'a>(
+    trail: &Trail,
+    prefix: &Prefix,
+    part: &'a [LitList],
+    table: &mut Vec<Option<Lit>>,
+    others: &mut Vec<&'a LitList>,
+) -> Result<(), NoMemory>
+    ensures { (before : List Clause) → AreChosenBut prefix.now (value_on trail.now.placed)
+        (map (λ row. row.now) others.old.items) before table.old.items →
+        OnOk result (AreChosenBut prefix.now (value_on trail.now.placed) (map (λ row. row.now) others.new.items)
+        (before ++ part.now) table.new.items) }
+{
+    for clause in part {
         match innermost::<Clauses>(table, trail, prefix, clause.lits()) {
             Some(lit) => choose(table, lit)?,
             None => {
-                others.push(place)?;
+                others.push(clause)?;
                 continue;
             }
         }
@@ -72,32 +90,27 @@ fn choose_existential(
     Ok(())
 }
 
-// Chooses a literal of each of the clauses at these places that isn't hit yet.
+// Chooses a literal of each of these clauses that isn't hit yet.
 fn choose_universal(
     trail: &Trail,
     prefix: &Prefix,
-    matrix: &[LitList],
-    places: &[usize],
+    others: &[&LitList],
     table: &mut Vec<Option<Lit>>,
 ) -> Result<(), NoMemory>
-    requires trail { IsTrailFor prefix.now trail.now }
-    requires satisfied { (clause : Clause) → Contains matrix.now clause →
-        IsTrue (clause_true (value_on trail.now.placed) clause) }
-    requires choices { AreChoices prefix.now (value_on trail.now.placed) matrix.now table.old.items }
-    requires hit { AreHitWith exists prefix.now (value_on trail.now.placed) matrix.now table.old.items }
-    requires others { AreHitBut places.now matrix.now table.old.items }
-    requires within { All (λ i. i < length matrix.now) places.now }
-    ensures choices { OnOk result (AreChoices prefix.now (value_on trail.now.placed) matrix.now table.new.items) }
-    ensures hit { OnOk result (AreHit matrix.now table.new.items) }
+    requires { IsTrailFor prefix.now trail.now }
+    ensures { (clauses : List Clause) →
+        ((clause : Clause) → Contains clauses clause → IsTrue (clause_true (value_on trail.now.placed) clause)) →
+        AreChosenBut prefix.now (value_on trail.now.placed) (map (λ row. row.now) others.now) clauses table.old.items →
+        OnOk result (AreChosenBut prefix.now (value_on trail.now.placed) [] clauses table.new.items) }
 {
-    for place in places {
-        let clause = &matrix[*place];
+    for clause in others {
         if is_hit(table, clause.lits()) {
             continue;
         }
         match innermost::<Cubes>(table, trail, prefix, clause.lits()) {
             Some(lit) => choose(table, lit)?,
-            None => unreachable!(),
+            // A true clause without a true existential literal has a universal one.
+            None => continue,
         }
     }
     Ok(())

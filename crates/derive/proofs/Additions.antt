@@ -1,9 +1,9 @@
 -- One more step.
 use Rattle.std.proofs.Common.{◌≡◌, ◌≢◌, ℕ, zero, suc, ◌+◌, ◌<◌, ◌≤◌, ◌⊎◌, true, List, [], ◌∷◌, ◌++◌, length, get_or, Contains, Option, Some, None, is_some, IsTrue, sym, refl, ap, ap₂, subst, ◌∙◌, inl, inr, ⊎_elim, arith}
 use Rattle.std.specs.List.{filter_map, range_with_len, cons_option}
-use Rattle.std.specs.Prelude.{max}
+use Rattle.std.specs.Prelude.{max, min}
 use Rattle.std.specs.Option.{option_and_then}
-use Rattle.std.proofs.lemmas.Bool.{cases_eq, cases_lt, eqb-true, false≢true, not-true}
+use Rattle.std.proofs.lemmas.Bool.{cases_eq, cases_lt, false≢true, not-true}
 use Rattle.std.proofs.lemmas.List.{get_or_append_left, get_or_default, get_or_push, get_or_past, length_push}
 use Rattle.prefix.specs.declared.quant.Quant.{Quant}
 use Rattle.prefix.specs.declared.quant.Quant.TheVariants.{Exists}
@@ -13,7 +13,7 @@ use Rattle.calculus.specs.Derivations.{Why, RestsOn}
 use Rattle.calculus.specs.Derivations.Why.{Given, ReducedFrom, ResolvedFrom, FinishedFrom}
 use Rattle.derive.specs.State.{Note, Notes, State, SameStep, note_in, note_at, is_live, is_step, is_finish, may_be_antecedent, next_id, has_rows, row_of, side_at, side_in, tag_at, why_in, tag_in, step_from, clause_from, with_step}
 use Rattle.derive.specs.Antecedents.{AreSupported, IsAntecedentIn, IsSupportedAt, HasTag, Fits}
-use Rattle.derive.specs.Kept.{AreFrom, BelongTogether}
+use Rattle.derive.specs.Kept.{AreFrom, AreFromFrames, BelongTogether}
 use Rattle.derive.specs.Dropping.{StepTest, has_tag, is_cube}
 use Rattle.derive.specs.Cubes.{AreListed, is_cube_in}
 use Rattle.derive.specs.Adding.{Adds, AddsBoth, IsOver, Removes, clause_note, note_over}
@@ -38,6 +38,17 @@ pub live_below : (notes : Notes) (id : ℕ) → is_some (note_in notes id) ≡ t
 live_below [] id live = absurd (false≢true live)
 live_below (first ∷ notes) zero live = omega arith
 live_below (first ∷ notes) (suc id) live = let h = live_below notes id live in omega arith
+
+-- where a frame has no place there, no step has it as its tag
+pub from_frames : (notes : Notes) (frames : List ℕ) (limit : ℕ) → AreFromFrames notes frames → (id : ℕ) (note : Note)
+    → note_in notes id ≡ Some note → get_or frames note.tag limit ≤ id
+from_frames notes frames limit are id note there =
+    let above = are id note there in
+    let below = live_below notes id (ap is_some there) in
+    ⊎_elim
+    (λ within. let same = get_or_default frames note.tag limit (length notes) within in omega arith)
+    (λ past. let none = get_or_past frames note.tag (length notes) past in omega arith)
+    (cases_lt note.tag (length frames))
 
 -- what is listed with one more step
 module _ (notes : Notes) (arena : Arena) (same : next_row arena ≡ length notes) (note : Note) (row : Row) where
@@ -144,36 +155,27 @@ module _ (notes : Notes) (arena : Arena) (note : Note) (row : Row) (fits : Fits 
       }
 
   -- steps of a frame stand where they stood, and the new one at the end
-  frames_more : (frames : List ℕ) → note.tag < length frames → ((frame : ℕ) → AreFrom (has_tag frame) notes (get_or frames frame (length notes))) → (frame : ℕ) → AreFrom (has_tag frame) (notes ++ Some note ∷ []) (get_or frames frame (length (notes ++ Some note ∷ [])))
-  frames_more frames within are frame =
-      let longer = pushed_length notes (Some note) in
-      ⊎_elim
-      (λ (h : frame < length frames).
-      rw (get_or_default frames frame (length (notes ++ Some note ∷ [])) (length notes) h) (from_more (has_tag frame) (get_or frames frame (length notes)) (are frame)))
-      (λ (h : length frames ≤ frame).
-      let old : get_or frames frame (length notes) ≡ length notes = get_or_past frames frame (length notes) h in
-      rw (get_or_past frames frame (length (notes ++ Some note ∷ [])) h)
-      (record {
-        above = λ id n there is. absurd (none_of frame h old id n there is);
-        within = omega arith;
-      }))
-      (cases_lt frame (length frames))
-    where
-      none_of : (f : ℕ) → length frames ≤ f → get_or frames f (length notes) ≡ length notes → (id : ℕ) (n : Note) → note_in (notes ++ Some note ∷ []) id ≡ Some n → has_tag f id n ≡ true → ⊥
-      none_of f h old id n there is =
-          let tag : n.tag ≡ f = eqb-true n.tag f is in
-          elim (ends id (length notes)) [
-            | inl below ↦
-                let above : get_or frames f (length notes) ≤ id = (are f).above id n (sym (pushed_old notes (Some note) None id below) ∙ there) is in
-                omega arith
-            | inr e ↦ elim e [
-              | inl s ↦
-                  let g : Some note ≡ Some n = sym (pushed_new notes (Some note) None id s) ∙ there in
-                  let same : note.tag ≡ n.tag = cc in
-                  omega arith
-              | inr past ↦ none_some (note_in (notes ++ Some note ∷ []) id) n (pushed_past notes (Some note) None id past) there
-            ]
-          ]
+  frames_more : (frames : List ℕ) → note.tag < length frames → get_or frames note.tag (length notes) ≤ length notes
+      → AreFromFrames notes frames → AreFromFrames (notes ++ Some note ∷ []) frames
+  frames_more frames within early are id n there =
+      elim (ends id (length notes)) [
+        | inl below ↦
+            from_frames notes frames (length (notes ++ Some note ∷ [])) are id n
+            (sym (pushed_old notes (Some note) None id below) ∙ there)
+        | inr e ↦ elim e [
+          | inl s ↦
+              let g : Some note ≡ Some n = sym (pushed_new notes (Some note) None id s) ∙ there in
+              let same : note ≡ n = cc in
+              let longer = length (notes ++ Some note ∷ []) in
+              let is : get_or frames n.tag longer ≡ get_or frames note.tag (length notes) =
+              ap (λ (m : Note). get_or frames m.tag longer) (sym same)
+              ∙ get_or_default frames note.tag longer (length notes) within in
+              omega arith
+          | inr past ↦
+              absurd
+              (none_some (note_in (notes ++ Some note ∷ []) id) n (pushed_past notes (Some note) None id past) there)
+        ]
+      ]
 
   -- an initial cube is listed before it comes in
   cubes_more : (cubes : List ℕ) → AreListed notes cubes → (is_cube note.side note.why ≡ true → Contains cubes (length notes)) → AreListed (notes ++ Some note ∷ []) cubes
@@ -186,35 +188,50 @@ module _ (notes : Notes) (arena : Arena) (note : Note) (row : Row) (fits : Fits 
         ]
       ]
 
-  pub kept_more : (frames cubes : List ℕ) (finishes : ℕ) → note.tag < length frames → (is_cube note.side note.why ≡ true → Contains cubes (length notes)) → BelongTogether notes (Some arena) frames cubes finishes → BelongTogether (notes ++ Some note ∷ []) (Some (with_row arena row)) frames cubes finishes
-  kept_more frames cubes finishes within new kept =
+  pub kept_more : (frames cubes : List ℕ) (finishes : ℕ) → note.tag < length frames → get_or frames note.tag (length notes) ≤ length notes → (is_cube note.side note.why ≡ true → Contains cubes (length notes)) → BelongTogether notes (Some arena) frames cubes finishes → BelongTogether (notes ++ Some note ∷ []) (Some (with_row arena row)) frames cubes finishes
+  kept_more frames cubes finishes within early new kept =
       record {
         supported = all_supported kept.supported;
         fits = λ a e. let f : Some (with_row arena row) ≡ Some a = e in let is : with_row arena row ≡ a = cc in rw (← is) fits_more;
-        frames = frames_more frames within kept.frames;
+        frames = frames_more frames within early kept.frames;
         listed = cubes_more cubes kept.listed new;
         finishing = from_more _ finishes kept.finishing;
       }
 
--- the same with other places for frames that tell the same
-pub kept_widened : (notes : Notes) (rows : Option Arena) (frames wider cubes more : List ℕ) (finishes : ℕ) → ((frame : ℕ) → get_or wider frame (length notes) ≡ get_or frames frame (length notes)) → ((id : ℕ) → Contains cubes id → Contains more id) → BelongTogether notes rows frames cubes finishes → BelongTogether notes rows wider more finishes
+-- the same with places for frames that tell no later ids
+pub kept_widened : (notes : Notes) (rows : Option Arena) (frames wider cubes more : List ℕ) (finishes : ℕ) → ((frame : ℕ) → min (get_or wider frame (length notes)) (length notes) ≤ get_or frames frame (length notes)) → ((id : ℕ) → Contains cubes id → Contains more id) → BelongTogether notes rows frames cubes finishes → BelongTogether notes rows wider more finishes
 kept_widened notes rows frames wider cubes more finishes same still kept =
     record {
       supported = kept.supported;
       fits = kept.fits;
-      frames = λ frame. rw (same frame) (kept.frames frame);
+      frames = λ id note there.
+          let below = live_below notes id (ap is_some there) in
+          let before = kept.frames id note there in
+          let told = same note.tag in
+          omega arith;
       listed = λ id is. still id (kept.listed id is);
       finishing = kept.finishing;
     }
+
+-- the same where room was made before
+pub kept_room : (notes room : Notes) (rows left : Option Arena) (frames wider cubes more : List ℕ) (finishes len : ℕ)
+    → len ≡ length notes → room ≡ notes → left ≡ rows
+    → ((frame : ℕ) → min (get_or wider frame len) len ≤ get_or frames frame len)
+    → ((id : ℕ) → Contains cubes id → Contains more id) → BelongTogether notes rows frames cubes finishes
+    → BelongTogether room left wider more finishes
+kept_room notes room rows left frames wider cubes more finishes len is same here told still kept =
+    rw (same, here)
+    (kept_widened notes rows frames wider cubes more finishes
+    (subst (λ n. (frame : ℕ) → min (get_or wider frame n) n ≤ get_or frames frame n) is told) still kept)
 
 -- the same where the parts are told by equations
 
 some_same : (a b : Arena) → ◌≡◌ {A = Option Arena} (Some a) (Some b) → a ≡ b
 some_same a b e = cc
 
-pub kept_add : (notes after : Notes) (rows : Option Arena) (arena new_arena : Arena) (note : Note) (row : Row) (frames cubes : List ℕ) (finishes : ℕ) → note.tag < length frames → (is_cube note.side note.why ≡ true → Contains cubes (length notes)) → rows ≡ Some arena → after ≡ notes ++ Some note ∷ [] → new_arena ≡ with_row arena row → IsSupportedAt notes (length notes) note → BelongTogether notes rows frames cubes finishes → BelongTogether after (Some new_arena) frames cubes finishes
-kept_add notes after rows arena new_arena note row frames cubes finishes within new has is_after is_arena support kept =
-    rw (is_after, is_arena) (kept_more notes arena note row (kept.fits arena has) support frames cubes finishes within new (rw has at kept))
+pub kept_add : (notes after : Notes) (rows : Option Arena) (arena new_arena : Arena) (note : Note) (row : Row) (frames cubes : List ℕ) (finishes : ℕ) → note.tag < length frames → get_or frames note.tag (length notes) ≤ length notes → (is_cube note.side note.why ≡ true → Contains cubes (length notes)) → rows ≡ Some arena → after ≡ notes ++ Some note ∷ [] → new_arena ≡ with_row arena row → IsSupportedAt notes (length notes) note → BelongTogether notes rows frames cubes finishes → BelongTogether after (Some new_arena) frames cubes finishes
+kept_add notes after rows arena new_arena note row frames cubes finishes within early new has is_after is_arena support kept =
+    rw (is_after, is_arena) (kept_more notes arena note row (kept.fits arena has) support frames cubes finishes within early new (rw has at kept))
 
 pub adds_of : (d : State) (notes after : Notes) (rows : Option Arena) (arena new_arena : Arena) (note : Note) (row : Row) (id : ℕ) (frames cubes : List ℕ) (finishes : ℕ) → record { notes = notes; rows = rows } ≡ d → rows ≡ Some arena → after ≡ notes ++ Some note ∷ [] → new_arena ≡ with_row arena row → id ≡ next_row arena → BelongTogether notes rows frames cubes finishes → Adds d (record { notes = after; rows = Some new_arena }) id note row
 adds_of d notes after rows arena new_arena note row id frames cubes finishes view has is_after is_arena is_id kept =
@@ -235,18 +252,25 @@ over_clause notes frame =
       tag = sym (ap tag_in there);
     }
 
-pub kept_both : (notes after : Notes) (rows : Option Arena) (arena new_arena : Arena) (frame : ℕ) (row reduced : Row) (frames cubes : List ℕ) (finishes : ℕ) → frame < length frames → rows ≡ Some arena → after ≡ (notes ++ Some (clause_note frame) ∷ []) ++ Some (record { side = Exists; why = ReducedFrom (length notes); tag = frame }) ∷ [] → new_arena ≡ with_row (with_row arena row) reduced → BelongTogether notes rows frames cubes finishes → BelongTogether after (Some new_arena) frames cubes finishes
-kept_both notes after rows arena new_arena frame row reduced frames cubes finishes within has is_after is_arena kept =
-    kept_add (notes ++ Some (clause_note frame) ∷ []) after (Some (with_row arena row)) (with_row arena row) new_arena (record { side = Exists; why = ReducedFrom (length notes); tag = frame }) reduced frames cubes finishes within (λ e. absurd (false≢true e)) refl is_after is_arena (over_clause notes frame)
-    (kept_add notes (notes ++ Some (clause_note frame) ∷ []) rows arena (with_row arena row) (clause_note frame) row frames cubes finishes within (λ e. absurd (false≢true e)) has refl refl (clause_supported notes frame) kept)
+-- with one more step the place of a frame is still no later than the end
+still_early : (notes : Notes) (note : Note) (frames : List ℕ) → note.tag < length frames → get_or frames note.tag (length notes) ≤ length notes → get_or frames note.tag (length (notes ++ Some note ∷ [])) ≤ length (notes ++ Some note ∷ [])
+still_early notes note frames within early =
+    let longer = pushed_length notes (Some note) in
+    let same = get_or_default frames note.tag (length (notes ++ Some note ∷ [])) (length notes) within in
+    omega arith
 
-pub adds_both : (d : State) (notes after : Notes) (rows : Option Arena) (arena new_arena : Arena) (frame : ℕ) (row reduced : Row) (first second : ℕ) (frames cubes : List ℕ) (finishes : ℕ) → frame < length frames → record { notes = notes; rows = rows } ≡ d → rows ≡ Some arena → after ≡ (notes ++ Some (clause_note frame) ∷ []) ++ Some (record { side = Exists; why = ReducedFrom (length notes); tag = frame }) ∷ [] → new_arena ≡ with_row (with_row arena row) reduced → first ≡ next_row arena → second ≡ next_row arena + 1 → BelongTogether notes rows frames cubes finishes → AddsBoth d (record { notes = after; rows = Some new_arena }) first second frame row reduced
-adds_both d notes after rows arena new_arena frame row reduced first second frames cubes finishes within view has is_after is_arena is_first is_second kept =
+pub kept_both : (notes after : Notes) (rows : Option Arena) (arena new_arena : Arena) (frame : ℕ) (row reduced : Row) (frames cubes : List ℕ) (finishes : ℕ) → frame < length frames → get_or frames frame (length notes) ≤ length notes → rows ≡ Some arena → after ≡ (notes ++ Some (clause_note frame) ∷ []) ++ Some (record { side = Exists; why = ReducedFrom (length notes); tag = frame }) ∷ [] → new_arena ≡ with_row (with_row arena row) reduced → BelongTogether notes rows frames cubes finishes → BelongTogether after (Some new_arena) frames cubes finishes
+kept_both notes after rows arena new_arena frame row reduced frames cubes finishes within early has is_after is_arena kept =
+    kept_add (notes ++ Some (clause_note frame) ∷ []) after (Some (with_row arena row)) (with_row arena row) new_arena (record { side = Exists; why = ReducedFrom (length notes); tag = frame }) reduced frames cubes finishes within (still_early notes (clause_note frame) frames within early) (λ e. absurd (false≢true e)) refl is_after is_arena (over_clause notes frame)
+    (kept_add notes (notes ++ Some (clause_note frame) ∷ []) rows arena (with_row arena row) (clause_note frame) row frames cubes finishes within early (λ e. absurd (false≢true e)) has refl refl (clause_supported notes frame) kept)
+
+pub adds_both : (d : State) (notes after : Notes) (rows : Option Arena) (arena new_arena : Arena) (frame : ℕ) (row reduced : Row) (first second : ℕ) (frames cubes : List ℕ) (finishes : ℕ) → frame < length frames → get_or frames frame (length notes) ≤ length notes → record { notes = notes; rows = rows } ≡ d → rows ≡ Some arena → after ≡ (notes ++ Some (clause_note frame) ∷ []) ++ Some (record { side = Exists; why = ReducedFrom (length notes); tag = frame }) ∷ [] → new_arena ≡ with_row (with_row arena row) reduced → first ≡ next_row arena → second ≡ next_row arena + 1 → BelongTogether notes rows frames cubes finishes → AddsBoth d (record { notes = after; rows = Some new_arena }) first second frame row reduced
+adds_both d notes after rows arena new_arena frame row reduced first second frames cubes finishes within early view has is_after is_arena is_first is_second kept =
     let same = (kept.fits arena has).same_next in
     let middle : State = record { notes = notes ++ Some (clause_note frame) ∷ []; rows = Some (with_row arena row) } in
     let there : note_at middle (length notes) ≡ Some (clause_note frame) = pushed_new notes (Some (clause_note frame)) None (length notes) refl in
     let first_is : first ≡ length notes = is_first ∙ same in
-    let kept_first = kept_add notes (notes ++ Some (clause_note frame) ∷ []) rows arena (with_row arena row) (clause_note frame) row frames cubes finishes within (λ e. absurd (false≢true e)) has refl refl (clause_supported notes frame) kept in
+    let kept_first = kept_add notes (notes ++ Some (clause_note frame) ∷ []) rows arena (with_row arena row) (clause_note frame) row frames cubes finishes within early (λ e. absurd (false≢true e)) has refl refl (clause_supported notes frame) kept in
     let note_is : record { side = Exists; why = ReducedFrom (length notes); tag = frame } ≡ note_over middle first (ReducedFrom first) = rw (first_is, there) refl in
     record {
       with_input = middle;

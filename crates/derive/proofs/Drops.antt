@@ -1,9 +1,9 @@
 -- What stays where steps are dropped.
-use Rattle.std.proofs.Common.{◌≡◌, ◌≢◌, ℕ, zero, suc, ◌+◌, ◌-◌, ◌<◌, ◌≤◌, Bool, true, false, not, cond, nat_le, nat_lt, List, [], ◌∷◌, length, map, filter, Contains, Option, Some, None, is_some, unwrap_or, IsTrue, get_or, set, sym, refl, ap, ap₂, subst, ◌∙◌, inl, inr, ⊎_elim, arith}
+use Rattle.std.proofs.Common.{◌≡◌, ◌≢◌, ℕ, zero, suc, ◌+◌, ◌-◌, ◌<◌, ◌≤◌, Bool, true, false, not, cond, nat_le, nat_lt, List, [], ◌∷◌, length, map, filter, Contains, Option, Some, None, is_some, unwrap_or, IsTrue, set, sym, refl, ap, ap₂, ◌∙◌, inl, inr, ⊎_elim, arith}
 use Rattle.std.specs.List.{filter_map, range_with_len}
 use Rattle.std.specs.Option.{option_and_then}
-use Rattle.std.proofs.lemmas.Bool.{true≢false, false≢true, cond-true, cond-false, cases_Bool, cases_eq, cases_lt, leb-true, le-leb, lt-ltb, le-ltb, lt-leb}
-use Rattle.std.proofs.lemmas.List.{append-nil, get_or-set_same, get_or-set_other, set_past}
+use Rattle.std.proofs.lemmas.Bool.{true≢false, false≢true, cond-true, cond-false, cases_Bool, cases_eq, cases_lt, eq-eqb, leb-true, le-leb, lt-ltb, le-ltb, lt-leb}
+use Rattle.std.proofs.lemmas.List.{append-nil, get_or-set_other}
 use Rattle.prefix.specs.declared.quant.Quant.{Quant}
 use Rattle.prefix.specs.declared.quant.Quant.TheVariants.{Exists, Forall}
 use Rattle.prefix.specs.Literal.{Literal}
@@ -18,14 +18,14 @@ use Rattle.calculus.proofs.Levels.{contains_map_of}
 use Rattle.calculus.proofs.Changes.{changed_derivation, extends_itself}
 use Rattle.derive.specs.State.{Note, Notes, State, SameStep, OpenClause, note_in, note_at, next_id, row_of, is_finish, is_live, step_from, steps_of, clause_at, clause_from, clause_with, clauses_of, open_clauses, arena_of, has_rows, IsLegalFor}
 use Rattle.derive.specs.Antecedents.{AreSupported, Fits}
-use Rattle.derive.specs.Kept.{AreFrom, BelongTogether}
+use Rattle.derive.specs.Kept.{AreFrom, AreFromFrames, BelongTogether}
 use Rattle.derive.specs.Dropping.{StepTest, has_tag, Falls, DropsFrom, Drops, mentions, names, is_cube, finishes, is_from, unless_finish}
 use Rattle.derive.specs.Dropping.Falls.{root, rests}
-use Rattle.derive.specs.Cubes.{AreListed, is_cube_in, misses}
+use Rattle.derive.specs.Cubes.{AreCubes, AreListed, is_cube_in, misses, misses_one}
 use Rattle.derive.proofs.Ids.{listed_at, listed_from, listed_filter, listed_same, listed_push, kept_if}
 use Rattle.derive.proofs.Falling.{none_some, some_is}
-use Rattle.derive.proofs.Missed.{cube_given, cube_missing, hit_no_miss, hits_one, hits_unless}
-use Rattle.derive.proofs.Additions.{supported_same}
+use Rattle.derive.proofs.Missed.{cube_given, hit_no_miss, hits_one, hits_unless, misses_from}
+use Rattle.derive.proofs.Additions.{from_frames, live_below, supported_same}
 use Rattle.derive.proofs.Legality.{stands_at, step_with_is, given_input}
 
 module _ (is_root : StepTest) (old new : Notes) (old_rows new_rows : Arena) (drops : DropsFrom is_root old new old_rows new_rows) where
@@ -62,8 +62,8 @@ module _ (is_root : StepTest) (old new : Notes) (old_rows new_rows : Arena) (dro
           let p = live_before id note e in
           rw e (fits.same_live id ∙ ap is_some p.1)
 
-  frames_left : (frames : List ℕ) → ((frame : ℕ) → AreFrom (has_tag frame) old (get_or frames frame (length old))) → (frame : ℕ) → AreFrom (has_tag frame) new (get_or frames frame (length new))
-  frames_left frames are frame = rw drops.same_next (from_left (has_tag frame) (get_or frames frame (length old)) (are frame))
+  frames_left : (frames : List ℕ) → AreFromFrames old frames → AreFromFrames new frames
+  frames_left frames are id note there = from_frames old frames (length new) are id note (live_before id note there).1
 
   -- what is an initial cube was one
   pub cubes_left : (cubes : List ℕ) → AreListed old cubes → AreListed new cubes
@@ -279,20 +279,20 @@ kept_listed notes rows frames cubes left finishing listed kept = record { suppor
 pub kept_finishes : (old new : State) (notes : Notes) (rows : Option Arena) (frames cubes : List ℕ) (finishing len : ℕ) → Drops finishes old new → record { notes = notes; rows = rows } ≡ new → len ≡ length notes → BelongTogether notes rows frames cubes finishing → BelongTogether notes rows frames cubes len
 kept_finishes old new notes rows frames cubes finishing len drops view is kept = record { supported = kept.supported; fits = kept.fits; frames = kept.frames; listed = kept.listed; finishing = left_none finishes old new drops notes rows len view is }
 
-pub kept_frame : (old new : State) (notes : Notes) (rows : Option Arena) (frames : List ℕ) (frame : ℕ) (cubes : List ℕ) (finishing len : ℕ) → Drops (has_tag frame) old new → record { notes = notes; rows = rows } ≡ new → len ≡ length notes → BelongTogether notes rows frames cubes finishing → BelongTogether notes rows (set frames frame len) cubes finishing
-kept_frame old new notes rows frames frame cubes finishing len drops view is kept =
+pub kept_frame : (old new : State) (notes : Notes) (rows : Option Arena) (frames : List ℕ) (frame : ℕ) (cubes : List ℕ) (finishing place : ℕ) → Drops (has_tag frame) old new → record { notes = notes; rows = rows } ≡ new → BelongTogether notes rows frames cubes finishing → BelongTogether notes rows (set frames frame place) cubes finishing
+kept_frame old new notes rows frames frame cubes finishing place drops view kept =
     record {
       supported = kept.supported;
       fits = kept.fits;
-      frames = λ other. ⊎_elim
-          (λ (same : other ≡ frame).
-          subst (λ f. AreFrom (has_tag f) notes (get_or (set frames frame len) f (length notes))) (sym same)
-          (⊎_elim
-          (λ (within : frame < length frames). rw (get_or-set_same frames frame len (length notes) within) (left_none (has_tag frame) old new drops notes rows len view is))
-          (λ (past : length frames ≤ frame). rw (set_past frames frame len past) (kept.frames frame))
-          (cases_lt frame (length frames))))
-          (λ (apart : other ≢ frame). rw (get_or-set_other frames frame other len (length notes) apart) (kept.frames other))
-          (cases_eq other frame);
+      frames = λ id note there. ⊎_elim
+          (λ (same : note.tag ≡ frame).
+          let none = (left_none (has_tag frame) old new drops notes rows (length notes) view refl).above id note there
+          (eq-eqb note.tag frame same) in
+          let below = live_below notes id (ap is_some there) in
+          absurd (omega arith))
+          (λ (apart : note.tag ≢ frame).
+          rw (get_or-set_other frames frame note.tag place (length notes) apart) (kept.frames id note there))
+          (cases_eq note.tag frame);
       listed = kept.listed;
       finishing = kept.finishing;
     }
@@ -359,20 +359,24 @@ finishes_go old new supported drops id = go (note_at old id) refl
 no_clause_cube : (side : Quant) (why : Why) → side ≡ Exists → is_cube side why ≡ false
 no_clause_cube side why e = rw e refl
 
-cube_falls : (clause : Row) (rows : Arena) (notes : Notes) → AreSupported notes → (id : ℕ) → Falls (misses clause rows) notes id → (note : Note) → note_in notes id ≡ Some note → note.side ≡ Exists → ⊥
-cube_falls clause rows notes supported id (root j n at r) note there side =
+cube_falls : (test : StepTest) (notes : Notes) → AreCubes test → AreSupported notes → (id : ℕ) → Falls test notes id
+    → (note : Note) → note_in notes id ≡ Some note → note.side ≡ Exists → ⊥
+cube_falls test notes cubes supported id (root j n at r) note there side =
     let e : Some n ≡ Some note = sym at ∙ there in
     let is : n ≡ note = cc in
-    false≢true (sym (no_clause_cube n.side n.why (ap (λ (m : Note). m.side) is ∙ side)) ∙ cube_missing clause rows id n r)
-cube_falls clause rows notes supported id (rests j on n at r falls) note there side =
+    false≢true (sym (no_clause_cube n.side n.why (ap (λ (m : Note). m.side) is ∙ side)) ∙ cubes id n r)
+cube_falls test notes cubes supported id (rests j on n at r falls) note there side =
     let e : Some n ≡ Some note = sym at ∙ there in
     let is : n ≡ note = cc in
     let g = (supported id n at).antecedents on r in
-    cube_falls clause rows notes supported on falls g.under g.there (g.one_side ∙ ap (λ (m : Note). m.side) is ∙ side)
+    cube_falls test notes cubes supported on falls g.under g.there (g.one_side ∙ ap (λ (m : Note). m.side) is ∙ side)
 
-pub clause_side_stays : (clause : Row) (rows : Arena) (old new : State) → AreSupported old.notes → Drops (misses clause rows) old new → (id : ℕ) (note : Note) → note_at old id ≡ Some note → note.side ≡ Exists → note_at new id ≡ Some note
-clause_side_stays clause rows old new supported drops id note there side =
-    ⊎_elim (λ p. absurd (cube_falls clause rows old.notes supported id p.0 note there side)) (λ p. p.1 ∙ there) (drops.exactly.steps id)
+pub clause_side_stays : (test : StepTest) (old new : State) → AreCubes test → AreSupported old.notes
+    → Drops test old new → (id : ℕ) (note : Note) → note_at old id ≡ Some note → note.side ≡ Exists
+    → note_at new id ≡ Some note
+clause_side_stays test old new cubes supported drops id note there side =
+    ⊎_elim (λ p. absurd (cube_falls test old.notes cubes supported id p.0 note there side)) (λ p. p.1 ∙ there)
+    (drops.exactly.steps id)
 
 -- a cube that is left holds a literal of the clause
 pub left_hits : (clause : Row) (rows : Arena) (old new : State) → Drops (misses clause rows) old new → (id : ℕ) (note : Note) → note_at old id ≡ Some note → is_cube note.side note.why ≡ true → is_live new id ≡ true → (l : Literal) × Contains clause l × Contains (literals_at rows id) l
@@ -380,6 +384,17 @@ left_hits clause rows old new drops id note there cube live =
     ⊎_elim
     (λ f. absurd (false≢true (sym (ap is_some f.1) ∙ live)))
     (λ k. hits_unless clause rows id note cube (λ m. k.0 (root id note there m)))
+    (drops.exactly.steps id)
+
+-- and one that is left holds a literal of each
+pub left_hits_all : (clauses : List Row) (rows : Arena) (old new : State) → Drops (misses_one clauses rows) old new
+    → (id : ℕ) (note : Note) → note_at old id ≡ Some note → is_cube note.side note.why ≡ true → is_live new id ≡ true
+    → (clause : Row) → Contains clauses clause → (l : Literal) × Contains clause l × Contains (literals_at rows id) l
+left_hits_all clauses rows old new drops id note there cube live clause at =
+    ⊎_elim
+    (λ f. absurd (false≢true (sym (ap is_some f.1) ∙ live)))
+    (λ k. hits_unless clause rows id note cube
+    (λ m. k.0 (root id note there (misses_from clauses clause rows id note at m))))
     (drops.exactly.steps id)
 
 pub left_hit : (clause : Row) (old new : State) → Drops (misses clause (arena_of old)) old new → (id : ℕ) → is_cube_in (note_at new id) ≡ true → Hits (row_of new id) (clause ∷ [])

@@ -40,7 +40,8 @@ clauses_more scopes old new first second frame row adds =
     ∙ adds.input.clauses
 
 -- a list in which the last item is kept
-filter_push : {X : Type 0} (p : X → Bool) (xs : List X) (x : X) → p x ≡ true → filter p (xs ++ x ∷ []) ≡ filter p xs ++ x ∷ []
+pub filter_push : {X : Type 0} (p : X → Bool) (xs : List X) (x : X) → p x ≡ true
+    → filter p (xs ++ x ∷ []) ≡ filter p xs ++ x ∷ []
 filter_push p xs x t = filter-append p xs (x ∷ []) ∙ ap (λ ys. filter p xs ++ ys) (cond-true (p x) (x ∷ []) [] t)
 
 no_cube_over : (side : Quant) (a : ℕ) → is_cube side (ReducedFrom a) ≡ false

@@ -1,6 +1,7 @@
 pub mod Additions
 pub mod Assumed
 pub mod Drops
+pub mod Entering
 pub mod Falling
 pub mod Growth
 pub mod Ids
@@ -11,8 +12,10 @@ pub mod Listing
 pub mod Missed
 pub mod Removals
 pub mod Rooted
+pub mod Shortening
 pub mod Sweeps
 pub mod Tagging
 pub mod Tags
 pub mod Working
+pub mod WorkingInputs
 pub mod WorkingLeaving

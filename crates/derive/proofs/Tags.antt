@@ -1,14 +1,13 @@
 -- The tag of a step is the greatest frame in its support.
-use Rattle.std.proofs.Common.{◌≡◌, ℕ, zero, suc, ◌<◌, ◌≤◌, ◌⊎◌, true, false, [], ◌∷◌, get_or, is_some, Option, Some, sym, refl, ap, ◌∙◌, inl, inr, ⊎_elim, arith}
-use Rattle.std.proofs.lemmas.Bool.{cases_Bool, cases_lt, eqb-true, false≢true}
+use Rattle.std.proofs.Common.{◌≡◌, ℕ, zero, suc, ◌<◌, ◌≤◌, ◌⊎◌, true, [], ◌∷◌, get_or, is_some, Option, Some, sym, refl, ap, ◌∙◌, inl, inr, ⊎_elim, arith}
+use Rattle.std.proofs.lemmas.Bool.{cases_lt, eqb-true, false≢true}
 use Rattle.prefix.specs.declared.quant.Quant.TheVariants.{Forall}
 use Rattle.calculus.specs.Derivations.{Why, RestsOn}
 use Rattle.calculus.specs.Derivations.Why.{Given, ReducedFrom, ResolvedFrom, FinishedFrom}
 use Rattle.derive.specs.State.{Note, Notes, note_in, tag_in}
 use Rattle.derive.specs.Antecedents.{AreSupported, HasTag, Supports, IsGreatestFrame}
 use Rattle.derive.specs.Antecedents.Supports.{itself, through}
-use Rattle.derive.specs.Dropping.{Falls, StepTest, has_tag}
-use Rattle.derive.specs.Kept.{AreFrom}
+use Rattle.derive.specs.Dropping.{Falls, has_tag}
 use Rattle.derive.specs.Dropping.Falls.{rests, root}
 
 module _ (notes : Notes) where
@@ -120,8 +119,3 @@ frame_below frame notes supported id (rests j on note there r falls) =
     let over = tag_over notes note note.why on (supported id note there).tag r in
     let t : tag_in (note_in notes id) ≡ note.tag = ap tag_in there in
     omega arith
-
--- below where steps of a sort stand there is none of them
-pub none_from : (sort : StepTest) (notes : Notes) (from : ℕ) → AreFrom sort notes from → (id : ℕ) (note : Note) → note_in notes id ≡ Some note → id < from → sort id note ≡ false
-none_from sort notes from is id note there low =
-    ⊎_elim (λ t. let above = is.above id note there t in absurd (omega arith)) (λ f. f) (cases_Bool (sort id note))

@@ -19,10 +19,17 @@ hits_clause row clause = list_any (stands_in row) clause
 abbrev pub misses : Row → Arena → StepTest
 misses clause rows id note = is_cube note.side note.why && not (hits_clause (literals_at rows id) clause)
 
--- the same of a step that may not be live
-abbrev pub misses_in : Row → Arena → ℕ → Option Note → Bool
-misses_in clause rows id None = false
-misses_in clause rows id (Some note) = misses clause rows id note
+-- whether a row holds no literal of one of the clauses
+abbrev pub misses_some : Row → List Row → Bool
+misses_some row clauses = list_any (λ clause. not (hits_clause row clause)) clauses
+
+-- whether a step is an initial cube that misses one of the clauses
+abbrev pub misses_one : List Row → Arena → StepTest
+misses_one clauses rows id note = is_cube note.side note.why && misses_some (literals_at rows id) clauses
+
+-- what the test holds of are initial cubes
+abbrev pub AreCubes : StepTest → Type 0
+AreCubes test = (id : ℕ) (note : Note) → test id note ≡ true → is_cube note.side note.why ≡ true
 
 -- whether a step is live and an initial cube
 abbrev pub is_cube_in : Option Note → Bool

@@ -15,6 +15,11 @@ use Rattle.derive.specs.State.{Note, Notes, State, SameStep, note_in, is_finish,
 abbrev pub StepTest : Type 0
 StepTest = ℕ → Note → Bool
 
+-- what a test says of a step that may not be live
+abbrev pub holds_in : StepTest → ℕ → Option Note → Bool
+holds_in test id None = false
+holds_in test id (Some note) = test id note
+
 -- whether a step has this tag
 abbrev pub has_tag : ℕ → StepTest
 has_tag frame id note = note.tag == frame

@@ -3,6 +3,7 @@ pub mod Cubes
 pub mod Dropping
 pub mod Antecedents
 pub mod Growing
+pub mod Inputs
 pub mod Kept
 pub mod Missing
 pub mod Packed

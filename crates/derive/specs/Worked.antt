@@ -10,9 +10,10 @@ use Rattle.calculus.specs.Derivations.Why.{Given, ReducedFrom, ResolvedFrom, Fin
 use Rattle.calculus.specs.Rows.{Row}
 use Rattle.calculus.specs.Worked.{minus, plus}
 use Rattle.derive.specs.Antecedents.{AreSupported, HasTag, IsAntecedentIn, IsGreatestFrame, Supports}
-use Rattle.derive.specs.State.{Note, Notes, State, arena_of}
+use Rattle.derive.specs.Inputs.{AddsClauses, GainsClauses, shortened}
+use Rattle.derive.specs.State.{Note, Notes, State, arena_of, with_step}
 use Rattle.derive.specs.Dropping.{Drops, NoneOutsideBelow, is_outside, names}
-use Rattle.derive.specs.Cubes.{hits_clause, misses}
+use Rattle.derive.specs.Cubes.{hits_clause, misses, misses_one, misses_some}
 
 abbrev pub note : Quant → Why → Note
 note side why = record { side = side; why = why; tag = 0 }
@@ -50,6 +51,10 @@ with_cubes first second over_first over_second over_both = record {
 abbrev pub all_cubes : State
 all_cubes = with_cubes true true true true true
 
+-- the clauses 1 and 2
+abbrev pub two_units : List Row
+two_units = (plus 1 ∷ []) ∷ (plus 2 ∷ []) ∷ []
+
 -- the clause 2 came, and this is left
 abbrev pub LeavesAt2 : State → Type 0
 LeavesAt2 left = Drops (misses (plus 2 ∷ []) (arena_of all_cubes)) all_cubes left
@@ -66,6 +71,13 @@ pub record WorkedCubes : Type 0 where
   pub other_cube : misses (plus 2 ∷ []) (arena_of all_cubes) 2 (note Forall Given) ≡ false
   pub clause : misses (plus 2 ∷ []) (arena_of all_cubes) 0 (note Exists Given) ≡ false
   pub no_input : misses (plus 2 ∷ []) (arena_of all_cubes) 3 (note Forall (ReducedFrom 1)) ≡ false
+  -- of the clauses 1 and 2 the row 1 misses one, the second; the row 1 2 none, and no row where there is no clause
+  pub second_missed : misses_some (plus 1 ∷ []) two_units ≡ true
+  pub none_missed : misses_some (plus 1 ∷ plus 2 ∷ []) two_units ≡ false
+  pub no_clauses : misses_some [] [] ≡ false
+  pub cube_of_both : misses_one two_units (arena_of all_cubes) 1 (note Forall Given) ≡ true
+  pub other_of_both : misses_one two_units (arena_of all_cubes) 2 (note Forall Given) ≡ false
+  pub clause_of_both : misses_one two_units (arena_of all_cubes) 0 (note Exists Given) ≡ false
   -- it goes, with what rests on it, and on both; the cube 1 2 stays, with what rests on it alone
   pub leaves : LeavesAt2 (with_cubes false true false true false)
   pub not_all : LeavesAt2 all_cubes → ⊥
@@ -127,6 +139,40 @@ pub record WorkedLeaving : Type 0 where
   pub not_all : LeavesWithout3 all_third → ⊥
   pub not_over : LeavesWithout3 (with_third false false true true) → ⊥
   pub not_other : LeavesWithout3 (with_third false false false false) → ⊥
+
+-- the clause 1 of the frame 0, and behind it the clauses 1 2 and -1 of a group's frame, the first with its reduction
+abbrev pub one_clause : State
+one_clause = record { notes = Some (note Exists Given) ∷ []; rows = Some (Some (new_row (plus 1 ∷ [])) ∷ []) }
+
+abbrev pub group_note : Why → Note
+group_note why = record { side = Exists; why = why; tag = 65537 }
+
+abbrev pub group_rows : List Row
+group_rows = (plus 1 ∷ plus 2 ∷ []) ∷ (minus 1 ∷ []) ∷ []
+
+abbrev pub with_group : State
+with_group =
+    with_step
+    (with_step (with_step one_clause (group_note Given) (plus 1 ∷ plus 2 ∷ [])) (group_note (ReducedFrom 1))
+    (plus 1 ∷ []))
+    (group_note Given) (minus 1 ∷ [])
+
+pub record WorkedInputs : Type 0 where
+  -- so they come in, and their reductions are the steps 2 and 3
+  pub adds : AddsClauses two_scopes 65537 one_clause with_group group_rows (2 ∷ 3 ∷ [])
+  pub gains : GainsClauses two_scopes 65537 one_clause with_group group_rows (2 ∷ 3 ∷ [])
+  -- not of another frame, nor with a clause as its own reduction, nor with one reduction for both, nor in another order
+  pub other_frame : GainsClauses two_scopes 2 one_clause with_group group_rows (2 ∷ 3 ∷ []) → ⊥
+  pub unreduced : GainsClauses two_scopes 65537 one_clause with_group group_rows (1 ∷ 3 ∷ []) → ⊥
+  pub only_one : GainsClauses two_scopes 65537 one_clause with_group group_rows (3 ∷ []) → ⊥
+  pub turned : GainsClauses two_scopes 65537 one_clause with_group ((minus 1 ∷ []) ∷ (plus 1 ∷ plus 2 ∷ []) ∷ [])
+      (2 ∷ 3 ∷ []) → ⊥
+  -- none of the clauses of before is among them
+  pub too_many : GainsClauses two_scopes 65537 one_clause with_group ((plus 1 ∷ []) ∷ group_rows) (0 ∷ 2 ∷ 3 ∷ []) → ⊥
+  -- of no clauses nothing comes in
+  pub none : AddsClauses two_scopes 65537 one_clause one_clause [] []
+  pub shorter : shortened 1 with_group ≡ one_clause
+  pub longer : shortened 2 with_group ≡ one_clause → ⊥
 
 abbrev pub tagged : Quant → Why → ℕ → Option Note
 tagged side why tag = Some (record { side = side; why = why; tag = tag })

@@ -4,13 +4,14 @@ ghost use Rattle.calculus.specs.Rows.{same_literal};
 ghost use Rattle.rows.specs.Arena.{is_live as is_stored};
 ghost use Rattle.derive.specs.State.{Note as Kept, note_in};
 ghost use Rattle.derive.specs.Antecedents.{AreSupported, Fits};
-ghost use Rattle.derive.specs.Dropping.{DropsFrom, is_cube};
-ghost use Rattle.derive.specs.Cubes.{AreListed, hits_clause, is_cube_in, misses, misses_in, stands_in};
+ghost use Rattle.derive.specs.Dropping.{DropsFrom, holds_in, is_cube};
+ghost use Rattle.derive.specs.Cubes.{AreCubes, AreListed, hits_clause, is_cube_in, misses, misses_one, misses_some, stands_in};
+ghost use Rattle.derive.specs.Roots.{is_root};
 
 use super::StepId;
 use super::dropping::{Roots, drop_roots};
 use super::note::Note;
-use prefix::Lit;
+use prefix::{Lit, LitList};
 use rows::Rows;
 use steps::NoMemory;
 
@@ -25,54 +26,56 @@ pub(crate) fn list_cube(cubes: &mut Vec<StepId>, note: &Note, next: StepId) -> R
     Ok(())
 }
 
-// Drops the initial cubes that miss a clause, with all that rests on them, and frees their rows. Each initial cube is
-// listed; those that are left are listed then. Only where one of them misses the clause are other steps looked at, and
-// these from the first such cube on.
-pub(crate) fn drop_missing(
+// Drops some initial cubes, with all that rests on them, and frees their rows. Each initial cube is listed; those that
+// are left are listed then. Only where one of them goes are other steps looked at, and these from the first such cube
+// on.
+pub(crate) fn drop_cubes(
     notes: &mut Vec<Option<Note>>,
     rows: &mut Rows,
     cubes: &mut Vec<StepId>,
-    clause: &[Lit],
+    roots: &Roots,
 )
     requires supported { AreSupported notes.old.items }
     requires fits { Fits notes.old.items rows.old }
     requires listed { AreListed notes.old.items cubes.old.items }
-    ensures drops { DropsFrom (misses clause.now rows.old) notes.old.items notes.new.items rows.old rows.new }
+    requires cubes { AreCubes (is_root roots.now rows.old) }
+    ensures drops { DropsFrom (is_root roots.now rows.old) notes.old.items notes.new.items rows.old rows.new }
     ensures listed { AreListed notes.new.items cubes.new.items }
 {
-    let from = first_missing(cubes.as_slice(), notes, rows, clause);
-    drop_roots(notes, rows, from, &Roots::Missing(clause));
+    let from = first_cube(cubes.as_slice(), notes, rows, roots);
+    drop_roots(notes, rows, from, roots);
     retain_cubes(cubes, notes);
 }
 
-// The least id of an initial cube that misses a clause, and else the id that comes next.
-pub(crate) fn first_missing(
+// The least id of some initial cubes, and else the id that comes next.
+pub(crate) fn first_cube(
     cubes: &[StepId],
     notes: &Vec<Option<Note>>,
     rows: &Rows,
-    clause: &[Lit],
+    roots: &Roots,
 ) -> StepId
     requires fits { Fits notes.now.items rows.now }
     requires listed { AreListed notes.now.items cubes.now }
+    requires cubes { AreCubes (is_root roots.now rows.now) }
     ensures { (id : ℕ) (note : Kept) → note_in notes.now.items id ≡ Some note → id < result →
-        misses clause.now rows.now id note ≡ false }
+        is_root roots.now rows.now id note ≡ false }
 {
     let mut first = notes.len();
     for id in cubes {
-        if *id < first && is_missing(notes, rows, *id, clause) {
+        if *id < first && is_root(notes, rows, *id, roots) {
             first = *id;
         }
     }
     first
 }
 
-// Whether there is an initial cube under an id, and it misses a clause.
-fn is_missing(notes: &Vec<Option<Note>>, rows: &Rows, id: StepId, clause: &[Lit]) -> bool
+// Whether a live step is a root.
+fn is_root(notes: &Vec<Option<Note>>, rows: &Rows, id: StepId, roots: &Roots) -> bool
     requires { (note : Kept) → note_in notes.now.items id ≡ Some note → IsTrue (is_stored rows.now id) }
-    ensures { result ≡ misses_in clause.now rows.now id (note_in notes.now.items id) }
+    ensures { result ≡ holds_in (is_root roots.now rows.now) id (note_in notes.now.items id) }
 {
     match notes.get(id) {
-        Some(Some(note)) => misses(note, rows, id, clause),
+        Some(Some(note)) => roots.contains(id, note, rows),
         _ => false,
     }
 }
@@ -83,6 +86,23 @@ pub(crate) fn misses(note: &Note, rows: &Rows, id: StepId, clause: &[Lit]) -> bo
     ensures { result ≡ misses clause.now rows.now id note.now }
 {
     note.is_initial_cube() && !hits_clause(rows.lits(id), clause)
+}
+
+// Whether a live step is an initial cube that misses one of the clauses.
+pub(crate) fn misses_one(note: &Note, rows: &Rows, id: StepId, clauses: &[LitList]) -> bool
+    requires { IsTrue (is_stored rows.now id) }
+    ensures { result ≡ misses_one clauses.now rows.now id note.now }
+{
+    note.is_initial_cube() && misses_some(rows.lits(id), clauses)
+}
+
+// Whether a row holds no literal of one of the clauses.
+fn misses_some(row: &[Lit], clauses: &[LitList]) -> bool
+    ensures { result ≡ misses_some row.now clauses.now }
+{
+    clauses
+        .iter()
+        .any(|clause| !hits_clause(row, clause.lits()))
 }
 
 // Whether a row holds a literal of a clause.

@@ -1,5 +1,5 @@
 //! Derivations.
-ghost use Rattle.std.specs.Prelude.{◌≡◌, ◌≢◌, ◌↔◌, ◌<◌, ◌≤◌, ◌⊎◌, ℕ, false, IsTrue, IsFalse, Some, None, IfOk, OnOk, OnErr, Err, List, [], ◌∷◌, ◌++◌, filter, max, not, nat_lt, ◌==◌, if◌then◌else◌, length, slice_index_or, slice_set, Contains};
+ghost use Rattle.std.specs.Prelude.{◌≡◌, ◌≢◌, ◌↔◌, ◌<◌, ◌≤◌, ◌⊎◌, ℕ, false, IsTrue, IsFalse, Some, None, IfOk, OnOk, OnErr, Err, List, [], ◌∷◌, ◌++◌, filter, max, min, not, nat_lt, ◌==◌, if◌then◌else◌, length, slice_index_or, slice_set, Contains};
 ghost use Rattle.prefix.specs.Scopes.{Scope, IsAscending};
 ghost use Rattle.prefix.specs.declared.quant.Quant.TheVariants.{Exists as exists, Forall as forall};
 ghost use Rattle.rows.specs.Arena.{Arena, literals_at};
@@ -15,11 +15,12 @@ ghost use Rattle.derive.specs.Adding.{clause_note, Adds, AddsBoth, AddsClause, A
 ghost use Rattle.derive.specs.Growing.{AreUnlinked, GainsSteps};
 ghost use Rattle.derive.specs.Dropping.{Drops, Falls, NoneOutsideBelow, StepTest, is_outside, mentions, names, has_tag, finishes, is_from, unless_finish};
 ghost use Rattle.derive.specs.Roots.{is_root};
-ghost use Rattle.derive.specs.Cubes.{is_cube_in, misses};
+ghost use Rattle.derive.specs.Cubes.{AreCubes, is_cube_in, misses, misses_one};
+ghost use Rattle.derive.specs.Inputs.{shortened};
 ghost use Rattle.derive.specs.Sweeping.{Sweeps};
 ghost use Rattle.derive.specs.Told.{told, why_of};
 
-use super::cubes::{drop_missing, first_missing, list_cube, retain_cubes};
+use super::cubes::{drop_cubes, first_cube, list_cube, retain_cubes};
 use super::dropping::{Roots, drop_roots};
 use super::new_step::NewStep;
 use super::note::Note;
@@ -27,7 +28,7 @@ use super::outside::{first_outside, is_outside};
 use super::removal::{is_reduced_of, push_assumed, reduce_of};
 use super::sweeping::{sweep_all, widen_marks};
 use super::{Step, StepId};
-use prefix::{Lit, Prefix, Quant, Var};
+use prefix::{Lit, LitList, Prefix, Quant, Var};
 use reduce::{Row, resolve};
 use rows::Rows;
 use std::alloc::Global;
@@ -48,7 +49,8 @@ pub struct Derivation {
     // What is kept of the step of each id, if it is live.
     notes: Vec<Option<Note>>,
     rows: Option<Rows>,
-    // No step with a tag is live under an id before that of its frame here, nor with a tag that has no place here.
+    // No step with a tag is live under an id before that at the place of its tag, nor with a tag that has no place. The
+    // greatest number stands where none came in since the last drop.
     frames_from: Vec<StepId>,
     // The ids of the live initial cubes, and maybe some of steps that aren't live any more.
     cubes: Vec<StepId>,
@@ -327,7 +329,7 @@ impl Derivation {
         ensures legal { (scopes : List Scope) → IsLegalFor scopes self.old → IsLegalFor scopes self.new }
     {
         self.drop_all(self.frame_from(frame), Roots::Frame(frame));
-        put_from(&mut self.frames_from, frame, self.notes.len());
+        forget_frame(&mut self.frames_from, frame);
     }
 
     /// The id from which on steps can go where the initial cubes go that hold no literal of a clause. Cubes alone go
@@ -337,7 +339,17 @@ impl Derivation {
         ensures { (id : ℕ) → Falls (misses clause.now (arena_of self.now)) self.now.notes id →
             (result ≤ id) × (side_at self.now id ≡ forall) }
     {
-        first_missing(self.cubes.as_slice(), &self.notes, self.rows(), clause)
+        self.first_cube(&Roots::Missing(clause))
+    }
+
+    /// The id from which on steps can go where the initial cubes go that hold no literal of one of the clauses. Cubes
+    /// alone go then. This compares the literals of each initial cube with those of the clauses.
+    pub fn missing_one_from(&self, clauses: &[LitList]) -> StepId
+        requires { IsTrue (has_rows self.now) }
+        ensures { (id : ℕ) → Falls (misses_one clauses.now (arena_of self.now)) self.now.notes id →
+            (result ≤ id) × (side_at self.now id ≡ forall) }
+    {
+        self.first_cube(&Roots::MissingOne(clauses))
     }
 
     /// Drops the initial cubes that hold no literal of a clause, with all that rests on them; the others stay. This
@@ -355,12 +367,7 @@ impl Derivation {
         ensures clauses { clauses_of self.new ≡ clauses_of self.old }
         ensures legal { (scopes : List Scope) → IsLegalFor scopes self.old → IsLegalFor scopes self.new }
     {
-        drop_missing(
-            &mut self.notes,
-            self.rows.as_mut().unwrap(),
-            &mut self.cubes,
-            clause,
-        );
+        self.drop_cubes(&Roots::Missing(clause));
     }
 
     /// Drops the finishes. This takes no memory.
@@ -536,7 +543,7 @@ impl Derivation {
     }
 
     // Adds a clause with its reduction.
-    fn add_clause(
+    pub(crate) fn add_clause(
         &mut self,
         prefix: &Prefix,
         lits: &[Lit],
@@ -579,6 +586,42 @@ impl Derivation {
         Ok((first, second))
     }
 
+    // Takes back the ids from one on, under which no step is live any more.
+    pub(crate) fn shorten(&mut self, first: StepId)
+        requires rows { IsTrue (has_rows self.old) }
+        requires none { (id : ℕ) → first ≤ id → IsFalse (is_live self.old id) }
+        ensures { self.new ≡ shortened first self.old }
+    {
+        self.notes.truncate(first);
+        self.rows.as_mut().unwrap().take_back(first);
+        self.finishes_from = self.finishes_from.min(first);
+    }
+
+    // The least id of some initial cubes, and else the id that comes next.
+    fn first_cube(&self, roots: &Roots) -> StepId
+        requires rows { IsTrue (has_rows self.now) }
+        requires cubes { AreCubes (is_root roots.now (arena_of self.now)) }
+        ensures { (id : ℕ) → Falls (is_root roots.now (arena_of self.now)) self.now.notes id →
+            (result ≤ id) × (side_at self.now id ≡ forall) }
+    {
+        first_cube(self.cubes.as_slice(), &self.notes, self.rows(), roots)
+    }
+
+    // Drops some initial cubes, with all that rests on them.
+    pub(crate) fn drop_cubes(&mut self, roots: &Roots)
+        requires rows { IsTrue (has_rows self.old) }
+        requires cubes { AreCubes (is_root roots.now (arena_of self.old)) }
+        ensures drops { Drops (is_root roots.now (arena_of self.old)) self.old self.new }
+        ensures supported { AreSupported self.old.notes }
+    {
+        drop_cubes(
+            &mut self.notes,
+            self.rows.as_mut().unwrap(),
+            &mut self.cubes,
+            roots,
+        );
+    }
+
     // Drops the roots, which have no id below `from`, with all that rests on them.
     fn drop_all(&mut self, from: StepId, roots: Roots)
         requires rows { IsTrue (has_rows self.old) }
@@ -601,22 +644,25 @@ fn clause_and_reduction(frame: usize, clause: StepId) -> Result<(Note, Note), No
     Ok((input, reduction))
 }
 
-// Puts in the id from which on steps of a frame can stand, where the frame has a place.
-fn put_from(frames_from: &mut Vec<StepId>, frame: usize, next: StepId)
-    ensures { frames_from.new.items ≡ slice_set frames_from.old.items frame next }
+// Notes that no step of a frame is live.
+fn forget_frame(frames_from: &mut Vec<StepId>, frame: usize)
+    ensures { frames_from.new.items ≡ slice_set frames_from.old.items frame usize.MAX }
 {
     if frame < frames_from.len() {
-        frames_from[frame] = next;
+        frames_from[frame] = usize::MAX;
     }
 }
 
-// Makes places for the frames up to one, whose steps come from the next id on.
+// Notes that a step of a frame comes in under the next id, and makes places for the frames up to it.
 fn widen(frames_from: &mut Vec<StepId>, frame: usize, next: StepId) -> Result<(), NoMemory>
-    ensures same { (f : ℕ) → slice_index_or frames_from.new.items f next ≡ slice_index_or frames_from.old.items f next }
-    ensures ok { OnOk result (frame < length frames_from.new.items) }
+    ensures told { (f : ℕ) → min (slice_index_or frames_from.new.items f next) next
+        ≤ slice_index_or frames_from.old.items f next }
+    ensures ok { OnOk result ((frame < length frames_from.new.items)
+        × (slice_index_or frames_from.new.items frame next ≤ next)) }
 {
     if frames_from.len() <= frame {
-        frames_from.resize(frame.saturating_add(1), next)?;
+        frames_from.resize(frame.saturating_add(1), usize::MAX)?;
     }
+    frames_from[frame] = frames_from[frame].min(next);
     Ok(())
 }

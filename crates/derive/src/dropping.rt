@@ -8,10 +8,10 @@ ghost use Rattle.derive.specs.Roots.{is_root};
 ghost use Rattle.derive.specs.Missing.{falls_now};
 
 use super::StepId;
-use super::cubes::misses;
+use super::cubes::{misses, misses_one};
 use super::note::Note;
 use super::outside::is_outside;
-use prefix::{Lit, Prefix};
+use prefix::{Lit, LitList, Prefix};
 use rows::Rows;
 
 // The steps that are dropped, with all that rests on them.
@@ -27,10 +27,12 @@ pub(crate) enum Roots<'a> {
     Outside(&'a Prefix),
     // The initial cubes that miss this clause.
     Missing(&'a [Lit]),
+    // The initial cubes that miss one of these clauses.
+    MissingOne(&'a [LitList]),
 }
 
 impl Roots<'_> {
-    fn contains(&self, id: StepId, note: &Note, rows: &Rows) -> bool
+    pub(crate) fn contains(&self, id: StepId, note: &Note, rows: &Rows) -> bool
         requires { IsTrue (is_stored rows.now id) }
         ensures { result ≡ is_root self.now rows.now id note.now }
     {
@@ -40,6 +42,7 @@ impl Roots<'_> {
             Self::From(first) => *first <= id,
             Self::Outside(prefix) => is_outside(rows.lits(id), prefix),
             Self::Missing(clause) => misses(note, rows, id, clause),
+            Self::MissingOne(clauses) => misses_one(note, rows, id, clauses),
         }
     }
 }

@@ -2,6 +2,7 @@
 //! frames.
 #![tactic(auto)]
 
+mod at_once;
 mod cubes;
 mod derivation;
 mod dropping;
@@ -20,4 +21,4 @@ pub use laws::{
     smaller_prefixes_agree, steps_are_listed,
 };
 pub use step::{Step, StepId};
-pub use worked::{worked_cubes, worked_leaving, worked_tags};
+pub use worked::{worked_cubes, worked_inputs, worked_leaving, worked_tags};

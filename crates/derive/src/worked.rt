@@ -1,9 +1,14 @@
 //! Worked values of the definitions, each proved.
-ghost use Rattle.derive.specs.Worked.{WorkedCubes, WorkedLeaving, WorkedTags};
+ghost use Rattle.derive.specs.Worked.{WorkedCubes, WorkedInputs, WorkedLeaving, WorkedTags};
 
 /// Initial cubes that miss a clause, and what goes with them.
 pub fn worked_cubes()
     ensures { WorkedCubes }
+{}
+
+/// Clauses that come in at once, their reductions, and what is taken back.
+pub fn worked_inputs()
+    ensures { WorkedInputs }
 {}
 
 /// What names a variable outside a prefix, and what goes with it.

@@ -23,9 +23,9 @@ use Rattle.calculus.proofs.Lists.{all_at, all_from, among_from, contains_nil, fi
 use Rattle.calculus.proofs.RowLemmas.{over_at, over_from, reduction_removes}
 use Rattle.calculus.proofs.StepLemmas.{row_at_step}
 use Rattle.calculus.proofs.Verdict.{option_cases}
-use Rattle.derive.specs.State.{IsLegalFor, Note, State, is_finish, may_be_antecedent, note_at, open_clauses, row_of, steps_of, why_at, why_in}
+use Rattle.derive.specs.State.{Note, State, is_finish, may_be_antecedent, note_at, row_of, steps_of, why_at, why_in}
 use Rattle.derive.specs.Theorems.{StepsAreListed}
-use Rattle.frames.specs.State.{OpenFormula, clauses_in}
+use Rattle.frames.specs.State.{OpenFormula, open_clauses}
 use Rattle.qrp_trace.specs.Cores.{step_under}
 use Rattle.engine.specs.declared.verdict.Held.{Held}
 use Rattle.engine.proofs.FirstScope.{first_among, value_among}
@@ -64,11 +64,11 @@ not_losers scopes t x first won e =
 
 -- what is held says it of the verdict that contracts see
 pub told_holds : (f : OpenFormula) (d : State) (held : Option Held) → AreDistinct (all_variables f.scopes)
-    → open_clauses d ≡ clauses_in f.frames → IsLegalFor f.scopes d → IfSome held (IsHeld f d)
+    → IsDerivation f.scopes (open_clauses f) (steps_of d) → IfSome held (IsHeld f d)
     → EndRowsGiveProofs → ProofsDecide → StepsAreListed → IfSome (option_map (told d) held) (IsVerdictOf f)
-told_holds f d None distinct same legal is gives decide listed = tt
-told_holds f d (Some held) distinct same legal is gives decide listed =
-    holds f d held distinct same legal is.found gives decide listed
+told_holds f d None distinct legal is gives decide listed = tt
+told_holds f d (Some held) distinct legal is gives decide listed =
+    holds f d held distinct legal is.found gives decide listed
 
 pub relevant_decide : (f : OpenFormula) (v : Option VerdictState) (list : List Literal)
     → AreDistinct (all_variables f.scopes) → RelevantOnesDecide → IfSome v (IsVerdictOf f)
@@ -78,7 +78,7 @@ relevant_decide f None list distinct decide is same = tt
 relevant_decide f (Some v) list distinct decide is same =
     subst (λ (ls : List Literal). Decides f v ls) (sym same)
     (subst (λ (row : Row). Decides f v (relevant_of v.assumptions row)) is.last_row
-    (decide (loser_of v.truth) f.scopes (clauses_in f.frames) v.assumptions v.proof distinct is.outer is.proof
+    (decide (loser_of v.truth) f.scopes (open_clauses f) v.assumptions v.proof distinct is.outer is.proof
     ∙ truth_again v.truth))
 
 variables_are : (values : Assignment) (xs : List ℕ) → map (λ (l : Literal). l.variable) (literals_of values xs) ≡ xs
@@ -88,12 +88,12 @@ variables_are values (x ∷ xs) = ap (λ ys. x ∷ ys) (variables_are values xs)
 module _ (f : OpenFormula) (v : VerdictState) (distinct : AreDistinct (all_variables f.scopes)) (is : IsVerdictOf f v)
     (exist : PlaysExist) where
   pub plays : Follows (loser_of v.truth) f.scopes v.assumptions v.proof (values_of f v)
-  plays = (exist (loser_of v.truth) f.scopes (clauses_in f.frames) v.assumptions v.proof (λ _. false) distinct is.outer
+  plays = (exist (loser_of v.truth) f.scopes (open_clauses f) v.assumptions v.proof (λ _. false) distinct is.outer
       is.proof).0
 
   pub first_decide : FirstValuesDecide → quantifier_at f.scopes 1 ≡ Some (winner_of v.truth)
       → Decides f v (first_values f v)
-  first_decide decide won = decide (loser_of v.truth) f.scopes (clauses_in f.frames) v.assumptions v.proof
+  first_decide decide won = decide (loser_of v.truth) f.scopes (open_clauses f) v.assumptions v.proof
       (values_of f v) distinct is.outer is.proof
       (λ x i. not_losers f.scopes v.truth x (level_first f.scopes x i) won) plays
       ∙ truth_again v.truth
@@ -210,7 +210,7 @@ no_finish_removes d t x (Some note) e = by note.why refl e
         (let f : not (is_finish (FinishedFrom a)) ≡ true = sym (ap (λ w. not (is_finish w)) same) ∙ e in cc)
 
 module _ (f : OpenFormula) (d : State) (held : Held) (distinct : AreDistinct (all_variables f.scopes))
-    (same : open_clauses d ≡ clauses_in f.frames) (legal : IsLegalFor f.scopes d)
+    (legal : IsDerivation f.scopes (open_clauses f) (steps_of d))
     (found : IsFound f d held.assumed held.verdict)
     (gives : EndRowsGiveProofs) (decide : ProofsDecide) (listed : StepsAreListed) (cores : StepsHaveCores)
     (values : Assignment) (x : ℕ) (first : level_of f.scopes x ≡ Some 1)
@@ -228,13 +228,13 @@ module _ (f : OpenFormula) (d : State) (held : Held) (distinct : AreDistinct (al
   abbrev core : List Step
   core = side_core (steps_of d) (step_under d before)
 
-  abbrev ends : EndsInFinish side f.scopes (clauses_in f.frames) held.assumed (told d held).proof row
+  abbrev ends : EndsInFinish side f.scopes (open_clauses f) held.assumed (told d held).proof row
       (last_reason core (step_under d before) held.assumed)
-  ends = told_ends f d held.assumed held.verdict distinct same legal found gives decide listed
+  ends = told_ends f d held.assumed held.verdict distinct legal found gives decide listed
 
-  its_core : IsItsCore f.scopes (clauses_in f.frames) (steps_of d) (step_under d before) core
-  its_core = cores f.scopes (clauses_in f.frames) (steps_of d) (step_under d before)
-      (subst (λ rows. IsDerivation f.scopes rows (steps_of d)) same legal)
+  its_core : IsItsCore f.scopes (open_clauses f) (steps_of d) (step_under d before) core
+  its_core = cores f.scopes (open_clauses f) (steps_of d) (step_under d before)
+      legal
       (listed.listed d before found.outcome.finish.step)
 
   module _ (free : assumed_value held.assumed x ≡ None) where
@@ -269,9 +269,9 @@ module _ (f : OpenFormula) (d : State) (held : Held) (distinct : AreDistinct (al
         let reason : ends.proof.last.reason ≡ reason_of core (why_at d before) =
         ends.last_reason ∙ cond-true all (reason_of core (why_at d before)) (One row) all_stay in
         ap₂ (λ (r : Row) (why : Reason). forced side values x r why) (ends.last_row ∙ whole) reason
-        ∙ step_forces_none side f.scopes held.assumed values x first_is free (clauses_in f.frames) core
+        ∙ step_forces_none side f.scopes held.assumed values x first_is free (open_clauses f) core
         (step_under d before) its_core.legal
-        (side_is f d held.assumed held.verdict distinct same legal found gives decide listed) (why_at d before)
+        (side_is f d held.assumed held.verdict distinct legal found gives decide listed) (why_at d before)
         (its_core.legal.legal (step_under d before) its_core.holds_end)
         ∙ sym (ap (λ id. removed_value d held.verdict.truth (why_at d id) x) at
         ∙ no_finish_removes d held.verdict.truth x (note_at d before) found.outcome.finish.step)
@@ -286,18 +286,18 @@ module _ (f : OpenFormula) (d : State) (held : Held) (distinct : AreDistinct (al
       ⊎_elim
       (λ free. ap (λ o. unwrap_or (first_of_two o removed) false) free
       ∙ sym (plays.ruled x (level_in_prefix f.scopes x 1 first) other free
-      ∙ ap (λ o. unwrap_or o false) (last side f.scopes (clauses_in f.frames) held.assumed (told d held).proof
+      ∙ ap (λ o. unwrap_or o false) (last side f.scopes (open_clauses f) held.assumed (told d held).proof
       ends.proof values x first ∙ forces free)))
       (λ r. ap (λ o. unwrap_or (first_of_two o removed) false) r.1 ∙ sym (plays.given x r.0 r.1 other))
       (option_cases (assumed_value held.assumed x))
 
 -- so it is the value that the verdict's play has
 pub value_told : (f : OpenFormula) (d : State) (held : Held) → AreDistinct (all_variables f.scopes)
-    → open_clauses d ≡ clauses_in f.frames → IsLegalFor f.scopes d → IsFound f d held.assumed held.verdict
+    → IsDerivation f.scopes (open_clauses f) (steps_of d) → IsFound f d held.assumed held.verdict
     → EndRowsGiveProofs → ProofsDecide → StepsAreListed → StepsHaveCores → PlaysExist → LastStepsDecide → (x : ℕ)
     → level_of f.scopes x ≡ Some 1 → quantifier_at f.scopes 1 ≡ Some (winner_of held.verdict.truth)
     → first_value d held x ≡ values_of f (told d held) x
-value_told f d held distinct same legal found gives decide listed cores exist last x first won =
-    first_value_is f d held distinct same legal found gives decide listed cores (values_of f (told d held)) x first
+value_told f d held distinct legal found gives decide listed cores exist last x first won =
+    first_value_is f d held distinct legal found gives decide listed cores (values_of f (told d held)) x first
     (not_losers f.scopes held.verdict.truth x first won)
-    (plays f (told d held) distinct (holds f d held distinct same legal found gives decide listed) exist) last
+    (plays f (told d held) distinct (holds f d held distinct legal found gives decide listed) exist) last

@@ -29,7 +29,7 @@ use Rattle.search.specs.State.{IsIntact, SearchState}
 use Rattle.search.proofs.Reducing.{count_left}
 use Rattle.engine.specs.declared.counts.Counts.{Counts}
 use Rattle.engine.specs.declared.verdict.Held.{Held}
-use Rattle.engine.specs.Counting.{one_more, with_clause, with_solve}
+use Rattle.engine.specs.Counting.{one_more, with_clause, with_clauses, with_solve}
 use Rattle.engine.specs.Marks.{AreMarked}
 use Rattle.engine.specs.Kept.{AreTied, HasFinishesOf, IsEngine}
 
@@ -52,10 +52,10 @@ limit_grows low high m n more few =
     (mul-le-mul (let h : low + 1 ≤ high + 1 = omega arith in h)
     (pow-le-pow_right two (let h : m + 1 ≤ n + 1 = omega arith in h)))
 
--- one more clause, with a count that may stay at its last value
-more_clauses : (last clauses rest old new : ℕ) → new ≤ old + 1 → new ≤ last → old < clauses + rest + 1
-    → new < min (clauses + 1) last + rest + 1
-more_clauses last clauses rest old new more small h = omega arith
+-- more clauses, with a count that may stay at its last value
+more_clauses : (last count clauses rest old new : ℕ) → new ≤ old + count → new ≤ last → old < clauses + rest + 1
+    → new < min (clauses + count) last + rest + 1
+more_clauses last count clauses rest old new more small h = omega arith
 
 -- one more solve of at most that many reductions
 more_solves : (last solves each each' old new : ℕ) → each ≤ each' → new ≤ old + each' → new ≤ last → 1 ≤ each'
@@ -101,11 +101,15 @@ bounded_solve last clauses solves budget restarts vars now again n spent old new
 abbrev pub allowed : Counts → ℕ
 allowed counts = removal_bound counts.clauses counts.solves counts.budget counts.restarts counts.vars
 
+pub clauses_counted : (counts : Counts) (count old new : ℕ) → new ≤ old + count → new < 2 ^ 64 → old < allowed counts
+    → new < allowed (with_clauses count counts)
+clauses_counted counts count old new more fit h =
+    more_clauses (2 ^ 64 - 1) count counts.clauses
+    (counts.solves * (min counts.budget (step_limit counts.restarts counts.vars) + 1)) old new more (omega arith) h
+
 pub clause_counted : (counts : Counts) (old new : ℕ) → new ≤ old + 1 → new < 2 ^ 64 → old < allowed counts
     → new < allowed (with_clause counts)
-clause_counted counts old new more fit h =
-    more_clauses (2 ^ 64 - 1) counts.clauses (counts.solves * (min counts.budget (step_limit counts.restarts counts.vars) + 1)) old new
-    more (omega arith) h
+clause_counted counts old new more fit h = clauses_counted counts 1 old new more fit h
 
 -- one more solve of so many variables, by a counter
 pub solve_counted : (counts : Counts) (before now : Counter) (again n first old new : ℕ) → old ≡ first

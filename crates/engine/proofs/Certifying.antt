@@ -13,7 +13,7 @@ use Rattle.calculus.specs.Rows.{Assignment, Row}
 use Rattle.calculus.specs.Verdicts.{IsProof}
 use Rattle.calculus.proofs.Levels.{depth_at_least, first_depth}
 use Rattle.calculus.proofs.Values.{outermost_order}
-use Rattle.frames.specs.State.{OpenFormula, clauses_in}
+use Rattle.frames.specs.State.{OpenFormula, open_clauses}
 use Rattle.aig.specs.declared.edge.Node.TheVariants.{Constant}
 use Rattle.aig.specs.declared.strategy.Strategy.{Strategy}
 use Rattle.aig.specs.Strategies.{output_of, output_vars, values_of as circuit_values}
@@ -34,10 +34,10 @@ module _ (f : OpenFormula) (v : VerdictState) (core : Trace) (winner : core.winn
   loser : opposite core.winner ≡ loser_of v.truth
   loser = ap opposite winner ∙ opposed v.truth
 
-  pub core_proves : IsProofOf core f.scopes v.assumptions (clauses_in f.frames)
+  pub core_proves : IsProofOf core f.scopes v.assumptions (open_clauses f)
   core_proves = subst (λ (steps : List Inference).
-      IsProof (opposite core.winner) f.scopes (clauses_in f.frames) v.assumptions steps) (sym list)
-      (subst (λ (q : Quant). IsProof q f.scopes (clauses_in f.frames) v.assumptions v.proof) (sym loser) is.proof)
+      IsProof (opposite core.winner) f.scopes (open_clauses f) v.assumptions steps) (sym list)
+      (subst (λ (q : Quant). IsProof q f.scopes (open_clauses f) v.assumptions v.proof) (sym loser) is.proof)
 
 -- what is said of a strategy by the loser, the winner and the steps of a proof
 pub record IsExtracted (pivot winner : Quant) (steps : List Inference) (scopes : List Scope) (clauses : List Row)
@@ -60,15 +60,15 @@ IsExtractedFrom core scopes clauses assumptions s =
 
 module _ (f : OpenFormula) (v : VerdictState) (core : Trace) (winner : core.winner ≡ winner_of v.truth)
     (list : inferences_of core.lines ≡ v.proof) (is : IsVerdictOf f v) (s : Strategy)
-    (extracted : IsExtractedFrom core f.scopes (clauses_in f.frames) v.assumptions s)
+    (extracted : IsExtractedFrom core f.scopes (open_clauses f) v.assumptions s)
     (distinct : AreDistinct (all_variables f.scopes)) (exist : PlaysExist) (back : PlaysLookBack) where
-  told : IsExtracted (loser_of v.truth) (winner_of v.truth) v.proof f.scopes (clauses_in f.frames) v.assumptions s
+  told : IsExtracted (loser_of v.truth) (winner_of v.truth) v.proof f.scopes (open_clauses f) v.assumptions s
   told = subst (λ (steps : List Inference).
-      IsExtracted (loser_of v.truth) (winner_of v.truth) steps f.scopes (clauses_in f.frames) v.assumptions s) list
-      (subst (λ (q : Quant). IsExtracted q (winner_of v.truth) (inferences_of core.lines) f.scopes (clauses_in f.frames)
+      IsExtracted (loser_of v.truth) (winner_of v.truth) steps f.scopes (open_clauses f) v.assumptions s) list
+      (subst (λ (q : Quant). IsExtracted q (winner_of v.truth) (inferences_of core.lines) f.scopes (open_clauses f)
       v.assumptions s)
       (opposed v.truth)
-      (subst (λ (q : Quant). IsExtracted (opposite q) q (inferences_of core.lines) f.scopes (clauses_in f.frames)
+      (subst (λ (q : Quant). IsExtracted (opposite q) q (inferences_of core.lines) f.scopes (open_clauses f)
       v.assumptions s) winner extracted))
 
   -- on the first scope it has the values of the play that is told, since both follow the proof
@@ -77,7 +77,7 @@ module _ (f : OpenFormula) (v : VerdictState) (core : Trace) (winner : core.winn
   first_values won x i inputs =
       let level = level_first f.scopes x i in
       let depth : depth_of f.scopes x ≡ 1 = first_depth f.scopes x level in
-      back (loser_of v.truth) f.scopes (clauses_in f.frames) v.assumptions v.proof (circuit_values s inputs)
+      back (loser_of v.truth) f.scopes (open_clauses f) v.assumptions v.proof (circuit_values s inputs)
       (values_of f v) x is.outer is.proof (told.follows inputs) (plays f v distinct is exist)
       (outermost_order f.scopes x i) (not_losers f.scopes v.truth x level won)
       (λ y j q below. absurd (let least : 1 ≤ depth_of f.scopes y = depth_at_least f.scopes y in omega arith))

@@ -21,11 +21,12 @@ use Rattle.clauses.specs.Clause.{as_row, is_tautology}
 use Rattle.derive.specs.Dropping.{is_outside, mentions}
 use Rattle.derive.specs.State.{Note, Notes, OpenClause, State, clauses_of, is_finish, is_live, may_be_antecedent, note_at, note_in, row_of, side_at, side_in, why_at, why_in}
 use Rattle.frames.specs.declared.refusal.FrameRefusal.{FrameRefusal}
-use Rattle.frames.specs.declared.refusal.FrameRefusal.TheVariants.{AssumptionsHeld, NoFrame, NoMemory}
+use Rattle.frames.specs.declared.refusal.FrameRefusal.TheVariants.{AssumptionsHeld, GroupOpen, Limit, NoFrame, NoMemory}
 use Rattle.frames.specs.State.{Frame, OpenFormula, clauses_in, depth, empty_frame, leaves_in, popped, pushed, with_leaving, with_row, with_variable}
-use Rattle.frames.specs.Commands.{AddClause, AddScope, AddVariable, Pop, Push, first_of, formula_after, is_empty, prefix_refusals, refusal_of, with_clause}
+use Rattle.frames.specs.Commands.{Activate, AddScope, AddVariable, CloseGroup, Deactivate, OpenGroup, Pop, Push, first_of, formula_after, is_empty, max_pushed, prefix_refusals, refusal_of, with_row_at}
+use Rattle.frames.specs.Groups.{clauses_at, grouped_in, is_active, with_clause_at, with_group, with_mark}
 use Rattle.qrp_trace.specs.Cores.{IsFinishAt, end_row_in, proof_at, step_under}
-use Rattle.search.specs.Changing.{AddsClause, IsRoomy, RestingGrows, StaysResting}
+use Rattle.search.specs.Changing.{AddsClause, AddsClauses, IsRoomy, RestingGrows, StaysResting}
 use Rattle.search.specs.Finishes.{GainsNoFinish}
 use Rattle.search.specs.Counting.{size_of}
 use Rattle.search.specs.Forcing.{HasNoCubes}
@@ -38,9 +39,9 @@ use Rattle.engine.specs.declared.counts.Counts.{Counts}
 use Rattle.engine.specs.declared.verdict.Held.{Held}
 use Rattle.engine.specs.declared.verdict.Verdict.{Verdict}
 use Rattle.engine.specs.Marks.{AreMarked}
-use Rattle.engine.specs.Kept.{AreTied, HasFinishesOf, IsEngine, IsFound, IsHeld, framed_in}
+use Rattle.engine.specs.Kept.{AddsIn, AreTied, HasFinishesOf, IsEngine, IsFound, IsHeld, group_tag, joined_tag, tag_for, tagged_rows, under}
 use Rattle.engine.specs.Verdicts.{told}
-use Rattle.engine.proofs.Framing.{added_clauses, framed_pushed, framed_with_leaving, popped_inside, rows_with_row, some_with_leaving, some_with_row}
+use Rattle.engine.proofs.Framing.{active_opened, all_tagged, apart, dropped_marked, grown_none, is_left, marked_same, other_frames, other_groups, put_marked, rising_grown, rising_marked, rising_opened, rows_gone, rows_leaving, rows_pushed, rows_stay, some_with_leaving, some_with_row, tagged_grown, tagged_with_row, under_added, under_frames, under_left, under_top}
 use Rattle.engine.proofs.Marking.{rows_inside}
 
 -- refusals
@@ -89,6 +90,8 @@ pub grown : (f : OpenFormula) (scopes : List Scope) (s : SearchState) → AreTie
 grown f scopes s tied extends room grows = record {
   resting = grows f.scopes scopes s extends room tied.resting;
   frames = tied.frames;
+  few = tied.few;
+  rising = tied.rising;
   clauses = tied.clauses;
 }
 
@@ -112,7 +115,9 @@ pub reserved : (f : OpenFormula) (old new : SearchState) → StaysResting old ne
 reserved f old new stays same tied = record {
   resting = stays f.scopes tied.resting;
   frames = tied.frames;
-  clauses = ap framed_in same ∙ tied.clauses;
+  few = tied.few;
+  rising = tied.rising;
+  clauses = λ tag. ap (λ (d : State). under tag (clauses_of d)) same ∙ tied.clauses tag;
 }
 
 one_of : (scopes : List Scope) (n v x : ℕ) → n < length scopes
@@ -132,11 +137,19 @@ listed f scopes var s tied = by (leaves_in f.version (depth f.frames))
       scopes = scopes;
       frames = if b then with_leaving var f.frames else f.frames;
     }) s
-    by false = record { resting = tied.resting; frames = tied.frames; clauses = tied.clauses }
+    by false = record {
+      resting = tied.resting;
+      frames = tied.frames;
+      few = tied.few;
+      rising = tied.rising;
+      clauses = tied.clauses;
+    }
     by true = record {
       resting = tied.resting;
       frames = let same = some_with_leaving var f.frames in let some = tied.frames in omega (arith, same, some);
-      clauses = tied.clauses ∙ sym (framed_with_leaving var f.frames);
+      few = let same = some_with_leaving var f.frames in let few = tied.few in omega (arith, same, few);
+      rising = tied.rising;
+      clauses = λ tag. tied.clauses tag ∙ sym (other_frames f (with_leaving var f.frames) tag (rows_leaving var f.frames tag));
     }
 
 pub variable_added : (f : OpenFormula) (s : SearchState) (var scope : ℕ) → AreTied f s → IsRoomy var s
@@ -160,6 +173,8 @@ pub without_assumptions : (f : OpenFormula) (s : SearchState) → AreTied f s �
 without_assumptions f s tied = record {
   resting = tied.resting;
   frames = tied.frames;
+  few = tied.few;
+  rising = tied.rising;
   clauses = tied.clauses;
 }
 
@@ -173,13 +188,34 @@ found_without f d assumptions v found = record {
 
 -- frames
 
-pub frame_pushed : (f : OpenFormula) (s : SearchState) → AreTied f s → AreTied (formula_after f Push) s
-frame_pushed f s tied = record {
+push_fits : (held : Bool) (n : ℕ) → first_of ((held, GroupOpen) ∷ (n == max_pushed, Limit) ∷ []) ≡ None
+    → (n == max_pushed) ≡ false
+push_fits true n e = absurd (let f : Some GroupOpen ≡ None = e in cc)
+push_fits false n e = by (n == max_pushed) e
+  where
+    by : (b : Bool) → first_of ((b, Limit) ∷ []) ≡ None → b ≡ false
+    by true e = absurd (let f : Some Limit ≡ None = e in cc)
+    by false e = refl
+
+pub frame_pushed : (f : OpenFormula) (s : SearchState) → AreTied f s → refusal_of f Push ≡ None
+    → AreTied (formula_after f Push) s
+frame_pushed f s tied accepts = record {
   resting = tied.resting;
   frames = let count : length (pushed f.frames) ≡ length f.frames + 1 =
       length-append f.frames (empty_frame ∷ []) in omega (arith, count);
-  clauses = tied.clauses ∙ sym (framed_pushed f.frames);
+  few =
+      let count : length (pushed f.frames) ≡ length f.frames + 1 = length-append f.frames (empty_frame ∷ []) in
+      let below = push_fits (is_some f.current) (depth f.frames) accepts in
+      let few = tied.few in
+      let some = tied.frames in
+      let less : depth f.frames < max_pushed = not_most (depth f.frames) max_pushed below few in
+      omega (arith, count, less, some);
+  rising = tied.rising;
+  clauses = λ tag. tied.clauses tag ∙ sym (other_frames f (pushed f.frames) tag (rows_pushed f.frames tag));
 }
+  where
+    not_most : (n most : ℕ) → (n == most) ≡ false → n ≤ most → n < most
+    not_most n most e low = grind (arith, nat_tests)
 
 pop_fits : (frames : List Frame) → first_of ((depth frames == 0, NoFrame) ∷ []) ≡ None → 1 ≤ length (popped frames)
 pop_fits frames e =
@@ -194,25 +230,156 @@ pop_fits frames e =
 pub frame_popped : (f : OpenFormula) (old new : SearchState) → AreTied f old → refusal_of f Pop ≡ None
     → IsResting (formula_after f Pop).scopes new
     → AllByRecursion (IsRow (formula_after f Pop).scopes) (clauses_in (popped f.frames))
-    → clauses_of new.derivation ≡ filter (λ (c : OpenClause).
-    not (c.frame == depth f.frames || mentions (is_outside (formula_after f Pop).scopes) c.row))
+    → AllByRecursion (IsRow (formula_after f Pop).scopes) (grouped_in f.groups)
+    → clauses_of new.derivation ≡ filter (is_left (depth f.frames) (mentions (is_outside (formula_after f Pop).scopes)))
     (clauses_of old.derivation) → AreTied (formula_after f Pop) new
-frame_popped f old new tied accepts resting rows clauses = record {
+frame_popped f old new tied accepts resting rows grouped clauses = record {
   resting = resting;
   frames = pop_fits f.frames accepts;
-  clauses = popped_inside old.derivation new.derivation f.frames (mentions (is_outside (formula_after f Pop).scopes))
-      tied.frames tied.clauses (rows_inside (formula_after f Pop).scopes (clauses_in (popped f.frames)) rows) clauses;
+  few =
+      let count : length (popped f.frames) ≡ length f.frames - 1 =
+      length-take-le (length f.frames - 1) f.frames (omega arith) in
+      let few = tied.few in omega (arith, count, few);
+  rising = tied.rising;
+  clauses = λ tag. ap (under tag) clauses ∙ at tag (tag == depth f.frames) refl;
 }
+  where
+    after : OpenFormula
+    after = formula_after f Pop
+
+    test : Row → Bool
+    test = mentions (is_outside after.scopes)
+
+    inside : (tag : ℕ) → AllByRecursion (λ (row : Row). test row ≡ false) (tagged_rows after tag)
+    inside tag = all_tagged (λ (row : Row). test row ≡ false) after tag (rows_inside after.scopes (clauses_in after.frames) rows)
+        (rows_inside after.scopes (grouped_in after.groups) grouped)
+
+    at : (tag : ℕ) (b : Bool) → (tag == depth f.frames) ≡ b
+        → under tag (filter (is_left (depth f.frames) test) (clauses_of old.derivation)) ≡ tagged_rows after tag
+    at tag true e =
+        let same : tag ≡ depth f.frames = eqb-true tag (depth f.frames) e in
+        let low : tag ≤ max_pushed = (let few = tied.few in omega (arith, same, few)) in
+        ap (λ top. under tag (filter (is_left top test) (clauses_of old.derivation))) (sym same)
+        ∙ under_top tag test (clauses_of old.derivation)
+        ∙ sym (under_frames after tag low ∙ rows_gone f.frames tag same)
+    at tag false e =
+        let stay : tagged_rows f tag ≡ tagged_rows after tag =
+        sym (other_frames f (popped f.frames) tag (rows_stay f.frames tag tied.frames (apart tag (depth f.frames) e))) in
+        let all = subst (AllByRecursion (λ (row : Row). test row ≡ false)) (sym (tied.clauses tag ∙ stay)) (inside tag) in
+        under_left tag (depth f.frames) test (clauses_of old.derivation) e all ∙ tied.clauses tag ∙ stay
 
 -- clauses
 
+-- the tag under which an accepted clause stands, if it is open
+abbrev pub AreAdded : OpenFormula → SearchState → SearchState → Row → Type 0
+AreAdded f old new row = AddsIn (joined_tag f) row (clauses_of old.derivation) (clauses_of new.derivation)
+
 pub row_added : (f : OpenFormula) (old new : SearchState) (row : Row) → AreTied f old → IsResting f.scopes new
-    → AddsClause (depth f.frames) row (clauses_of old.derivation) (clauses_of new.derivation)
-    → AreTied (record f { frames = with_row row f.frames }) new
-row_added f old new row tied resting adds = record {
+    → AreAdded f old new row → AreTied (with_row_at f.current row f) new
+row_added f old new row tied resting adds = by f.current refl
+  where
+    none : (clauses_of new.derivation ≡ clauses_of old.derivation) → (n : ℕ) → is_active f.groups n ≡ false
+        → AreTied (with_row_at (Some n) row f) new
+    none same n off = record {
+      resting = resting;
+      frames = tied.frames;
+      few = tied.few;
+      rising = rising_grown row n f.groups tied.rising;
+      clauses = λ tag. ap (under tag) same ∙ tied.clauses tag
+          ∙ sym (other_groups f (with_clause_at row n f.groups) tag (λ m. grown_none row n m f.groups off));
+    }
+
+    group : (n : ℕ) → is_active f.groups n ≡ true
+        → AddsClause (group_tag n) row (clauses_of old.derivation) (clauses_of new.derivation)
+        → AreTied (with_row_at (Some n) row f) new
+    group n on one = record {
+      resting = resting;
+      frames = tied.frames;
+      few = tied.few;
+      rising = rising_grown row n f.groups tied.rising;
+      clauses = λ tag. under_added (group_tag n) tag row (clauses_of old.derivation) (clauses_of new.derivation) one
+          ∙ ap (λ rs. if group_tag n == tag then rs ++ row ∷ [] else rs) (tied.clauses tag)
+          ∙ sym (tagged_grown f n row on tag);
+    }
+
+    frame : AddsClause (depth f.frames) row (clauses_of old.derivation) (clauses_of new.derivation)
+        → AreTied (with_row_at None row f) new
+    frame one = record {
+      resting = resting;
+      frames = let count = some_with_row row f.frames in let some = tied.frames in omega (arith, count, some);
+      few = let count = some_with_row row f.frames in let few = tied.few in omega (arith, count, few);
+      rising = tied.rising;
+      clauses = λ tag. under_added (depth f.frames) tag row (clauses_of old.derivation) (clauses_of new.derivation) one
+          ∙ ap (λ rs. if depth f.frames == tag then rs ++ row ∷ [] else rs) (tied.clauses tag)
+          ∙ sym (tagged_with_row f row tied.frames tied.few tag);
+    }
+
+    by : (o : Option ℕ) → f.current ≡ o → AreTied (with_row_at o row f) new
+    by None e = frame (subst (λ o. AddsIn o row (clauses_of old.derivation) (clauses_of new.derivation))
+        (ap (tag_for f) e) adds)
+    by (Some n) e = turned (is_active f.groups n) refl
+        (subst (λ o. AddsIn o row (clauses_of old.derivation) (clauses_of new.derivation)) (ap (tag_for f) e) adds)
+      where
+        turned : (b : Bool) → is_active f.groups n ≡ b
+            → AddsIn (if b then Some (group_tag n) else None) row (clauses_of old.derivation) (clauses_of new.derivation)
+            → AreTied (with_row_at (Some n) row f) new
+        turned true on one = group n on one
+        turned false off same = none same n off
+
+-- groups
+
+pub group_opened : (f : OpenFormula) (s : SearchState) (n : ℕ) → AreTied f s → AreTied (formula_after f (OpenGroup n)) s
+group_opened f s n tied = record {
+  resting = tied.resting;
+  frames = tied.frames;
+  few = tied.few;
+  rising = rising_opened n f.groups tied.rising;
+  clauses = λ tag. tied.clauses tag
+      ∙ sym (other_groups f (with_group n f.groups) tag (λ m. active_opened n f.groups m tied.rising));
+}
+
+pub group_closed : (f : OpenFormula) (s : SearchState) → AreTied f s → AreTied (formula_after f CloseGroup) s
+group_closed f s tied = record {
+  resting = tied.resting;
+  frames = tied.frames;
+  few = tied.few;
+  rising = tied.rising;
+  clauses = tied.clauses;
+}
+
+pub group_dropped : (f : OpenFormula) (old new : SearchState) (n : ℕ) → AreTied f old → IsResting f.scopes new
+    → clauses_of new.derivation ≡ filter (λ (c : OpenClause). not (c.frame == group_tag n)) (clauses_of old.derivation)
+    → AreTied (formula_after f (Deactivate n)) new
+group_dropped f old new n tied resting clauses = record {
   resting = resting;
-  frames = let count = some_with_row row f.frames in let some = tied.frames in omega (arith, count, some);
-  clauses = added_clauses old.derivation new.derivation f.frames row tied.frames tied.clauses adds;
+  frames = tied.frames;
+  few = tied.few;
+  rising = rising_marked false n f.groups tied.rising;
+  clauses = λ tag. ap (under tag) clauses ∙ dropped_marked f n (clauses_of old.derivation) tied.clauses tag;
+}
+
+-- where a group is made active, its clauses are put in, unless it was active
+pub group_put : (f : OpenFormula) (old new : SearchState) (n : ℕ) → AreTied f old → IsResting f.scopes new
+    → is_active f.groups n ≡ false
+    → AddsClauses (group_tag n) (clauses_at f.groups n) (clauses_of old.derivation) (clauses_of new.derivation)
+    → AreTied (formula_after f (Activate n)) new
+group_put f old new n tied resting off adds = record {
+  resting = resting;
+  frames = tied.frames;
+  few = tied.few;
+  rising = rising_marked true n f.groups tied.rising;
+  clauses = put_marked f n (clauses_of old.derivation) (clauses_of new.derivation) tied.clauses off adds;
+}
+
+pub group_stays : (f : OpenFormula) (s : SearchState) (n : ℕ) → AreTied f s → is_active f.groups n ≡ true
+    → AreTied (formula_after f (Activate n)) s
+group_stays f s n tied on = record {
+  resting = tied.resting;
+  frames = tied.frames;
+  few = tied.few;
+  rising = rising_marked true n f.groups tied.rising;
+  clauses = λ tag. tied.clauses tag
+      ∙ sym (other_groups f (with_mark true n f.groups) tag (λ m. marked_same true n f.groups m on));
 }
 
 -- where no new finish comes
@@ -326,74 +493,12 @@ pub on_ok_at : {T E : Type 0} (r : Result T E) (P : Type 0) → is_ok r ≡ true
 on_ok_at (Ok x) P e p = p
 on_ok_at (Err x) P e p = absurd (cc)
 
--- a clause is left out or put into the top frame, as the number of open clauses tells
-
-grows_or_not : (lits : List ℤ) (frames : List Frame) → 1 ≤ length frames
-    → (with_clause lits frames ≡ frames) ⊎ ((with_clause lits frames ≡ with_row (as_row lits) frames) ×
-    (length (clauses_in (with_clause lits frames)) ≡ length (clauses_in frames) + 1))
-grows_or_not lits frames some = by (is_tautology lits) refl
-  where
-    by : (b : Bool) → is_tautology lits ≡ b
-        → (with_clause lits frames ≡ frames) ⊎ ((with_clause lits frames ≡ with_row (as_row lits) frames) ×
-        (length (clauses_in (with_clause lits frames)) ≡ length (clauses_in frames) + 1))
-    by true e = inl (cond-true (is_tautology lits) frames (with_row (as_row lits) frames) e)
-    by false e =
-        let kept : with_clause lits frames ≡ with_row (as_row lits) frames =
-        cond-false (is_tautology lits) frames (with_row (as_row lits) frames) e in
-        inr (
-          kept,
-          ap (λ fs. length (clauses_in fs)) kept ∙ ap length (rows_with_row (as_row lits) frames some)
-              ∙ length-append (clauses_in frames) (as_row lits ∷ []),
-        )
-
-pub left_out : (lits : List ℤ) (frames : List Frame) → 1 ≤ length frames
-    → length (clauses_in (with_clause lits frames)) ≡ length (clauses_in frames) → with_clause lits frames ≡ frames
-left_out lits frames some same =
-    ⊎_elim (λ e. e) (λ p. absurd (let more = p.1 in omega (arith, more, same))) (grows_or_not lits frames some)
-
-pub put_in : (lits : List ℤ) (frames : List Frame) → 1 ≤ length frames
-    → length (clauses_in (with_clause lits frames)) ≢ length (clauses_in frames)
-    → with_clause lits frames ≡ with_row (as_row lits) frames
-put_in lits frames some apart =
-    ⊎_elim (λ e. absurd (apart (ap (λ fs. length (clauses_in fs)) e))) (λ p. p.0) (grows_or_not lits frames some)
-
-module _ (f new : OpenFormula) (lits : List ℤ) (old : SearchState) (tied : AreTied f old)
-    (is : new ≡ formula_after f (AddClause lits)) where
-  abbrev Same : Type 0
-  Same = length (clauses_in new.frames) ≡ length (clauses_in f.frames)
-
-  counted : Same → length (clauses_in (with_clause lits f.frames)) ≡ length (clauses_in f.frames)
-  counted same = ap (λ (g : OpenFormula). length (clauses_in g.frames)) (sym is) ∙ same
-
-  pub left_tied : Same → AreTied new old
-  left_tied same = subst (λ (g : OpenFormula). AreTied g old)
-      (sym (is ∙ ap (λ (fs : List Frame). record f { frames = fs })
-      (left_out lits f.frames tied.frames (counted same)))) tied
-
-  with_put : (Same → ⊥) → new ≡ record f { frames = with_row (as_row lits) f.frames }
-  with_put apart = is ∙ ap (λ (fs : List Frame). record f { frames = fs })
-      (put_in lits f.frames tied.frames (λ e. apart (ap (λ (g : OpenFormula). length (clauses_in g.frames)) is ∙ e)))
-
-  pub put_rows : (Same → ⊥) → clauses_in new.frames ≡ clauses_in f.frames ++ as_row lits ∷ []
-  put_rows apart = ap (λ (g : OpenFormula). clauses_in g.frames) (with_put apart)
-      ∙ rows_with_row (as_row lits) f.frames tied.frames
-
-  pub some_put : (Same → ⊥) → 1 ≤ length (clauses_in new.frames)
-  some_put apart = let count : length (clauses_in new.frames) ≡ length (clauses_in f.frames) + 1 =
-      ap length (put_rows apart) ∙ length-append (clauses_in f.frames) (as_row lits ∷ []) in omega (arith, count)
-
-  depth_with : (frames : List Frame) → depth (with_row (as_row lits) frames) ≡ depth frames
-  depth_with frames = ap (λ n. n - 1) (some_with_row (as_row lits) frames)
-
-  pub put_tied : (s : SearchState) → (Same → ⊥) → IsResting new.scopes s
-      → AddsClause (depth new.frames) (as_row lits) (clauses_of old.derivation) (clauses_of s.derivation)
-      → AreTied new s
-  put_tied s apart resting adds =
-      let e = with_put apart in
-      let at : depth new.frames ≡ depth f.frames = ap (λ (g : OpenFormula). depth g.frames) e ∙ depth_with f.frames in
-      subst (λ (g : OpenFormula). AreTied g s) (sym e)
-      (row_added f old s (as_row lits) tied (subst (λ (g : OpenFormula). IsResting g.scopes s) e resting)
-      (subst (λ n. AddsClause n (as_row lits) (clauses_of old.derivation) (clauses_of s.derivation)) at adds))
+-- what a group's turn ensures where it was asked before whether it is allowed
+pub turned : (o : Option FrameRefusal) (may : Result ℕ FrameRefusal) (n m : ℕ) (r : Result (Unit {0}) FrameRefusal)
+    (P : Type 0) → may ≡ Ok n → MatchOption o (may ≡ Ok m) (λ e. may ≡ Err e)
+    → MatchOption o (IsOk r) (λ e. r ≡ Err e) → OnOk r P → P
+turned None may n m r P was asked turns ok = on_ok_at r P turns ok
+turned (Some e) may n m r P was asked turns ok = absurd (let f : Ok n ≡ Err e = sym was ∙ asked in cc)
 
 -- long learned rows
 

@@ -2,9 +2,11 @@ pub mod Asking
 pub mod Bounding
 pub mod Certifying
 pub mod Changing
-pub mod Framing
-pub mod Looking
-pub mod Marking
-pub mod Marked
-pub mod Telling
+pub mod Coring
 pub mod FirstScope
+pub mod Framing
+pub mod Joining
+pub mod Looking
+pub mod Marked
+pub mod Marking
+pub mod Telling

@@ -1,5 +1,5 @@
 -- Marks stay right, command by command.
-use Rattle.std.proofs.Common.{◌≡◌, ℕ, ◌-◌, Bool, true, false, List, [], ◌∷◌, ◌++◌, Option, None, ap}
+use Rattle.std.proofs.Common.{◌≡◌, ℕ, ◌-◌, Bool, true, false, List, [], ◌∷◌, ◌++◌, Option, None, Some, ap}
 use Rattle.std.specs.Prelude.{ℤ, if◌then◌else◌, is_none}
 use Rattle.prefix.specs.declared.quant.Quant.{Quant}
 use Rattle.prefix.specs.Scopes.{with_scope, with_variable_at}
@@ -7,8 +7,8 @@ use Rattle.calculus.specs.DerivationTheorems.{PrefixesGrow}
 use Rattle.clauses.specs.Clause.{as_row, is_tautology}
 use Rattle.derive.specs.Dropping.{NoneOutsideBelow}
 use Rattle.derive.specs.State.{IsLegalFor, State, next_id}
-use Rattle.frames.specs.Commands.{AddClause, AddScope, AddVariable, Pop, Push, formula_after, refusal_of}
-use Rattle.frames.specs.State.{OpenFormula, with_row}
+use Rattle.frames.specs.Commands.{AddClause, AddScope, AddVariable, Pop, Push, formula_after, refusal_of, with_row_at}
+use Rattle.frames.specs.State.{OpenFormula}
 use Rattle.search.specs.Finishes.{HasNoFinish}
 use Rattle.search.specs.Moves.{KeepsOlder}
 use Rattle.engine.specs.Marks.{AreMarked}
@@ -43,11 +43,12 @@ variable_marked f var scope marks d accepts grow are =
 
 pub clause_marked : (f : OpenFormula) (lits : List ℤ) (marks : List ℕ) (d : State) → AreMarkedIn f marks d
     → AreMarkedIn (formula_after f (AddClause lits)) marks d
-clause_marked f lits marks d are = by (is_tautology lits)
+clause_marked f lits marks d are = by (is_tautology lits) f.current
   where
-    by : (b : Bool) → AreMarked (if b then f.frames else with_row (as_row lits) f.frames) marks f.scopes d
-    by true = are
-    by false = marked_row (as_row lits) f.frames marks f.scopes d are
+    by : (b : Bool) (o : Option ℕ) → AreMarkedIn (if b then f else with_row_at o (as_row lits) f) marks d
+    by true o = are
+    by false None = marked_row (as_row lits) f.frames marks f.scopes d are
+    by false (Some n) = are
 
 pub frame_marked : (f : OpenFormula) (marks : List ℕ) (d : State) → IsLegalFor f.scopes d → HasNoFinish d
     → AreMarkedIn f marks d → AreMarkedIn (formula_after f Push) (marks ++ next_id d ∷ []) d

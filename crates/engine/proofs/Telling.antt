@@ -13,9 +13,9 @@ use Rattle.calculus.specs.Rows.{Row, variables_in}
 use Rattle.calculus.specs.Derivations.Why.{Given, ReducedFrom, ResolvedFrom, FinishedFrom}
 use Rattle.calculus.specs.Verdicts.{AreOuter, EndsInFinish, IsProof, last_reason, proof_of}
 use Rattle.calculus.specs.VerdictTheorems.{EndRowsGiveProofs, ProofsDecide}
-use Rattle.derive.specs.State.{IsLegalFor, Note, State, is_step, may_be_antecedent, note_at, open_clauses, row_of, side_at, steps_of, why_at, why_in}
+use Rattle.derive.specs.State.{Note, State, is_step, may_be_antecedent, note_at, row_of, side_at, steps_of, why_at, why_in}
 use Rattle.derive.specs.Theorems.{StepsAreListed}
-use Rattle.frames.specs.State.{OpenFormula, clauses_in}
+use Rattle.frames.specs.State.{OpenFormula, open_clauses}
 use Rattle.qrp_trace.specs.Cores.{IsFinishAt, end_row_in, proof_at, step_under}
 use Rattle.search.specs.declared.outcome.Outcome.{Outcome}
 use Rattle.search.specs.declared.outcome.SolveStop.{SolveStop}
@@ -26,7 +26,7 @@ use Rattle.engine.specs.declared.verdict.Verdict.{Verdict}
 use Rattle.engine.specs.Asks.{IsVerdictOf, end_row_of}
 use Rattle.engine.specs.Kept.{AreTied, IsFound}
 use Rattle.engine.specs.Verdicts.{HasProof, IsStopFor, loser_of, told}
-use Rattle.engine.proofs.Framing.{same_rows}
+use Rattle.engine.proofs.Framing.{tied_matrix}
 
 loser_again : (q : Quant) → loser_of (bad_of q) ≡ q
 loser_again Exists = refl
@@ -41,25 +41,25 @@ pub stops : (restarts : ℕ) (f : OpenFormula) (s : SearchState) (before now : C
     → IsStop restarts f.scopes s.derivation f.assumptions before now stop → IsStopFor restarts f before now stop
 stops restarts f s before now stop tied is = record {
   derivation = s.derivation;
-  clauses = same_rows s.derivation f.frames tied.clauses;
+  clauses = tied_matrix f s tied;
   stops = is;
 }
 
 -- an outcome as a verdict
 pub finds : (f : OpenFormula) (d : State) (outcome : Outcome) → AreOuter f.scopes f.assumptions
     → IsAscending (variables_in f.assumptions)
-    → IsOutcome f.scopes (clauses_in f.frames) f.assumptions d outcome
+    → IsOutcome f.scopes (open_clauses f) f.assumptions d outcome
     → (t : Bool) → t ≡ bad_of outcome.loser → IsFound f d f.assumptions (record { truth = t; end = outcome.end })
 finds f d outcome outer ascending is t same = record {
   outer = outer;
   ascending = ascending;
-  outcome = subst (λ (q : Quant). IsOutcome f.scopes (clauses_in f.frames) f.assumptions d
+  outcome = subst (λ (q : Quant). IsOutcome f.scopes (open_clauses f) f.assumptions d
       (record { loser = q; end = outcome.end })) (sym (ap loser_of same ∙ loser_again outcome.loser)) is;
 }
 
 -- the truth of a verdict
 pub is_truth : (f : OpenFormula) (d : State) (assumptions : List Literal) (v : Verdict)
-    → IsFound f d assumptions v → v.truth ≡ truth_under assumptions f.scopes (clauses_in f.frames)
+    → IsFound f d assumptions v → v.truth ≡ truth_under assumptions f.scopes (open_clauses f)
 is_truth f d assumptions v found = sym (found.outcome.truth ∙ truth_again v.truth)
 
 -- the step of the end row is the one that the finish tells
@@ -93,8 +93,8 @@ WithLast pivot scopes clauses assumptions row steps =
     (proof : IsProof pivot scopes clauses assumptions steps) × (proof.last.row ≡ row)
 
 module _ (f : OpenFormula) (d : State) (assumptions : List Literal) (v : Verdict)
-    (distinct : AreDistinct (all_variables f.scopes)) (same : open_clauses d ≡ clauses_in f.frames)
-    (legal : IsLegalFor f.scopes d) (found : IsFound f d assumptions v)
+    (distinct : AreDistinct (all_variables f.scopes)) (legal : IsDerivation f.scopes (open_clauses f) (steps_of d))
+    (found : IsFound f d assumptions v)
     (gives : EndRowsGiveProofs) (decide : ProofsDecide) (listed : StepsAreListed) where
   abbrev pub before : ℕ
   before = found.outcome.finish.before
@@ -105,19 +105,19 @@ module _ (f : OpenFormula) (d : State) (assumptions : List Literal) (v : Verdict
 
   -- a list ends in the finish of that row, as a proof that this side loses
   abbrev EndsHere : Quant → List Inference → Type 0
-  EndsHere pivot steps = EndsInFinish pivot f.scopes (clauses_in f.frames) assumptions steps (row_of d before) cause
+  EndsHere pivot steps = EndsInFinish pivot f.scopes (open_clauses f) assumptions steps (row_of d before) cause
 
   stands : Contains (steps_of d) (step_under d before)
   stands = listed.listed d before found.outcome.finish.step
 
   ends : EndsHere (side_at d before) (proof_of (steps_of d) (step_under d before) assumptions)
-  ends = gives.step f.scopes (clauses_in f.frames) assumptions (steps_of d) (step_under d before)
-      (subst (λ rows. IsDerivation f.scopes rows (steps_of d)) same legal) stands found.outcome.finish.end_row
+  ends = gives.step f.scopes (open_clauses f) assumptions (steps_of d) (step_under d before)
+      legal stands found.outcome.finish.end_row
 
   -- the side of the end row is the loser's
   pub side_is : side_at d before ≡ loser_of v.truth
   side_is = bad_apart (side_at d before) (loser_of v.truth)
-      (sym (decide (side_at d before) f.scopes (clauses_in f.frames) assumptions
+      (sym (decide (side_at d before) f.scopes (open_clauses f) assumptions
       (proof_of (steps_of d) (step_under d before) assumptions) distinct found.outer ends.proof) ∙ found.outcome.truth)
 
   pub place : end_row_in (why_at d v.end) v.end ≡ before
@@ -141,13 +141,13 @@ module _ (f : OpenFormula) (d : State) (assumptions : List Literal) (v : Verdict
 
 -- what a solve says of a verdict that is then held
 pub has_proof : (f : OpenFormula) (d : State) (held : Held) → AreDistinct (all_variables f.scopes)
-    → open_clauses d ≡ clauses_in f.frames → IsLegalFor f.scopes d → IsFound f d held.assumed held.verdict
+    → IsDerivation f.scopes (open_clauses f) (steps_of d) → IsFound f d held.assumed held.verdict
     → held.assumed ≡ f.assumptions → EndRowsGiveProofs → ProofsDecide → StepsAreListed
     → HasProof f held.verdict (Some (told d held))
-has_proof f d held distinct same legal found assumed gives decide listed =
-    let ends = told_ends f d held.assumed held.verdict distinct same legal found gives decide listed in
-    let last = last_row f d held.assumed held.verdict distinct same legal found gives decide listed in
-    let with_last = subst (λ (a : List Literal). WithLast (loser_of held.verdict.truth) f.scopes (clauses_in f.frames) a
+has_proof f d held distinct legal found assumed gives decide listed =
+    let ends = told_ends f d held.assumed held.verdict distinct legal found gives decide listed in
+    let last = last_row f d held.assumed held.verdict distinct legal found gives decide listed in
+    let with_last = subst (λ (a : List Literal). WithLast (loser_of held.verdict.truth) f.scopes (open_clauses f) a
     (row_of d held.verdict.end) (proof_at d held.assumed held.verdict.end)) assumed (ends.proof, last) in
     record {
       state = told d held;
@@ -161,12 +161,12 @@ has_proof f d held distinct same legal found assumed gives decide listed =
 
 -- what holds of a verdict that is held
 pub holds : (f : OpenFormula) (d : State) (held : Held) → AreDistinct (all_variables f.scopes)
-    → open_clauses d ≡ clauses_in f.frames → IsLegalFor f.scopes d → IsFound f d held.assumed held.verdict
+    → IsDerivation f.scopes (open_clauses f) (steps_of d) → IsFound f d held.assumed held.verdict
     → EndRowsGiveProofs → ProofsDecide → StepsAreListed → IsVerdictOf f (told d held)
-holds f d held distinct same legal found gives decide listed = record {
+holds f d held distinct legal found gives decide listed = record {
   outer = found.outer;
   ascending = found.ascending;
   truth = is_truth f d held.assumed held.verdict found;
-  proof = (told_ends f d held.assumed held.verdict distinct same legal found gives decide listed).proof;
-  last_row = last_row f d held.assumed held.verdict distinct same legal found gives decide listed;
+  proof = (told_ends f d held.assumed held.verdict distinct legal found gives decide listed).proof;
+  last_row = last_row f d held.assumed held.verdict distinct legal found gives decide listed;
 }

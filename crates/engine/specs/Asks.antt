@@ -12,7 +12,7 @@ use Rattle.calculus.specs.Plays.{DependsOnEarlier, FollowsProof, KeepsInputs, Wi
 use Rattle.calculus.specs.Rows.{Assignment, Row, bad_choice, literal_over, variables_in}
 use Rattle.calculus.specs.Verdicts.{AreOuter, IsProof}
 use Rattle.derive.specs.State.{State, row_of, why_at}
-use Rattle.frames.specs.State.{OpenFormula, clauses_in}
+use Rattle.frames.specs.State.{OpenFormula, open_clauses}
 use Rattle.qrp_trace.specs.Cores.{end_row_in}
 use Rattle.aig.specs.declared.edge.Node.TheVariants.{Constant}
 use Rattle.aig.specs.declared.strategy.Strategy.{Strategy}
@@ -38,13 +38,13 @@ verdict_of v = record { truth = v.truth; end = v.end }
 pub record IsVerdictOf (formula : OpenFormula) (v : VerdictState) : Type 0 where
   pub outer : AreOuter formula.scopes v.assumptions
   pub ascending : IsAscending (variables_in v.assumptions)
-  pub truth : v.truth ≡ truth_under v.assumptions formula.scopes (clauses_in formula.frames)
-  pub proof : IsProof (loser_of v.truth) formula.scopes (clauses_in formula.frames) v.assumptions v.proof
+  pub truth : v.truth ≡ truth_under v.assumptions formula.scopes (open_clauses formula)
+  pub proof : IsProof (loser_of v.truth) formula.scopes (open_clauses formula) v.assumptions v.proof
   pub last_row : proof.last.row ≡ v.row
 
 -- under these assumptions the formula has the truth of the verdict
 abbrev pub Decides : OpenFormula → VerdictState → List Literal → Type 0
-Decides formula v assumptions = truth_under assumptions formula.scopes (clauses_in formula.frames) ≡ v.truth
+Decides formula v assumptions = truth_under assumptions formula.scopes (open_clauses formula) ≡ v.truth
 
 -- the values of the play that follows the verdict's proof, where the loser's variables are false
 abbrev pub values_of : OpenFormula → VerdictState → Assignment
@@ -62,7 +62,7 @@ end_row_of d end = row_of d (end_row_in (why_at d end) end)
 pub record AreFirstValues (formula : OpenFormula) (truth : Bool) (assumptions values : List Literal) : Type 0 where
   pub variables : map (λ (l : Literal). l.variable) values ≡ variables_at formula.scopes 1
   pub assumed : (x : ℕ) (b : Bool) → assumed_value assumptions x ≡ Some b → assumed_value values x ≡ Some b
-  pub decide : truth_under values formula.scopes (clauses_in formula.frames) ≡ truth
+  pub decide : truth_under values formula.scopes (open_clauses formula) ≡ truth
 
 -- where the first scope is the winner's, the values of the play are such values
 abbrev pub PlaysFirst : OpenFormula → VerdictState → Type 0
@@ -93,7 +93,7 @@ pub record IsCertificateOf (formula : OpenFormula) (v : VerdictState) (s : Strat
       ≡ filter (λ x. is_of (quantifier_of formula.scopes x) (winner_of v.truth)) (all_variables formula.scopes)
   pub keeps : KeepsInputs (loser_of v.truth) formula.scopes (circuit_values s)
   pub follows : FollowsProof (loser_of v.truth) formula.scopes v.assumptions v.proof (circuit_values s)
-  pub wins : Wins (loser_of v.truth) formula.scopes (clauses_in formula.frames) v.assumptions (circuit_values s)
+  pub wins : Wins (loser_of v.truth) formula.scopes (open_clauses formula) v.assumptions (circuit_values s)
   pub earlier : DependsOnEarlier (loser_of v.truth) formula.scopes (circuit_values s)
   pub assumed : (x : ℕ) (b : Bool) → assumed_value v.assumptions x ≡ Some b
       → quantifier_of formula.scopes x ≢ Some (loser_of v.truth)

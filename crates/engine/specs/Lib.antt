@@ -1,4 +1,5 @@
 pub mod Asks
+pub mod Cores
 pub mod Counting
 pub mod Kept
 pub mod Marks

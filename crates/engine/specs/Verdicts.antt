@@ -4,10 +4,11 @@ use Rattle.prefix.specs.declared.quant.Quant.{Quant}
 use Rattle.prefix.specs.declared.quant.Quant.TheVariants.{Exists, Forall}
 use Rattle.steps.specs.Counter.{Counter}
 use Rattle.calculus.specs.Verdicts.{IsProof}
-use Rattle.derive.specs.State.{State, open_clauses, row_of}
-use Rattle.frames.specs.State.{OpenFormula, clauses_in}
+use Rattle.derive.specs.State.{State, row_of}
+use Rattle.frames.specs.State.{OpenFormula, open_clauses}
 use Rattle.qrp_trace.specs.Cores.{proof_at}
 use Rattle.search.specs.declared.outcome.SolveStop.{SolveStop}
+use Rattle.search.specs.Moves.{IsMatrix}
 use Rattle.search.specs.Stops.{IsStop}
 use Rattle.engine.specs.declared.verdict.Held.{Held}
 use Rattle.engine.specs.declared.verdict.Verdict.{Verdict}
@@ -36,12 +37,12 @@ pub record HasProof (formula : OpenFormula) (verdict : Verdict) (kept : Option V
   pub same_truth : state.truth ≡ verdict.truth
   pub same_end : state.end ≡ verdict.end
   pub same_assumptions : state.assumptions ≡ formula.assumptions
-  pub proof : IsProof (loser_of verdict.truth) formula.scopes (clauses_in formula.frames) formula.assumptions
+  pub proof : IsProof (loser_of verdict.truth) formula.scopes (open_clauses formula) formula.assumptions
       state.proof
   pub last_row : proof.last.row ≡ state.row
 
 -- a solve of the formula may stop: as a search may whose open clauses are the formula's
 pub record IsStopFor (restarts : ℕ) (formula : OpenFormula) (before now : Counter) (stop : SolveStop) : Type 0 where
   pub derivation : State
-  pub clauses : open_clauses derivation ≡ clauses_in formula.frames
+  pub clauses : IsMatrix derivation (open_clauses formula)
   pub stops : IsStop restarts formula.scopes derivation formula.assumptions before now stop

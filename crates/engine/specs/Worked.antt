@@ -1,12 +1,12 @@
 -- Worked values: counts, changes, clauses with their frames, and proofs of verdicts of both sides.
-use Rattle.std.specs.Prelude.{◌≡◌, ◌-◌, ◌^◌, false, List, [], ◌∷◌, Option, Some, None}
+use Rattle.std.specs.Prelude.{◌≡◌, ℕ, ◌-◌, ◌^◌, true, false, List, [], ◌∷◌, Option, Some, None}
 use Rattle.prefix.specs.declared.quant.Quant.TheVariants.{Forall}
 use Rattle.calculus.specs.Derivations.{Inference, Why}
 use Rattle.calculus.specs.Derivations.Reason.{Input, One}
 use Rattle.calculus.specs.Derivations.Why.{Given, FinishedFrom}
 use Rattle.calculus.specs.Limits.{removals_of}
 use Rattle.calculus.specs.Worked.{minus, plus, refutation}
-use Rattle.derive.specs.State.{Note, State}
+use Rattle.derive.specs.State.{Note, OpenClause, State}
 use Rattle.clean.specs.Turns.{reductions_in}
 use Rattle.frames.specs.Commands.{Push}
 use Rattle.frames.specs.Fold.{state_of}
@@ -17,8 +17,8 @@ use Rattle.qrp_trace.specs.Worked.{clause, derived, stored}
 use Rattle.search.specs.Finishes.{finishes_in}
 use Rattle.engine.specs.declared.counts.Counts.{Counts}
 use Rattle.engine.specs.declared.verdict.Verdict.{Verdict}
-use Rattle.engine.specs.Counting.{one_more, with_clause, with_solve}
-use Rattle.engine.specs.Kept.{framed, framed_as}
+use Rattle.engine.specs.Counting.{more, one_more, with_clause, with_clauses, with_solve}
+use Rattle.engine.specs.Kept.{frame_rows, group_tag, joined_tag, tagged_rows, under}
 use Rattle.engine.specs.State.{EngineState, changed, new_engine}
 use Rattle.engine.specs.Verdicts.{HasProof, told}
 
@@ -28,6 +28,17 @@ some_counts = record { clauses = 5; solves = 1; budget = 200; restarts = 1; vars
 -- the clause 1 in frame 0 and the clause -1 2 in a pushed one
 abbrev pub two_frames : List Frame
 two_frames = (state_of framed_commands).formula.frames
+
+-- the same frames, and two groups, of which the second is inactive
+abbrev pub grouped : OpenFormula
+grouped = record (state_of framed_commands).formula {
+  groups = record { number = 2; active = true; clauses = (minus 1 ∷ []) ∷ (plus 2 ∷ []) ∷ [] }
+      ∷ record { number = 5; active = false; clauses = (plus 1 ∷ []) ∷ [] } ∷ [];
+}
+
+-- the clause of one variable, under a tag
+abbrev pub tagged : ℕ → ℕ → OpenClause
+tagged tag v = record { id = v; frame = tag; row = plus v ∷ [] }
 
 -- what is kept of an initial cube
 abbrev pub cube : Why → Option Note
@@ -67,9 +78,27 @@ pub record WorkedEngines : Type 0 where
   -- a change drops the verdict, and counts nothing else
   pub dropped : (changed decided Push).verdict ≡ None
   pub counted : (changed decided Push).counts ≡ some_counts
-  -- clauses with the numbers of their frames, and without the top frame's
-  pub frames : framed two_frames ≡ framed_as 0 (plus 1 ∷ []) ∷ framed_as 1 (minus 1 ∷ plus 2 ∷ []) ∷ []
-  pub popped : framed (popped two_frames) ≡ framed_as 0 (plus 1 ∷ []) ∷ []
+  -- so many clauses come back at once
+  pub back : (with_clauses 3 some_counts).clauses ≡ 8
+  pub back_stays : more 3 (2 ^ 64 - 2) ≡ 2 ^ 64 - 1
+  -- clauses under the numbers of their frames, and without the top frame's
+  pub first_frame : frame_rows two_frames 0 ≡ (plus 1 ∷ []) ∷ []
+  pub second_frame : frame_rows two_frames 1 ≡ (minus 1 ∷ plus 2 ∷ []) ∷ []
+  pub no_frame : frame_rows two_frames 2 ≡ []
+  pub popped : frame_rows (popped two_frames) 1 ≡ []
+  -- clauses under the tags of groups: of an active one, of an inactive one, and of none; frame 5 is no group
+  pub active : tagged_rows grouped (group_tag 2) ≡ (minus 1 ∷ []) ∷ (plus 2 ∷ []) ∷ []
+  pub inactive : tagged_rows grouped (group_tag 5) ≡ []
+  pub no_group : tagged_rows grouped (group_tag 3) ≡ []
+  pub frame_below : tagged_rows grouped 1 ≡ (minus 1 ∷ plus 2 ∷ []) ∷ []
+  pub last_frame : tagged_rows grouped 65536 ≡ []
+  pub first_tag : group_tag 1 ≡ 65538
+  -- the tag of a clause that is accepted now: of the top frame, of the open group, or none where this is inactive
+  pub in_frame : joined_tag grouped ≡ Some 1
+  pub in_group : joined_tag (record grouped { current = Some 2 }) ≡ Some 65539
+  pub in_none : joined_tag (record grouped { current = Some 5 }) ≡ None
+  -- the rows of one tag, in order
+  pub under_one : under 2 (tagged 0 1 ∷ tagged 2 3 ∷ tagged 2 2 ∷ []) ≡ (plus 3 ∷ []) ∷ (plus 2 ∷ []) ∷ []
   -- proofs: of the empty clause; of a clause that is left whole under its assumptions; and of a finish, of both sides
   pub refuted : proof_at derived [] 6 ≡ refutation
   pub whole : proof_at (finished_with clause) (minus 1 ∷ minus 2 ∷ []) 0

@@ -7,9 +7,10 @@ ghost use Rattle.truth.specs.Truth.{assumed_value};
 ghost use Rattle.calculus.specs.Limits.{removal_bound, removals_of, weight_bound};
 ghost use Rattle.calculus.specs.Rows.{variables_in};
 ghost use Rattle.calculus.specs.Verdicts.{relevant_of};
-ghost use Rattle.derive.specs.State.{IsLegalFor, has_rows, is_live, open_clauses, why_at};
+ghost use Rattle.derive.specs.State.{IsLegalFor, has_rows, is_live, why_at};
 ghost use Rattle.clean.specs.Turns.{reductions_in};
-ghost use Rattle.frames.specs.State.{clauses_in};
+ghost use Rattle.frames.specs.State.{open_clauses};
+ghost use Rattle.search.specs.Moves.{IsMatrix};
 ghost use Rattle.qrp_trace.specs.Cores.{IsNumbered, inferences_of, proof_at};
 ghost use Rattle.search.specs.Counting.{size_of};
 ghost use Rattle.search.specs.Finishes.{finishes_in};
@@ -61,7 +62,7 @@ impl Engine {
     /// of variables of these; and `limit(n) = (R + 1) * (8n + 8) * 2^(n + 1)`. A count that came to 2^64 - 1 stays
     /// there.
     pub fn derivation(&self) -> &Derivation
-        ensures clauses { open_clauses result.now ≡ clauses_in self.now.formula.frames }
+        ensures clauses { IsMatrix result.now (open_clauses self.now.formula) }
         ensures legal { IsLegalFor self.now.formula.scopes result.now }
         ensures proof { IfSome self.now.verdict (λ v. v.proof ≡ proof_at result.now v.assumptions v.end) }
         ensures few { reductions_in result.now + finishes_in result.now ≤ removal_bound self.now.counts.clauses

@@ -1,7 +1,6 @@
 //! Commands that change the formula.
-ghost use Rattle.std.specs.Prelude.{◌≡◌, ◌≢◌, ◌≤◌, ◌<◌, ◌==◌, false, IsOk, IfErr, OnOk, OnErr, IsOkUnless, MatchOption, vec_len, vec_capacity};
-ghost use Rattle.frames.specs.Commands.{AddClause, AddScope, AddVariable, Assume, Pop, Push, max_pushed, refusal_of};
-ghost use Rattle.frames.specs.State.{depth};
+ghost use Rattle.std.specs.Prelude.{◌≡◌, ◌≢◌, ◌≤◌, ◌<◌, None, IsOk, IfErr, OnOk, OnErr, IsOkUnless, MatchOption, vec_len, vec_capacity};
+ghost use Rattle.frames.specs.Commands.{AddClause, AddScope, AddVariable, Assume, Pop, Push, refusal_of};
 ghost use Rattle.engine.specs.Counting.{with_clause};
 ghost use Rattle.engine.specs.State.{changed};
 
@@ -54,7 +53,8 @@ impl Engine {
         Ok(())
     }
 
-    /// Puts a clause into the top frame, given by signed numbers as QDIMACS 1.1 writes literals.
+    /// Puts a clause into the open group, or else into the top frame, given by signed numbers as QDIMACS 1.1 writes
+    /// literals.
     ///
     /// Refused, in this order, with UnknownVar where a number's variable isn't in the prefix, with Limit where the
     /// clause is no tautology and goes beyond `Frames::MAX_CLAUSES` or `Frames::MAX_LITERALS`, and with NoMemory. After
@@ -77,7 +77,8 @@ impl Engine {
         Ok(())
     }
 
-    /// Opens a frame. Refused with Limit where `Frames::MAX_PUSHED` pushed frames are open, then with NoMemory.
+    /// Opens a frame. Refused, in this order, with GroupOpen where a group is open, with Limit where
+    /// `Frames::MAX_PUSHED` pushed frames are open, and with NoMemory.
     pub fn push(&mut self) -> Result<(), FrameRefusal>
         ensures ok { OnOk result (self.new ≡ changed self.old Push) }
         ensures refused { MatchOption (refusal_of self.old.formula Push)
@@ -106,7 +107,8 @@ impl Engine {
         prefixes_grow();
         let mark = self.marks.pop().unwrap();
         // Each clause that is left is over the prefix that is left.
-        let _left = self.frames.open_clauses();
+        let _left = self.frames.other_clauses();
+        let _groups = self.frames.groups_len();
         drop_top(&mut self.search, &self.frames, top, mark);
         forget_outcome(&mut self.search, &self.frames);
         self.verdict = None;
@@ -133,11 +135,11 @@ impl Engine {
 // Makes room for the mark of one more frame, where one may be pushed.
 fn reserve_mark(marks: &mut Vec<StepId>, frames: &Frames) -> Result<(), NoMemory>
     ensures same { marks.new.items ≡ marks.old.items }
-    ensures room { OnOk result ((depth frames.now.formula.frames == max_pushed) ≡ false →
+    ensures room { OnOk result (refusal_of frames.now.formula Push ≡ None →
         vec_len marks.new < vec_capacity marks.new) }
-    ensures err { OnErr result ((depth frames.now.formula.frames == max_pushed) ≡ false) }
+    ensures err { OnErr result (refusal_of frames.now.formula Push ≡ None) }
 {
-    if frames.depth() != Frames::MAX_PUSHED {
+    if frames.current_group().is_none() && frames.depth() != Frames::MAX_PUSHED {
         marks.reserve(1)?;
     }
     Ok(())

@@ -1,6 +1,6 @@
 //! What an engine counts.
 ghost use Rattle.std.specs.Prelude.{◌≡◌};
-ghost use Rattle.engine.specs.Counting.{no_counts, with_clause, with_solve};
+ghost use Rattle.engine.specs.Counting.{no_counts, with_clause, with_clauses, with_solve};
 
 // The accepted clauses and the solves so far, however these ended, and the greatest budget, the greatest number of
 // restarts and the greatest number of variables at a solve. A count at its greatest value stays.
@@ -33,6 +33,16 @@ impl Counts {
     {
         Self {
             clauses: self.clauses.saturating_add(1),
+            ..self
+        }
+    }
+
+    // Counts clauses that came back with their group.
+    pub(crate) fn with_clauses(self, count: u64) -> Self
+        ensures { result ≡ with_clauses count self }
+    {
+        Self {
+            clauses: self.clauses.saturating_add(count),
             ..self
         }
     }

@@ -3,7 +3,7 @@ ghost use Rattle.std.specs.Prelude.{◌≡◌, ◌≤◌, ℕ, [], Ok, None, Con
 ghost use Rattle.prefix.specs.Scopes.{IsPrefix, all_variables};
 ghost use Rattle.truth.specs.Truth.{truth_under};
 ghost use Rattle.calculus.specs.Search.{IsRefuted};
-ghost use Rattle.frames.specs.State.{clauses_in};
+ghost use Rattle.frames.specs.State.{open_clauses};
 ghost use Rattle.search.specs.Counting.{size_of};
 ghost use Rattle.search.specs.Stops.{IsQuickStop};
 ghost use Rattle.engine.specs.Counting.{with_solve};
@@ -116,14 +116,14 @@ impl Engine {
     /// want of memory the formula and the assumptions are as before, and there is no verdict.
     pub fn solve(&mut self, steps: &mut Steps) -> Result<Verdict, SolveStop>
         ensures truth { IfOk result (λ v. v.truth
-            ≡ truth_under self.old.formula.assumptions self.old.formula.scopes (clauses_in self.old.formula.frames)) }
+            ≡ truth_under self.old.formula.assumptions self.old.formula.scopes (open_clauses self.old.formula)) }
         ensures proof { IfOk result (λ v. HasProof self.old.formula v self.new.verdict) }
         ensures emptied { OnOk result (self.new.formula ≡ record self.old.formula { assumptions = [] }) }
         ensures kept { OnErr result (self.new.formula ≡ self.old.formula) }
         ensures none { OnErr result (self.new.verdict ≡ None) }
         ensures stop { IfErr result (IsStopFor self.old.restarts self.old.formula steps.old steps.new) }
         ensures quick { self.old.counts.solves ≡ 0 → IsRefuted self.old.formula.scopes
-            (clauses_in self.old.formula.frames) self.old.formula.assumptions →
+            (open_clauses self.old.formula) self.old.formula.assumptions →
             IfErr result (IsQuickStop (size_of self.old.formula.scopes) steps.old) }
         ensures budget { steps.new.budget ≡ steps.old.budget }
         ensures rises { steps.old.spent ≤ steps.new.spent }
@@ -140,13 +140,16 @@ impl Engine {
         forget_outcome(&mut self.search, &self.frames);
         let assumed = copied(self.alloc, self.frames.assumptions())?;
         let mut relevant = copied(self.alloc, self.frames.assumptions())?;
+        let matrix = self.frames.open_clauses(self.alloc)?;
         let verdict = decide(
             &mut self.search,
             &self.frames,
+            &matrix,
             &assumed,
             self.restarts,
             steps,
         )?;
+        drop(matrix);
         end_rows_give_proofs();
         proofs_decide();
         steps_are_listed();

@@ -15,6 +15,8 @@ mod asks;
 mod commands;
 mod counts;
 mod engine;
+mod group_core;
+mod groups;
 mod lookup;
 mod refusal;
 mod tied;
@@ -23,6 +25,7 @@ mod verdict;
 mod worked;
 
 pub use engine::Engine;
+pub use group_core::CoreRefusal;
 pub use refusal::AskRefusal;
 pub use search::SolveStop;
 pub use verdict::Verdict;

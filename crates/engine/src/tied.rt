@@ -1,16 +1,15 @@
 //! Frames and a search that belong together.
-ghost use Rattle.std.specs.Prelude.{◌≡◌, ◌≢◌, ◌≤◌, ◌<◌, ◌+◌, ◌-◌, ◌^◌, ◌==◌, ◌||◌, ℕ, ◌++◌, ◌∷◌, [], not, filter, length, List, IfOk, IfErr, OnOk, OnErr, IsOkUnless, MatchOption};
+ghost use Rattle.std.specs.Prelude.{◌≡◌, ◌≢◌, ◌≤◌, ◌<◌, ◌+◌, ◌-◌, ◌^◌, ◌==◌, ◌||◌, ℕ, not, filter, List, IfOk, IfErr, IfSome, OnOk, OnErr, IsOkUnless, MatchOption};
 ghost use Rattle.steps.specs.Counter.{step_limit};
 ghost use Rattle.prefix.specs.Scopes.{Scope};
 ghost use Rattle.calculus.specs.Derivations.{Extends};
-ghost use Rattle.calculus.specs.Rows.{Row};
 ghost use Rattle.calculus.specs.Search.{IsRefuted};
 ghost use Rattle.derive.specs.State.{OpenClause, clauses_of};
 ghost use Rattle.derive.specs.Dropping.{NoneOutsideBelow, is_outside, mentions};
 ghost use Rattle.clean.specs.Turns.{reductions_in};
-ghost use Rattle.frames.specs.State.{clauses_in, depth};
-ghost use Rattle.frames.specs.Commands.{AddClause, formula_after, refusal_of};
-ghost use Rattle.search.specs.Changing.{AddsClause};
+ghost use Rattle.frames.specs.State.{open_clauses};
+ghost use Rattle.frames.specs.Commands.{Activate, AddClause, Deactivate, formula_after, refusal_of};
+ghost use Rattle.frames.specs.Fold.{returning};
 ghost use Rattle.search.specs.Moves.{KeepsOlder, SameSteps};
 ghost use Rattle.search.specs.State.{IsResting};
 ghost use Rattle.search.specs.Counting.{size_of};
@@ -18,12 +17,13 @@ ghost use Rattle.search.specs.Finishes.{HasNoFinish, IsFinishId};
 ghost use Rattle.search.specs.Forcing.{HasNoCubes};
 ghost use Rattle.search.specs.Long.{long_in};
 ghost use Rattle.search.specs.Stops.{IsQuickStop};
-ghost use Rattle.engine.specs.Kept.{AreTied, IsFound};
+ghost use Rattle.engine.specs.Kept.{AreTied, IsFound, group_tag, joined_tag};
 ghost use Rattle.engine.specs.Verdicts.{IsStopFor};
 
 use crate::verdict::{Verdict, truth_against};
 use derive::StepId;
 use frames::{FrameRefusal, Frames};
+use matrix::Matrix;
 use prefix::Lit;
 use search::{Search, SolveStop};
 use steps::{NoMemory, Steps};
@@ -44,22 +44,24 @@ pub(crate) fn forget_outcome(search: &mut Search, frames: &Frames)
     let _next = search.derivation().next_id();
 }
 
-// Decides the open formula under its assumptions, of which this is a list.
+// Decides the open formula under its assumptions, of both of which these are lists.
 pub(crate) fn decide(
     search: &mut Search,
     frames: &Frames,
+    matrix: &Matrix<'_>,
     assumed: &[Lit],
     restarts: u32,
     steps: &mut Steps,
 ) -> Result<Verdict, SolveStop>
     requires tied { AreTied frames.now.formula search.old }
+    requires matrix { matrix.now ≡ open_clauses frames.now.formula }
     requires assumed { assumed.now ≡ frames.now.formula.assumptions }
     ensures tied { AreTied frames.now.formula search.new }
     ensures found { IfOk result (IsFound frames.now.formula search.new.derivation frames.now.formula.assumptions) }
     ensures finishes { IfOk result (λ v. (id : ℕ) → IsFinishId search.new.derivation id → id ≡ v.end) }
     ensures unfinished { OnErr result (HasNoFinish search.new.derivation) }
     ensures stop { IfErr result (IsStopFor restarts frames.now.formula steps.old steps.new) }
-    ensures quick { HasNoCubes search.old → IsRefuted frames.now.formula.scopes (clauses_in frames.now.formula.frames)
+    ensures quick { HasNoCubes search.old → IsRefuted frames.now.formula.scopes (open_clauses frames.now.formula)
         frames.now.formula.assumptions → IfErr result (IsQuickStop (size_of frames.now.formula.scopes) steps.old) }
     ensures reductions { reductions_in search.new.derivation
         ≤ reductions_in search.old.derivation + (steps.new.spent - steps.old.spent) + 1 }
@@ -71,7 +73,6 @@ pub(crate) fn decide(
     ensures rises { steps.old.spent ≤ steps.new.spent }
     ensures older { KeepsOlder search.old.derivation search.new.derivation }
 {
-    let matrix = frames.open_clauses();
     // They are of the first scope, and ascend.
     let _assumptions = frames.assumptions();
     let found = search.solve(frames.prefix(), matrix, assumed, restarts, steps);
@@ -85,8 +86,8 @@ pub(crate) fn decide(
     })
 }
 
-// Puts a clause into the frames, and its row into the search. With no memory the formula and the steps stay; where the
-// clause is refused, all does.
+// Puts a clause into the frames, and its row into the search, where it is open. With no memory the formula and the steps
+// stay; where the clause is refused, all does.
 pub(crate) fn put_clause(
     frames: &mut Frames,
     search: &mut Search,
@@ -105,11 +106,7 @@ pub(crate) fn put_clause(
     ensures reductions { reductions_in search.new.derivation ≤ reductions_in search.old.derivation + 1 }
     ensures older { KeepsOlder search.old.derivation search.new.derivation }
 {
-    let count = frames.open_clauses().len();
     frames.add_clause(lits)?;
-    if frames.open_clauses().len() == count {
-        return Ok(());
-    }
     if put_last(search, frames).is_err() {
         frames.take_back();
         return Err(FrameRefusal::NoMemory);
@@ -117,23 +114,79 @@ pub(crate) fn put_clause(
     Ok(())
 }
 
-// Puts the last clause of the frames into the search.
+// Puts the row of the clause that was just accepted into the search, where it is open.
 fn put_last(search: &mut Search, frames: &Frames) -> Result<(), NoMemory>
-    requires resting { IsResting frames.now.formula.scopes search.old }
-    requires some { 1 ≤ length (clauses_in frames.now.formula.frames) }
-    ensures ok { (rows : List Row) (row : Row) → clauses_in frames.now.formula.frames ≡ rows ++ row ∷ [] →
-        OnOk result (AddsClause (depth frames.now.formula.frames) row (clauses_of search.old.derivation)
-        (clauses_of search.new.derivation)) }
-    ensures err { OnErr result (SameSteps search.old.derivation search.new.derivation) }
+    requires before { MatchOption frames.now.before ⊥ (λ f. AreTied f search.old) }
+    ensures ok { OnOk result (AreTied frames.now.formula search.new) }
+    ensures same { OnErr result (SameSteps search.old.derivation search.new.derivation) }
+    ensures tied { OnErr result (IfSome frames.now.before (λ f. AreTied f search.new)) }
     ensures fewer { OnErr result (search.new.long ≤ search.old.long) }
-    ensures resting { IsResting frames.now.formula.scopes search.new }
     ensures cubes { HasNoCubes search.old → HasNoCubes search.new }
     ensures reductions { reductions_in search.new.derivation ≤ reductions_in search.old.derivation + 1 }
     ensures older { KeepsOlder search.old.derivation search.new.derivation }
 {
-    let clauses = frames.open_clauses();
-    let last = &clauses[clauses.len() - 1];
-    search.add_clause(frames.prefix(), last.lits(), frames.depth())
+    let Some(row) = frames.last_row() else {
+        return Ok(());
+    };
+    // All clauses are rows of the prefix.
+    let _others = frames.other_clauses();
+    let _groups = frames.groups_len();
+    match tag_of_last(frames) {
+        Some(tag) => search.add_clause(frames.prefix(), row.lits(), tag),
+        None => Ok(()),
+    }
+}
+
+// The tag under which a clause stands that is accepted now, where it is open.
+fn tag_of_last(frames: &Frames) -> Option<usize>
+    ensures { result ≡ joined_tag frames.now.formula }
+{
+    match frames.current_group() {
+        None => Some(frames.depth()),
+        Some(group) if frames.is_active(group) => Some(tag_of(group)),
+        Some(_) => None,
+    }
+}
+
+// The tag of a group's clauses, which is above those of frames.
+pub(crate) fn tag_of(group: u32) -> usize
+    ensures { result ≡ group_tag group }
+{
+    Frames::MAX_PUSHED + 1 + group as usize
+}
+
+// Puts the clauses of a group that is made active into the search, unless it is active, and answers how many came in.
+// With no memory the steps stay.
+pub(crate) fn put_group(search: &mut Search, frames: &Frames, group: u32) -> Result<u64, NoMemory>
+    requires { AreTied frames.now.formula search.old }
+    ensures ok { OnOk result (AreTied (formula_after frames.now.formula (Activate group)) search.new) }
+    ensures count { IfOk result (λ n. n ≡ returning frames.now.formula group) }
+    ensures same { OnErr result (SameSteps search.old.derivation search.new.derivation) }
+    ensures tied { OnErr result (AreTied frames.now.formula search.new) }
+    ensures fewer { OnErr result (search.new.long ≤ search.old.long) }
+    ensures cubes { HasNoCubes search.old → HasNoCubes search.new }
+    ensures reductions { reductions_in search.new.derivation
+        ≤ reductions_in search.old.derivation + returning frames.now.formula group }
+    ensures older { KeepsOlder search.old.derivation search.new.derivation }
+{
+    if frames.is_active(group) {
+        return Ok(0);
+    }
+    let clauses = frames.group_clauses(group);
+    search.add_clauses(frames.prefix(), clauses, tag_of(group))?;
+    Ok(clauses.len() as u64)
+}
+
+// Drops the clauses of a group, with all that rests on them.
+pub(crate) fn drop_group(search: &mut Search, frames: &Frames, group: u32)
+    requires { AreTied frames.now.formula search.old }
+    ensures tied { AreTied (formula_after frames.now.formula (Deactivate group)) search.new }
+    ensures cubes { HasNoCubes search.old → HasNoCubes search.new }
+    ensures reductions { reductions_in search.new.derivation ≤ reductions_in search.old.derivation }
+    ensures older { KeepsOlder search.old.derivation search.new.derivation }
+{
+    let _formula = frames.depth();
+    search.drop_frame(tag_of(group));
 }
 
 // Drops the clauses of the frame that was the top one, and what names a variable that isn't in the prefix any more: no

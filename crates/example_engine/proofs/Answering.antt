@@ -2,7 +2,7 @@
 use Rattle.std.proofs.Common.{◌≡◌, Ok, [], subst}
 use Rattle.truth.specs.Truth.{truth_under}
 use Rattle.calculus.specs.Plays.{DependsOnEarlier, Wins}
-use Rattle.frames.specs.State.{OpenFormula, clauses_in}
+use Rattle.frames.specs.State.{OpenFormula, open_clauses}
 use Rattle.aig.specs.declared.strategy.Strategy.{Strategy}
 use Rattle.aig.specs.Strategies.{IsStrategy, values_of}
 use Rattle.engine.specs.declared.verdict.Verdict.{Verdict}
@@ -12,7 +12,7 @@ use Rattle.engine.specs.Verdicts.{HasProof, loser_of}
 use Rattle.example_engine.specs.Answers.{IsRight}
 
 module _ (formula : OpenFormula) (verdict : Verdict) (e : EngineState) (circuit : Strategy) where
-  pub is_right : verdict.truth ≡ truth_under formula.assumptions formula.scopes (clauses_in formula.frames)
+  pub is_right : verdict.truth ≡ truth_under formula.assumptions formula.scopes (open_clauses formula)
       → HasProof formula verdict e.verdict → e.formula ≡ record formula { assumptions = [] } → IsStrategy circuit
       → IfAnswered e.verdict (Ok circuit) (IsCertificateOf e.formula)
       → IsRight formula (record { truth = verdict.truth; circuit = circuit })
@@ -24,9 +24,9 @@ module _ (formula : OpenFormula) (verdict : Verdict) (e : EngineState) (circuit 
       subst (λ f. IsCertificateOf f v circuit) emptied some in
       record {
         truth = truth;
-        wins = subst (λ b. Wins (loser_of b) formula.scopes (clauses_in formula.frames) formula.assumptions
+        wins = subst (λ b. Wins (loser_of b) formula.scopes (open_clauses formula) formula.assumptions
             (values_of circuit)) has.same_truth (subst (λ a. Wins (loser_of v.truth) formula.scopes
-            (clauses_in formula.frames) a (values_of circuit)) has.same_assumptions certificate.wins);
+            (open_clauses formula) a (values_of circuit)) has.same_assumptions certificate.wins);
         earlier = subst (λ b. DependsOnEarlier (loser_of b) formula.scopes (values_of circuit)) has.same_truth
             certificate.earlier;
         circuit = strategy;

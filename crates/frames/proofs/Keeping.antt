@@ -1,26 +1,29 @@
 -- The fields belong together after each command.
-use Rattle.std.proofs.Common.{◌≡◌, ◌≢◌, ℕ, suc, ◌+◌, ◌-◌, ◌<◌, ◌≤◌, Bool, true, false, List, [], ◌∷◌, ◌++◌, length, take, drop, Some, refl, sym, ap, ap₂, subst, ◌∙◌, arith, length-append}
-use Rattle.std.specs.Prelude.{◌==◌, if◌then◌else◌, is_some, ℤ, ◌||◌, nat_le, nat_lt}
-use Rattle.std.specs.List.{AllByRecursion, flat_map}
-use Rattle.std.proofs.lemmas.Bool.{ne_eqb, eqb-true, ltb-false, leb-false}
-use Rattle.std.proofs.lemmas.List.{length-take-le, take-append-drop}
-use Rattle.std.proofs.lemmas.Grind.{flat_map-append}
+use Rattle.std.proofs.Common.{◌≡◌, ◌≢◌, ℕ, suc, ◌+◌, ◌-◌, ◌≤◌, Bool, true, false, List, [], ◌∷◌, ◌++◌, length, take, drop, Option, Some, None, refl, sym, ap, ap₂, subst, ◌∙◌, arith, length-append}
+use Rattle.std.specs.Prelude.{◌==◌, if◌then◌else◌, is_some, ℤ, IfSome, MatchOption}
+use Rattle.std.specs.List.{AllByRecursion}
+use Rattle.std.proofs.lemmas.Bool.{ne_eqb, eqb-true}
+use Rattle.std.proofs.lemmas.List.{length-take-le}
 use Rattle.prefix.specs.Literal.{Literal}
 use Rattle.prefix.specs.Scopes.{Scope, level_of}
 use Rattle.truth.specs.Truth.{assumed_value}
 use Rattle.calculus.specs.Rows.{Row, IsRow}
 use Rattle.versions.specs.declared.version.Version.{Version}
+use Rattle.versions.specs.declared.version.Version.TheVariants.{One}
 use Rattle.frames.specs.declared.frames.Latest.{Latest}
 use Rattle.frames.specs.declared.frames.Latest.TheVariants.{Other, LeftOut, Kept}
 use Rattle.frames.specs.declared.frames.Start.{Start}
 use Rattle.prefix.specs.Scopes.{IsAscending}
 use Rattle.calculus.specs.Rows.{variables_in}
 use Rattle.clauses.specs.Clause.{is_tautology, as_row}
-use Rattle.frames.specs.State.{Frame, OpenFormula, literals_in, put_assumption, settled, pushed, popped, depth, top_variables, with_row, with_leaving, with_variable, leaves_in, without_variables, without_assumed}
-use Rattle.frames.specs.Commands.{Pop, formula_after, max_pushed, max_clauses, max_literals, with_clause, is_beyond}
-use Rattle.frames.specs.Kept.{at_first, AreStarts, AreFrames, AreAssumptions, formula_of, state_of, frames_from}
+use Rattle.frames.specs.State.{Frame, OpenFormula, put_assumption, settled, pushed, popped, depth, top_variables, with_row, with_leaving, with_variable, leaves_in, without_variables, without_assumed}
+use Rattle.frames.specs.Commands.{Pop, formula_after, max_pushed, with_clause, with_row_at}
+use Rattle.frames.specs.Groups.{Group}
+use Rattle.frames.specs.Kept.{at_first, AreStarts, AreFrames, AreAssumptions, formula_of, state_of, frames_from, outside, rows_before, rows_with}
+use Rattle.frames.specs.Places.{GroupsState, joined, with_joined, without_last}
 use Rattle.frames.specs.Leaving.{AreLeaving, NamesNone}
-use Rattle.frames.proofs.Starts.{frame, starts_more, starts_pushed, starts_popped, literals_more, all_more, all_taken, all_but_last, frames_clauses, frames_popped, frames_pushed, frames_with_leaving, frames_with_row, last_frame, depth_is}
+use Rattle.frames.proofs.Starts.{frame, starts_more, starts_pushed, starts_popped, all_more, all_taken, all_but_last, frames_clauses, frames_popped, frames_pushed, frames_with_leaving, frames_with_row, last_frame, depth_is}
+use Rattle.frames.proofs.Grouping.{joined_back}
 use Rattle.frames.proofs.Knowing.{rows_kept}
 use Rattle.frames.proofs.Leaving.{below_top, leave_back, leave_popped, leave_pushed, leave_row, leave_variable, rows_left, top_is}
 use Rattle.frames.proofs.Assuming.{put_again}
@@ -29,31 +32,25 @@ use Rattle.frames.proofs.Assuming.{put_again}
 abbrev pub ending : List Row → List ℕ → Start
 ending rows vars = record { rows = length rows; vars = length vars }
 
-pub grown : (old new : List Scope) (starts : List Start) (rows : List Row) (vars : List ℕ) (n : ℕ) (latest : Latest)
+pub grown : (old new : List Scope) (starts : List Start) (rows : List Row) (vars : List ℕ) (latest : Latest)
     → ((v : ℕ) → is_some (level_of old v) ≡ true → is_some (level_of new v) ≡ true)
-    → AreFrames old starts rows vars n latest → AreFrames new starts rows vars n Other
-grown old new starts rows vars n latest h f = record {
+    → AreFrames old starts rows vars latest → AreFrames new starts rows vars Other
+grown old new starts rows vars latest h f = record {
   ascending = f.ascending;
   few_frames = f.few_frames;
-  few_clauses = f.few_clauses;
-  counted = f.counted;
-  few_literals = f.few_literals;
   rows = rows_kept old new rows h f.rows;
   latest = tt;
 }
 
-pub settled_frames : (scopes : List Scope) (starts : List Start) (rows : List Row) (vars : List ℕ) (n : ℕ)
-    (latest : Latest) → AreFrames scopes starts rows vars n latest → AreFrames scopes starts rows vars n Other
-settled_frames scopes starts rows vars n latest f = grown scopes scopes starts rows vars n latest (λ v e. e) f
+pub settled_frames : (scopes : List Scope) (starts : List Start) (rows : List Row) (vars : List ℕ)
+    (latest : Latest) → AreFrames scopes starts rows vars latest → AreFrames scopes starts rows vars Other
+settled_frames scopes starts rows vars latest f = grown scopes scopes starts rows vars latest (λ v e. e) f
 
-pub left_out : (scopes : List Scope) (starts : List Start) (rows : List Row) (vars : List ℕ) (n : ℕ) (latest : Latest)
-    → AreFrames scopes starts rows vars n latest → AreFrames scopes starts rows vars n LeftOut
-left_out scopes starts rows vars n latest f = record {
+pub left_out : (scopes : List Scope) (starts : List Start) (rows : List Row) (vars : List ℕ) (latest : Latest)
+    → AreFrames scopes starts rows vars latest → AreFrames scopes starts rows vars LeftOut
+left_out scopes starts rows vars latest f = record {
   ascending = f.ascending;
   few_frames = f.few_frames;
-  few_clauses = f.few_clauses;
-  counted = f.counted;
-  few_literals = f.few_literals;
   rows = f.rows;
   latest = tt;
 }
@@ -69,24 +66,21 @@ if_leaves version starts rows vars v true a = frames_with_leaving at_first start
 if_leaves version starts rows vars v false a = refl
 
 module _ (version : Version) (old new : List Scope) (starts : List Start) (rows : List Row) (vars more : List ℕ)
-    (n : ℕ) (latest : Latest) (v : ℕ)
+    (latest : Latest) (v : ℕ)
     (is : more ≡ (if leaves_in version (length starts) then vars ++ v ∷ [] else vars))
-    (f : AreFrames old starts rows vars n latest) where
+    (f : AreFrames old starts rows vars latest) where
   longer : (b : Bool) → length vars ≤ length (if b then vars ++ v ∷ [] else vars)
   longer true = let count : length (vars ++ v ∷ [])
       ≡ length vars + 1 = length-append vars (v ∷ []) in omega (arith, count)
   longer false = omega arith
 
   pub listed_frames : ((w : ℕ) → is_some (level_of old w) ≡ true → is_some (level_of new w) ≡ true)
-      → AreFrames new starts rows more n Other
+      → AreFrames new starts rows more Other
   listed_frames h = record {
     ascending = starts_more at_first starts (ending rows vars) (ending rows more) (omega arith)
         (subst (λ (vs : List ℕ). length vars ≤ length vs) (sym is) (longer (leaves_in version (length starts))))
         f.ascending;
     few_frames = f.few_frames;
-    few_clauses = f.few_clauses;
-    counted = f.counted;
-    few_literals = f.few_literals;
     rows = rows_kept old new rows h f.rows;
     latest = tt;
   }
@@ -109,13 +103,13 @@ module _ (version : Version) (old new : List Scope) (starts : List Start) (rows 
 
 -- a frame more
 
-module _ (version : Version) (scopes : List Scope) (starts : List Start) (rows : List Row) (vars : List ℕ) (n : ℕ)
+module _ (version : Version) (scopes : List Scope) (starts : List Start) (rows : List Row) (vars : List ℕ)
     (latest : Latest) (m : Start) (is : m.rows ≡ length rows) (same : m.vars ≡ length vars)
-    (f : AreFrames scopes starts rows vars n latest) where
+    (f : AreFrames scopes starts rows vars latest) where
   ends : AreStarts at_first starts m
   ends = starts_more at_first starts (ending rows vars) m (omega (arith, is)) (omega (arith, same)) f.ascending
 
-  pub pushed_frames : length starts ≢ 65536 → AreFrames scopes (starts ++ m ∷ []) rows vars n Other
+  pub pushed_frames : length starts ≢ 65536 → AreFrames scopes (starts ++ m ∷ []) rows vars Other
   pushed_frames few =
       let count : length (starts ++ m ∷ []) ≡ length starts + 1 = length-append starts (m ∷ []) in
       let most : length starts ≤ 65536 = f.few_frames in
@@ -124,9 +118,6 @@ module _ (version : Version) (scopes : List Scope) (starts : List Start) (rows :
         ascending = starts_more at_first (starts ++ m ∷ []) m (ending rows vars) (omega (arith, is))
             (omega (arith, same)) (starts_pushed at_first starts m ends);
         few_frames = fits;
-        few_clauses = f.few_clauses;
-        counted = f.counted;
-        few_literals = f.few_literals;
         rows = f.rows;
         latest = tt;
       }
@@ -141,30 +132,16 @@ module _ (version : Version) (scopes : List Scope) (starts : List Start) (rows :
 
 -- rows less
 
-literals_taken : (rows : List Row) (k : ℕ) → literals_in (take k rows) ≤ literals_in rows
-literals_taken rows k =
-    let whole : literals_in rows ≡ literals_in (take k rows) + literals_in (drop k rows) =
-    ap literals_in (sym (take-append-drop k rows)) ∙ ap length
-    (flat_map-append (λ (row : Row). row) (take k rows) (drop k rows))
-    ∙ length-append (flat_map (λ (row : Row). row) (take k rows)) (flat_map (λ (row : Row). row) (drop k rows)) in
-    omega (arith, whole)
-
 -- rows are cut at a place up to which the starts ascend
-cut_frames : (scopes : List Scope) (starts : List Start) (rows : List Row) (vars : List ℕ) (n m k : ℕ)
-    → k ≤ length rows → AreStarts at_first starts (record { rows = k; vars = length vars }) → length starts ≤ 65536
-    → length rows ≤ max_clauses → n ≡ literals_in rows → n ≤ max_literals
-    → AllByRecursion (IsRow scopes) (take k rows) → m ≡ literals_in (take k rows)
-    → AreFrames scopes starts (take k rows) vars m Other
-cut_frames scopes starts rows vars n m k low ascend few most count fits all is =
+cut_frames : (scopes : List Scope) (starts : List Start) (rows : List Row) (vars : List ℕ) (k : ℕ) → k ≤ length rows
+    → AreStarts at_first starts (record { rows = k; vars = length vars }) → length starts ≤ 65536
+    → AllByRecursion (IsRow scopes) (take k rows) → AreFrames scopes starts (take k rows) vars Other
+cut_frames scopes starts rows vars k low ascend few all =
     let long : length (take k rows) ≡ k = length-take-le k rows low in
-    let less : literals_in (take k rows) ≤ literals_in rows = literals_taken rows k in
     record {
       ascending = starts_more at_first starts (record { rows = k; vars = length vars }) (ending (take k rows) vars)
           (omega (arith, long)) (omega arith) ascend;
       few_frames = few;
-      few_clauses = omega (arith, long, low, most);
-      counted = is;
-      few_literals = omega (arith, is, less, count, fits);
       rows = all;
       latest = tt;
     }
@@ -172,8 +149,8 @@ cut_frames scopes starts rows vars n m k low ascend few most count fits all is =
 -- a frame less
 
 module _ (version : Version) (scopes : List Scope) (starts news : List Start) (rows : List Row) (vars : List ℕ)
-    (n : ℕ) (latest : Latest) (s : Start) (e : starts ≡ news ++ s ∷ [])
-    (f : AreFrames scopes starts rows vars n latest) where
+    (latest : Latest) (s : Start) (e : starts ≡ news ++ s ∷ [])
+    (f : AreFrames scopes starts rows vars latest) where
   pub popped_place : AreStarts at_first news s × (s.rows ≤ length rows) × (s.vars ≤ length vars)
   popped_place = starts_popped at_first news s (ending rows vars)
       (subst (λ ss. AreStarts at_first ss (ending rows vars)) e f.ascending)
@@ -201,34 +178,35 @@ module _ (version : Version) (scopes : List Scope) (starts news : List Start) (r
     names = subst (AllByRecursion (NamesNone gone))
         (frames_clauses at_first news (take s.rows rows) (take s.vars vars)) (below_top below top parts.outlast)
 
-    pub popped_frames : (left : List Row) (stay : List ℕ) (m : ℕ) → left ≡ take s.rows rows → stay ≡ take s.vars vars
-        → m ≡ literals_in left → AreFrames (without_variables gone scopes) news left stay m Other
-    popped_frames left stay m cut short is =
+    pub popped_frames : (left : List Row) (stay : List ℕ) → left ≡ take s.rows rows → stay ≡ take s.vars vars
+        → AreFrames (without_variables gone scopes) news left stay Other
+    popped_frames left stay cut short =
         let count : length starts ≡ length news + 1 = ap length e ∙ length-append news (s ∷ []) in
         let most : length starts ≤ 65536 = f.few_frames in
         let long : length (take s.vars vars) ≡ s.vars = length-take-le s.vars vars popped_place.2 in
-        rw (cut, short) (cut_frames (without_variables gone scopes) news rows (take s.vars vars) n m s.rows
+        rw (cut, short) (cut_frames (without_variables gone scopes) news rows (take s.vars vars) s.rows
         popped_place.1
         (starts_more at_first news s (record { rows = s.rows; vars = length (take s.vars vars) }) (omega arith)
         (omega (arith, long)) popped_place.0)
-        (omega (arith, count, most)) f.few_clauses f.counted f.few_literals
-        (rows_left gone scopes (take s.rows rows) names (all_taken (IsRow scopes) s.rows rows f.rows))
-        (is ∙ ap literals_in cut))
+        (omega (arith, count, most))
+        (rows_left gone scopes (take s.rows rows) names (all_taken (IsRow scopes) s.rows rows f.rows)))
 
     pub popped_leaving : (left : List Row) (stay : List ℕ) → left ≡ take s.rows rows → stay ≡ take s.vars vars
         → AreLeaving version (without_variables gone scopes) (frames_from at_first news left stay)
     popped_leaving left stay cut short = rw (cut, short) (leave_popped version scopes below top parts)
 
-  pub view_popped : (left : List Row) (stay : List ℕ) (ls : List Literal) → left ≡ take s.rows rows → stay
-      ≡ take s.vars vars
-      → state_of version (without_variables gone scopes) news left stay (without_assumed gone ls) Other
-      ≡ settled (formula_after (formula_of version scopes starts rows vars ls) Pop)
-  view_popped left stay ls cut short =
+  pub view_popped : (left : List Row) (stay : List ℕ) (gs : GroupsState) (ls : List Literal) → left ≡ take s.rows rows
+      → stay ≡ take s.vars vars
+      → state_of version (without_variables gone scopes) news left stay gs (without_assumed gone ls) Other
+      ≡ settled (formula_after (formula_of version scopes starts rows vars gs ls) Pop)
+  view_popped left stay gs ls cut short =
       ap₂ (λ (vs : List ℕ) (fs : List Frame). settled
       (record {
         version = version;
         scopes = without_variables vs scopes;
         frames = fs;
+        groups = gs.groups;
+        current = gs.current;
         assumptions =
             without_assumed vs ls;
       }))
@@ -260,35 +238,96 @@ view_again formula ls l b a e = ap (λ ms. settled (record formula { assumptions
 
 -- a row more
 
--- a row of a clause that is no tautology, put behind the others
-pub view_kept : (version : Version) (scopes : List Scope) (starts : List Start) (rows more : List Row) (vars : List ℕ)
-    (ls : List Literal) (clause : List ℤ) → is_tautology clause ≡ false → more ≡ rows ++ as_row clause ∷ []
+-- the formula with a row more: of the open group, or else behind the rows outside groups
+with_row_is : (version : Version) (scopes : List Scope) (starts : List Start) (rows : List Row) (vars : List ℕ)
+    (gs : List Group) (current : Option ℕ) (ls : List Literal) (r : Row)
     → AreStarts at_first starts (ending rows vars)
-    → state_of version scopes starts more vars ls Kept ≡ record {
-      formula = record {
-        version = version;
-        scopes = scopes;
-        frames =
-            with_clause clause (frames_from at_first starts rows vars);
-        assumptions = ls;
-      };
-      before = Some (formula_of version scopes starts rows vars ls);
-    }
-view_kept version scopes starts rows more vars ls clause plain e a =
-    let top : frames_from at_first starts more vars
-    ≡ with_clause clause (frames_from at_first starts rows vars) = ap (λ rs. frames_from at_first starts rs vars) e
-    ∙ frames_with_row at_first starts (ending rows vars) rows vars (as_row clause) (omega arith) a
-    ∙ ap (λ t. if t then frames_from at_first starts rows vars else with_row (as_row clause)
-    (frames_from at_first starts rows vars)) (sym plain) in
-    let back : take (length more - 1) more ≡ rows = ap (λ rs. take (length rs - 1) rs) e
-    ∙ all_but_last rows (as_row clause) in
-    ap₂ (λ (fs : List Frame) (rs : List Row). record {
-      formula = record { version = version; scopes = scopes; frames = fs; assumptions = ls };
-      before =
-          Some (formula_of version scopes starts rs vars ls);
-    }) top back
+    → formula_of version scopes starts (rows_with current r rows) vars (record {
+      groups = joined current r gs;
+      current = current;
+    }) ls
+    ≡ with_row_at current r (formula_of version scopes starts rows vars (record {
+      groups = gs;
+      current = current;
+    }) ls)
+with_row_is version scopes starts rows vars gs None ls r a = ap (λ (fs : List Frame). record {
+  version = version;
+  scopes = scopes;
+  frames = fs;
+  groups = gs;
+  current = None;
+  assumptions = ls;
+}) (frames_with_row at_first starts (ending rows vars) rows vars r (omega arith) a)
+with_row_is version scopes starts rows vars gs (Some n) ls r a = refl
 
-pub added_leaving : (version : Version) (scopes : List Scope) (starts : List Start) (rows : List Row) (vars : List ℕ)
+-- the formula has a row more than before, where this is the last one of the open group, or of those outside groups
+pub last_formula : (version : Version) (scopes : List Scope) (starts : List Start) (rows : List Row) (vars : List ℕ)
+    (gs : GroupsState) (ls : List Literal) (r : Row) → rows ≡ rows_with gs.current r (rows_before gs.current rows)
+    → gs ≡ with_joined r (without_last gs) → AreStarts at_first starts (ending (rows_before gs.current rows) vars)
+    → formula_of version scopes starts rows vars gs ls
+    ≡ with_row_at gs.current r
+    (formula_of version scopes starts (rows_before gs.current rows) vars (without_last gs) ls)
+last_formula version scopes starts rows vars gs ls r e g a =
+    ap₂ (λ (rs : List Row) (s : GroupsState). formula_of version scopes starts rs vars s ls) e g
+    ∙ with_row_is version scopes starts (rows_before gs.current rows) vars (without_last gs).groups gs.current ls r a
+
+pub starts_before : (scopes : List Scope) (starts : List Start) (rows : List Row) (vars : List ℕ) (current : Option ℕ)
+    → AreFrames scopes starts rows vars (outside Kept current)
+    → AreStarts at_first starts (ending (rows_before current rows) vars)
+starts_before scopes starts rows vars None f =
+    let some : 1 ≤ length rows = f.latest.0 in
+    let long : length (take (length rows - 1) rows) ≡ length rows - 1 =
+    length-take-le (length rows - 1) rows (omega (arith, some)) in
+    rw long f.latest.1
+starts_before scopes starts rows vars (Some n) f = f.ascending
+
+-- what is told of the last row of a formula, with the formula before it
+pub told_last : {A : Type 0} (now : A → Row) (o : Option A) (f b before : OpenFormula) → (o ≡ None → ⊥)
+    → IfSome o (λ (x : A). f ≡ with_row_at b.current (now x) b) → Some b ≡ Some before
+    → MatchOption o (f ≡ before) (λ (x : A). f ≡ with_row_at before.current (now x) before)
+told_last now None f b before some is e = absurd (some refl)
+told_last now (Some x) f b before some is e =
+    let same : b ≡ before = cc in subst (λ (g : OpenFormula). f ≡ with_row_at g.current (now x) g) same is
+
+if_plain : (t : Bool) (clause : List ℤ) (s : OpenFormula) → t ≡ false
+    → with_row_at s.current (as_row clause) s ≡ (if t then s else with_row_at s.current (as_row clause) s)
+if_plain true clause s e = absurd (cc)
+if_plain false clause s e = refl
+
+-- a row of a clause that is no tautology
+view_kept : (version : Version) (scopes : List Scope) (starts : List Start) (rows : List Row) (vars : List ℕ)
+    (gs : GroupsState) (ls : List Literal) (clause : List ℤ) → is_tautology clause ≡ false
+    → AreStarts at_first starts (ending rows vars)
+    → formula_of version scopes starts (rows_with gs.current (as_row clause) rows) vars
+    (with_joined (as_row clause) gs) ls
+    ≡ with_clause clause (formula_of version scopes starts rows vars gs ls)
+view_kept version scopes starts rows vars gs ls clause plain a =
+    with_row_is version scopes starts rows vars gs.groups gs.current ls (as_row clause) a
+    ∙ if_plain (is_tautology clause) clause (formula_of version scopes starts rows vars gs ls) plain
+
+-- the row is the last one
+row_back : (current : Option ℕ) (r : Row) (rows : List Row) → rows_before current (rows_with current r rows) ≡ rows
+row_back None r rows = all_but_last rows r
+row_back (Some n) r rows = refl
+
+pub view_put : (version : Version) (scopes : List Scope) (starts : List Start) (rows more : List Row) (vars : List ℕ)
+    (gs news : GroupsState) (ls : List Literal) (clause : List ℤ) → is_tautology clause ≡ false
+    → more ≡ rows_with gs.current (as_row clause) rows → news ≡ with_joined (as_row clause) gs
+    → AreStarts at_first starts (ending rows vars)
+    → state_of version scopes starts more vars news ls Kept ≡ record {
+      formula = with_clause clause (formula_of version scopes starts rows vars gs ls);
+      before = Some (formula_of version scopes starts rows vars gs ls);
+    }
+view_put version scopes starts rows more vars gs news ls clause plain e g a =
+    ap₂ (λ (rs : List Row) (s : GroupsState). state_of version scopes starts rs vars s ls Kept) e g
+    ∙ ap₂ (λ (f b : OpenFormula). record { formula = f; before = Some b })
+    (view_kept version scopes starts rows vars gs ls clause plain a)
+    (ap₂ (λ (rs : List Row) (hs : List Group). formula_of version scopes starts rs vars (record {
+      groups = hs;
+      current = gs.current;
+    }) ls) (row_back gs.current (as_row clause) rows) (joined_back gs.current (as_row clause) gs.groups))
+
+added_leaving : (version : Version) (scopes : List Scope) (starts : List Start) (rows : List Row) (vars : List ℕ)
     (r : Row) → AreStarts at_first starts (ending rows vars)
     → AreLeaving version scopes (frames_from at_first starts rows vars)
     → AreLeaving version scopes (frames_from at_first starts (rows ++ r ∷ []) vars)
@@ -306,21 +345,20 @@ last_of (r ∷ s ∷ rows) k e =
     (rest.0, ap (λ xs. r ∷ xs) rest.1 ∙ ap (λ m. take m (r ∷ s ∷ rows) ++ rest.0 ∷ []) is)
 
 module _ (version : Version) (scopes : List Scope) (starts : List Start) (rows left : List Row) (vars : List ℕ)
-    (n k : ℕ) (latest : Latest) (e : latest ≡ Kept) (one : k + 1 ≡ length rows) (cut : left ≡ take k rows)
-    (f : AreFrames scopes starts rows vars n latest) where
+    (k : ℕ) (one : k + 1 ≡ length rows) (cut : left ≡ take k rows)
+    (f : AreFrames scopes starts rows vars Kept) where
   back_starts : AreStarts at_first starts (record { rows = k; vars = length vars })
   back_starts =
-      let last = rw e at f.latest in
       let same : k ≡ length rows - 1 = omega (arith, one) in
-      rw same last.1
+      rw same f.latest.1
 
-  pub taken_back : (m : ℕ) → m ≡ literals_in left → AreFrames scopes starts left vars m Other
-  taken_back m is = rw cut (cut_frames scopes starts rows vars n m k (omega (arith, one)) back_starts f.few_frames
-      f.few_clauses f.counted f.few_literals (all_taken (IsRow scopes) k rows f.rows) (is ∙ ap literals_in cut))
+  cut_back : AreFrames scopes starts left vars Other
+  cut_back = rw cut (cut_frames scopes starts rows vars k (omega (arith, one)) back_starts f.few_frames
+      (all_taken (IsRow scopes) k rows f.rows))
 
-  pub taken_leaving : AreLeaving version scopes (frames_from at_first starts rows vars)
+  cut_leaving : AreLeaving version scopes (frames_from at_first starts rows vars)
       → AreLeaving version scopes (frames_from at_first starts left vars)
-  taken_leaving are =
+  cut_leaving are =
       let last = last_of rows k one in
       let long : length (take k rows) ≡ k = length-take-le k rows (omega (arith, one)) in
       let with : frames_from at_first starts rows vars
@@ -331,34 +369,35 @@ module _ (version : Version) (scopes : List Scope) (starts : List Start) (rows l
       rw cut (leave_back version scopes last.0 (frames_from at_first starts (take k rows) vars)
       (subst (AreLeaving version scopes) with are))
 
-pub not_beyond : (rows : List Row) (k : ℕ) → is_beyond rows k ≡ false
-    → (length rows < max_clauses) × (literals_in rows + k ≤ max_literals)
-not_beyond rows k e = parts (nat_le max_clauses (length rows)) (nat_lt max_literals (literals_in rows + k)) refl refl
-    e
-  where
-    parts : (s t : Bool) → nat_le max_clauses (length rows) ≡ s → nat_lt max_literals (literals_in rows + k) ≡ t
-        → (s || t) ≡ false → (length rows < max_clauses) × (literals_in rows + k ≤ max_literals)
-    parts true t f g h = absurd (cc)
-    parts false true f g h = absurd (cc)
-    parts false false f g h = (leb-false max_clauses (length rows) f, ltb-false max_literals (literals_in rows + k) g)
+-- a row is taken out of the open group, or else of those outside groups
+pub taken_frames : (scopes : List Scope) (starts : List Start) (rows left : List Row) (vars : List ℕ)
+    (current : Option ℕ) → left ≡ rows_before current rows → AreFrames scopes starts rows vars (outside Kept current)
+    → AreFrames scopes starts left vars Other
+taken_frames scopes starts rows left vars None e f =
+    let some : 1 ≤ length rows = f.latest.0 in
+    cut_back One scopes starts rows left vars (length rows - 1) (omega (arith, some)) e f
+taken_frames scopes starts rows left vars (Some n) e f = rw e f
 
-pub added_row : (scopes : List Scope) (starts : List Start) (rows : List Row) (vars : List ℕ) (n : ℕ)
-    (latest : Latest) (r : Row) (m : ℕ) → IsRow scopes r → length rows < max_clauses → n + length r ≤ max_literals → m
-    ≡ n + length r
-    → AreFrames scopes starts rows vars n latest → AreFrames scopes starts (rows ++ r ∷ []) vars m Kept
-added_row scopes starts rows vars n latest r m row few fits is f =
+pub taken_leaving : (version : Version) (scopes : List Scope) (starts : List Start) (rows left : List Row)
+    (vars : List ℕ) (current : Option ℕ) → left ≡ rows_before current rows
+    → AreFrames scopes starts rows vars (outside Kept current)
+    → AreLeaving version scopes (frames_from at_first starts rows vars)
+    → AreLeaving version scopes (frames_from at_first starts left vars)
+taken_leaving version scopes starts rows left vars None e f are =
+    let some : 1 ≤ length rows = f.latest.0 in
+    cut_leaving version scopes starts rows left vars (length rows - 1) (omega (arith, some)) e f are
+taken_leaving version scopes starts rows left vars (Some n) e f are = rw e are
+
+added_row : (scopes : List Scope) (starts : List Start) (rows : List Row) (vars : List ℕ) (latest : Latest) (r : Row)
+    → IsRow scopes r → AreFrames scopes starts rows vars latest → AreFrames scopes starts (rows ++ r ∷ []) vars Kept
+added_row scopes starts rows vars latest r row f =
     let count : length (rows ++ r ∷ []) ≡ length rows + 1 = length-append rows (r ∷ []) in
     let back : length (rows ++ r ∷ []) - 1 ≡ length rows = omega (arith, count) in
     let some : 1 ≤ length (rows ++ r ∷ []) = omega (arith, count) in
-    let same : n ≡ literals_in rows = f.counted in
-    let more : literals_in (rows ++ r ∷ []) ≡ literals_in rows + length r = literals_more rows r in
     record {
       ascending = starts_more at_first starts (ending rows vars) (ending (rows ++ r ∷ []) vars) (omega (arith, count))
           (omega arith) f.ascending;
       few_frames = f.few_frames;
-      few_clauses = omega (arith, count, few);
-      counted = omega (arith, is, same, more);
-      few_literals = omega (arith, is, fits);
       rows = all_more (IsRow scopes) rows r f.rows row;
       latest = (
         some,
@@ -367,6 +406,23 @@ added_row scopes starts rows vars n latest r m row few fits is f =
             f.ascending,
       );
     }
+
+-- a row is put into the open group, or else behind those outside groups
+pub put_frames : (scopes : List Scope) (starts : List Start) (rows more : List Row) (vars : List ℕ) (latest : Latest)
+    (r : Row) (current : Option ℕ) → more ≡ rows_with current r rows → IsRow scopes r
+    → AreFrames scopes starts rows vars latest → AreFrames scopes starts more vars (outside Kept current)
+put_frames scopes starts rows more vars latest r None e row f = rw e (added_row scopes starts rows vars latest r row f)
+put_frames scopes starts rows more vars latest r (Some n) e row f =
+    rw e (settled_frames scopes starts rows vars latest f)
+
+pub put_leaving : (version : Version) (scopes : List Scope) (starts : List Start) (rows more : List Row)
+    (vars : List ℕ) (r : Row) (current : Option ℕ) → more ≡ rows_with current r rows
+    → AreStarts at_first starts (ending rows vars)
+    → AreLeaving version scopes (frames_from at_first starts rows vars)
+    → AreLeaving version scopes (frames_from at_first starts more vars)
+put_leaving version scopes starts rows more vars r None e a are =
+    rw e (added_leaving version scopes starts rows vars r a are)
+put_leaving version scopes starts rows more vars r (Some n) e a are = rw e are
 
 pub none_assumed : (new : List Scope) (ls : List Literal) → ls ≡ [] → AreAssumptions new ls
 none_assumed new [] e = tt

@@ -17,7 +17,7 @@ use Rattle.calculus.proofs.Growing.{extends_twice, kept_extends}
 use Rattle.calculus.proofs.Lists.{contains_cons, contains_head, contains_nil, contains_tail}
 use Rattle.calculus.proofs.Levels.{has_level}
 use Rattle.versions.specs.declared.version.Version.{Version}
-use Rattle.versions.specs.declared.version.Version.TheVariants.{One, Two}
+use Rattle.versions.specs.declared.version.Version.TheVariants.{One, Two, Three}
 use Rattle.frames.specs.State.{Frame, with_row, with_leaving, popped, pushed, clauses_in, depth, top_variables, with_variable, without_variables, without_assumed}
 use Rattle.frames.specs.Leaving.{AreLeaving, ClausesOutlast, FirstKeeps, NamesNone, leaving}
 use Rattle.frames.proofs.Starts.{all_but_last, all_more}
@@ -30,20 +30,20 @@ all_of P [] x all c = absurd (contains_nil x c)
 all_of P (y ∷ ys) x all c =
     ⊎_elim (λ e. subst P e all.0) (λ d. all_of P ys x all.1 d) (contains_cons y ys x c)
 
-all_map : {X : Type 0} (P Q : X → Type 0) (xs : List X) → ((x : X) → P x → Q x) → AllByRecursion P xs
+pub all_map : {X : Type 0} (P Q : X → Type 0) (xs : List X) → ((x : X) → P x → Q x) → AllByRecursion P xs
     → AllByRecursion Q xs
 all_map P Q [] h all = tt
 all_map P Q (x ∷ xs) h all = (h x all.0, all_map P Q xs h all.1)
 
-all_front : {X : Type 0} (P : X → Type 0) (xs ys : List X) → AllByRecursion P (xs ++ ys) → AllByRecursion P xs
+pub all_front : {X : Type 0} (P : X → Type 0) (xs ys : List X) → AllByRecursion P (xs ++ ys) → AllByRecursion P xs
 all_front P [] ys all = tt
 all_front P (x ∷ xs) ys all = (all.0, all_front P xs ys all.1)
 
-all_behind : {X : Type 0} (P : X → Type 0) (xs ys : List X) → AllByRecursion P (xs ++ ys) → AllByRecursion P ys
+pub all_behind : {X : Type 0} (P : X → Type 0) (xs ys : List X) → AllByRecursion P (xs ++ ys) → AllByRecursion P ys
 all_behind P [] ys all = all
 all_behind P (x ∷ xs) ys all = all_behind P xs ys all.1
 
-all_append : {X : Type 0} (P : X → Type 0) (xs ys : List X) → AllByRecursion P xs → AllByRecursion P ys
+pub all_append : {X : Type 0} (P : X → Type 0) (xs ys : List X) → AllByRecursion P xs → AllByRecursion P ys
     → AllByRecursion P (xs ++ ys)
 all_append P [] ys all more = more
 all_append P (x ∷ xs) ys all more = (all.0, all_append P xs ys all.1 more)
@@ -87,19 +87,19 @@ pub all_nothing : (rows : List Row) → AllByRecursion (NamesNone []) rows
 all_nothing [] = tt
 all_nothing (r ∷ rs) = (names_nothing r, all_nothing rs)
 
-names_front : (vs ws : List ℕ) (row : Row) → NamesNone (vs ++ ws) row → NamesNone vs row
+pub names_front : (vs ws : List ℕ) (row : Row) → NamesNone (vs ++ ws) row → NamesNone vs row
 names_front vs ws row none = all_map (λ (l : Literal). is_among l.variable (vs ++ ws) ≡ false)
     (λ (l : Literal). is_among l.variable vs ≡ false) row
     (λ l e. (or_parts (is_among l.variable vs) (is_among l.variable ws)
     (sym (is_among-append l.variable vs ws) ∙ e)).0) none
 
-names_back : (vs ws : List ℕ) (row : Row) → NamesNone (vs ++ ws) row → NamesNone ws row
+pub names_back : (vs ws : List ℕ) (row : Row) → NamesNone (vs ++ ws) row → NamesNone ws row
 names_back vs ws row none = all_map (λ (l : Literal). is_among l.variable (vs ++ ws) ≡ false)
     (λ (l : Literal). is_among l.variable ws ≡ false) row
     (λ l e. (or_parts (is_among l.variable vs) (is_among l.variable ws)
     (sym (is_among-append l.variable vs ws) ∙ e)).1) none
 
-names_both : (vs ws : List ℕ) (row : Row) → NamesNone vs row → NamesNone ws row → NamesNone (vs ++ ws) row
+pub names_both : (vs ws : List ℕ) (row : Row) → NamesNone vs row → NamesNone ws row → NamesNone (vs ++ ws) row
 names_both vs ws [] n m = tt
 names_both vs ws (l ∷ ls) n m = (
   is_among-append l.variable vs ws
@@ -107,7 +107,7 @@ names_both vs ws (l ∷ ls) n m = (
   names_both vs ws ls n.1 m.1,
 )
 
-all_both : (vs ws : List ℕ) (rows : List Row) → AllByRecursion (NamesNone vs) rows
+pub all_both : (vs ws : List ℕ) (rows : List Row) → AllByRecursion (NamesNone vs) rows
     → AllByRecursion (NamesNone ws) rows → AllByRecursion (NamesNone (vs ++ ws)) rows
 all_both vs ws [] n m = tt
 all_both vs ws (r ∷ rs) n m = (names_both vs ws r n.0 m.0, all_both vs ws rs n.1 m.1)
@@ -132,7 +132,7 @@ new_to_row scopes v row (l ∷ ls) e h = (
         ∙ e))
     by false f = refl
 
-new_to_rows : (scopes : List Scope) (v : ℕ) (rows : List Row) → is_some (level_of scopes v) ≡ false
+pub new_to_rows : (scopes : List Scope) (v : ℕ) (rows : List Row) → is_some (level_of scopes v) ≡ false
     → AllByRecursion (IsRow scopes) rows → AllByRecursion (NamesNone (v ∷ [])) rows
 new_to_rows scopes v [] e all = tt
 new_to_rows scopes v (r ∷ rs) e all = (
@@ -392,13 +392,13 @@ leave_kept version old new frames kept are = record {
   never = are.never;
 }
 
--- where the frames are more than one, and in version 2
-leave_more : (old new : List Scope) (v : ℕ) (f g : Frame) (rest : List Frame) → is_some (level_of old v) ≡ false
-    → is_some (level_of new v) ≡ true
+-- where the frames are more than one, and from version 2 on
+leave_more : (version : Version) (old new : List Scope) (v : ℕ) (f g : Frame) (rest : List Frame)
+    → (version ≡ One → ⊥) → is_some (level_of old v) ≡ false → is_some (level_of new v) ≡ true
     → ((w : ℕ) → is_some (level_of old w) ≡ true → is_some (level_of new w) ≡ true)
     → AllByRecursion (IsRow old) (clauses_in (f ∷ g ∷ rest))
-    → AreLeaving Two old (f ∷ g ∷ rest) → AreLeaving Two new (with_leaving v (f ∷ g ∷ rest))
-leave_more old new v f g rest free there kept rows are =
+    → AreLeaving version old (f ∷ g ∷ rest) → AreLeaving version new (with_leaving v (f ∷ g ∷ rest))
+leave_more version old new v f g rest later free there kept rows are =
     let more = leaving_more v f (g ∷ rest) in record {
       known = subst (AllByRecursion (λ w. is_some (level_of new w) ≡ true)) (sym more)
           (all_more (λ w. is_some (level_of new w) ≡ true) (leaving (f ∷ g ∷ rest)) v
@@ -408,8 +408,20 @@ leave_more old new v f g rest free there kept rows are =
           (new_to_leaving old v (leaving (f ∷ g ∷ rest)) free are.known));
       first = are.first;
       outlast = outlast_more v f (g ∷ rest) (new_to_rows old v (clauses_in (f ∷ g ∷ rest)) free rows) are.outlast;
-      never = λ (e : Two ≡ One). absurd (cc);
+      never = λ e. absurd (later e);
     }
+
+leave_later : (version : Version) (old new : List Scope) (v : ℕ) (frames : List Frame) → (version ≡ One → ⊥)
+    → is_some (level_of old v) ≡ false → is_some (level_of new v) ≡ true
+    → ((w : ℕ) → is_some (level_of old w) ≡ true → is_some (level_of new w) ≡ true)
+    → AllByRecursion (IsRow old) (clauses_in frames) → AreLeaving version old frames
+    → AreLeaving version new (if nat_lt 0 (depth frames) then with_leaving v frames else frames)
+leave_later version old new v [] later free there kept rows are = leave_kept version old new [] kept are
+leave_later version old new v (f ∷ []) later free there kept rows are = leave_kept version old new (f ∷ []) kept are
+leave_later version old new v (f ∷ g ∷ rest) later free there kept rows are =
+    let deep : nat_lt 0 (length (f ∷ g ∷ rest) - 1) ≡ true = grind (arith, nat_tests) in
+    subst (λ b. AreLeaving version new (if b then with_leaving v (f ∷ g ∷ rest) else f ∷ g ∷ rest)) (sym deep)
+    (leave_more version old new v f g rest later free there kept rows are)
 
 pub leave_variable : (version : Version) (old new : List Scope) (v : ℕ) (frames : List Frame)
     → is_some (level_of old v) ≡ false → is_some (level_of new v) ≡ true
@@ -417,12 +429,10 @@ pub leave_variable : (version : Version) (old new : List Scope) (v : ℕ) (frame
     → AllByRecursion (IsRow old) (clauses_in frames)
     → AreLeaving version old frames → AreLeaving version new (with_variable version v frames)
 leave_variable One old new v frames free there kept rows are = leave_kept One old new frames kept are
-leave_variable Two old new v [] free there kept rows are = leave_kept Two old new [] kept are
-leave_variable Two old new v (f ∷ []) free there kept rows are = leave_kept Two old new (f ∷ []) kept are
-leave_variable Two old new v (f ∷ g ∷ rest) free there kept rows are =
-    let deep : nat_lt 0 (length (f ∷ g ∷ rest) - 1) ≡ true = grind (arith, nat_tests) in
-    subst (λ b. AreLeaving Two new (if b then with_leaving v (f ∷ g ∷ rest) else f ∷ g ∷ rest)) (sym deep)
-    (leave_more old new v f g rest free there kept rows are)
+leave_variable Two old new v frames free there kept rows are =
+    leave_later Two old new v frames (λ (e : Two ≡ One). cc) free there kept rows are
+leave_variable Three old new v frames free there kept rows are =
+    leave_later Three old new v frames (λ (e : Three ≡ One). cc) free there kept rows are
 
 -- what the top frame's variables are
 pub top_is : (frames : List Frame) (f : Frame) → top_variables (frames ++ f ∷ []) ≡ f.variables

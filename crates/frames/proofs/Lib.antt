@@ -1,6 +1,10 @@
 pub mod Assuming
+pub mod Counting
+pub mod Grouping
+pub mod Holding
 pub mod Keeping
 pub mod Knowing
 pub mod Leaving
+pub mod Placing
 pub mod Refusing
 pub mod Starts

@@ -9,10 +9,9 @@ use Rattle.prefix.specs.Scopes.{Scope, level_of}
 use Rattle.prefix.specs.Refusals.{variable_refusal}
 use Rattle.prefix.specs.declared.refusal.PrefixRefusal.{PrefixRefusal}
 use Rattle.prefix.specs.declared.refusal.PrefixRefusal.TheVariants.{VarTwice, VarRange, ScopeRange}
-use Rattle.calculus.specs.Rows.{Row}
 use Rattle.clauses.specs.Clause.{ascending, put, variables_of}
-use Rattle.frames.specs.Commands.{is_beyond, max_clauses, max_literals}
-use Rattle.frames.specs.State.{literals_in}
+use Rattle.frames.specs.Commands.{exceeds, max_clauses, max_literals}
+use Rattle.frames.specs.declared.frames.Start.{Start}
 use Rattle.frames.specs.declared.refusal.FrameRefusal.{FrameRefusal}
 use Rattle.frames.specs.declared.refusal.FrameRefusal.TheVariants.{UnknownVar, Limit, NoMemory}
 
@@ -80,13 +79,14 @@ less_within : (m n a b : ℕ) → a ≤ b → nat_lt m (n + b) ≡ false → nat
 less_within m n a b less e = grind (arith, nat_tests, less, e)
 
 -- where a row of more literals goes beyond no limit, one of fewer doesn't
-fewer_within : (rows : List Row) (a b : ℕ) → a ≤ b → is_beyond rows b ≡ false → is_beyond rows a ≡ false
-fewer_within rows a b less e = by (nat_le max_clauses (length rows)) e
+fewer_within : (clauses literals a b : ℕ) → a ≤ b → exceeds clauses literals b ≡ false
+    → exceeds clauses literals a ≡ false
+fewer_within clauses literals a b less e = by (nat_le max_clauses clauses) e
   where
-    by : (full : Bool) → (full || nat_lt max_literals (literals_in rows + b)) ≡ false
-        → (full || nat_lt max_literals (literals_in rows + a)) ≡ false
+    by : (full : Bool) → (full || nat_lt max_literals (literals + b)) ≡ false
+        → (full || nat_lt max_literals (literals + a)) ≡ false
     by true f = f
-    by false f = less_within max_literals (literals_in rows) a b less f
+    by false f = less_within max_literals literals a b less f
 
 unless_beyond : (tautology beyond : Bool) → beyond ≡ false → NoMemory
     ≡ (if not tautology && beyond then Limit else NoMemory)
@@ -95,10 +95,13 @@ unless_beyond true false e = refl
 unless_beyond false false e = refl
 
 -- a clause that goes beyond no limit with all its literals is refused for want of memory
-pub within_all : (rows : List Row) (clause : List ℤ) (tautology : Bool) → is_beyond rows (length clause) ≡ false
-    → NoMemory ≡ (if not tautology && is_beyond rows (length (variables_of clause)) then Limit else NoMemory)
-within_all rows clause tautology e = unless_beyond tautology (is_beyond rows (length (variables_of clause)))
-    (fewer_within rows (length (variables_of clause)) (length clause) (variables_length clause) e)
+pub within_all : (clauses literals : ℕ) (clause : List ℤ) (tautology : Bool)
+    → exceeds clauses literals (length clause) ≡ false
+    → NoMemory
+    ≡ (if not tautology && exceeds clauses literals (length (variables_of clause)) then Limit else NoMemory)
+within_all clauses literals clause tautology e =
+    unless_beyond tautology (exceeds clauses literals (length (variables_of clause)))
+    (fewer_within clauses literals (length (variables_of clause)) (length clause) (variables_length clause) e)
 
 -- what is known of a variable that the prefix takes
 
@@ -123,3 +126,23 @@ variable_free scopes var scope r v is m =
     by true there place e = absurd (let f : Some VarRange ≡ None = e in cc)
     by false true place e = absurd (let f : Some VarTwice ≡ None = e in cc)
     by false false place e = refl
+
+-- the number of a group is in range, or it isn't
+
+pub in_range : (b : Bool) (group number : ℕ) → Some number ≡ (if b then Some group else None)
+    → (b ≡ true) × (number ≡ group)
+in_range true group number e = (refl, (let f : Some number ≡ Some group = e in cc))
+in_range false group number e = absurd (let f : Some number ≡ None = e in cc)
+
+pub out_of_range : (b : Bool) (group : ℕ) (o : Option ℕ) → ((x : ℕ) → o ≡ Some x → ⊥)
+    → o ≡ (if b then Some group else None) → b ≡ false
+out_of_range true group o none e = absurd (none group e)
+out_of_range false group o none e = refl
+
+-- no frame is pushed
+
+pub none_pushed : (starts : List Start) → (length starts == 0) ≡ true → starts ≡ []
+none_pushed [] e = refl
+none_pushed (s ∷ ss) e =
+    let zero_is : length (s ∷ ss) ≡ 0 = eqb-true (length (s ∷ ss)) 0 e in
+    absurd (omega (arith, zero_is))

@@ -1,20 +1,21 @@
 -- The fold over commands, which the replies to a script are defined over.
-use Rattle.std.specs.Prelude.{ℕ, ◌+◌, Bool, List, [], ◌∷◌, length, Option, Some, None, max}
+use Rattle.std.specs.Prelude.{ℕ, ◌+◌, Bool, if◌then◌else◌, List, [], ◌∷◌, length, Option, Some, None, max}
 use Rattle.prefix.specs.Literal.{Literal}
 use Rattle.prefix.specs.Scopes.{all_variables}
 use Rattle.versions.specs.declared.version.Version.{Version}
 use Rattle.versions.specs.declared.version.Version.TheVariants.{One}
 use Rattle.frames.specs.declared.refusal.FrameRefusal.{FrameRefusal}
+use Rattle.frames.specs.Groups.{clauses_at, is_active}
 use Rattle.frames.specs.State.{OpenFormula, new_formula}
-use Rattle.frames.specs.Commands.{Verdict, Stop, Command, AddScope, AddVariable, AddClause, Push, Pop, Assume, Solve, refusal_of, formula_after}
+use Rattle.frames.specs.Commands.{Verdict, Stop, Command, AddScope, AddVariable, AddClause, Push, Pop, Assume, Solve, OpenGroup, CloseGroup, Activate, Deactivate, refusal_of, formula_after}
 
 -- a truth, and the assumptions under which it was found
 pub record Given : Type 0 where
   pub truth : Bool
   pub assumptions : List Literal
 
--- The formula, the verdict where no change came after it, how many clauses were accepted and how many decisions asked
--- for, and the greatest number of variables at one.
+-- The formula, the verdict where no change came after it, how many clauses were accepted or came back with their group,
+-- how many decisions were asked for, and the greatest number of variables at one.
 pub record ScriptState : Type 0 where
   pub formula : OpenFormula
   pub verdict : Option Given
@@ -41,6 +42,14 @@ verdict_after s Pop = None
 verdict_after s (Assume n) = None
 verdict_after s (Solve (Verdict truth)) = Some (record { truth = truth; assumptions = s.assumptions })
 verdict_after s (Solve Stop) = None
+verdict_after s (OpenGroup n) = None
+verdict_after s CloseGroup = None
+verdict_after s (Activate n) = None
+verdict_after s (Deactivate n) = None
+
+-- how many clauses come back with a group: none where it is active
+abbrev pub returning : OpenFormula → ℕ → ℕ
+returning s n = if is_active s.groups n then 0 else length (clauses_at s.groups n)
 
 abbrev pub counted : ScriptState → Command → ScriptState
 counted s (AddScope quant at) = s
@@ -53,6 +62,10 @@ counted s (Solve answer) = record s {
   solves = s.solves + 1;
   greatest = max s.greatest (length (all_variables s.formula.scopes));
 }
+counted s (OpenGroup n) = s
+counted s CloseGroup = s
+counted s (Activate n) = record s { clauses = s.clauses + returning s.formula n }
+counted s (Deactivate n) = s
 
 -- the state after an accepted command
 abbrev pub accepted : ScriptState → Command → ScriptState

@@ -1,6 +1,6 @@
--- How `Frames` is kept: the clauses of all open frames in one list, their variables that leave in another, and for each
--- pushed frame how many of both came before it.
-use Rattle.std.specs.Prelude.{◌≡◌, ℕ, ◌-◌, ◌≤◌, Bool, List, [], ◌∷◌, length, take, drop, map, Option, Some, None, ⊤}
+-- How `Frames` is kept: the clauses of all open frames in one list, their variables that leave in another, for each
+-- pushed frame how many of both came before it, and the groups apart.
+use Rattle.std.specs.Prelude.{◌≡◌, ℕ, ◌-◌, ◌≤◌, Bool, List, [], ◌∷◌, length, ◌++◌, take, drop, map, Option, Some, None, ⊤}
 use Rattle.std.specs.List.{AllByRecursion}
 use Rattle.prefix.specs.Literal.{Literal}
 use Rattle.prefix.specs.Scopes.{Scope, level_of}
@@ -9,8 +9,12 @@ use Rattle.versions.specs.declared.version.Version.{Version}
 use Rattle.frames.specs.declared.frames.Latest.{Latest}
 use Rattle.frames.specs.declared.frames.Latest.TheVariants.{Other, LeftOut, Kept}
 use Rattle.frames.specs.declared.frames.Start.{Start}
+use Rattle.frames.specs.declared.total.Total.{Total}
 use Rattle.frames.specs.State.{Frame, OpenFormula, FramesState, literals_in}
 use Rattle.frames.specs.Commands.{max_pushed, max_clauses, max_literals}
+use Rattle.frames.specs.Groups.{Group, clauses_at, grouped_in}
+use Rattle.frames.specs.Leaving.{NamesNone}
+use Rattle.frames.specs.Places.{GroupsState, without_last}
 
 -- where frame 0 starts
 abbrev pub at_first : Start
@@ -33,25 +37,45 @@ AreStarts base (start ∷ starts) end =
 abbrev pub literals_of : List (ℕ × Bool) → List Literal
 literals_of signs = map (λ (s : ℕ × Bool). record { variable = s.0; positive = s.1 }) signs
 
--- the formula before the last command, where that was an accepted clause
-abbrev pub before_of : Latest → OpenFormula → List Start → List Row → List ℕ → Option OpenFormula
-before_of Other s starts rows vars = None
-before_of LeftOut s starts rows vars = Some s
-before_of Kept s starts rows vars =
-    Some (record s { frames = frames_from at_first starts (take (length rows - 1) rows) vars })
-
-abbrev pub formula_of : Version → List Scope → List Start → List Row → List ℕ → List Literal → OpenFormula
-formula_of version scopes starts rows vars assumptions = record {
+abbrev pub formula_of : Version → List Scope → List Start → List Row → List ℕ → GroupsState → List Literal → OpenFormula
+formula_of version scopes starts rows vars groups assumptions = record {
   version = version;
   scopes = scopes;
   frames = frames_from at_first starts rows vars;
+  groups = groups.groups;
+  current = groups.current;
   assumptions = assumptions;
 }
 
-abbrev pub state_of : Version → List Scope → List Start → List Row → List ℕ → List Literal → Latest → FramesState
-state_of version scopes starts rows vars assumptions latest = record {
-  formula = formula_of version scopes starts rows vars assumptions;
-  before = before_of latest (formula_of version scopes starts rows vars assumptions) starts rows vars;
+-- with one more row outside groups, if none is open
+abbrev pub rows_with : Option ℕ → Row → List Row → List Row
+rows_with None row rows = rows ++ row ∷ []
+rows_with (Some n) row rows = rows
+
+-- without the last row outside groups, if none is open
+abbrev pub rows_before : Option ℕ → List Row → List Row
+rows_before None rows = take (length rows - 1) rows
+rows_before (Some n) rows = rows
+
+-- the rows of the open group, or else those outside groups
+abbrev pub last_in : Option ℕ → List Row → List Group → List Row
+last_in None rows groups = rows
+last_in (Some n) rows groups = clauses_at groups n
+
+-- the formula before the last command, where that was an accepted clause
+abbrev pub before_of : Latest → Version → List Scope → List Start → List Row → List ℕ → GroupsState → List Literal
+    → Option OpenFormula
+before_of Other version scopes starts rows vars groups assumptions = None
+before_of LeftOut version scopes starts rows vars groups assumptions =
+    Some (formula_of version scopes starts rows vars groups assumptions)
+before_of Kept version scopes starts rows vars groups assumptions =
+    Some (formula_of version scopes starts (rows_before groups.current rows) vars (without_last groups) assumptions)
+
+abbrev pub state_of : Version → List Scope → List Start → List Row → List ℕ → GroupsState → List Literal → Latest
+    → FramesState
+state_of version scopes starts rows vars groups assumptions latest = record {
+  formula = formula_of version scopes starts rows vars groups assumptions;
+  before = before_of latest version scopes starts rows vars groups assumptions;
 }
 
 -- a row that may be taken back stands in the top frame
@@ -60,16 +84,51 @@ LeavesStarts Other starts rows vars = ⊤
 LeavesStarts LeftOut starts rows vars = ⊤
 LeavesStarts Kept starts rows vars = (1 ≤ rows) × AreStarts at_first starts (record { rows = rows - 1; vars = vars })
 
--- the fields belong together
-pub record AreFrames (scopes : List Scope) (starts : List Start) (clauses : List Row) (vars : List ℕ) (literals : ℕ)
-    (last : Latest) : Type 0 where
+-- the fields on frames belong together
+pub record AreFrames (scopes : List Scope) (starts : List Start) (clauses : List Row) (vars : List ℕ) (last : Latest)
+    : Type 0 where
   pub ascending : AreStarts at_first starts (record { rows = length clauses; vars = length vars })
   pub few_frames : length starts ≤ max_pushed
-  pub few_clauses : length clauses ≤ max_clauses
-  pub counted : literals ≡ literals_in clauses
-  pub few_literals : literals ≤ max_literals
   pub rows : AllByRecursion (IsRow scopes) clauses
   pub latest : LeavesStarts last starts (length clauses) (length vars)
+
+-- what the last command was to the clauses outside groups: none of them came in while a group is open
+abbrev pub outside : Latest → Option ℕ → Latest
+outside Other current = Other
+outside LeftOut current = LeftOut
+outside Kept None = Kept
+outside Kept (Some n) = Other
+
+-- a row that may be taken back from the open group stands in it
+abbrev pub LeavesGroup : Latest → Option ℕ → List Group → Type 0
+LeavesGroup Other current groups = ⊤
+LeavesGroup LeftOut current groups = ⊤
+LeavesGroup Kept None groups = ⊤
+LeavesGroup Kept (Some n) groups = 1 ≤ length (clauses_at groups n)
+
+-- no frame is pushed while a group is open
+abbrev pub IsShallow : Option ℕ → List Start → Type 0
+IsShallow None starts = ⊤
+IsShallow (Some n) starts = starts ≡ []
+
+-- the clauses of groups are rows over the prefix, and name no variable that leaves
+pub record AreGrouped (scopes : List Scope) (starts : List Start) (vars : List ℕ) (groups : GroupsState)
+    (last : Latest) : Type 0 where
+  pub rows : AllByRecursion (IsRow scopes) (grouped_in groups.groups)
+  pub names : AllByRecursion (NamesNone vars) (grouped_in groups.groups)
+  pub shallow : IsShallow groups.current starts
+  pub latest : LeavesGroup last groups.current groups.groups
+
+-- so many rows, with so many literals in all
+pub record IsTotal (total : Total) (rows : List Row) : Type 0 where
+  pub clauses : total.clauses ≡ length rows
+  pub literals : total.literals ≡ literals_in rows
+
+-- all rows are counted, and no limit is passed
+pub record AreCounted (total : Total) (rows : List Row) : Type 0 where
+  pub counted : IsTotal total rows
+  pub few_clauses : length rows ≤ max_clauses
+  pub few_literals : literals_in rows ≤ max_literals
 
 -- the assumptions are over variables of the first scope
 abbrev pub AreAssumptions : List Scope → List Literal → Type 0

@@ -27,8 +27,8 @@ abbrev pub FirstKeeps : List Frame → Type 0
 FirstKeeps [] = ⊤
 FirstKeeps (f ∷ frames) = f.variables ≡ []
 
--- Each variable that leaves is in the prefix, and leaves with one frame, which isn't frame 0; no clause names a variable
--- that leaves with a later frame; and in version 1 none leaves.
+-- Each variable that leaves is in the prefix, and leaves with one frame, which isn't frame 0; no clause names a
+-- variable that leaves with a later frame; and in version 1 none leaves.
 pub record AreLeaving (version : Version) (scopes : List Scope) (frames : List Frame) : Type 0 where
   pub known : AllByRecursion (λ v. is_some (level_of scopes v) ≡ true) (leaving frames)
   pub distinct : AreDistinct (leaving frames)

@@ -1,7 +1,10 @@
 pub mod Commands
 pub mod Fold
+pub mod Groups
 pub mod Kept
 pub mod Leaving
+pub mod Places
 pub mod Refusal
 pub mod State
 pub mod Worked
+pub mod WorkedGroups

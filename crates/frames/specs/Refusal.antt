@@ -3,7 +3,7 @@ use Rattle.std.specs.Prelude.{ℕ, Option, Some, None}
 use Rattle.prefix.specs.declared.refusal.PrefixRefusal.{PrefixRefusal}
 use Rattle.prefix.specs.declared.refusal.PrefixRefusal.TheVariants.{VarTwice, VarRange, ScopeRange, ScopeLimit, NoMemory as NoRoom}
 use Rattle.frames.specs.declared.refusal.FrameRefusal.{FrameRefusal}
-use Rattle.frames.specs.declared.refusal.FrameRefusal.TheVariants.{Prefix, NoFrame, UnknownVar, AssumeScope, AssumeClash, AssumptionsHeld, Limit, NoMemory}
+use Rattle.frames.specs.declared.refusal.FrameRefusal.TheVariants.{Prefix, NoFrame, UnknownVar, AssumeScope, AssumeClash, AssumptionsHeld, Limit, GroupOpen, GroupRange, NoGroup, GroupFrame, NoMemory}
 
 -- a refusal of the prefix; want of memory is the same everywhere
 abbrev pub refusal_for : PrefixRefusal → FrameRefusal
@@ -29,4 +29,8 @@ number_of AssumeScope = Some 42
 number_of AssumeClash = Some 43
 number_of AssumptionsHeld = Some 44
 number_of Limit = Some 45
+number_of GroupOpen = Some 46
+number_of GroupRange = Some 47
+number_of NoGroup = Some 48
+number_of GroupFrame = Some 49
 number_of NoMemory = None

@@ -1,10 +1,11 @@
--- The formula that commands build: scopes, frames of clauses, and assumptions.
+-- The formula that commands build: scopes, frames and groups of clauses, and assumptions.
 use Rattle.std.specs.Prelude.{ℕ, ◌-◌, ℤ, pos, negsuc, nat_abs, Bool, true, false, ◌==◌, nat_lt, if◌then◌else◌, List, [], ◌∷◌, ◌++◌, length, take, flat_map, Option, None}
 use Rattle.prefix.specs.Literal.{Literal}
 use Rattle.prefix.specs.Scopes.{Scope, without_variable}
 use Rattle.calculus.specs.Rows.{Row, without}
 use Rattle.versions.specs.declared.version.Version.{Version}
-use Rattle.versions.specs.declared.version.Version.TheVariants.{One, Two}
+use Rattle.versions.specs.declared.version.Version.TheVariants.{One, Two, Three}
+pub use Rattle.frames.specs.Groups.{Group, active_in, inactive_in}
 
 -- What goes when a frame is popped: its clauses, and the variables that leave with it, in the order in which they were
 -- added. In version 1, and of frame 0, no variable leaves.
@@ -12,12 +13,15 @@ pub record Frame : Type 0 where
   pub clauses : List Row
   pub variables : List ℕ
 
--- The formula. Frame 0 comes first and is always open; the others were pushed. A clause stands as its row, and a
--- tautology nowhere. The assumptions ascend by variable.
+-- The formula. Frame 0 comes first and is always open; the others were pushed. The groups ascend by number, and one of
+-- them may be open, which clauses then join. A clause stands as its row, and a tautology nowhere. The assumptions
+-- ascend by variable.
 pub record OpenFormula : Type 0 where
   pub version : Version
   pub scopes : List Scope
   pub frames : List Frame
+  pub groups : List Group
+  pub current : Option ℕ
   pub assumptions : List Literal
 
 -- What contracts see of `Frames`: the formula and, where an accepted clause was the last command, the formula before
@@ -29,9 +33,16 @@ pub record FramesState : Type 0 where
 abbrev pub empty_frame : Frame
 empty_frame = record { clauses = []; variables = [] }
 
--- no scope, no clause, frame 0 alone
+-- no scope, no clause, no group, frame 0 alone
 abbrev pub new_formula : Version → OpenFormula
-new_formula version = record { version = version; scopes = []; frames = empty_frame ∷ []; assumptions = [] }
+new_formula version = record {
+  version = version;
+  scopes = [];
+  frames = empty_frame ∷ [];
+  groups = [];
+  current = None;
+  assumptions = [];
+}
 
 -- the same in version 1
 abbrev pub empty_formula : OpenFormula
@@ -45,8 +56,13 @@ depth frames = length frames - 1
 abbrev pub clauses_in : List Frame → List Row
 clauses_in frames = flat_map (λ (f : Frame). f.clauses) frames
 
+-- the clauses of the open formula: those of all open frames, and then those of the active groups
 abbrev pub open_clauses : OpenFormula → List Row
-open_clauses s = clauses_in s.frames
+open_clauses s = clauses_in s.frames ++ active_in s.groups
+
+-- all clauses, those of the inactive groups too
+abbrev pub all_clauses : OpenFormula → List Row
+all_clauses s = open_clauses s ++ inactive_in s.groups
 
 -- the variables that leave with the last of these frames
 abbrev pub top_variables : List Frame → List ℕ
@@ -74,10 +90,11 @@ with_leaving v [] = []
 with_leaving v (f ∷ []) = record f { variables = f.variables ++ v ∷ [] } ∷ []
 with_leaving v (f ∷ g ∷ rest) = f ∷ with_leaving v (g ∷ rest)
 
--- whether a variable that is added leaves with the top frame: in version 2, where so many frames are pushed
+-- whether a variable that is added leaves with the top frame: from version 2 on, where so many frames are pushed
 abbrev pub leaves_in : Version → ℕ → Bool
 leaves_in One n = false
 leaves_in Two n = nat_lt 0 n
+leaves_in Three n = nat_lt 0 n
 
 abbrev pub with_variable : Version → ℕ → List Frame → List Frame
 with_variable version v frames = if leaves_in version (depth frames) then with_leaving v frames else frames

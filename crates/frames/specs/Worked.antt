@@ -1,11 +1,11 @@
--- Worked values: what commands come to.
+-- Worked values: what commands on scopes and frames come to.
 use Rattle.std.specs.Prelude.{◌≡◌, ℕ, pos, negsuc, true, false, List, [], ◌∷◌, ◌++◌, length, Option, Some, None}
 use Rattle.prefix.specs.declared.quant.Quant.TheVariants.{Exists, Forall}
 use Rattle.prefix.specs.declared.refusal.PrefixRefusal.TheVariants.{VarTwice, VarRange, ScopeRange}
 use Rattle.prefix.specs.Literal.{Literal}
 use Rattle.prefix.specs.Scopes.{Scope}
 use Rattle.versions.specs.declared.version.Version.{Version}
-use Rattle.versions.specs.declared.version.Version.TheVariants.{One, Two}
+use Rattle.versions.specs.declared.version.Version.TheVariants.{One, Two, Three}
 use Rattle.frames.specs.declared.refusal.FrameRefusal.{FrameRefusal}
 use Rattle.frames.specs.declared.refusal.FrameRefusal.TheVariants.{Prefix, NoFrame, UnknownVar, AssumeScope, AssumeClash, AssumptionsHeld}
 use Rattle.calculus.specs.Rows.{Row}
@@ -132,6 +132,9 @@ pub record WorkedVersions : Type 0 where
   pub stays : variables_on_top (formula_by One above) ≡ []
   pub there : (formula_by One (above ++ Pop ∷ [])).scopes ≡ record { quantifier = Exists; variables = 1 ∷ [] } ∷ []
   pub twice : refusal_of (formula_by One (above ++ Pop ∷ [])) (AddVariable 1 1) ≡ Some (Prefix VarTwice)
+  -- version 3 is in this as version 2
+  pub third_leaves : variables_on_top (formula_by Three above) ≡ 1 ∷ []
+  pub third_gone : (formula_by Three (above ++ Pop ∷ [])).scopes ≡ record { quantifier = Exists; variables = [] } ∷ []
   -- the assumption over it goes with it, or stays
   pub dropped : (formula_by Two (assumed_above ++ Pop ∷ [])).assumptions ≡ []
   pub free : refusal_of (formula_by Two (assumed_above ++ Pop ∷ [])) (AddVariable 1 1) ≡ None

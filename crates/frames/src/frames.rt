@@ -1,22 +1,30 @@
 //! Frames.
-ghost use Rattle.std.specs.Prelude.{◌≡◌, ℕ, true, [], Some, None, is_some, IsSome, IsOk, OnOk, OnErr, IsOkUnless, MatchOption, length};
+ghost use Rattle.std.specs.Prelude.{Ok, ◌≡◌, ◌<◌, ℕ, true, false, [], Some, None, is_some, IsSome, IsOk, IfOk, IfSome, OnOk, OnErr, IsOkUnless, MatchOption, length, slice_get};
 ghost use Rattle.std.specs.List.{AllByRecursion};
 ghost use Rattle.prefix.specs.Scopes.{IsPrefix, IsAscending, AreDistinct, level_of};
 ghost use Rattle.calculus.specs.Rows.{IsRow, variables_in};
 ghost use Rattle.calculus.specs.Verdicts.{AreOuter};
-ghost use Rattle.frames.specs.State.{new_formula, empty_formula, settled, clauses_in, open_clauses as open_clauses_of, popped, variables_on_top, depth as depth_of};
+ghost use Rattle.frames.specs.State.{OpenFormula, new_formula, empty_formula, settled, clauses_in, open_clauses as open_clauses_of, popped, variables_on_top, depth as depth_of};
+ghost use Rattle.frames.specs.Groups.{AreRising, active_in, clauses_at, grouped_in, is_active as is_active_in, is_group, with_mark};
+ghost use Rattle.frames.specs.Places.{IsGroupAt};
 ghost use Rattle.frames.specs.Kept.{last_vars};
 ghost use Rattle.frames.specs.Leaving.{NamesNone};
-ghost use Rattle.frames.specs.Commands.{AddScope, AddVariable, AddClause, Push, Pop, Assume, refusal_of, formula_after};
+ghost use Rattle.frames.specs.Commands.{with_row_at, Activate, AddClause, AddScope, AddVariable, Assume, CloseGroup, Deactivate, OpenGroup, Pop, Push, first_of, formula_after, refusal_of, turn_refusals};
 
 use crate::assumptions::Assumptions;
-use crate::lists::{are_known, cut, known, put_row, refusal_without_row};
+use crate::groups::{Group, Groups};
+use crate::lists::{
+    are_known, cut, group_number, known, newest, put_row, refusal_without_row, take_row,
+};
 use crate::refusal::FrameRefusal;
+use crate::total::Total;
 use crate::variables::{leaves, make_room, put_variable, take_out, variable_for, vars_from};
 use clauses::row_of;
+use matrix::Matrix;
 use prefix::{Lit, LitList, Prefix, Quant, Var};
 use std::alloc::Global;
 use std::marker::Model;
+use steps::NoMemory;
 use versions::Version;
 
 // What the last command was, where that matters for taking it back.
@@ -26,7 +34,7 @@ pub(crate) enum Latest {
     Other,
     // An accepted clause that is a tautology.
     LeftOut,
-    // An accepted clause, whose row is the last one.
+    // An accepted clause, whose row is the last one of the open group, or else of the rows outside groups.
     Kept,
 }
 
@@ -37,27 +45,29 @@ pub(crate) struct Start {
     pub(crate) vars: usize,
 }
 
-/// The scopes, the frames of clauses, and the assumptions that commands build.
+/// The scopes, the frames and groups of clauses, and the assumptions that commands build.
 ///
-/// In version 2 a variable that is added while a pushed frame is open leaves with the top frame. In version 1, and
+/// From version 2 on a variable that is added while a pushed frame is open leaves with the top frame. In version 1, and
 /// where frame 0 alone is open, it stays.
 ///
-/// Frame 0 is always open, and at most `Frames::MAX_PUSHED` more. In them stand at most `Frames::MAX_CLAUSES`
-/// clauses with at most `Frames::MAX_LITERALS` literals in all. A tautology is accepted and left out, a repeated
-/// literal counts once. A clause costs its length, apart from sorting; nothing is copied when a frame is pushed or
-/// popped.
+/// Frame 0 is always open, and at most `Frames::MAX_PUSHED` more. While a group is open, clauses join it in place of
+/// the top frame. Its clauses are in the open formula while it is active, whatever frames come and go. In frames and
+/// groups, active or not, stand at most `Frames::MAX_CLAUSES` clauses with at most `Frames::MAX_LITERALS` literals in
+/// all. A tautology is accepted and left out, a repeated literal counts once. A clause costs its length, apart from
+/// sorting; nothing is copied when a frame is pushed or popped, or a group made active or inactive.
 #[derive(Debug, Drop)]
 pub struct Frames {
     version: Version,
     prefix: Prefix,
-    // The rows of all open frames.
+    // The rows of all open frames, those of groups apart.
     rows: Vec<LitList>,
     // The variables that leave with their frames.
     vars: Vec<Var>,
     // Where each pushed frame starts.
     starts: Vec<Start>,
-    // How many literals the rows have.
-    literals: usize,
+    groups: Groups,
+    // How many rows stand in frames and groups.
+    total: Total,
     assumptions: Assumptions,
     latest: Latest,
 }
@@ -67,36 +77,34 @@ impl Model for Frames {
 
     ghost Value = { FramesState };
 
-    ghost use Rattle.frames.specs.Kept.{at_first, frames_from, state_of, AreFrames, AreAssumptions};
+    ghost use Rattle.std.specs.Prelude.{◌++◌};
+    ghost use Rattle.frames.specs.Groups.{grouped_in};
+    ghost use Rattle.frames.specs.Kept.{at_first, frames_from, outside, state_of, AreAssumptions, AreCounted, AreFrames, AreGrouped};
     ghost use Rattle.frames.specs.Leaving.{AreLeaving};
 
-    ghost view = { λ f. state_of f.version f.prefix f.starts.items f.rows.items f.vars.items f.assumptions f.latest };
+    ghost view = { λ f. state_of f.version f.prefix f.starts.items f.rows.items f.vars.items f.groups f.assumptions
+        f.latest };
 
-    ghost invariant = { λ f. AreFrames f.prefix f.starts.items f.rows.items f.vars.items f.literals f.latest
+    ghost invariant = { λ f.
+        AreFrames f.prefix f.starts.items f.rows.items f.vars.items (outside f.latest f.groups.current)
         × AreAssumptions f.prefix f.assumptions
-        × AreLeaving f.version f.prefix (frames_from at_first f.starts.items f.rows.items f.vars.items) };
-}
-
-/// What a formula is decided by: its prefix, the clauses of all open frames, and the assumptions.
-#[derive(Debug, Drop)]
-pub struct OpenParts<'a> {
-    /// The prefix.
-    pub prefix: &'a Prefix,
-    /// The clauses, those of frame 0 first.
-    pub clauses: &'a [LitList],
-    /// The assumptions, ascending by variable.
-    pub assumptions: &'a Assumptions,
+        × AreLeaving f.version f.prefix (frames_from at_first f.starts.items f.rows.items f.vars.items)
+        × AreGrouped f.prefix f.starts.items f.vars.items f.groups f.latest
+        × AreCounted f.total (f.rows.items ++ grouped_in f.groups.groups) };
 }
 
 impl Frames {
     /// The greatest number of pushed frames.
     pub const MAX_PUSHED: usize = 65_536;
 
-    /// The greatest number of clauses in the open frames.
+    /// The greatest number of clauses in the open frames and all groups.
     pub const MAX_CLAUSES: usize = 16_777_216;
 
-    /// The greatest number of literals in the open frames.
+    /// The greatest number of literals in the open frames and all groups.
     pub const MAX_LITERALS: usize = 268_435_456;
+
+    /// The greatest number of a group.
+    pub const MAX_GROUP: u64 = 65_536;
 
     /// No scope, no clause, and frame 0 alone, in version 1.
     pub fn new(alloc: Global) -> Self
@@ -115,7 +123,8 @@ impl Frames {
             rows: Vec::new(alloc),
             vars: Vec::new(alloc),
             starts: Vec::new(alloc),
-            literals: 0,
+            groups: Groups::new(alloc),
+            total: Total::new(),
             assumptions: Assumptions::new(alloc),
             latest: Latest::Other,
         }
@@ -139,8 +148,8 @@ impl Frames {
         Ok(())
     }
 
-    /// Puts the variable of number `var` into scope number `scope`. In version 2, where a frame is pushed, it leaves
-    /// with the top frame.
+    /// Puts the variable of number `var` into scope number `scope`. From version 2 on, where a frame is pushed, it
+    /// leaves with the top frame.
     ///
     /// Refused, in this order, with AssumptionsHeld where an assumption stands, as `Prefix::add_var` refuses it, and
     /// with NoMemory.
@@ -162,13 +171,17 @@ impl Frames {
         Ok(())
     }
 
-    /// Opens a frame. Refused with Limit where `Frames::MAX_PUSHED` pushed frames are open, then with NoMemory.
+    /// Opens a frame. Refused, in this order, with GroupOpen where a group is open, with Limit where
+    /// `Frames::MAX_PUSHED` pushed frames are open, and with NoMemory.
     pub fn push(&mut self) -> Result<(), FrameRefusal>
         ensures ok { OnOk result (self.new ≡ settled (formula_after self.old.formula Push)) }
         ensures refused { MatchOption (refusal_of self.old.formula Push)
             (IsOkUnless result FrameRefusal.NoMemory) (λ e. result ≡ Err e) }
         ensures err { OnErr result (self.new ≡ self.old) }
     {
+        if self.groups.current().is_some() {
+            return Err(FrameRefusal::GroupOpen);
+        }
         if self.starts.len() == Self::MAX_PUSHED {
             return Err(FrameRefusal::Limit);
         }
@@ -192,7 +205,7 @@ impl Frames {
         let Some(start) = self.starts.pop() else {
             return Err(FrameRefusal::NoFrame);
         };
-        cut(&mut self.rows, &mut self.literals, start.rows);
+        cut(&mut self.rows, &mut self.total, start.rows);
         take_out(
             &mut self.prefix,
             &mut self.assumptions,
@@ -203,7 +216,8 @@ impl Frames {
         Ok(())
     }
 
-    /// Puts a clause into the top frame, given by signed numbers as QDIMACS 1.1 writes literals.
+    /// Puts a clause into the open group, or else into the top frame, given by signed numbers as QDIMACS 1.1 writes
+    /// literals.
     ///
     /// Refused, in this order, with UnknownVar where a number's variable isn't in the prefix, with Limit where the
     /// clause is no tautology and goes beyond `Frames::MAX_CLAUSES` or `Frames::MAX_LITERALS`, and with NoMemory.
@@ -220,18 +234,139 @@ impl Frames {
             return Err(FrameRefusal::UnknownVar);
         }
         let Ok(made) = row_of(*self.rows.allocator(), lits) else {
-            return Err(refusal_without_row(&self.rows, self.literals, lits));
+            return Err(refusal_without_row(&self.total, lits));
         };
         let Some(row) = made else {
             self.latest = Latest::LeftOut;
             return Ok(());
         };
-        match put_row(&mut self.rows, &mut self.literals, row) {
-            Ok(()) => {
-                self.latest = Latest::Kept;
-                Ok(())
-            }
-            Err(refusal) => Err(refusal),
+        let added = row.lits().len();
+        if self.total.is_beyond(added) {
+            return Err(FrameRefusal::Limit);
+        }
+        put_row(&mut self.rows, &mut self.groups, row)?;
+        self.total.add(added);
+        self.latest = Latest::Kept;
+        Ok(())
+    }
+
+    /// Opens the group of a number, which is made, active and without clauses, where it is new.
+    ///
+    /// Refused, in this order, with GroupRange where the number is 0 or above `Frames::MAX_GROUP`, with GroupOpen where
+    /// a group is open, with GroupFrame where a pushed frame is open, and with NoMemory.
+    pub fn open_group(&mut self, group: u64) -> Result<(), FrameRefusal>
+        ensures ok { OnOk result (self.new ≡ settled (formula_after self.old.formula (OpenGroup group))) }
+        ensures refused { MatchOption (refusal_of self.old.formula (OpenGroup group))
+            (IsOkUnless result FrameRefusal.NoMemory) (λ e. result ≡ Err e) }
+        ensures err { OnErr result (self.new ≡ self.old) }
+    {
+        let Some(number) = group_number(group) else {
+            return Err(FrameRefusal::GroupRange);
+        };
+        if self.groups.is_open() {
+            return Err(FrameRefusal::GroupOpen);
+        }
+        if !self.starts.is_empty() {
+            return Err(FrameRefusal::GroupFrame);
+        }
+        self.groups.open_group(number)?;
+        self.latest = Latest::Other;
+        Ok(())
+    }
+
+    /// Closes the open group. Refused with NoGroup where none is open; it takes no memory.
+    pub fn close_group(&mut self) -> Result<(), FrameRefusal>
+        ensures ok { OnOk result (self.new ≡ settled (formula_after self.old.formula CloseGroup)) }
+        ensures refused { MatchOption (refusal_of self.old.formula CloseGroup) (IsOk result) (λ e. result ≡ Err e) }
+        ensures err { OnErr result (self.new ≡ self.old) }
+    {
+        if !self.groups.is_open() {
+            return Err(FrameRefusal::NoGroup);
+        }
+        self.groups.close();
+        self.latest = Latest::Other;
+        Ok(())
+    }
+
+    /// Makes the group of a number active, so that its clauses join the open formula. Where it is active already
+    /// nothing changes.
+    ///
+    /// Refused, in this order, with GroupRange where the number is 0 or above `Frames::MAX_GROUP`, with NoGroup where
+    /// the group was never opened, and with GroupOpen where a group is open. It takes no memory, and the logarithm of
+    /// how many groups there are.
+    pub fn activate(&mut self, group: u64) -> Result<(), FrameRefusal>
+        ensures ok { OnOk result (self.new ≡ settled (formula_after self.old.formula (Activate group))) }
+        ensures refused { MatchOption (refusal_of self.old.formula (Activate group)) (IsOk result)
+            (λ e. result ≡ Err e) }
+        ensures err { OnErr result (self.new ≡ self.old) }
+    {
+        self.turn(group, true)
+    }
+
+    /// Makes the group of a number inactive, so that its clauses leave the open formula. Where it is inactive already
+    /// nothing changes.
+    ///
+    /// Refused as `activate` is. It takes no memory, and the logarithm of how many groups there are.
+    pub fn deactivate(&mut self, group: u64) -> Result<(), FrameRefusal>
+        ensures ok { OnOk result (self.new ≡ settled (formula_after self.old.formula (Deactivate group))) }
+        ensures refused { MatchOption (refusal_of self.old.formula (Deactivate group)) (IsOk result)
+            (λ e. result ≡ Err e) }
+        ensures err { OnErr result (self.new ≡ self.old) }
+    {
+        self.turn(group, false)
+    }
+
+    /// The number of a group, where this may be made active or inactive.
+    ///
+    /// Refused as `activate` and `deactivate` are. It takes the logarithm of how many groups there are.
+    pub fn may_turn(&self, group: u64) -> Result<u32, FrameRefusal>
+        ensures { MatchOption (first_of (turn_refusals self.now.formula group)) (result ≡ Ok group)
+            (λ e. result ≡ Err e) }
+    {
+        let Some(number) = group_number(group) else {
+            return Err(FrameRefusal::GroupRange);
+        };
+        if !self.groups.is_group(number) {
+            return Err(FrameRefusal::NoGroup);
+        }
+        if self.groups.is_open() {
+            return Err(FrameRefusal::GroupOpen);
+        }
+        Ok(number)
+    }
+
+    // Makes the group of a number active or inactive.
+    fn turn(&mut self, group: u64, active: bool) -> Result<(), FrameRefusal>
+        ensures ok { OnOk result (self.new ≡ settled (record self.old.formula {
+          groups = with_mark active group self.old.formula.groups;
+        })) }
+        ensures refused { MatchOption (first_of (turn_refusals self.old.formula group)) (IsOk result)
+            (λ e. result ≡ Err e) }
+        ensures err { OnErr result (self.new ≡ self.old) }
+    {
+        let Some(number) = group_number(group) else {
+            return Err(FrameRefusal::GroupRange);
+        };
+        if !self.groups.is_group(number) {
+            return Err(FrameRefusal::NoGroup);
+        }
+        if self.groups.is_open() {
+            return Err(FrameRefusal::GroupOpen);
+        }
+        self.groups.mark(number, active);
+        self.latest = Latest::Other;
+        Ok(())
+    }
+
+    /// The row of the accepted clause that was the last command: the last one of the open group, or else of the top
+    /// frame. None where that clause is a tautology, and where the last command was no clause.
+    pub fn last_row(&self) -> Option<&LitList>
+        ensures { (before : OpenFormula) → self.now.before ≡ Some before → MatchOption result
+            (self.now.formula ≡ before) (λ row. self.now.formula ≡ with_row_at before.current row.now before) }
+    {
+        match self.latest {
+            Latest::Kept => newest(&self.rows, &self.groups),
+            Latest::LeftOut | Latest::Other => None,
         }
     }
 
@@ -243,8 +378,7 @@ impl Frames {
     {
         match self.latest {
             Latest::Kept => {
-                let len = self.rows.len() - 1;
-                cut(&mut self.rows, &mut self.literals, len);
+                take_row(&mut self.rows, &mut self.groups, &mut self.total);
                 self.latest = Latest::Other;
             }
             Latest::LeftOut | Latest::Other => self.latest = Latest::Other,
@@ -302,17 +436,81 @@ impl Frames {
         &self.prefix
     }
 
-    /// The clauses of all open frames, those of frame 0 first.
-    pub fn open_clauses(&self) -> &[LitList]
-        ensures value { result.now ≡ open_clauses_of self.now.formula }
+    /// The clauses of the open formula: those of all open frames, those of frame 0 first, and then those of the active
+    /// groups, by number. The memory is that of a place for each group.
+    pub fn open_clauses(&self, alloc: Global) -> Result<Matrix<'_>, NoMemory>
+        ensures value { IfOk result (λ matrix. matrix ≡ open_clauses_of self.now.formula) }
         ensures rows { AllByRecursion (IsRow self.now.formula.scopes) (open_clauses_of self.now.formula) }
+    {
+        let mut matrix = Matrix::new(alloc, &self.rows);
+        self.groups.put_active(&mut matrix)?;
+        Ok(matrix)
+    }
+
+    /// The clauses outside groups of all open frames, those of frame 0 first.
+    pub fn other_clauses(&self) -> &[LitList]
+        ensures value { result.now ≡ clauses_in self.now.formula.frames }
+        ensures rows { AllByRecursion (IsRow self.now.formula.scopes) (clauses_in self.now.formula.frames) }
     {
         &self.rows
     }
 
+    /// The number of the open group; none where no group is open.
+    pub fn current_group(&self) -> Option<u32>
+        ensures value { result ≡ self.now.formula.current }
+        ensures first { IsSome self.now.formula.current → depth_of self.now.formula.frames ≡ 0 }
+    {
+        self.groups.current()
+    }
+
+    /// Whether the group of this number is active; false where it was never opened.
+    pub fn is_active(&self, group: u32) -> bool
+        ensures { result ≡ is_active_in self.now.formula.groups group }
+    {
+        self.groups.is_active(group)
+    }
+
+    /// The clauses of the group of this number, active or not, in the order in which they came; none where it was never
+    /// opened.
+    pub fn group_clauses(&self, group: u32) -> &[LitList]
+        ensures value { result.now ≡ clauses_at self.now.formula.groups group }
+        ensures rows { AllByRecursion (IsRow self.now.formula.scopes) (clauses_at self.now.formula.groups group) }
+    {
+        match self.groups.group(group) {
+            Some(found) => found.clauses(),
+            None => &self.rows[..0],
+        }
+    }
+
+    /// How many groups were opened. They stand at the places below it, by number, each number once.
+    pub fn groups_len(&self) -> usize
+        ensures value { result ≡ length self.now.formula.groups }
+        ensures rising { AreRising self.now.formula.groups }
+        ensures rows { AllByRecursion (IsRow self.now.formula.scopes) (grouped_in self.now.formula.groups) }
+    {
+        self.groups.all().len()
+    }
+
+    /// The group at a place.
+    pub fn group(&self, place: usize) -> &Group
+        requires { place < length self.now.formula.groups }
+        ensures value { slice_get self.now.formula.groups place ≡ Some result.now }
+        ensures rows { AllByRecursion (IsRow self.now.formula.scopes) result.now.clauses }
+    {
+        &self.groups.all()[place]
+    }
+
+    /// The place of the group of this number; none exactly where it was never opened.
+    pub fn place_of(&self, group: u32) -> Option<usize>
+        ensures { MatchOption result (is_group self.now.formula.groups group ≡ false)
+            (IsGroupAt self.now.formula.groups group) }
+    {
+        self.groups.find(group).ok()
+    }
+
     /// The variables that the next `pop` removes, in the order in which they were added; in version 1, and where no
-    /// frame is pushed, none. Each is in the prefix, none comes twice, and no clause names one that stands below the
-    /// top frame.
+    /// frame is pushed, none. Each is in the prefix, none comes twice, and neither a clause that stands below the top
+    /// frame nor one of a group names any.
     pub fn top_vars(&self) -> &[Var]
         ensures value { result.now ≡ variables_on_top self.now.formula }
         ensures known { AllByRecursion (λ v. is_some (level_of self.now.formula.scopes v) ≡ true)
@@ -320,6 +518,8 @@ impl Frames {
         ensures distinct { AreDistinct (variables_on_top self.now.formula) }
         ensures below { AllByRecursion (NamesNone (variables_on_top self.now.formula))
             (clauses_in (popped self.now.formula.frames)) }
+        ensures grouped { AllByRecursion (NamesNone (variables_on_top self.now.formula))
+            (grouped_in self.now.formula.groups) }
         ensures never { self.now.formula.version ≡ Version.One → variables_on_top self.now.formula ≡ [] }
         ensures first { depth_of self.now.formula.frames ≡ 0 → variables_on_top self.now.formula ≡ [] }
     {
@@ -348,19 +548,6 @@ impl Frames {
         ensures { result ≡ depth_of self.now.formula.frames }
     {
         self.starts.len()
-    }
-
-    /// Prefix, clauses and assumptions together.
-    pub fn parts(&self) -> OpenParts<'_>
-        ensures prefix { result.prefix.now ≡ self.now.formula.scopes }
-        ensures clauses { result.clauses.now ≡ open_clauses_of self.now.formula }
-        ensures assumptions { result.assumptions.now ≡ self.now.formula.assumptions }
-    {
-        OpenParts {
-            prefix: &self.prefix,
-            clauses: &self.rows,
-            assumptions: &self.assumptions,
-        }
     }
 }
 

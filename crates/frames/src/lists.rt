@@ -1,15 +1,21 @@
 //! What is looked up in a prefix and in lists of clauses.
-ghost use Rattle.std.specs.Prelude.{◌≡◌, ◌≤◌, ◌<◌, ℕ, nat_abs, true, false, Some, None, length, take, if◌then◌else◌, not, ◌&&◌, ◌+◌, ◌++◌, [], ◌∷◌, OnOk, OnErr, IfSome, IsOkUnless};
+ghost use Rattle.std.specs.Prelude.{◌≡◌, ◌≤◌, ℕ, nat_abs, true, Some, None, length, take, if◌then◌else◌, not, ◌&&◌, ◌+◌, ◌++◌, [], OnOk, OnErr, IfSome};
 ghost use Rattle.std.specs.List.{AllByRecursion, list_all};
 ghost use Rattle.clauses.specs.Codes.{IsInRange};
-ghost use Rattle.frames.specs.Commands.{is_known, is_beyond as goes_beyond, max_literals};
+ghost use Rattle.frames.specs.Commands.{exceeds, is_known, max_literals};
+ghost use Rattle.frames.specs.Groups.{clauses_at, grouped_in, may_number};
+ghost use Rattle.frames.specs.Kept.{AreCounted, last_in, rows_before, rows_with};
+ghost use Rattle.frames.specs.Places.{AreInOrder, with_joined, without_last};
 ghost use Rattle.frames.specs.State.{literals_in};
 ghost use Rattle.clauses.specs.Clause.{is_tautology as is_taut, variables_of};
 
 use crate::frames::Frames;
+use crate::groups::Groups;
 use crate::refusal::FrameRefusal;
+use crate::total::Total;
 use clauses::{is_tautology, variables};
 use prefix::{LitList, Prefix, Var};
+use std::alloc::AllocError;
 
 // The variable of a signed number, where it is in the prefix.
 pub(crate) fn known(prefix: &Prefix, n: i64) -> Option<Var>
@@ -50,71 +56,117 @@ pub(crate) fn are_known(prefix: &Prefix, numbers: &[i64]) -> bool
     true
 }
 
-// Whether a row of so many literals beside these rows, which have `literals` in all, goes beyond a limit.
-pub(crate) fn is_beyond(rows: &[LitList], literals: usize, added: usize) -> bool
-    requires counted { literals ≡ literals_in rows.now }
-    requires few { literals ≤ max_literals }
-    ensures { result ≡ goes_beyond rows.now added }
-{
-    rows.len() >= Frames::MAX_CLAUSES || added > Frames::MAX_LITERALS - literals
-}
-
-// Why a clause for which there is no memory is refused: what refuses it otherwise is tried first. It has at most as
-// many variables as literals; so only where a row of all of them would go beyond a limit each pair is looked at.
-pub(crate) fn refusal_without_row(rows: &[LitList], literals: usize, lits: &[i64]) -> FrameRefusal
-    requires counted { literals ≡ literals_in rows.now }
-    requires few { literals ≤ max_literals }
+// Why a clause for which there is no memory is refused, beside so many others: what refuses it otherwise is tried
+// first. It has at most as many variables as literals; so only where a row of all of them would go beyond a limit each
+// pair is looked at.
+pub(crate) fn refusal_without_row(total: &Total, lits: &[i64]) -> FrameRefusal
+    requires few { total.now.literals ≤ max_literals }
     requires range { AllByRecursion IsInRange lits.now }
-    ensures { result ≡ (if not (is_taut lits.now) && goes_beyond rows.now (length (variables_of lits.now))
+    ensures { result ≡ (if not (is_taut lits.now)
+        && exceeds total.now.clauses total.now.literals (length (variables_of lits.now))
         then FrameRefusal.Limit else FrameRefusal.NoMemory) }
 {
-    if !is_beyond(rows, literals, lits.len()) {
+    if !total.is_beyond(lits.len()) {
         return FrameRefusal::NoMemory;
     }
     if is_tautology(lits) {
         return FrameRefusal::NoMemory;
     }
-    if is_beyond(rows, literals, variables(lits)) {
+    if total.is_beyond(variables(lits)) {
         return FrameRefusal::Limit;
     }
     FrameRefusal::NoMemory
 }
 
-// Puts a row behind the others, and counts its literals.
+// Puts a row into the open group, or else behind the rows outside groups. Without memory nothing changes.
 pub(crate) fn put_row(
     rows: &mut Vec<LitList>,
-    literals: &mut usize,
+    groups: &mut Groups,
     row: LitList,
-) -> Result<(), FrameRefusal>
-    requires counted { literals.old ≡ literals_in rows.old.items }
-    requires few { literals.old ≤ max_literals }
-    ensures beyond { goes_beyond rows.old.items (length row) ≡ true → result ≡ Err FrameRefusal.Limit }
-    ensures within { goes_beyond rows.old.items (length row) ≡ false → IsOkUnless result FrameRefusal.NoMemory }
-    ensures fits { OnOk result (goes_beyond rows.old.items (length row) ≡ false) }
-    ensures ok { OnOk result (rows.new.items ≡ rows.old.items ++ row ∷ []) }
-    ensures counted { OnOk result (literals.new ≡ literals.old + length row) }
+) -> Result<(), AllocError>
+    ensures order { AreInOrder groups.old }
+    ensures rows { OnOk result (rows.new.items ≡ rows_with groups.old.current row rows.old.items) }
+    ensures groups { OnOk result (groups.new ≡ with_joined row groups.old) }
     ensures err { OnErr result (rows.new.items ≡ rows.old.items) }
-    ensures same { OnErr result (literals.new ≡ literals.old) }
+    ensures same { OnErr result (groups.new ≡ groups.old) }
 {
-    let added = row.lits().len();
-    if is_beyond(rows, *literals, added) {
-        return Err(FrameRefusal::Limit);
+    if groups.is_open() {
+        groups.put(row)
+    } else {
+        rows.push(row)?;
+        Ok(())
     }
-    rows.push(row)?;
-    *literals += added;
-    Ok(())
 }
 
-// Drops the rows from a place on, and keeps count of the literals of the others.
-pub(crate) fn cut(rows: &mut Vec<LitList>, literals: &mut usize, len: usize)
-    requires counted { literals.old ≡ literals_in rows.old.items }
+// The last row of the open group, or else of those outside groups.
+pub(crate) fn newest<'a>(rows: &'a [LitList], groups: &'a Groups) -> Option<&'a LitList>
+    ensures order { AreInOrder groups.now }
+    ensures rows { IfSome result (λ row. rows.now ≡ rows_with groups.now.current row.now
+        (rows_before groups.now.current rows.now)) }
+    ensures groups { IfSome result (λ row. groups.now ≡ with_joined row.now (without_last groups.now)) }
+    ensures none { result ≡ None → last_in groups.now.current rows.now groups.now.groups ≡ [] }
+{
+    if groups.is_open() {
+        groups.newest()
+    } else {
+        rows.last()
+    }
+}
+
+// Takes the last row of the open group out, or else that of the rows outside groups.
+fn last_row(rows: &mut Vec<LitList>, groups: &mut Groups) -> Option<LitList>
+    ensures order { AreInOrder groups.new }
+    ensures rows { rows.new.items ≡ rows_before groups.old.current rows.old.items }
+    ensures groups { groups.new ≡ without_last groups.old }
+    ensures last_row { IfSome result (λ row. rows.old.items ≡ rows_with groups.new.current row rows.new.items) }
+    ensures last { IfSome result (λ row. groups.old ≡ with_joined row groups.new) }
+    ensures none { result ≡ None → groups.old.current ≡ None → rows.old.items ≡ [] }
+    ensures empty { (n : ℕ) → groups.old.current ≡ Some n → result ≡ None → clauses_at groups.old.groups n ≡ [] }
+{
+    if groups.is_open() {
+        groups.take_last()
+    } else {
+        rows.pop()
+    }
+}
+
+// Takes the last row of the open group out, or else that of the rows outside groups, and counts it no longer.
+pub(crate) fn take_row(rows: &mut Vec<LitList>, groups: &mut Groups, total: &mut Total)
+    requires some { 1 ≤ length (last_in groups.old.current rows.old.items groups.old.groups) }
+    requires counted { AreCounted total.old (rows.old.items ++ grouped_in groups.old.groups) }
+    ensures rows { rows.new.items ≡ rows_before groups.old.current rows.old.items }
+    ensures groups { groups.new ≡ without_last groups.old }
+    ensures counted { AreCounted total.new (rows.new.items ++ grouped_in groups.new.groups) }
+{
+    let Some(row) = last_row(rows, groups) else {
+        return;
+    };
+    total.take(row.lits().len());
+}
+
+// Drops the rows from a place on, and counts them and their literals no longer.
+pub(crate) fn cut(rows: &mut Vec<LitList>, total: &mut Total, len: usize)
+    requires clauses { length rows.old.items ≤ total.old.clauses }
+    requires literals { literals_in rows.old.items ≤ total.old.literals }
     requires place { len ≤ length rows.old.items }
     ensures rows { rows.new.items ≡ take len rows.old.items }
-    ensures counted { literals.new ≡ literals_in rows.new.items }
+    ensures clauses { total.new.clauses + length rows.old.items ≡ total.old.clauses + length rows.new.items }
+    ensures literals { total.new.literals + literals_in rows.old.items
+        ≡ total.old.literals + literals_in rows.new.items }
 {
     while rows.len() > len {
         if let Some(row) = rows.pop() {
-            *literals -= row.lits().len();
+            total.take(row.lits().len());
         }
     }
+}
+
+// The number of a group, where it is in range.
+pub(crate) fn group_number(group: u64) -> Option<u32>
+    ensures { result ≡ (if may_number group then Some group else None) }
+{
+    if group == 0 || group > Frames::MAX_GROUP {
+        return None;
+    }
+    Some(group as u32)
 }

@@ -31,13 +31,25 @@ pub enum FrameRefusal {
     /// So many frames, clauses or literals stand as may.
     #[error("a limit is reached")]
     Limit,
+    /// A group is open.
+    #[error("a group is open")]
+    GroupOpen,
+    /// The number of the group is 0 or above `Frames::MAX_GROUP`.
+    #[error("the number of the group is out of range")]
+    GroupRange,
+    /// No group is open, or the group was never opened.
+    #[error("there is no such group")]
+    NoGroup,
+    /// A pushed frame is open.
+    #[error("a pushed frame is open")]
+    GroupFrame,
     /// There is no memory. It is tried after all other refusals.
     #[error("out of memory")]
     NoMemory,
 }
 
 impl FrameRefusal {
-    /// The number that a reply to a script tells: 1 to 4 for the prefix's refusals, 40 to 45 for those of frames, and
+    /// The number that a reply to a script tells: 1 to 4 for the prefix's refusals, 40 to 49 for those of frames, and
     /// none for want of memory.
     pub fn number(self) -> Option<u8>
         ensures { result ≡ number_of self }
@@ -54,6 +66,10 @@ impl FrameRefusal {
             Self::AssumeClash => Some(43),
             Self::AssumptionsHeld => Some(44),
             Self::Limit => Some(45),
+            Self::GroupOpen => Some(46),
+            Self::GroupRange => Some(47),
+            Self::NoGroup => Some(48),
+            Self::GroupFrame => Some(49),
             Self::NoMemory => None,
         }
     }

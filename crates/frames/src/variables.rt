@@ -34,7 +34,7 @@ pub(crate) fn leaves(version: Version, pushed: usize) -> bool
 {
     match version {
         Version::One => false,
-        Version::Two => pushed > 0,
+        Version::Two | Version::Three => pushed > 0,
     }
 }
 

@@ -1,5 +1,6 @@
 //! Worked values of the definitions, each proved.
 ghost use Rattle.frames.specs.Worked.{WorkedCommands, WorkedLimits, WorkedVersions};
+ghost use Rattle.frames.specs.WorkedGroups.{WorkedGroups};
 
 /// Frames, assumptions, refusals and verdicts after a few commands.
 pub fn worked_commands()
@@ -9,6 +10,11 @@ pub fn worked_commands()
 /// Variables and assumptions that leave with their frame, or stay.
 pub fn worked_versions()
     ensures { WorkedVersions }
+{}
+
+/// Groups that are opened, closed, made active and inactive, and what refuses that.
+pub fn worked_groups()
+    ensures { WorkedGroups }
 {}
 
 /// The limits, and what meets them exactly.

@@ -52,8 +52,9 @@ pub record IsCheckOutput (decide : Bool) (terms : Terms) (known : Option Text) (
   pub nothing : Contains (2 ∷ 3 ∷ 5 ∷ []) status → Keeps written.0 written.1 × (stops ≡ [])
 
 -- What a script leaves on the output: allowed replies to commands, all of them, or after a write fault a front of them.
--- The commands are the first of the text's script, by the version that its header names, if the text is told, and all of them where it was read to its
--- ending. What is told of searches is an entry for each UNKNOWN among the replies, in their order.
+-- The commands are the first of the text's script, by the version that its header names, if the text is told, and all
+-- of them where it was read to its ending. What is told of searches is an entry for each UNKNOWN among the replies, in
+-- their order.
 pub record IsScriptOutput (terms : Terms) (known : Option Text) (written : Option Text × Option Text)
     (stops : List Account) (status : ℕ) : Type 0 where
   pub version : Option Version

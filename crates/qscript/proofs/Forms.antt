@@ -1,6 +1,6 @@
 -- Words that begin a line are those of a draft, and the other way round.
 use Rattle.std.proofs.Common.{◌≡◌, ◌≢◌, ◌⊎◌, inl, inr, ⊎_elim, ℕ, suc, ℤ, pos, negsuc, Bool, true, false, List, [], ◌∷◌, ◌++◌, map, Option, None, Some, refl, sym, ap, subst, ◌∙◌, arith}
-use Rattle.std.specs.Prelude.{codes, option_map, nat_abs, if◌then◌else◌, ◌==◌}
+use Rattle.std.specs.Prelude.{codes, option_map, nat_abs, if◌then◌else◌, ◌==◌, ◌||◌, not}
 use Rattle.std.specs.List.{AllByRecursion}
 use Rattle.std.specs.Str.{bytes_eq}
 use Rattle.std.proofs.lemmas.List.{map-append, append-nil, append_assoc}
@@ -13,16 +13,16 @@ use Rattle.prefix.specs.declared.quant.Quant.TheVariants.{Exists, Forall}
 use Rattle.qdimacs.specs.Rules.{is_text, quant_of, is_zero}
 use Rattle.qdimacs.specs.Reads.{quant_word}
 use Rattle.versions.specs.declared.version.Version.{Version}
-use Rattle.versions.specs.declared.version.Version.TheVariants.{One, Two}
+use Rattle.versions.specs.declared.version.Version.TheVariants.{One, Two, Three}
 use Rattle.qscript.specs.declared.command.Command.{Command}
-use Rattle.qscript.specs.declared.command.Command.TheVariants.{Scope as ScopeCommand, Var as VarCommand, Clause as ClauseCommand, Push, Pop, Assume as AssumeCommand, Solve, Value as ValueCommand, Relevant, Trace, Cert}
+use Rattle.qscript.specs.declared.command.Command.TheVariants.{Scope as ScopeCommand, Var as VarCommand, Clause as ClauseCommand, Push, Pop, Assume as AssumeCommand, Solve, Value as ValueCommand, Relevant, Trace, Cert, OpenGroup, CloseGroup, Activate as ActivateCommand, Deactivate as DeactivateCommand, GroupCore}
 use Rattle.qscript.specs.declared.draft.Line.{Line}
 use Rattle.qscript.specs.declared.draft.Line.TheVariants.{Header, Command as Orders}
 use Rattle.qscript.specs.declared.draft.Draft.{Draft}
-use Rattle.qscript.specs.declared.draft.Draft.TheVariants.{Problem, Format, Scope, ScopeOf, Var, VarOf, Clause, Assume, Value, Whole}
-use Rattle.qscript.specs.Lines.{number, version_number, spelling, clause_words, literals_in, AreLiterals, IsExpected}
+use Rattle.qscript.specs.declared.draft.Draft.TheVariants.{Problem, Format, Scope, ScopeOf, Var, VarOf, Clause, Assume, Value, Open, Activate, Deactivate, Whole}
+use Rattle.qscript.specs.Lines.{number, version_number, has_groups, is_of_groups, spelling, clause_words, literals_in, AreLiterals, IsExpected}
 use Rattle.qscript.specs.Reads.{IsFront, IsWhole, misfit}
-use Rattle.qscript.specs.Run.{entry, singles, openings, alone, or_else, keyword, begun, natural, version_of, after, whole, misfit_of}
+use Rattle.qscript.specs.Run.{entry, singles, openings, group_singles, group_openings, among, or_else, keyword, begun, natural, version_of, after, whole, misfit_of}
 
 -- the words of a draft
 abbrev pub words_of : Draft → List Word
@@ -35,22 +35,35 @@ words_of (VarOf v) = Text (codes "var") ∷ number v ∷ []
 words_of (Clause ls) = Text (codes "clause") ∷ map Num ls
 words_of Assume = Text (codes "assume") ∷ []
 words_of Value = Text (codes "value") ∷ []
+words_of Open = Text (codes "open") ∷ []
+words_of Activate = Text (codes "activate") ∷ []
+words_of Deactivate = Text (codes "deactivate") ∷ []
 words_of (Whole l) = spelling l
 
+-- behind a header, and behind one of a version with groups
+abbrev pub Headed : Option Version → Type 0
+Headed h = (v : Version) × (h ≡ Some v)
+
+abbrev pub Grouped : Option Version → Type 0
+Grouped h = (v : Version) × (h ≡ Some v) × (has_groups v ≡ true)
+
 -- a draft of what is expected
-abbrev pub Sound : Bool → Draft → Type 0
-Sound h Problem = h ≡ false
-Sound h Format = h ≡ false
-Sound h Scope = h ≡ true
-Sound h (ScopeOf q) = h ≡ true
-Sound h Var = h ≡ true
-Sound h (VarOf v) = h ≡ true
-Sound h (Clause ls) = (h ≡ true) × AreLiterals ls
-Sound h Assume = h ≡ true
-Sound h Value = h ≡ true
+abbrev pub Sound : Option Version → Draft → Type 0
+Sound h Problem = h ≡ None
+Sound h Format = h ≡ None
+Sound h Scope = Headed h
+Sound h (ScopeOf q) = Headed h
+Sound h Var = Headed h
+Sound h (VarOf v) = Headed h
+Sound h (Clause ls) = Headed h × AreLiterals ls
+Sound h Assume = Headed h
+Sound h Value = Headed h
+Sound h Open = Grouped h
+Sound h Activate = Grouped h
+Sound h Deactivate = Grouped h
 Sound h (Whole l) = IsExpected h l
 
-abbrev pub Spells : Bool → Draft → List Word → Type 0
+abbrev pub Spells : Option Version → Draft → List Word → Type 0
 Spells h d ws = (words_of d ≡ ws) × Sound h d
 
 -- what tests tell
@@ -76,12 +89,14 @@ text_is t (Num n) h = cc
 text_is t Other h = cc
 
 version_is : (w : Word) (v : Version) → version_of w ≡ Some v → w ≡ number (version_number v)
-version_is (Num (pos n)) v e = by (n == 1) (n == 2) refl refl e
+version_is (Num (pos n)) v e = by (n == 1) (n == 2) (n == 3) refl refl refl e
   where
-    by : (b c : Bool) → (n == 1) ≡ b → (n == 2) ≡ c → (if b then Some One else if c then Some Two else None) ≡ Some v → number n ≡ number (version_number v)
-    by true c e1 e2 e = let same : One ≡ v = cc in ap number (eqb-true n 1 e1) ∙ ap (λ v. number (version_number v)) same
-    by false true e1 e2 e = let same : Two ≡ v = cc in ap number (eqb-true n 2 e2) ∙ ap (λ v. number (version_number v)) same
-    by false false e1 e2 e = cc
+    by : (b c d : Bool) → (n == 1) ≡ b → (n == 2) ≡ c → (n == 3) ≡ d → (if b then Some One else if c then Some Two else if d then Some Three else None) ≡ Some v
+        → number n ≡ number (version_number v)
+    by true c d e1 e2 e3 e = let same : One ≡ v = cc in ap number (eqb-true n 1 e1) ∙ ap (λ v. number (version_number v)) same
+    by false true d e1 e2 e3 e = let same : Two ≡ v = cc in ap number (eqb-true n 2 e2) ∙ ap (λ v. number (version_number v)) same
+    by false false true e1 e2 e3 e = let same : Three ≡ v = cc in ap number (eqb-true n 3 e3) ∙ ap (λ v. number (version_number v)) same
+    by false false false e1 e2 e3 e = cc
 version_is (Num (negsuc n)) v e = cc
 version_is (Text t) v e = cc
 version_is Other v e = cc
@@ -114,30 +129,34 @@ abs_zero (negsuc n) e = absurd (omega (arith, e))
 pub is_nonzero : (n : ℤ) → n ≢ pos 0 → is_zero n ≡ false
 is_nonzero n h = ne_eqb (nat_abs n) 0 (λ e. h (abs_zero n e))
 
+-- a command of every version, and one of groups
+of_any : (h : Option Version) (c : Command) → is_of_groups c ≡ false → Headed h → AreLiterals (literals_in c) → IsExpected h (Orders c)
+of_any h c any s a = subst (λ h. IsExpected h (Orders c)) (sym s.1) (ap (λ b. not b || has_groups s.0) any, a)
+
+of_group : (h : Option Version) (c : Command) → is_of_groups c ≡ true → literals_in c ≡ [] → Grouped h → IsExpected h (Orders c)
+of_group h c group none s = subst (λ h. IsExpected h (Orders c)) (sym s.1) (ap (λ b. not b || has_groups s.0) group ∙ s.2, subst AreLiterals (sym none) tt)
+
 all_more : (ls : List ℤ) (l : ℤ) → AreLiterals ls → l ≢ pos 0 → AreLiterals (ls ++ l ∷ [])
 all_more [] l a h = (h, tt)
 all_more (x ∷ ls) l a h = (a.0, all_more ls l a.1 h)
 
 -- a draft with one more word
-along : (h : Bool) (x d : Draft) (ws : List Word) → x ≡ d → Spells h x ws → Spells h d ws
+along : (h : Option Version) (x d : Draft) (ws : List Word) → x ≡ d → Spells h x ws → Spells h d ws
 along h x d ws e s = subst (λ d. Spells h d ws) e s
 
-clause_more : (h : Bool) (ls : List ℤ) (n : ℤ) (d : Draft) (b : Bool) → is_zero n ≡ b → (h ≡ true) × AreLiterals ls → (if b then Whole (Orders (ClauseCommand ls)) else Clause (ls ++ n ∷ [])) ≡ d
+clause_more : (h : Option Version) (ls : List ℤ) (n : ℤ) (d : Draft) (b : Bool) → is_zero n ≡ b → Headed h × AreLiterals ls → (if b then Whole (Orders (ClauseCommand ls)) else Clause (ls ++ n ∷ [])) ≡ d
     → Spells h d (words_of (Clause ls) ++ Num n ∷ [])
-clause_more h ls n d true z s e = along h _ d _ e (rw (zero_is n z, s.0) (refl, s.1))
+clause_more h ls n d true z s e = along h _ d _ e (rw (zero_is n z) (refl, of_any h (ClauseCommand ls) refl s.0 s.1))
 clause_more h ls n d false z s e = along h _ d _ e (ap (λ ws. Text (codes "clause") ∷ ws) (map-append Num ls (n ∷ [])), (s.0, all_more ls n s.1 (nonzero_is n z)))
 
 some_is : {A : Type 0} (x y : A) → Some x ≡ Some y → x ≡ y
 some_is x y e = cc
 
 -- one more word, told in two ways
-behind : (h : Bool) (x d : Draft) (v w : Word) → w ≡ v → Spells h x (words_of d ++ v ∷ []) → Spells h x (words_of d ++ w ∷ [])
+behind : (h : Option Version) (x d : Draft) (v w : Word) → w ≡ v → Spells h x (words_of d ++ v ∷ []) → Spells h x (words_of d ++ w ∷ [])
 behind h x d v w e s = subst (λ w. Spells h x (words_of d ++ w ∷ [])) (sym e) s
 
-is_command : (h : Bool) (c : Command) → h ≡ true → AreLiterals (literals_in c) → IsExpected h (Orders c)
-is_command h c s a = subst (λ h. IsExpected h (Orders c)) (sym s) a
-
-pub after_word : (h : Bool) (d more : Draft) (w : Word) → Sound h d → after d w ≡ Some more → Spells h more (words_of d ++ w ∷ [])
+pub after_word : (h : Option Version) (d more : Draft) (w : Word) → Sound h d → after d w ≡ Some more → Spells h more (words_of d ++ w ∷ [])
 after_word h Problem more w s e =
     let c = chosen (is_text (codes "qscript") w) Format more e in along h Format more _ c.1 (behind h Format Problem _ w (text_is (codes "qscript") w c.0) (refl, s))
 after_word h Format more w s e =
@@ -147,23 +166,32 @@ after_word h Scope more w s e =
     let m = mapped ScopeOf (quant_of w) more e in along h (ScopeOf m.0) more _ m.2 (behind h (ScopeOf m.0) Scope _ w (quant_is w m.0 m.1) (refl, s))
 after_word h (ScopeOf q) more w s e =
     let m = mapped (λ n. Whole (Orders (ScopeCommand q (Some n)))) (natural w) more e in
-    along h (Whole (Orders (ScopeCommand q (Some m.0)))) more _ m.2 (behind h (Whole (Orders (ScopeCommand q (Some m.0)))) (ScopeOf q) _ w (natural_is w m.0 m.1) (refl, is_command h (ScopeCommand q (Some m.0)) s tt))
+    along h (Whole (Orders (ScopeCommand q (Some m.0)))) more _ m.2 (behind h (Whole (Orders (ScopeCommand q (Some m.0)))) (ScopeOf q) _ w (natural_is w m.0 m.1) (refl, of_any h (ScopeCommand q (Some m.0)) refl s tt))
 after_word h Var more w s e =
     let m = mapped VarOf (natural w) more e in along h (VarOf m.0) more _ m.2 (behind h (VarOf m.0) Var _ w (natural_is w m.0 m.1) (refl, s))
 after_word h (VarOf v) more w s e =
     let m = mapped (λ s. Whole (Orders (VarCommand v s))) (natural w) more e in
-    along h (Whole (Orders (VarCommand v m.0))) more _ m.2 (behind h (Whole (Orders (VarCommand v m.0))) (VarOf v) _ w (natural_is w m.0 m.1) (refl, is_command h (VarCommand v m.0) s tt))
+    along h (Whole (Orders (VarCommand v m.0))) more _ m.2 (behind h (Whole (Orders (VarCommand v m.0))) (VarOf v) _ w (natural_is w m.0 m.1) (refl, of_any h (VarCommand v m.0) refl s tt))
 after_word h (Clause ls) more (Num n) s e = clause_more h ls n more (is_zero n) refl s (some_is _ more e)
 after_word h (Clause ls) more (Text t) s e = cc
 after_word h (Clause ls) more Other s e = cc
 after_word h Assume more (Num n) s e =
     let c = unchosen (is_zero n) (Whole (Orders (AssumeCommand n))) more e in
-    along h (Whole (Orders (AssumeCommand n))) more _ c.1 (refl, is_command h (AssumeCommand n) s (nonzero_is n c.0, tt))
+    along h (Whole (Orders (AssumeCommand n))) more _ c.1 (refl, of_any h (AssumeCommand n) refl s (nonzero_is n c.0, tt))
 after_word h Assume more (Text t) s e = cc
 after_word h Assume more Other s e = cc
 after_word h Value more w s e =
     let m = mapped (λ v. Whole (Orders (ValueCommand v))) (natural w) more e in
-    along h (Whole (Orders (ValueCommand m.0))) more _ m.2 (behind h (Whole (Orders (ValueCommand m.0))) Value _ w (natural_is w m.0 m.1) (refl, is_command h (ValueCommand m.0) s tt))
+    along h (Whole (Orders (ValueCommand m.0))) more _ m.2 (behind h (Whole (Orders (ValueCommand m.0))) Value _ w (natural_is w m.0 m.1) (refl, of_any h (ValueCommand m.0) refl s tt))
+after_word h Open more w s e =
+    let m = mapped (λ g. Whole (Orders (OpenGroup g))) (natural w) more e in
+    along h (Whole (Orders (OpenGroup m.0))) more _ m.2 (behind h (Whole (Orders (OpenGroup m.0))) Open _ w (natural_is w m.0 m.1) (refl, of_group h (OpenGroup m.0) refl refl s))
+after_word h Activate more w s e =
+    let m = mapped (λ g. Whole (Orders (ActivateCommand g))) (natural w) more e in
+    along h (Whole (Orders (ActivateCommand m.0))) more _ m.2 (behind h (Whole (Orders (ActivateCommand m.0))) Activate _ w (natural_is w m.0 m.1) (refl, of_group h (ActivateCommand m.0) refl refl s))
+after_word h Deactivate more w s e =
+    let m = mapped (λ g. Whole (Orders (DeactivateCommand g))) (natural w) more e in
+    along h (Whole (Orders (DeactivateCommand m.0))) more _ m.2 (behind h (Whole (Orders (DeactivateCommand m.0))) Deactivate _ w (natural_is w m.0 m.1) (refl, of_group h (DeactivateCommand m.0) refl refl s))
 after_word h (Whole l) more w s e = cc
 
 -- the entry that is found
@@ -175,21 +203,48 @@ entry_is : {A : Type 0} (P : List ℕ × A → Type 0) (es : List (List ℕ × A
 entry_is P [] t x all e = cc
 entry_is P (f ∷ es) t x all e = entry_first P f.0 t f.1 x (entry es t) (bytes_eq t f.0) refl all.0 (λ g. entry_is P es t x all.1 g) e
 
-keyword_is : (t : List ℕ) (d : Draft) → keyword t ≡ Some d → Spells true d (Text t ∷ [])
-keyword_is t d e = ⊎_elim
-    (λ f. entry_is (λ (k : List ℕ × Draft). Spells true k.1 (Text k.0 ∷ [])) openings t d ((refl, refl), ((refl, refl), ((refl, (refl, tt)), ((refl, refl), ((refl, refl), tt))))) f)
-    (λ f. let m = mapped (λ c. Whole (Orders c)) (alone t) d f in
-    along true (Whole (Orders m.0)) d _ m.2 (entry_is (λ (k : List ℕ × Command). Spells true (Whole (Orders k.1)) (Text k.0 ∷ [])) singles t m.0 ((refl, tt), ((refl, tt), ((refl, tt), ((refl, tt), ((refl, tt), ((refl, tt), tt)))))) m.1))
-    (either (entry openings t) (option_map (λ c. Whole (Orders c)) (alone t)) d e)
+-- a text among these lists begins what is expected, where their entries do
+among_is : (h : Option Version) (more : List (List ℕ × Draft)) (one : List (List ℕ × Command)) (t : List ℕ) (d : Draft)
+    → AllByRecursion (λ (k : List ℕ × Draft). Spells h k.1 (Text k.0 ∷ [])) more
+    → AllByRecursion (λ (k : List ℕ × Command). Spells h (Whole (Orders k.1)) (Text k.0 ∷ [])) one
+    → among more one t ≡ Some d → Spells h d (Text t ∷ [])
+among_is h more one t d all each e = ⊎_elim
+    (λ f. entry_is (λ (k : List ℕ × Draft). Spells h k.1 (Text k.0 ∷ [])) more t d all f)
+    (λ f. let m = mapped (λ c. Whole (Orders c)) (entry one t) d f in
+    along h (Whole (Orders m.0)) d _ m.2 (entry_is (λ (k : List ℕ × Command). Spells h (Whole (Orders k.1)) (Text k.0 ∷ [])) one t m.0 each m.1))
+    (either (entry more t) (option_map (λ c. Whole (Orders c)) (entry one t)) d e)
 
-pub begun_word : (h : Bool) (w : Word) (d : Draft) → begun h w ≡ Some d → Spells h d (w ∷ [])
-begun_word false w d e = let c = chosen (is_text (codes "p") w) Problem d e in along false Problem d _ c.1 (rw (text_is (codes "p") w c.0) (refl, refl))
-begun_word true (Text t) d e = keyword_is t d e
-begun_word true (Num n) d e = cc
-begun_word true Other d e = cc
+any_is : (v : Version) (t : List ℕ) (d : Draft) → among openings singles t ≡ Some d → Spells (Some v) d (Text t ∷ [])
+any_is v t d e = among_is (Some v) openings singles t d
+    ((refl, h), ((refl, h), ((refl, (h, tt)), ((refl, h), ((refl, h), tt)))))
+    ((refl, (refl, tt)), ((refl, (refl, tt)), ((refl, (refl, tt)), ((refl, (refl, tt)), ((refl, (refl, tt)), ((refl, (refl, tt)), tt)))))) e
+  where
+    h : Headed (Some v)
+    h = (v, refl)
 
-pub whole_words : (h : Bool) (d : Draft) (l : Line) → Sound h d → whole d ≡ Some l → (spelling l ≡ words_of d) × IsExpected h l
-whole_words h (ScopeOf q) l s e = let same : Orders (ScopeCommand q None) ≡ l = cc in subst (λ l. (spelling l ≡ words_of (ScopeOf q)) × IsExpected h l) same (rw s (refl, tt))
+group_is : (v : Version) (t : List ℕ) (d : Draft) → has_groups v ≡ true → among group_openings group_singles t ≡ Some d → Spells (Some v) d (Text t ∷ [])
+group_is v t d has e = among_is (Some v) group_openings group_singles t d
+    ((refl, g), ((refl, g), ((refl, g), tt))) ((refl, (has, tt)), ((refl, (has, tt)), tt)) e
+  where
+    g : Grouped (Some v)
+    g = (v, refl, has)
+
+keyword_is : (v : Version) (t : List ℕ) (d : Draft) → keyword v t ≡ Some d → Spells (Some v) d (Text t ∷ [])
+keyword_is v t d e = ⊎_elim (any_is v t d) (by (has_groups v) refl)
+    (either (among openings singles t) (if has_groups v then among group_openings group_singles t else None) d e)
+  where
+    by : (b : Bool) → has_groups v ≡ b → (if b then among group_openings group_singles t else None) ≡ Some d → Spells (Some v) d (Text t ∷ [])
+    by true has f = group_is v t d has f
+    by false has f = cc
+
+pub begun_word : (h : Option Version) (w : Word) (d : Draft) → begun h w ≡ Some d → Spells h d (w ∷ [])
+begun_word None w d e = let c = chosen (is_text (codes "p") w) Problem d e in along None Problem d _ c.1 (rw (text_is (codes "p") w c.0) (refl, refl))
+begun_word (Some v) (Text t) d e = keyword_is v t d e
+begun_word (Some v) (Num n) d e = cc
+begun_word (Some v) Other d e = cc
+
+pub whole_words : (h : Option Version) (d : Draft) (l : Line) → Sound h d → whole d ≡ Some l → (spelling l ≡ words_of d) × IsExpected h l
+whole_words h (ScopeOf q) l s e = let same : Orders (ScopeCommand q None) ≡ l = cc in subst (λ l. (spelling l ≡ words_of (ScopeOf q)) × IsExpected h l) same (refl, of_any h (ScopeCommand q None) refl s tt)
 whole_words h (Whole x) l s e = let same : x ≡ l = cc in subst (λ l. (spelling l ≡ spelling x) × IsExpected h l) same (refl, s)
 whole_words h Problem l s e = cc
 whole_words h Format l s e = cc
@@ -199,6 +254,9 @@ whole_words h (VarOf v) l s e = cc
 whole_words h (Clause ls) l s e = cc
 whole_words h Assume l s e = cc
 whole_words h Value l s e = cc
+whole_words h Open l s e = cc
+whole_words h Activate l s e = cc
+whole_words h Deactivate l s e = cc
 
 -- the draft of words
 abbrev pub follows : Option Draft → List Word → Option Draft
@@ -206,7 +264,7 @@ follows None ws = None
 follows (Some d) [] = Some d
 follows (Some d) (w ∷ ws) = follows (after d w) ws
 
-abbrev pub runs : Bool → List Word → Option Draft
+abbrev pub runs : Option Version → List Word → Option Draft
 runs h [] = None
 runs h (w ∷ ws) = follows (begun h w) ws
 
@@ -230,56 +288,69 @@ clause_runs front (l ∷ ls) all a e =
     ap (λ b. follows (Some (if b then Whole (Orders (ClauseCommand front)) else Clause (front ++ l ∷ []))) (clause_words ls)) (is_nonzero l a.0)
     ∙ clause_runs (front ++ l ∷ []) ls all a.1 (append_assoc front (l ∷ []) ls ∙ e)
 
+-- what is read behind a first word of groups, where the version has these
+opened : {A : Type 0} (run : Bool → A) (v : Version) {x : A} → has_groups v ≡ true → run true ≡ x → run (has_groups v) ≡ x
+opened run v has e = ap run has ∙ e
+
 -- the words of a line give a draft of this line
-pub spelled_runs : (h : Bool) (l : Line) → IsExpected h l → (d : Draft) × (runs h (spelling l) ≡ Some d) × (whole d ≡ Some l)
-spelled_runs false (Header One) x = (Whole (Header One), refl, refl)
-spelled_runs false (Header Two) x = (Whole (Header Two), refl, refl)
-spelled_runs false (Orders c) x = absurd x
-spelled_runs true (Header v) x = absurd x
-spelled_runs true (Orders (ScopeCommand Exists None)) x = (ScopeOf Exists, refl, refl)
-spelled_runs true (Orders (ScopeCommand Forall None)) x = (ScopeOf Forall, refl, refl)
-spelled_runs true (Orders (ScopeCommand Exists (Some n))) x = (Whole (Orders (ScopeCommand Exists (Some n))), refl, refl)
-spelled_runs true (Orders (ScopeCommand Forall (Some n))) x = (Whole (Orders (ScopeCommand Forall (Some n))), refl, refl)
-spelled_runs true (Orders (VarCommand v s)) x = (Whole (Orders (VarCommand v s)), refl, refl)
-spelled_runs true (Orders (ClauseCommand ls)) x = (Whole (Orders (ClauseCommand ls)), clause_runs [] ls ls x refl, refl)
-spelled_runs true (Orders Push) x = (Whole (Orders Push), refl, refl)
-spelled_runs true (Orders Pop) x = (Whole (Orders Pop), refl, refl)
-spelled_runs true (Orders (AssumeCommand l)) x = (Whole (Orders (AssumeCommand l)), ap (λ b. follows (if b then None else Some (Whole (Orders (AssumeCommand l)))) []) (is_nonzero l x.0), refl)
-spelled_runs true (Orders Solve) x = (Whole (Orders Solve), refl, refl)
-spelled_runs true (Orders (ValueCommand v)) x = (Whole (Orders (ValueCommand v)), refl, refl)
-spelled_runs true (Orders Relevant) x = (Whole (Orders Relevant), refl, refl)
-spelled_runs true (Orders Trace) x = (Whole (Orders Trace), refl, refl)
-spelled_runs true (Orders Cert) x = (Whole (Orders Cert), refl, refl)
+pub spelled_runs : (h : Option Version) (l : Line) → IsExpected h l → (d : Draft) × (runs h (spelling l) ≡ Some d) × (whole d ≡ Some l)
+spelled_runs None (Header One) x = (Whole (Header One), refl, refl)
+spelled_runs None (Header Two) x = (Whole (Header Two), refl, refl)
+spelled_runs None (Header Three) x = (Whole (Header Three), refl, refl)
+spelled_runs None (Orders c) x = absurd x
+spelled_runs (Some v) (Header w) x = absurd x
+spelled_runs (Some v) (Orders (ScopeCommand Exists None)) x = (ScopeOf Exists, refl, refl)
+spelled_runs (Some v) (Orders (ScopeCommand Forall None)) x = (ScopeOf Forall, refl, refl)
+spelled_runs (Some v) (Orders (ScopeCommand Exists (Some n))) x = (Whole (Orders (ScopeCommand Exists (Some n))), refl, refl)
+spelled_runs (Some v) (Orders (ScopeCommand Forall (Some n))) x = (Whole (Orders (ScopeCommand Forall (Some n))), refl, refl)
+spelled_runs (Some v) (Orders (VarCommand w s)) x = (Whole (Orders (VarCommand w s)), refl, refl)
+spelled_runs (Some v) (Orders (ClauseCommand ls)) x = (Whole (Orders (ClauseCommand ls)), clause_runs [] ls ls x.1 refl, refl)
+spelled_runs (Some v) (Orders Push) x = (Whole (Orders Push), refl, refl)
+spelled_runs (Some v) (Orders Pop) x = (Whole (Orders Pop), refl, refl)
+spelled_runs (Some v) (Orders (AssumeCommand l)) x = (Whole (Orders (AssumeCommand l)), ap (λ b. follows (if b then None else Some (Whole (Orders (AssumeCommand l)))) []) (is_nonzero l x.1.0), refl)
+spelled_runs (Some v) (Orders Solve) x = (Whole (Orders Solve), refl, refl)
+spelled_runs (Some v) (Orders (ValueCommand w)) x = (Whole (Orders (ValueCommand w)), refl, refl)
+spelled_runs (Some v) (Orders Relevant) x = (Whole (Orders Relevant), refl, refl)
+spelled_runs (Some v) (Orders Trace) x = (Whole (Orders Trace), refl, refl)
+spelled_runs (Some v) (Orders Cert) x = (Whole (Orders Cert), refl, refl)
+spelled_runs (Some v) (Orders (OpenGroup g)) x = (Whole (Orders (OpenGroup g)), opened (λ b. follows (if b then among group_openings group_singles (codes "open") else None) (number g ∷ [])) v x.0 refl, refl)
+spelled_runs (Some v) (Orders CloseGroup) x = (Whole (Orders CloseGroup), opened (λ b. follows (if b then among group_openings group_singles (codes "close") else None) []) v x.0 refl, refl)
+spelled_runs (Some v) (Orders (ActivateCommand g)) x = (Whole (Orders (ActivateCommand g)), opened (λ b. follows (if b then among group_openings group_singles (codes "activate") else None) (number g ∷ [])) v x.0 refl, refl)
+spelled_runs (Some v) (Orders (DeactivateCommand g)) x = (Whole (Orders (DeactivateCommand g)), opened (λ b. follows (if b then among group_openings group_singles (codes "deactivate") else None) (number g ∷ [])) v x.0 refl, refl)
+spelled_runs (Some v) (Orders GroupCore) x = (Whole (Orders GroupCore), opened (λ b. follows (if b then among group_openings group_singles (codes "core") else None) []) v x.0 refl, refl)
 
 -- a draft can be finished
-front_of : (h : Bool) (d : Draft) → Sound h d → IsFront h (words_of d)
+front_of : (h : Option Version) (d : Draft) → Sound h d → IsFront h (words_of d)
 front_of h Problem s = record { line = Header One; more = Text (codes "qscript") ∷ number 1 ∷ []; expected = rw s tt; spelled = refl }
 front_of h Format s = record { line = Header One; more = number 1 ∷ []; expected = rw s tt; spelled = refl }
-front_of h Scope s = record { line = Orders (ScopeCommand Exists None); more = quant_word Exists ∷ []; expected = rw s tt; spelled = refl }
-front_of h (ScopeOf q) s = record { line = Orders (ScopeCommand q None); more = []; expected = rw s tt; spelled = refl }
-front_of h Var s = record { line = Orders (VarCommand 0 0); more = number 0 ∷ number 0 ∷ []; expected = rw s tt; spelled = refl }
-front_of h (VarOf v) s = record { line = Orders (VarCommand v 0); more = number 0 ∷ []; expected = rw s tt; spelled = refl }
-front_of h (Clause ls) s = record { line = Orders (ClauseCommand ls); more = number 0 ∷ []; expected = rw s.0 s.1; spelled = refl }
-front_of h Assume s = record { line = Orders (AssumeCommand (pos 1)); more = number 1 ∷ []; expected = rw s ((λ e. cc), tt); spelled = refl }
-front_of h Value s = record { line = Orders (ValueCommand 0); more = number 0 ∷ []; expected = rw s tt; spelled = refl }
+front_of h Scope s = record { line = Orders (ScopeCommand Exists None); more = quant_word Exists ∷ []; expected = of_any h (ScopeCommand Exists None) refl s tt; spelled = refl }
+front_of h (ScopeOf q) s = record { line = Orders (ScopeCommand q None); more = []; expected = of_any h (ScopeCommand q None) refl s tt; spelled = refl }
+front_of h Var s = record { line = Orders (VarCommand 0 0); more = number 0 ∷ number 0 ∷ []; expected = of_any h (VarCommand 0 0) refl s tt; spelled = refl }
+front_of h (VarOf v) s = record { line = Orders (VarCommand v 0); more = number 0 ∷ []; expected = of_any h (VarCommand v 0) refl s tt; spelled = refl }
+front_of h (Clause ls) s = record { line = Orders (ClauseCommand ls); more = number 0 ∷ []; expected = of_any h (ClauseCommand ls) refl s.0 s.1; spelled = refl }
+front_of h Assume s = record { line = Orders (AssumeCommand (pos 1)); more = number 1 ∷ []; expected = of_any h (AssumeCommand (pos 1)) refl s ((λ e. cc), tt); spelled = refl }
+front_of h Value s = record { line = Orders (ValueCommand 0); more = number 0 ∷ []; expected = of_any h (ValueCommand 0) refl s tt; spelled = refl }
+front_of h Open s = record { line = Orders (OpenGroup 0); more = number 0 ∷ []; expected = of_group h (OpenGroup 0) refl refl s; spelled = refl }
+front_of h Activate s = record { line = Orders (ActivateCommand 0); more = number 0 ∷ []; expected = of_group h (ActivateCommand 0) refl refl s; spelled = refl }
+front_of h Deactivate s = record { line = Orders (DeactivateCommand 0); more = number 0 ∷ []; expected = of_group h (DeactivateCommand 0) refl refl s; spelled = refl }
 front_of h (Whole l) s = record { line = l; more = []; expected = s; spelled = sym (append-nil (spelling l)) }
 
-pub no_word : (h : Bool) → IsFront h []
-no_word true = record { line = Orders Push; more = Text (codes "push") ∷ []; expected = tt; spelled = refl }
-no_word false = record { line = Header One; more = spelling (Header One); expected = tt; spelled = refl }
+pub no_word : (h : Option Version) → IsFront h []
+no_word (Some v) = record { line = Orders Push; more = Text (codes "push") ∷ []; expected = (refl, tt); spelled = refl }
+no_word None = record { line = Header One; more = spelling (Header One); expected = tt; spelled = refl }
 
-follows_step : (h : Bool) (d : Draft) (w : Word) (ws : List Word) (e : Draft) (o : Option Draft) → Sound h d → after d w ≡ o → ((m : Draft) → Sound h m → follows (Some m) ws ≡ Some e → Spells h e (words_of m ++ ws)) → follows o ws ≡ Some e → Spells h e (words_of d ++ w ∷ ws)
+follows_step : (h : Option Version) (d : Draft) (w : Word) (ws : List Word) (e : Draft) (o : Option Draft) → Sound h d → after d w ≡ o → ((m : Draft) → Sound h m → follows (Some m) ws ≡ Some e → Spells h e (words_of m ++ ws)) → follows o ws ≡ Some e → Spells h e (words_of d ++ w ∷ ws)
 follows_step h d w ws e None s a later f = cc
 follows_step h d w ws e (Some m) s a later f =
     let one : Spells h m (words_of d ++ w ∷ []) = after_word h d m w s a in
     let all : Spells h e (words_of m ++ ws) = later m one.1 f in
     (all.0 ∙ ap (λ r. r ++ ws) one.0 ∙ append_assoc (words_of d) (w ∷ []) ws, all.1)
 
-follows_spells : (h : Bool) (d : Draft) (ws : List Word) (e : Draft) → Sound h d → follows (Some d) ws ≡ Some e → Spells h e (words_of d ++ ws)
+follows_spells : (h : Option Version) (d : Draft) (ws : List Word) (e : Draft) → Sound h d → follows (Some d) ws ≡ Some e → Spells h e (words_of d ++ ws)
 follows_spells h d [] e s f = along h d e _ (some_is d e f) (sym (append-nil (words_of d)), s)
 follows_spells h d (w ∷ ws) e s f = follows_step h d w ws e (after d w) s refl (λ m t g. follows_spells h m ws e t g) f
 
-pub runs_spells : (h : Bool) (ws : List Word) (d : Draft) → runs h ws ≡ Some d → Spells h d ws
+pub runs_spells : (h : Option Version) (ws : List Word) (d : Draft) → runs h ws ≡ Some d → Spells h d ws
 runs_spells h [] d e = cc
 runs_spells h (w ∷ ws) d e = by (begun h w) refl e
   where
@@ -291,33 +362,39 @@ runs_spells h (w ∷ ws) d e = by (begun h w) refl e
         (all.0 ∙ ap (λ r. r ++ ws) one.0, all.1)
 
 -- words that have a draft are the front of a line
-pub runs_front : (h : Bool) (ws : List Word) (d : Draft) → runs h ws ≡ Some d → IsFront h ws
+pub runs_front : (h : Option Version) (ws : List Word) (d : Draft) → runs h ws ≡ Some d → IsFront h ws
 runs_front h ws d e = let s : Spells h d ws = runs_spells h ws d e in subst (λ ws. IsFront h ws) s.0 (front_of h d s.1)
 
 -- the front of a line has a draft
-pub front_runs : (h : Bool) (w : Word) (ws : List Word) → IsFront h (w ∷ ws) → (d : Draft) × (runs h (w ∷ ws) ≡ Some d)
+pub front_runs : (h : Option Version) (w : Word) (ws : List Word) → IsFront h (w ∷ ws) → (d : Draft) × (runs h (w ∷ ws) ≡ Some d)
 front_runs h w ws f =
     let r : (d : Draft) × (runs h (spelling f.line) ≡ Some d) × (whole d ≡ Some f.line) = spelled_runs h f.line f.expected in
     follows_front (begun h w) ws f.more r.0 (sym (ap (runs h) f.spelled) ∙ r.1)
 
 -- words that are a line have a draft of it
-pub whole_runs : (h : Bool) (ws : List Word) (d : Draft) → runs h ws ≡ Some d → IsWhole h ws → (l : Line) × (whole d ≡ Some l)
+pub whole_runs : (h : Option Version) (ws : List Word) (d : Draft) → runs h ws ≡ Some d → IsWhole h ws → (l : Line) × (whole d ≡ Some l)
 whole_runs h ws d e w =
     let r : (d : Draft) × (runs h (spelling w.0) ≡ Some d) × (whole d ≡ Some w.0) = spelled_runs h w.0 w.1 in
     let same : r.0 ≡ d = some_is r.0 d (sym r.1 ∙ ap (runs h) w.2 ∙ e) in
     (w.0, subst (λ d. whole d ≡ Some w.0) same r.2)
 
-pub misfit_is : (h : Bool) (w : Word) (ws : List Word) (d : Draft) → Sound h d → misfit_of d ≡ misfit h (w ∷ ws)
+behind_first : (h : Option Version) (w : Word) (ws : List Word) (v : Version) → h ≡ Some v → 32 ≡ misfit h (w ∷ ws)
+behind_first h w ws v e = sym (ap (λ h. misfit h (w ∷ ws)) e)
+
+pub misfit_is : (h : Option Version) (w : Word) (ws : List Word) (d : Draft) → Sound h d → misfit_of d ≡ misfit h (w ∷ ws)
 misfit_is h w ws Problem s = rw s refl
 misfit_is h w ws Format s = rw s refl
-misfit_is h w ws Scope s = rw s refl
-misfit_is h w ws (ScopeOf q) s = rw s refl
-misfit_is h w ws Var s = rw s refl
-misfit_is h w ws (VarOf v) s = rw s refl
-misfit_is h w ws (Clause ls) s = rw s.0 refl
-misfit_is h w ws Assume s = rw s refl
-misfit_is h w ws Value s = rw s refl
-misfit_is true w ws (Whole (Header v)) s = absurd s
-misfit_is true w ws (Whole (Orders c)) s = refl
-misfit_is false w ws (Whole (Header v)) s = refl
-misfit_is false w ws (Whole (Orders c)) s = absurd s
+misfit_is h w ws Scope s = behind_first h w ws s.0 s.1
+misfit_is h w ws (ScopeOf q) s = behind_first h w ws s.0 s.1
+misfit_is h w ws Var s = behind_first h w ws s.0 s.1
+misfit_is h w ws (VarOf v) s = behind_first h w ws s.0 s.1
+misfit_is h w ws (Clause ls) s = behind_first h w ws s.0.0 s.0.1
+misfit_is h w ws Assume s = behind_first h w ws s.0 s.1
+misfit_is h w ws Value s = behind_first h w ws s.0 s.1
+misfit_is h w ws Open s = behind_first h w ws s.0 s.1
+misfit_is h w ws Activate s = behind_first h w ws s.0 s.1
+misfit_is h w ws Deactivate s = behind_first h w ws s.0 s.1
+misfit_is (Some v) w ws (Whole (Header x)) s = absurd s
+misfit_is (Some v) w ws (Whole (Orders c)) s = refl
+misfit_is None w ws (Whole (Header x)) s = refl
+misfit_is None w ws (Whole (Orders c)) s = absurd s

@@ -14,12 +14,12 @@ use Rattle.qscript.specs.declared.words.Item.TheVariants.{Word, BadByte, NumberR
 use Rattle.qscript.specs.Reads.{done, refused, limit}
 use Rattle.qscript.specs.Run.{Script, Reading, stopped, ends, Front, between, reading_from, with_line}
 
--- The lexer, the item behind the last line, which was read to see that this line had ended, whether the header has been
--- read, and whether a call was refused.
+-- The lexer, the item behind the last line, which was read to see that this line had ended, the version that the header
+-- named, where it has been read, and whether a call was refused.
 pub record State : Type 0 where
   pub lexer : LexerState
   pub ahead : Option Item
-  pub headed : Bool
+  pub version : Option Version
   pub failed : Bool
 
 abbrev pub item_of : Item → LexerItem
@@ -56,7 +56,7 @@ script_in reading = option_map (λ r. r.script) reading
 -- The version that the header to come names, the commands to come and the ending, where the desk tells what it has
 -- left.
 abbrev pub reading : State → Option (List ℕ) → Option Reading
-reading s left = reading_ahead (between s.headed) s.ahead s.lexer left
+reading s left = reading_ahead (between s.version) s.ahead s.lexer left
 
 -- The commands to come and the ending, where the desk tells what it has left.
 abbrev pub upcoming : State → Option (List ℕ) → Option Script
@@ -141,8 +141,8 @@ IsOver before after = IfSome before (λ r. (r ≡ ends done) × (after ≡ Some 
 
 -- The answer to the header is the version that it names, and the script to come is what stands behind it; or the script
 -- ends there, and no version is named.
-abbrev pub Heads : Result Version ReadRefusal → Option Reading → Option Script → Type 0
-Heads (Ok version) before after = IfSome before (λ r. (r.version ≡ Some version) × (after ≡ Some r.script))
+abbrev pub Heads : Result Version ReadRefusal → Option Reading → (Version → Option Script) → Type 0
+Heads (Ok version) before after = IfSome before (λ r. (r.version ≡ Some version) × (after version ≡ Some r.script))
 Heads (Err e) before after = EndsReading e before
 
 -- The command is the first of the script, and the script to come is the rest.

@@ -1,12 +1,12 @@
 -- Worked scripts, of which the reading is computed, and headers.
-use Rattle.std.specs.Prelude.{◌≡◌, ℕ, pos, negsuc, true, false, ◌==◌, if◌then◌else◌, List, [], ◌∷◌, ◌++◌, map, codes, Option, Some, None}
+use Rattle.std.specs.Prelude.{◌≡◌, ℕ, pos, negsuc, ◌==◌, if◌then◌else◌, List, [], ◌∷◌, ◌++◌, map, codes, Option, Some, None}
 use Rattle.prefix.specs.declared.quant.Quant.TheVariants.{Exists, Forall}
 use Rattle.lexer.specs.declared.token.Word.TheVariants.{Text}
 use Rattle.lexer.specs.Words.{Item, word, too_long}
 use Rattle.versions.specs.declared.version.Version.{Version}
-use Rattle.versions.specs.declared.version.Version.TheVariants.{One, Two}
+use Rattle.versions.specs.declared.version.Version.TheVariants.{One, Two, Three}
 use Rattle.qscript.specs.declared.command.Command.{Command}
-use Rattle.qscript.specs.declared.command.Command.TheVariants.{Scope, Var, Clause, Push, Pop, Assume, Solve, Value, Relevant, Trace, Cert}
+use Rattle.qscript.specs.declared.command.Command.TheVariants.{Scope, Var, Clause, Push, Pop, Assume, Solve, Value, Relevant, Trace, Cert, OpenGroup, CloseGroup, Activate, Deactivate, GroupCore}
 use Rattle.qscript.specs.Reads.{Ending, ReadsScript, done, refused, limit}
 use Rattle.qscript.specs.Run.{Script, between, ends, reading_from, reading_of}
 
@@ -21,6 +21,10 @@ script_of bytes = (reading_of (text bytes)).script
 -- those of a script behind its header
 abbrev pub behind_header : List ℕ → Script
 behind_header bytes = script_of (codes "p qscript 1/" ++ bytes)
+
+-- those of one with groups
+abbrev pub with_groups : List ℕ → Script
+with_groups bytes = script_of (codes "p qscript 3/" ++ bytes)
 
 abbrev pub well : List Command → Script
 well cs = (cs, done)
@@ -63,10 +67,23 @@ pub record WorkedScripts : Type 0 where
   pub command_before_bad_byte : behind_header (codes "solve/" ++ 139 ∷ []) ≡ (Solve ∷ [], refused 7 3)
   pub word_before_bad_byte : behind_header (codes "clause x " ++ 139 ∷ []) ≡ fails 2 32
   pub bad_byte_in_the_line : behind_header (codes "clause 1 " ++ 139 ∷ []) ≡ fails 2 7
-  pub limit_behind_a_line : (reading_from (solve_on 2 ∷ too_long 3 ∷ []) (between true)).script ≡ (Solve ∷ [], limit 3)
-  pub limit_in_a_line : (reading_from (solve_on 2 ∷ too_long 2 ∷ []) (between true)).script ≡ ([], limit 2)
-  pub limit_in_the_header : reading_from (solve_on 1 ∷ too_long 1 ∷ []) (between false) ≡ ends (refused 30 1)
-  pub limit_before_the_header : reading_from (too_long 2 ∷ []) (between false) ≡ ends (limit 2)
+  pub limit_behind_a_line : (reading_from (solve_on 2 ∷ too_long 3 ∷ []) (between (Some One))).script
+      ≡ (Solve ∷ [], limit 3)
+  pub limit_in_a_line : (reading_from (solve_on 2 ∷ too_long 2 ∷ []) (between (Some One))).script ≡ ([], limit 2)
+  pub limit_in_the_header : reading_from (solve_on 1 ∷ too_long 1 ∷ []) (between None) ≡ ends (refused 30 1)
+  pub groups : with_groups (codes "open 1/clause -1 0/close/activate 02/deactivate 0/core/")
+      ≡ well (OpenGroup 1 ∷ Clause (negsuc 0 ∷ []) ∷ CloseGroup ∷ Activate 2 ∷ Deactivate 0 ∷ GroupCore ∷ [])
+  pub groups_beside_others : with_groups (codes "scope e/var 1 1/push/pop/assume 1/solve/value 1/relevant/trace/cert")
+      ≡ well (Scope Exists None ∷ Var 1 1 ∷ Push ∷ Pop ∷ Assume (pos 1) ∷ Solve ∷ Value 1 ∷ Relevant ∷ Trace ∷ Cert ∷ [])
+  pub no_group_in_the_first : behind_header (codes "open 1/") ≡ fails 2 31
+  pub no_core_in_the_second : script_of (codes "p qscript 2/solve/core/") ≡ (Solve ∷ [], refused 31 3)
+  pub open_wants_a_group : with_groups (codes "open/") ≡ fails 2 32
+  pub one_group : with_groups (codes "open 1 2/") ≡ fails 2 32
+  pub negative_group : with_groups (codes "activate -1/") ≡ fails 2 32
+  pub group_in_letters : with_groups (codes "deactivate x/") ≡ fails 2 32
+  pub close_takes_nothing : with_groups (codes "close 1/") ≡ fails 2 32
+  pub core_takes_nothing : with_groups (codes "core 0/") ≡ fails 2 32
+  pub limit_before_the_header : reading_from (too_long 2 ∷ []) (between None) ≡ ends (limit 2)
 
 -- The text is this as a script, and nothing else.
 abbrev pub IsOnly : List ℕ → Option Version → List Command → Ending → Type 0
@@ -85,10 +102,11 @@ pub record WorkedHeaders : Type 0 where
   pub first_version : Names One (codes "p qscript 1/solve/") (Solve ∷ [])
   pub second_version : Names Two (codes "p qscript 2/solve/") (Solve ∷ [])
   pub first_alone : Names One (codes "p qscript 1") []
+  pub third_version : Names Three (codes "p qscript 3/open 7/core/") (OpenGroup 7 ∷ GroupCore ∷ [])
   pub second_alone : Names Two (codes "c 1// p  qscript 02") []
   pub malformed_behind : IsOnly (text (codes "p qscript 2/jump/")) (Some Two) [] (refused 31 2)
   pub second_header : IsOnly (text (codes "p qscript 2/p qscript 1/")) (Some Two) [] (refused 31 2)
-  pub third_version : Refuses 1 30 (codes "p qscript 3/")
+  pub fourth_version : Refuses 1 30 (codes "p qscript 4/")
   pub ninth_version : Refuses 1 30 (codes "p qscript 9/")
   pub version_of_none : Refuses 1 30 (codes "p qscript 0/")
   pub negative_version : Refuses 1 30 (codes "p qscript -1/")
@@ -101,5 +119,5 @@ pub record WorkedHeaders : Type 0 where
   pub no_word : Refuses 3 30 (codes "c/ /")
   pub command_first : Refuses 1 30 (codes "solve/p qscript 1/")
   pub bad_byte_in_the_header : Refuses 1 7 (codes "p qscript 2 " ++ 139 ∷ [])
-  pub bad_byte_behind_a_word : Refuses 1 30 (codes "p qscript 3 " ++ 139 ∷ [])
+  pub bad_byte_behind_a_word : Refuses 1 30 (codes "p qscript 4 " ++ 139 ∷ [])
   pub number_range_in_the_header : Refuses 1 8 (codes "p qscript 9223372036854775808/")

@@ -61,7 +61,7 @@ impl NumList {
 }
 
 /// A command of a script, as its line gives it. Whether its numbers are accepted is not said here: a literal is
-/// any number but 0, and a variable, a scope's number or a place any that isn't negative.
+/// any number but 0, and a variable, a scope's number, a place or a group any that isn't negative.
 #[derive(Debug, Drop)]
 pub enum Command {
     /// `scope e` or `scope a`, and a number: a new empty scope with this number, or as the last.
@@ -86,4 +86,14 @@ pub enum Command {
     Trace,
     /// `cert`: asks for the verdict's circuit.
     Cert,
+    /// `open G`: opens a group, which accepted clauses join.
+    OpenGroup(u64),
+    /// `close`: closes the open group.
+    CloseGroup,
+    /// `activate G`: the clauses of a group join the open formula.
+    Activate(u64),
+    /// `deactivate G`: they leave it.
+    Deactivate(u64),
+    /// `core`: asks for groups that make the formula false, none of which can be left out.
+    GroupCore,
 }

@@ -1,9 +1,9 @@
 //! A line of a script while its words come.
-ghost use Rattle.std.specs.Prelude.{◌≡◌, List, IfOk, IfErr, OnErr, ◌⊎◌, false, not, if◌then◌else◌, Some, None, option_map};
+ghost use Rattle.std.specs.Prelude.{◌≡◌, List, IfOk, IfErr, OnErr, ◌⊎◌, false, if◌then◌else◌, Some, None, is_none, option_map};
 ghost use Rattle.lexer.specs.declared.token.Word.TheVariants.{Text};
 ghost use Rattle.qdimacs.specs.Rules.{is_text as is_text_word, quant_of as quant_of_word};
-ghost use Rattle.qscript.specs.Lines.{is_header_line};
-ghost use Rattle.qscript.specs.Run.{begun, keyword, alone, after, whole, is_header, misfit_of, misfit_first, natural, version_of as version_of_word};
+ghost use Rattle.qscript.specs.Lines.{has_groups as has_groups_of, is_header_line};
+ghost use Rattle.qscript.specs.Run.{begun, among, entry, keyword, singles, openings, group_singles, group_openings, after, whole, is_header, misfit_of, misfit_first, natural, version_of as version_of_word};
 
 use crate::command::{Command, NumList};
 use crate::words::{BAD_ARGUMENT, BAD_COMMAND, NO_HEADER, refused};
@@ -33,19 +33,22 @@ pub(crate) enum Draft {
     Clause(NumList),
     Assume,
     Value,
+    Open,
+    Activate,
+    Deactivate,
     Whole(Line),
 }
 
 impl Draft {
-    // The line that begins with this word: the header, or a command behind it.
-    fn begin(alloc: Global, headed: bool, word: &Word) -> Option<Self>
-        ensures { result ≡ begun headed word.now }
+    // The line that begins with this word: the header, or a command behind one that named a version.
+    fn begin(alloc: Global, named: Option<Version>, word: &Word) -> Option<Self>
+        ensures { result ≡ begun named word.now }
     {
-        if !headed {
+        let Some(version) = named else {
             return problem(word);
-        }
+        };
         match word {
-            Word::Text(text) => command_begun(alloc, text.as_slice()),
+            Word::Text(text) => command_begun(alloc, version, text.as_slice()),
             _ => None,
         }
     }
@@ -65,6 +68,9 @@ impl Draft {
             Draft::Clause(numbers) => number_behind(numbers, word),
             Draft::Assume => Ok(literal_behind(word)),
             Draft::Value => Ok(value_behind(word)),
+            Draft::Open => Ok(opened_behind(word)),
+            Draft::Activate => Ok(activated_behind(word)),
+            Draft::Deactivate => Ok(deactivated_behind(word)),
             Draft::Whole(_) => Ok(None),
         }
     }
@@ -108,18 +114,18 @@ impl Draft {
     // The line that begins with this word, where one does.
     pub(crate) fn start(
         alloc: Global,
-        headed: bool,
+        named: Option<Version>,
         word: &Word,
         line: u32,
     ) -> Result<Self, ReadRefusal>
-        ensures ok { IfOk result (λ d. begun headed word.now ≡ Some d) }
-        ensures header { IfOk result (λ d. is_header d ≡ not headed) }
-        ensures err { IfErr result (λ e. (begun headed word.now ≡ None)
-            × (e ≡ ReadRefusal.Refused (misfit_first headed) line)) }
+        ensures ok { IfOk result (λ d. begun named word.now ≡ Some d) }
+        ensures header { IfOk result (λ d. is_header d ≡ is_none named) }
+        ensures err { IfErr result (λ e. (begun named word.now ≡ None)
+            × (e ≡ ReadRefusal.Refused (misfit_first named) line)) }
     {
-        match Self::begin(alloc, headed, word) {
+        match Self::begin(alloc, named, word) {
             Some(draft) => Ok(draft),
-            None if headed => Err(refused(BAD_COMMAND, line)),
+            None if named.is_some() => Err(refused(BAD_COMMAND, line)),
             None => Err(refused(NO_HEADER, line)),
         }
     }
@@ -176,6 +182,7 @@ fn version_of(word: &Word) -> Option<Version>
     match word {
         Word::Num(n) if *n == 1 => Some(Version::One),
         Word::Num(n) if *n == 2 => Some(Version::Two),
+        Word::Num(n) if *n == 3 => Some(Version::Three),
         _ => None,
     }
 }
@@ -203,7 +210,7 @@ fn quant_of(text: &[u8]) -> Option<Quant>
 
 // The header's first word.
 fn problem(word: &Word) -> Option<Draft>
-    ensures { result ≡ begun false word.now }
+    ensures { result ≡ begun None word.now }
 {
     if is_text(word, b"p".as_slice()) {
         Some(Draft::Problem)
@@ -212,9 +219,34 @@ fn problem(word: &Word) -> Option<Draft>
     }
 }
 
-// The command that this word begins.
-fn command_begun(alloc: Global, text: &[u8]) -> Option<Draft>
-    ensures { result ≡ keyword text.now }
+// The command of a version that this word begins.
+fn command_begun(alloc: Global, version: Version, text: &[u8]) -> Option<Draft>
+    ensures { result ≡ keyword version text.now }
+{
+    let of_any = any_begun(alloc, text);
+    if of_any.is_some() {
+        return of_any;
+    }
+    if has_groups(version) {
+        group_begun(text)
+    } else {
+        None
+    }
+}
+
+// Whether clause groups belong to a version.
+fn has_groups(version: Version) -> bool
+    ensures { result ≡ has_groups_of version }
+{
+    match version {
+        Version::Three => true,
+        Version::One | Version::Two => false,
+    }
+}
+
+// The command of every version that this word begins.
+fn any_begun(alloc: Global, text: &[u8]) -> Option<Draft>
+    ensures { result ≡ among openings singles text.now }
 {
     if text == b"scope".as_slice() {
         Some(Draft::Scope)
@@ -232,9 +264,28 @@ fn command_begun(alloc: Global, text: &[u8]) -> Option<Draft>
     }
 }
 
-// The command that is this word alone.
+// The command of clause groups that this word begins.
+fn group_begun(text: &[u8]) -> Option<Draft>
+    ensures { result ≡ among group_openings group_singles text.now }
+{
+    if text == b"open".as_slice() {
+        Some(Draft::Open)
+    } else if text == b"activate".as_slice() {
+        Some(Draft::Activate)
+    } else if text == b"deactivate".as_slice() {
+        Some(Draft::Deactivate)
+    } else if text == b"close".as_slice() {
+        Some(Draft::Whole(Line::Command(Command::CloseGroup)))
+    } else if text == b"core".as_slice() {
+        Some(Draft::Whole(Line::Command(Command::GroupCore)))
+    } else {
+        None
+    }
+}
+
+// The command of every version that is this word alone.
 fn single_word(text: &[u8]) -> Option<Command>
-    ensures { result ≡ alone text.now }
+    ensures { result ≡ entry singles text.now }
 {
     if text == b"push".as_slice() {
         Some(Command::Push)
@@ -340,4 +391,28 @@ fn value_behind(word: &Word) -> Option<Draft>
 {
     let var = natural_of(word)?;
     Some(Draft::Whole(Line::Command(Command::Value(var))))
+}
+
+// A group that is opened.
+fn opened_behind(word: &Word) -> Option<Draft>
+    ensures { result ≡ after Draft.Open word.now }
+{
+    let group = natural_of(word)?;
+    Some(Draft::Whole(Line::Command(Command::OpenGroup(group))))
+}
+
+// A group that joins the open formula.
+fn activated_behind(word: &Word) -> Option<Draft>
+    ensures { result ≡ after Draft.Activate word.now }
+{
+    let group = natural_of(word)?;
+    Some(Draft::Whole(Line::Command(Command::Activate(group))))
+}
+
+// A group that leaves it.
+fn deactivated_behind(word: &Word) -> Option<Draft>
+    ensures { result ≡ after Draft.Deactivate word.now }
+{
+    let group = natural_of(word)?;
+    Some(Draft::Whole(Line::Command(Command::Deactivate(group))))
 }

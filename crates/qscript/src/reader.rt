@@ -8,7 +8,7 @@ ghost use Rattle.qscript.specs.Run.{between};
 ghost use Rattle.qscript.specs.State.{reading, upcoming, script_in, reading_ahead, Heads, is_end, is_fault, IsReady, EndsWith, Answers, GoesOn, most_to_come};
 
 use crate::command::Command;
-use crate::lines::{command, first_command, header};
+use crate::lines::{command, header};
 use crate::words::Words;
 use lexer::{Comments, Lexer};
 use ports::Desk;
@@ -23,7 +23,7 @@ use versions::Version;
 pub struct ScriptReader {
     alloc: Global,
     words: Words,
-    headed: bool,
+    version: Option<Version>,
     failed: bool,
 }
 
@@ -36,7 +36,7 @@ impl Model for ScriptReader {
     ghost view = { λ r. record {
       lexer = r.words.lexer;
       ahead = r.words.ahead;
-      headed = r.headed;
+      version = r.version;
       failed = r.failed;
     } };
 
@@ -50,13 +50,13 @@ impl ScriptReader {
         ensures script { IfOk result (λ r. (text : List ℕ) (version : Option AnyVersion) (cs : List AnyCommand)
             (e : Ending) → ReadsScript text version cs e →
             reading r (Some text) ≡ Some (record { version = version; script = (cs, e) })) }
-        ensures fresh { IfOk result (λ r. (r.headed ≡ false) × (r.failed ≡ false) × (r.ahead ≡ None)) }
+        ensures fresh { IfOk result (λ r. (r.version ≡ None) × (r.failed ≡ false) × (r.ahead ≡ None)) }
     {
         let lexer = Lexer::new(alloc, Comments::Script)?;
         Ok(Self {
             alloc,
             words: Words { lexer, ahead: None },
-            headed: false,
+            version: None,
             failed: false,
         })
     }
@@ -74,17 +74,18 @@ impl ScriptReader {
     /// It reads the words of the header's line and the first one behind it, and takes no memory.
     ///
     /// # Errors
-    /// 30 where the first line with a word is no header of version 1 or 2, or no word comes; 7 a byte of a word that is
+    /// 30 where the first line with a word is no header of version 1, 2 or 3, or no word comes; 7 a byte of a word that is
     /// none of 33 to 126, 8 a number whose magnitude is above 2^63 - 1; or the limit on bytes. `ReadFault` comes only
     /// where the desk failed in this call. After any error the reader has failed, and isn't called again.
     pub fn read_header<D: Desk>(&mut self, desk: &mut D) -> Result<Version, ReadRefusal>
-        requires front { self.old.headed ≡ false }
+        requires front { self.old.version ≡ None }
         requires ready { self.old.failed ≡ false }
         // Where the desk tells its bytes, the version is that of what is to come, and the commands and the ending that
         // are to come stay; or the refusal is all that is to come, and no version is named.
-        ensures script { Heads result (reading self.old (D.left desk.old)) (upcoming self.new (D.left desk.new)) }
+        ensures script { Heads result (reading self.old (D.left desk.old))
+            (λ _. upcoming self.new (D.left desk.new)) }
         ensures memory { ¬ IsErrOf result ReadRefusal.NoMemory }
-        ensures headed { self.new.headed ≡ true }
+        ensures named { IfOk result (λ version. self.new.version ≡ Some version) }
         // The header leaves fewer words to come.
         ensures fewer { OnOk result (most_to_come self.new.ahead self.new.lexer.room
             < most_to_come self.old.ahead self.old.lexer.room) }
@@ -102,8 +103,8 @@ impl ScriptReader {
         ensures failed { self.new.failed ≡ is_err result }
     {
         let version = header(self.alloc, &mut self.words, desk);
-        self.headed = true;
         self.failed = version.is_err();
+        self.version = version.ok();
         version
     }
 
@@ -115,7 +116,7 @@ impl ScriptReader {
     ///
     /// # Errors
     /// The commands of the lines before the first malformed one are answered, then its refusal: 7 a byte of a word that
-    /// is none of 33 to 126, 8 a number whose magnitude is above 2^63 - 1, 30 no header, 31 no command, 32 a command
+    /// is none of 33 to 126, 8 a number whose magnitude is above 2^63 - 1, 30 no header, 31 no command of the version, 32 a command
     /// whose words haven't its form; or the limit on bytes. `ReadFault` comes only where the desk failed in this call.
     /// After any error the reader has failed, and isn't called again.
     pub fn next_command<D: Desk>(&mut self, desk: &mut D) -> Result<Option<Command>, ReadRefusal>
@@ -142,12 +143,11 @@ impl ScriptReader {
         ensures stays { (n : List ℕ) → D.steady desk.old n → D.steady desk.new n }
         ensures failed { self.new.failed ≡ is_err result }
     {
-        let answer = if self.headed {
-            command(self.alloc, &mut self.words, desk)
-        } else {
-            first_command(self.alloc, &mut self.words, desk)
+        let version = match self.version {
+            Some(version) => version,
+            None => self.read_header(desk)?,
         };
-        self.headed = true;
+        let answer = command(self.alloc, &mut self.words, desk, version);
         self.failed = answer.is_err();
         answer
     }

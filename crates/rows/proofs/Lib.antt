@@ -2,4 +2,5 @@ pub mod Arenas
 pub mod Blocking
 pub mod Linking
 pub mod Parts
+pub mod Shortening
 pub mod Storing

@@ -1,4 +1,5 @@
-//! An arena of rows (clauses and cubes) with ids that are never given twice and eight link fields a row.
+//! An arena of rows (clauses and cubes) with ids, none of which is given twice unless it is taken back, and eight link
+//! fields a row.
 #![tactic(auto)]
 
 mod blocks;

@@ -1,5 +1,5 @@
 //! The arena.
-ghost use Rattle.std.specs.Prelude.{◌≡◌, ◌↔◌, ◌<◌, ◌+◌, [], ◌∷◌, IsTrue, Some, None, IfOk, OnOk, OnErr, length, slice_set};
+ghost use Rattle.std.specs.Prelude.{◌≡◌, ◌↔◌, ◌<◌, ◌≤◌, ◌+◌, ℕ, [], ◌∷◌, take, IsFalse, IsTrue, Some, None, IfOk, OnOk, OnErr, length, slice_set};
 ghost use Rattle.rows.specs.Arena.{ChangesAt, ChangesLink, ChangesLinks, next_id, row_at, is_live, literals_at, link_at, new_row, with_row, without_row, with_link, with_links};
 
 use super::blocks::{Block, block_for, forget, read, read_three, write, write_three};
@@ -11,7 +11,7 @@ use std::alloc::Global;
 use std::marker::Model;
 use steps::NoMemory;
 
-/// The id of a row, from 0. It is never given twice.
+/// The id of a row, from 0. It is never given twice, unless it was taken back.
 pub type RowId = usize;
 
 /// An arena of rows, clauses and cubes alike. Contracts see it as the list that has, for each id given so far, the
@@ -175,7 +175,7 @@ impl Rows {
         Ok((id, id + 1))
     }
 
-    /// Takes a live row out, and no other. Its id is never given again. This takes no memory.
+    /// Takes a live row out, and no other. Its id isn't given again, unless it is taken back. This takes no memory.
     pub fn free(&mut self, id: RowId)
         requires { IsTrue (is_live self.old id) }
         ensures arena { self.new ≡ without_row self.old id }
@@ -184,6 +184,15 @@ impl Rows {
     {
         self.live -= 1;
         forget(&mut self.places, &mut self.blocks, id);
+    }
+
+    /// Takes back the ids from one on, under none of which a row is live: the next row gets that id. This takes no
+    /// memory.
+    pub fn take_back(&mut self, first: RowId)
+        requires { (id : ℕ) → first ≤ id → IsFalse (is_live self.old id) }
+        ensures { self.new ≡ take first self.old }
+    {
+        self.places.truncate(first);
     }
 
     /// Moves what is live together. Every live id keeps its literals and its links, and a freed id stays free. This

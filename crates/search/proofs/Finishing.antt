@@ -9,6 +9,8 @@ use Rattle.calculus.specs.Rows.{Row}
 use Rattle.derive.specs.State.{Note, State, is_finish, is_live, next_id, note_at, why_in}
 use Rattle.derive.specs.Adding.{Adds, InputsClause, Removes}
 use Rattle.derive.specs.Dropping.{Drops, StepTest}
+use Rattle.derive.specs.Inputs.{AddsClauses, InputsClauses}
+use Rattle.derive.specs.Inputs.AddsClauses.{no_clause, one_more}
 use Rattle.derive.proofs.Additions.{live_below}
 use Rattle.search.specs.Finishes.{GainsNoFinish, HasNoFinish, IsFinishId}
 
@@ -78,6 +80,21 @@ finishes_input scopes old new first second frame row inputs k is =
     finish_not_added old adds.with_input first _ row adds.input refl k
     (finish_not_removed adds.with_input inputs.added second first (ReducedFrom first) _ adds.reduction refl k
     (finishes_left _ inputs.added new inputs.cubes k is))
+
+-- clauses come in at once
+finishes_entered : (scopes : List Scope) (frame : ℕ) (old new : State) (rows : List Row) (ids : List ℕ)
+    → AddsClauses scopes frame old new rows ids → GainsNoFinish old new
+finishes_entered scopes frame old new rows ids no_clause k is = is
+finishes_entered scopes frame old new rows ids (one_more middle _ before row earlier first second chain adds) k is =
+    finishes_entered scopes frame old middle before earlier chain k
+    (finish_not_added middle adds.with_input first _ row adds.input refl k
+    (finish_not_removed adds.with_input new second first (ReducedFrom first) _ adds.reduction refl k is))
+
+pub finishes_inputs : (scopes : List Scope) (frame : ℕ) (old new : State) (rows : List Row) (listed now : List ℕ)
+    → InputsClauses scopes frame old new rows listed now → GainsNoFinish old new
+finishes_inputs scopes frame old new rows listed now inputs k is =
+    finishes_entered scopes frame old inputs.added rows inputs.ids inputs.adds k
+    (finishes_left _ inputs.added new inputs.cubes k is)
 
 -- a finish comes in where there is none
 pub one_finish : (old new : State) (id on : ℕ) (why : Why) (row : Row) → Removes old new id on why row

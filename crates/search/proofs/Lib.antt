@@ -4,6 +4,7 @@ pub mod Counting
 pub mod Covering
 pub mod Dropping
 pub mod Ending
+pub mod Entering
 pub mod Finishing
 pub mod Following
 pub mod Forcing

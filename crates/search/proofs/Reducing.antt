@@ -3,7 +3,7 @@ use Rattle.std.proofs.Common.{◌≡◌, ℕ, ◌+◌, ◌≤◌, Bool, not, con
 use Rattle.std.specs.Prelude.{count_by, Result, Ok, Err, IfOk, OnErr, OnOk}
 use Rattle.std.specs.List.{cons_option, filter_map, range_with_len}
 use Rattle.std.specs.Option.{option_and_then}
-use Rattle.std.proofs.lemmas.List.{append-nil}
+use Rattle.std.proofs.lemmas.List.{append-nil, length_push}
 use Rattle.std.proofs.lemmas.List.Filters.{sum_by-filter_both}
 use Rattle.std.proofs.lemmas.List.Sums.{sum_by_push}
 use Rattle.prefix.specs.declared.quant.Quant.{Quant}
@@ -18,6 +18,8 @@ use Rattle.clean.proofs.Turning.{reduces}
 use Rattle.search.specs.Counting.{ReducesFew}
 use Rattle.derive.specs.Adding.{Adds, CountsRemoval, InputsClause, Removes, clause_note}
 use Rattle.derive.specs.Dropping.{Drops, StepTest}
+use Rattle.derive.specs.Inputs.{AddsClauses, InputsClauses}
+use Rattle.derive.specs.Inputs.AddsClauses.{no_clause, one_more}
 use Rattle.clean.specs.Turns.{is_reduction, reductions_in}
 use Rattle.search.specs.Moves.{SameSteps}
 use Rattle.search.proofs.Marks.{note_same}
@@ -113,3 +115,22 @@ reductions_input scopes old new first second frame row inputs =
     (reduce Exists scopes row) adds.reduction in
     let left = reductions_left _ inputs.added new inputs.cubes in
     omega (arith, input, reduction, left)
+
+-- clauses come in at once
+reductions_entered : (scopes : List Scope) (frame : ℕ) (old new : State) (rows : List Row) (ids : List ℕ)
+    → AddsClauses scopes frame old new rows ids → reductions_in new ≤ reductions_in old + length rows
+reductions_entered scopes frame old new rows ids no_clause = omega arith
+reductions_entered scopes frame old new rows ids (one_more middle _ before row earlier first second chain adds) =
+    let so_far = reductions_entered scopes frame old middle before earlier chain in
+    let input = reductions_added middle adds.with_input first (clause_note frame) row adds.input in
+    let reduction = reductions_removed adds.with_input new second first (ReducedFrom first)
+    (reduce Exists scopes row) adds.reduction in
+    let long = length_push before row in
+    omega (arith, so_far, input, reduction, long)
+
+pub reductions_inputs : (scopes : List Scope) (frame : ℕ) (old new : State) (rows : List Row) (listed now : List ℕ)
+    → InputsClauses scopes frame old new rows listed now → reductions_in new ≤ reductions_in old + length rows
+reductions_inputs scopes frame old new rows listed now inputs =
+    let came = reductions_entered scopes frame old inputs.added rows inputs.ids inputs.adds in
+    let left = reductions_left _ inputs.added new inputs.cubes in
+    omega (arith, came, left)

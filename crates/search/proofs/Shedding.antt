@@ -6,11 +6,11 @@ use Rattle.prefix.specs.declared.quant.Quant.{Quant}
 use Rattle.prefix.specs.declared.quant.Quant.TheVariants.{Exists, Forall}
 use Rattle.derive.specs.State.{Note, Notes, State, arena_of, has_rows, next_id, note_at, note_in, side_at, side_in, tag_in}
 use Rattle.calculus.specs.Rows.{Row}
-use Rattle.derive.specs.Cubes.{misses}
+use Rattle.derive.specs.Cubes.{misses, misses_one}
 use Rattle.derive.specs.Dropping.{Falls, NoneOutsideBelow, StepTest, has_tag, is_outside, mentions, names}
 use Rattle.derive.specs.Dropping.Falls.{rests, root}
 use Rattle.derive.proofs.Leaving.{names_same}
-use Rattle.derive.proofs.Missed.{misses_same}
+use Rattle.derive.proofs.Missed.{misses_one_same, misses_same}
 use Rattle.derive.proofs.Additions.{live_below}
 use Rattle.search.specs.Leaving.{Goes, Reaches}
 use Rattle.search.specs.declared.leaving.Leaving.{Leaving}
@@ -174,6 +174,15 @@ module _ (old new : State) (same : SameSteps old new) where
       → Falls (misses clause (arena_of old)) old.notes id
   falls_before clause id falls = falls_alike (misses clause (arena_of new)) (misses clause (arena_of old)) new.notes
       old.notes (sym same.notes) (misses_alike clause) id falls
+
+  misses_one_alike : (clauses : List Row) (id : ℕ) (note : Note) → misses_one clauses (arena_of new) id note
+      ≡ misses_one clauses (arena_of old) id note
+  misses_one_alike clauses id note = misses_one_same clauses (arena_of old) (arena_of new) id note (same.literals id)
+
+  pub all_fall_before : (clauses : List Row) (id : ℕ) → Falls (misses_one clauses (arena_of new)) new.notes id
+      → Falls (misses_one clauses (arena_of old)) old.notes id
+  all_fall_before clauses id falls = falls_alike (misses_one clauses (arena_of new)) (misses_one clauses (arena_of old))
+      new.notes old.notes (sym same.notes) (misses_one_alike clauses) id falls
 
   pub frame_falls_before : (frame : ℕ) (id : ℕ) → Falls (has_tag frame) new.notes id
       → Falls (has_tag frame) old.notes id

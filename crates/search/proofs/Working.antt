@@ -1,5 +1,5 @@
 -- The worked values.
-use Rattle.std.proofs.Common.{◌≡◌, ◌<◌, ◌≤◌, List, ℕ, zero, suc, Bool, true, false, [], ◌∷◌, ◌++◌, length, replicate, Contains, Some, None, refl, sym, subst, inl, inr, ⊎_elim, arith, ap, ◌∙◌}
+use Rattle.std.proofs.Common.{◌≡◌, ◌<◌, ◌≤◌, List, ℕ, zero, suc, Bool, true, false, [], ◌∷◌, ◌++◌, length, map, get_or, replicate, Contains, Some, None, refl, sym, subst, inl, inr, ⊎_elim, arith, ap, ◌∙◌}
 use Rattle.std.specs.Prelude.{IsTrue, is_some, if◌then◌else◌, ◌==◌}
 use Rattle.std.proofs.lemmas.Bool.{true≢false, false≢true}
 use Rattle.prefix.specs.declared.quant.Quant.{Quant}
@@ -15,7 +15,7 @@ use Rattle.trail.specs.Open.{is_assigned}
 use Rattle.trail.specs.State.{TrailState}
 use Rattle.trail.specs.declared.allowed.Allowed.TheVariants.{Anything, NoDecision}
 use Rattle.derive.specs.State.{OpenClause, is_live, side_at}
-use Rattle.calculus.proofs.Lists.{contains_cons, contains_head, contains_nil}
+use Rattle.calculus.proofs.Lists.{contains_cons, contains_head, contains_nil, contains_tail}
 use Rattle.calculus.specs.Rows.{Row, depth_of}
 use Rattle.calculus.specs.Search.{Trail, is_decision, value_on}
 use Rattle.calculus.specs.Search.Cause.{Assumed, Decided}
@@ -29,7 +29,7 @@ use Rattle.rows.specs.Arena.{link_at}
 use Rattle.watch.specs.Links.{is_attached}
 use Rattle.search.specs.Finishes.{IsFinishId}
 use Rattle.search.specs.State.{AreAttached, AreMarked, rows_of}
-use Rattle.search.specs.Worked.{WorkedCounts, WorkedDue, WorkedFinds, WorkedFinishes, all_bad, all_true, attached_to, covered, detached, no_steps, once, search_of, search_over, three_of, trail_of, two_bad}
+use Rattle.search.specs.Worked.{WorkedCounts, WorkedDue, WorkedFinds, WorkedFinishes, all_bad, all_true, attached_to, covered, detached, framed, no_steps, once, search_of, search_over, three_of, trail_of, two_bad}
 
 -- the row has no mark of the other side
 not_theirs : (q : Quant) → is_attached q (rows_of (search_over q (attached_to (opposite q)) (all_bad q))) 0 ≡ false
@@ -142,6 +142,31 @@ each_of P a b c d x i = ⊎_elim (λ e. subst P e a)
 
 one_not_two : ◌≡◌ {A = ℕ} 1 2 → ⊥
 one_not_two e = absurd (omega arith)
+
+no_seven : ◌≡◌ {A = ℕ} 0 7 → ⊥
+no_seven e = absurd (omega arith)
+
+five_not_nine : ◌≡◌ {A = ℕ} 5 9 → ⊥
+five_not_nine e = absurd (omega arith)
+
+two_not_three : (ids : List ℕ) → length ids ≡ 3 → length {A = ℕ} (9 ∷ 5 ∷ 6 ∷ []) ≡ length {A = ℕ} (9 ∷ ids) → ⊥
+two_not_three ids many long = absurd (omega arith)
+
+not_so_long : three ∷ (plus 1 ∷ []) ∷ [] ≡ (plus 1 ∷ []) ∷ three ∷ [] → ⊥
+not_so_long e =
+    let same : ◌≡◌ {A = ℕ} 3 1 = ap (λ (rows : List Row). length (get_or rows 0 [])) e in
+    absurd (omega (arith, same))
+
+both_of_7 : (c : OpenClause) → Contains (framed 4 7 three ∷ framed 6 7 (plus 1 ∷ []) ∷ []) c → c.frame ≡ 7
+both_of_7 c at =
+    ⊎_elim
+    (λ e. ap (λ (x : OpenClause). x.frame) (sym e))
+    (λ rest.
+    ⊎_elim
+    (λ e. ap (λ (x : OpenClause). x.frame) (sym e))
+    (λ none. absurd (contains_nil c none))
+    (contains_cons (framed 6 7 (plus 1 ∷ [])) [] c rest))
+    (contains_cons (framed 4 7 three) (framed 6 7 (plus 1 ∷ []) ∷ []) c at)
 
 side_apart : Exists ≡ Forall → ⊥
 side_apart e = cc
@@ -268,6 +293,21 @@ counts = record {
   cubes = λ h. other_side (h 0 (0, omega arith, refl) refl);
   added = record { id = 4; clauses = refl };
   other_frame = λ a. one_not_zero (frame_of a.id a.clauses);
+  both_added = record {
+    added = framed 4 7 three ∷ framed 6 7 (plus 1 ∷ []) ∷ [];
+    clauses = refl;
+    has_rows =
+        refl;
+    of_frame = both_of_7;
+  };
+  one_elsewhere = λ a. no_seven (a.of_frame (framed 6 0 (plus 1 ∷ []))
+      (subst (λ (cs : List OpenClause). Contains cs (framed 6 0 (plus 1 ∷ []))) a.clauses
+      (contains_tail (framed 4 7 three) (framed 6 0 (plus 1 ∷ []) ∷ []) (framed 6 0 (plus 1 ∷ []))
+      (contains_head (framed 6 0 (plus 1 ∷ [])) []))));
+  turned = λ a. not_so_long (ap (map (λ (c : OpenClause). c.row)) a.clauses ∙ a.has_rows);
+  two_watched = record { added = 5 ∷ 6 ∷ []; many = refl; watched = refl };
+  not_before = λ w. five_not_nine (ap (λ (ids : List ℕ). get_or ids 0 0) w.watched);
+  not_three = λ w. two_not_three w.added w.many (ap (λ (ids : List ℕ). length ids) w.watched);
   no_signs = λ r. no_signs_of 2 (r.signs 3 (omega arith));
   no_room = record { trail = λ x l. omega arith; signs = λ x l. l };
   least_of_signs = refl;

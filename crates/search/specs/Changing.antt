@@ -1,5 +1,5 @@
 -- What a search keeps where the formula changes.
-use Rattle.std.specs.Prelude.{◌≡◌, ℕ, ◌≤◌, List, [], ◌∷◌, ◌++◌, length, min}
+use Rattle.std.specs.Prelude.{◌≡◌, ℕ, ◌≤◌, List, [], ◌∷◌, ◌++◌, length, map, min, Contains}
 use Rattle.prefix.specs.Scopes.{Scope}
 use Rattle.calculus.specs.Derivations.{Extends}
 use Rattle.calculus.specs.Rows.{Row}
@@ -11,9 +11,22 @@ pub record AddsClause (frame : ℕ) (row : Row) (old new : List OpenClause) : Ty
   pub id : ℕ
   pub clauses : new ≡ old ++ (record { id = id; frame = frame; row = row }) ∷ []
 
+-- one more open clause of a frame for each of these rows, behind the others
+pub record AddsClauses (frame : ℕ) (rows : List Row) (old new : List OpenClause) : Type 0 where
+  pub added : List OpenClause
+  pub clauses : new ≡ old ++ added
+  pub has_rows : map (λ (c : OpenClause). c.row) added ≡ rows
+  pub of_frame : (c : OpenClause) → Contains added c → c.frame ≡ frame
+
 -- one more row to watch, behind the others
 abbrev pub WatchesMore : List ℕ → List ℕ → Type 0
 WatchesMore old new = (id : ℕ) × (new ≡ old ++ id ∷ [])
+
+-- so many more rows to watch, behind the others
+pub record WatchesMany (count : ℕ) (old new : List ℕ) : Type 0 where
+  pub added : List ℕ
+  pub many : length added ≡ count
+  pub watched : new ≡ old ++ added
 
 -- there is room for the variables up to a number, on the trail and for their signs
 pub record IsRoomy (vars : ℕ) (s : SearchState) : Type 0 where

@@ -114,3 +114,26 @@ pub record TakesIn (scopes : List Scope) (old new : SearchState) (id : ℕ) : Ty
   pub stays : (side : Quant) (i : ℕ) → IsAttached old side i → IsAttached new side i
   pub was_live : (i : ℕ) → Contains old.watched i → IsTrue (is_live new.derivation i)
       → IsTrue (is_live old.derivation i)
+
+-- clauses came in, with these reductions to watch, which aren't attached yet; what was attached is so still
+pub record TakesAll (scopes : List Scope) (old new : SearchState) (ids : List ℕ) : Type 0 where
+  pub intact : IsIntact scopes new
+  pub tallied : IsTallied new
+  pub live : (id : ℕ) → Contains ids id → IsTrue (is_live new.derivation id)
+  pub trail : new.trail ≡ old.trail
+  pub joined : new.joined ≡ old.joined
+  pub watched : new.watched ≡ old.watched ++ ids
+  pub stays : (side : Quant) (i : ℕ) → IsAttached old side i → IsAttached new side i
+  pub was_live : (i : ℕ) → Contains old.watched i → IsTrue (is_live new.derivation i)
+      → IsTrue (is_live old.derivation i)
+
+-- these rows are attached, and what was attached is so still; nothing else changes
+pub record JoinsAll (scopes : List Scope) (old new : SearchState) (ids : List ℕ) : Type 0 where
+  pub intact : IsIntact scopes new
+  pub tallied : IsTallied new
+  pub steps : SameSteps old.derivation new.derivation
+  pub trail : new.trail ≡ old.trail
+  pub watched : new.watched ≡ old.watched
+  pub joined : new.joined ≡ old.joined
+  pub here : (id : ℕ) → Contains ids id → (side : Quant) × IsAttached new side id
+  pub stays : (side : Quant) (i : ℕ) → IsAttached old side i → IsAttached new side i

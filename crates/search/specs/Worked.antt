@@ -7,6 +7,7 @@ use Rattle.prefix.specs.Scopes.{Scope}
 use Rattle.prefix.specs.Sides.{opposite}
 use Rattle.steps.specs.Counter.{Counter}
 use Rattle.calculus.specs.Derivations.Why.{FinishedFrom, Given, ReducedFrom}
+use Rattle.calculus.specs.Rows.{Row}
 use Rattle.calculus.specs.Search.{Trail}
 use Rattle.calculus.specs.Search.Cause.{Assumed, Decided, Propagated}
 use Rattle.calculus.specs.Worked.{existential, minus, plus}
@@ -15,13 +16,13 @@ use Rattle.trail.specs.State.{Account, TrailState}
 use Rattle.trail.specs.declared.allowed.Allowed.TheVariants.{Anything, NoDecision}
 use Rattle.decide.specs.Memory.{Memory}
 use Rattle.cover.specs.Worked.{lone, mixed, three_scopes}
-use Rattle.derive.specs.State.{Note, State, with_step}
+use Rattle.derive.specs.State.{Note, OpenClause, State, with_step}
 use Rattle.clean.specs.Turns.{reductions_in}
 use Rattle.watch.specs.Links.{mark_of}
 use Rattle.watch.specs.State.{new_watch}
 use Rattle.search.specs.declared.outcome.Found.TheVariants.{Unit as IsUnit, Bad, Quiet}
 use Rattle.search.specs.declared.outcome.SolveStop.TheVariants.{Spent}
-use Rattle.search.specs.Changing.{AddsClause, IsRoomy, room_of}
+use Rattle.search.specs.Changing.{AddsClause, AddsClauses, IsRoomy, WatchesMany, room_of}
 use Rattle.search.specs.Counting.{IsBounded, IsCounted, ReducesFew, size_of}
 use Rattle.search.specs.Finishes.{GainsNoFinish, HasNoFinish, IsFinishId, finishes_in}
 use Rattle.search.specs.Forcing.{HasNoCubes, IsForced}
@@ -52,6 +53,10 @@ finished_three pivot =
 abbrev pub reduced_three : Quant → State
 reduced_three pivot =
     with_step (three_of pivot detached) (record { side = pivot; why = ReducedFrom 0; tag = 0 }) []
+
+-- an open clause with this id, of a frame
+abbrev pub framed : ℕ → ℕ → Row → OpenClause
+framed id frame row = record { id = id; frame = frame; row = row }
 
 -- a trail of these literals, each of which was assigned once
 abbrev pub trail_of : Trail → TrailState
@@ -200,6 +205,15 @@ pub record WorkedCounts : Type 0 where
   -- a clause comes last, with its frame
   pub added : AddsClause 1 three [] (record { id = 4; frame = 1; row = three } ∷ [])
   pub other_frame : AddsClause 1 three [] (record { id = 4; frame = 0; row = three } ∷ []) → ⊥
+  -- two clauses come last, both of their frame and in their order; and so many rows to watch, behind the others
+  pub both_added : AddsClauses 7 (three ∷ (plus 1 ∷ []) ∷ []) (framed 0 7 [] ∷ [])
+      (framed 0 7 [] ∷ framed 4 7 three ∷ framed 6 7 (plus 1 ∷ []) ∷ [])
+  pub one_elsewhere : AddsClauses 7 (three ∷ (plus 1 ∷ []) ∷ []) []
+      (framed 4 7 three ∷ framed 6 0 (plus 1 ∷ []) ∷ []) → ⊥
+  pub turned : AddsClauses 7 ((plus 1 ∷ []) ∷ three ∷ []) [] (framed 4 7 three ∷ framed 6 7 (plus 1 ∷ []) ∷ []) → ⊥
+  pub two_watched : WatchesMany 2 (9 ∷ []) (9 ∷ 5 ∷ 6 ∷ [])
+  pub not_before : WatchesMany 2 (9 ∷ []) (5 ∷ 6 ∷ 9 ∷ []) → ⊥
+  pub not_three : WatchesMany 3 (9 ∷ []) (9 ∷ 5 ∷ 6 ∷ []) → ⊥
   -- room for three variables, and none for a sign
   pub no_signs : IsRoomy 3 (search_over Exists detached []) → ⊥
   pub no_room : IsRoomy 0 (search_over Exists detached [])

@@ -1,5 +1,5 @@
 //! Rows that are attached to the watches, and detached.
-ghost use Rattle.std.specs.Prelude.{◌≡◌, ◌<◌, ℕ, IsTrue, List, Contains, length, slice_index, true, false, filter, ◌+◌, ◌-◌, ◌≤◌, if◌then◌else◌, OnOk};
+ghost use Rattle.std.specs.Prelude.{◌≡◌, ◌<◌, ℕ, IsTrue, List, Contains, drop, length, slice_index, true, false, filter, ◌+◌, ◌-◌, ◌≤◌, if◌then◌else◌, OnOk};
 ghost use Rattle.prefix.specs.Scopes.{Scope};
 ghost use Rattle.derive.specs.State.{has_rows, is_live, next_id, side_at};
 ghost use Rattle.watch.specs.Links.{is_attached};
@@ -8,7 +8,7 @@ ghost use Rattle.search.specs.State.{IsAttached, IsIntact, IsPaused, IsResting, 
 ghost use Rattle.search.specs.Long.{is_long};
 ghost use Rattle.search.specs.Moves.{SameSteps};
 ghost use Rattle.search.specs.Forcing.{HasNoCubes, NoCubeAttached};
-ghost use Rattle.search.specs.Watching.{Joins, Keeps, Parts};
+ghost use Rattle.search.specs.Watching.{Joins, JoinsAll, Keeps, Parts};
 
 use crate::forgetting::is_long;
 use crate::search::Search;
@@ -143,6 +143,18 @@ impl Search {
         forget_dropped(&mut self.watched, &self.derivation);
         self.tidy_at = self.watched.len().saturating_add(self.watched.len() / 4);
         for k in 0..self.watched.len() {
+            self.join_at(prefix, k);
+        }
+    }
+
+    // Attaches the rows to watch from a place on the list on.
+    pub(crate) fn join_from(&mut self, prefix: &Prefix, place: usize)
+        requires intact { IsIntact prefix.now self.old }
+        requires tallied { IsTallied self.old }
+        requires live { (id : ℕ) → Contains (drop place self.old.watched) id → IsTrue (is_live self.old.derivation id) }
+        ensures { JoinsAll prefix.now self.old self.new (drop place self.old.watched) }
+    {
+        for k in place..self.watched.len() {
             self.join_at(prefix, k);
         }
     }

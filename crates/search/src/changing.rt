@@ -1,9 +1,10 @@
 //! Changes of the formula, between solves.
-ghost use Rattle.std.specs.Prelude.{◌≡◌, ◌≤◌, ◌+◌, ◌==◌, ◌||◌, ℕ, IsTrue, List, not, filter, IfOk, OnOk, OnErr};
+ghost use Rattle.std.specs.Prelude.{◌≡◌, ◌≤◌, ◌+◌, ◌==◌, ◌||◌, ℕ, IsTrue, List, drop, length, not, filter, IfOk, OnOk, OnErr};
+ghost use Rattle.std.specs.List.{All, AllByRecursion};
 ghost use Rattle.prefix.specs.Scopes.{Scope};
 ghost use Rattle.calculus.specs.Derivations.{Extends};
 ghost use Rattle.calculus.specs.Rows.{IsRow};
-ghost use Rattle.derive.specs.Cubes.{misses};
+ghost use Rattle.derive.specs.Cubes.{misses, misses_one};
 ghost use Rattle.derive.specs.Dropping.{NoneOutsideBelow, has_tag, is_outside, mentions, names, unless_finish};
 ghost use Rattle.derive.specs.State.{OpenClause, SameStep, clauses_of, is_live, note_at};
 ghost use Rattle.clean.specs.Turns.{reductions_in};
@@ -12,16 +13,17 @@ ghost use Rattle.search.specs.Finishes.{GainsNoFinish, HasNoFinish};
 ghost use Rattle.search.specs.Forcing.{HasNoCubes};
 ghost use Rattle.search.specs.Leaving.{Loses, leaves};
 ghost use Rattle.search.specs.Moves.{KeepsOlder, SameSteps};
-ghost use Rattle.search.specs.Watching.{NoneFalls, TakesIn};
-ghost use Rattle.search.specs.Changing.{AddsClause, IsRoomy, RestingGrows, StaysResting, WatchesMore, room_of};
+ghost use Rattle.search.specs.Watching.{NoneFalls, TakesAll, TakesIn};
+ghost use Rattle.search.specs.Changing.{AddsClause, AddsClauses, IsRoomy, RestingGrows, StaysResting, WatchesMany, WatchesMore, room_of};
 
 use crate::leaving::Leaving;
 use crate::search::Search;
 use calculus::reductions_stay;
+use decide::Decider;
 use derive::{
     Derivation, StepId, clauses_are_listed, growth_laws, prefixes_may_change, prefixes_may_grow,
 };
-use prefix::{Lit, Prefix, Var};
+use prefix::{Lit, LitList, Prefix, Var};
 use steps::NoMemory;
 use watch::{agreeing_laws, holding_laws};
 
@@ -114,6 +116,70 @@ impl Search {
         Ok(id)
     }
 
+    /// Puts in clauses of a frame, each with its reduction where something goes, or none of them; the initial cubes
+    /// that hold no literal of one of them go, with all that rests on them, and the other cubes stay. With no memory
+    /// the steps are as they were. What was to be watched is so still, and the reductions come behind.
+    pub fn add_clauses(
+        &mut self,
+        prefix: &Prefix,
+        clauses: &[LitList],
+        frame: usize,
+    ) -> Result<(), NoMemory>
+        requires resting { IsResting prefix.now self.old }
+        requires rows { AllByRecursion (IsRow prefix.now) clauses.now }
+        ensures ok { OnOk result (AddsClauses frame clauses.now (clauses_of self.old.derivation)
+            (clauses_of self.new.derivation)) }
+        ensures err { OnErr result (SameSteps self.old.derivation self.new.derivation) }
+        ensures more { OnOk result (WatchesMany (length clauses.now) self.old.watched self.new.watched) }
+        ensures watched { OnErr result (self.new.watched ≡ self.old.watched) }
+        ensures fewer { OnErr result (self.new.long ≤ self.old.long) }
+        ensures resting { IsResting prefix.now self.new }
+        ensures cubes { HasNoCubes self.old → HasNoCubes self.new }
+        ensures finishes { GainsNoFinish self.old.derivation self.new.derivation }
+        ensures reductions { reductions_in self.new.derivation ≤ reductions_in self.old.derivation
+            + length clauses.now }
+        ensures older { KeepsOlder self.old.derivation self.new.derivation }
+    {
+        let from = self.derivation.missing_one_from(clauses);
+        self.part_from(from, &Leaving::Cubes);
+        let place = self.input_all(prefix, clauses, frame)?;
+        self.join_from(prefix, place);
+        Ok(())
+    }
+
+    // Puts in clauses of a frame with which no attached row falls, and answers the place on the list of rows to watch
+    // from which on their reductions stand.
+    fn input_all(
+        &mut self,
+        prefix: &Prefix,
+        clauses: &[LitList],
+        frame: usize,
+    ) -> Result<usize, NoMemory>
+        requires intact { IsIntact prefix.now self.old }
+        requires tallied { IsTallied self.old }
+        requires rows { All (IsRow prefix.now) clauses.now }
+        requires none { NoneFalls (misses_one clauses.now (rows_of self.old)) self.old }
+        ensures ok { OnOk result (AddsClauses frame clauses.now (clauses_of self.old.derivation)
+            (clauses_of self.new.derivation)) }
+        ensures more { OnOk result (WatchesMany (length clauses.now) self.old.watched self.new.watched) }
+        ensures err { OnErr result (self.new ≡ self.old) }
+        ensures takes { IfOk result (λ place. TakesAll prefix.now self.old self.new (drop place self.new.watched)) }
+        ensures cubes { OnOk result (HasNoCubes self.old → HasNoCubes self.new) }
+        ensures finishes { GainsNoFinish self.old.derivation self.new.derivation }
+        ensures reductions { reductions_in self.new.derivation ≤ reductions_in self.old.derivation
+            + length clauses.now }
+        ensures older { KeepsOlder self.old.derivation self.new.derivation }
+    {
+        holding_laws();
+        agreeing_laws();
+        growth_laws();
+        let place = self.watched.len();
+        self.derivation
+            .input_clauses(prefix, clauses, frame, &mut self.watched)?;
+        count_all(&mut self.decider, clauses);
+        Ok(place)
+    }
+
     /// Drops the clauses of a frame, with all that rests on them. This takes no memory.
     pub fn drop_frame(&mut self, frame: usize)
         requires { (scopes : List Scope) × IsResting scopes self.old }
@@ -199,6 +265,15 @@ impl Search {
         holding_laws();
         agreeing_laws();
         self.derivation.drop_finish();
+    }
+}
+
+// Counts the literals of clauses, for the signs that variables have at first.
+fn count_all(decider: &mut Decider, clauses: &[LitList])
+    ensures { decider.new ≡ decider.old }
+{
+    for clause in clauses {
+        decider.count(clause.lits());
     }
 }
 

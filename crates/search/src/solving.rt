@@ -26,7 +26,8 @@ use crate::outcome::{EndRow, Outcome, SolveStop};
 use crate::search::{LESSONS, Search};
 use calculus::{end_rows_give_proofs, proofs_decide};
 use derive::{StepId, same_clauses_serve, steps_are_listed};
-use prefix::{Lit, LitList, Prefix};
+use matrix::Matrix;
+use prefix::{Lit, Prefix};
 use qrp_trace::finishes_end_proofs;
 use steps::{NoMemory, Spent, Steps, Stop};
 use trail::Stopped;
@@ -53,7 +54,7 @@ impl Search {
     pub fn solve(
         &mut self,
         prefix: &Prefix,
-        matrix: &[LitList],
+        matrix: &Matrix<'_>,
         assumptions: &[Lit],
         restarts: u32,
         steps: &mut Steps,
@@ -130,7 +131,7 @@ impl Search {
     fn run(
         &mut self,
         prefix: &Prefix,
-        matrix: &[LitList],
+        matrix: &Matrix<'_>,
         assumptions: &[Lit],
         restarts: u32,
         steps: &mut Steps,
@@ -204,7 +205,7 @@ impl Search {
     fn conclude(
         &mut self,
         prefix: &Prefix,
-        matrix: &[LitList],
+        matrix: &Matrix<'_>,
         end: EndRow,
         assumptions: &[Lit],
     ) -> Result<Outcome, SolveStop>
@@ -237,7 +238,7 @@ impl Search {
     fn finish(
         &mut self,
         prefix: &Prefix,
-        matrix: &[LitList],
+        matrix: &Matrix<'_>,
         end: EndRow,
         assumptions: &[Lit],
     ) -> Result<StepId, NoMemory>

@@ -24,7 +24,8 @@ use crate::watching::next_of;
 use calculus::{reductions_keep_unit, row_laws, value_laws};
 use cover::cover;
 use derive::StepId;
-use prefix::{LitList, Prefix, Quant};
+use matrix::Matrix;
+use prefix::{Prefix, Quant};
 use steps::{Steps, Stop};
 use watch::{Event, agreeing_laws, holding_laws};
 
@@ -33,7 +34,7 @@ impl Search {
     pub(crate) fn turn(
         &mut self,
         prefix: &Prefix,
-        matrix: &[LitList],
+        matrix: &Matrix<'_>,
         restarts: u32,
         steps: &mut Steps,
     ) -> Result<Option<EndRow>, Stop>
@@ -105,7 +106,7 @@ impl Search {
     fn quiet(
         &mut self,
         prefix: &Prefix,
-        matrix: &[LitList],
+        matrix: &Matrix<'_>,
         restarts: u32,
         steps: &mut Steps,
     ) -> Result<Option<EndRow>, Stop>
@@ -135,7 +136,7 @@ impl Search {
     fn solution(
         &mut self,
         prefix: &Prefix,
-        matrix: &[LitList],
+        matrix: &Matrix<'_>,
         steps: &mut Steps,
     ) -> Result<StepId, Stop>
         requires searching { IsSearching prefix.now self.old }

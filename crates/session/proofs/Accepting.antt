@@ -9,12 +9,12 @@ use Rattle.prefix.specs.Refusals.{scope_refusal, variable_refusal}
 use Rattle.prefix.specs.Scopes.{Scope, level_of}
 use Rattle.frames.specs.declared.refusal.FrameRefusal.{FrameRefusal}
 use Rattle.frames.specs.declared.refusal.FrameRefusal.TheVariants.{AssumptionsHeld, NoMemory as NoSpace}
-use Rattle.frames.specs.Commands.{AddClause, AddScope, AddVariable, Assume, Command as FrameCommand, Pop, Push, Solve as Decide, first_of, formula_after, is_empty, prefix_refusals, refusal_of}
-use Rattle.frames.specs.Fold.{ScriptState, accepted, counted, state_after, unless_refused, verdict_after}
+use Rattle.frames.specs.Commands.{Activate, AddClause, AddScope, AddVariable, Assume, CloseGroup, Command as FrameCommand, Deactivate, OpenGroup, Pop, Push, Solve as Decide, first_of, formula_after, is_empty, prefix_refusals, refusal_of}
+use Rattle.frames.specs.Fold.{ScriptState, accepted, counted, returning, state_after, unless_refused, verdict_after}
 use Rattle.frames.specs.Refusal.{number_of}
 use Rattle.frames.specs.State.{OpenFormula}
 use Rattle.ports.proofs.Pieces.{nothing}
-use Rattle.engine.specs.Counting.{with_clause}
+use Rattle.engine.specs.Counting.{with_clause, with_clauses}
 use Rattle.engine.specs.State.{EngineState, VerdictState, changed}
 use Rattle.qscript.specs.declared.command.Command.{Command}
 use Rattle.session.specs.declared.reply.Reply.{Reply}
@@ -105,30 +105,39 @@ pub always : (r : Result (Unit {0}) FrameRefusal) → IsOk r → (x : FrameRefus
 always (Ok u) h x e = absurd (cc)
 always (Err y) h x e = absurd (cc)
 
--- how many clauses were accepted after a change
-abbrev pub clauses_after : ℕ → FrameCommand → ℕ
-clauses_after n (AddScope quant at) = n
-clauses_after n (AddVariable var scope) = n
-clauses_after n (AddClause clause) = n + 1
-clauses_after n Push = n
-clauses_after n Pop = n
-clauses_after n (Assume lit) = n
-clauses_after n (Decide answer) = n
+-- how many clauses were accepted, or came back with their group, after a change of a formula
+abbrev pub clauses_after : OpenFormula → ℕ → FrameCommand → ℕ
+clauses_after f n (AddScope quant at) = n
+clauses_after f n (AddVariable var scope) = n
+clauses_after f n (AddClause clause) = n + 1
+clauses_after f n Push = n
+clauses_after f n Pop = n
+clauses_after f n (Assume lit) = n
+clauses_after f n (Decide answer) = n
+clauses_after f n (OpenGroup group) = n
+clauses_after f n CloseGroup = n
+clauses_after f n (Activate group) = n + returning f group
+clauses_after f n (Deactivate group) = n
 
-no_fewer : (m n : ℕ) (change : FrameCommand) → m ≤ n → clauses_after m change ≤ clauses_after n change
-no_fewer m n (AddScope quant at) le = le
-no_fewer m n (AddVariable var scope) le = le
-no_fewer m n (AddClause clause) le = omega (arith, le)
-no_fewer m n Push le = le
-no_fewer m n Pop le = le
-no_fewer m n (Assume lit) le = le
-no_fewer m n (Decide answer) le = le
+no_fewer : (f : OpenFormula) (m n : ℕ) (change : FrameCommand) → m ≤ n
+    → clauses_after f m change ≤ clauses_after f n change
+no_fewer f m n (AddScope quant at) le = le
+no_fewer f m n (AddVariable var scope) le = le
+no_fewer f m n (AddClause clause) le = omega (arith, le)
+no_fewer f m n Push le = le
+no_fewer f m n Pop le = le
+no_fewer f m n (Assume lit) le = le
+no_fewer f m n (Decide answer) le = le
+no_fewer f m n (OpenGroup group) le = le
+no_fewer f m n CloseGroup le = le
+no_fewer f m n (Activate group) le = omega (arith, le)
+no_fewer f m n (Deactivate group) le = le
 
 -- what an accepted change leaves of the engine
 pub record HasChanged (change : FrameCommand) (before e : EngineState) : Type 0 where
   pub formula : e.formula ≡ formula_after before.formula change
   pub verdict : e.verdict ≡ None
-  pub clauses : e.counts.clauses ≤ clauses_after before.counts.clauses change
+  pub clauses : e.counts.clauses ≤ clauses_after before.formula before.counts.clauses change
   pub solves : e.counts.solves ≡ before.counts.solves
   pub budget : e.counts.budget ≡ before.counts.budget
   pub vars : e.counts.vars ≡ before.counts.vars
@@ -137,7 +146,7 @@ pub record HasChanged (change : FrameCommand) (before e : EngineState) : Type 0 
 
 pub has_changed : (change : FrameCommand) (before e : EngineState) (long : ℕ)
     → e ≡ record (changed before change) { kept_long = long }
-    → clauses_after before.counts.clauses change ≡ before.counts.clauses → HasChanged change before e
+    → clauses_after before.formula before.counts.clauses change ≡ before.counts.clauses → HasChanged change before e
 has_changed change before e long same none_more = record {
   formula = ap (λ (f : EngineState). f.formula) same;
   verdict = ap (λ (f : EngineState). f.verdict) same;
@@ -160,6 +169,25 @@ has_clause clause before e same = record {
   verdict = ap (λ (f : EngineState). f.verdict) same;
   clauses =
       let count : e.counts.clauses ≡ min (before.counts.clauses + 1) (2 ^ 64 - 1) =
+      ap (λ (f : EngineState). f.counts.clauses) same in omega (arith, count);
+  solves = ap (λ (f : EngineState). f.counts.solves) same;
+  budget = ap (λ (f : EngineState). f.counts.budget) same;
+  vars = ap (λ (f : EngineState). f.counts.vars) same;
+  restarts = ap (λ (f : EngineState). f.restarts) same;
+  most_restarts = ap (λ (f : EngineState). f.counts.restarts) same;
+}
+
+pub has_group : (group : ℕ) (before e : EngineState)
+    → e ≡ record (changed before (Activate group)) {
+      counts = with_clauses (returning before.formula group) before.counts;
+      kept_long = e.kept_long;
+    }
+    → HasChanged (Activate group) before e
+has_group group before e same = record {
+  formula = ap (λ (f : EngineState). f.formula) same;
+  verdict = ap (λ (f : EngineState). f.verdict) same;
+  clauses =
+      let count : e.counts.clauses ≡ min (before.counts.clauses + returning before.formula group) (2 ^ 64 - 1) =
       ap (λ (f : EngineState). f.counts.clauses) same in omega (arith, count);
   solves = ap (λ (f : EngineState). f.counts.solves) same;
   budget = ap (λ (f : EngineState). f.counts.budget) same;
@@ -192,7 +220,7 @@ module _ {S : Type 0} (written flushed : S → Option (List ℕ)) (faults : S �
     (left : left_by command s ≡ s)
     (drops : verdict_after s.script.formula change ≡ None)
     (same_solves : (counted s.script change).solves ≡ s.script.solves)
-    (same_clauses : (counted s.script change).clauses ≡ clauses_after s.script.clauses change)
+    (same_clauses : (counted s.script change).clauses ≡ clauses_after s.script.formula s.script.clauses change)
     (same_greatest : (counted s.script change).greatest ≡ s.script.greatest)
     (numbered : (f : OpenFormula) → HasNumber (refusal_of f change)) where
   abbrev next : Standing
@@ -222,8 +250,9 @@ module _ {S : Type 0} (written flushed : S → Option (List ℕ)) (faults : S �
         (ap (λ (t : ScriptState). t.solves) (state_is none) ∙ same_solves));
     clauses =
         let few = leaves.clauses in
-        let more = no_fewer before.counts.clauses s.script.clauses change holds.clauses in
-        let all = ap (λ (t : ScriptState). t.clauses) (state_is none) ∙ same_clauses in
+        let more = no_fewer before.formula before.counts.clauses s.script.clauses change holds.clauses in
+        let all = ap (λ (t : ScriptState). t.clauses) (state_is none) ∙ same_clauses
+        ∙ ap (λ f. clauses_after f s.script.clauses change) holds.formula in
         omega (arith, few, more, all);
     budgets = let same = leaves.budget in let low = holds.budgets in omega (arith, same, low);
     restarts = leaves.restarts ∙ holds.restarts;

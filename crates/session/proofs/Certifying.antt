@@ -8,7 +8,7 @@ use Rattle.prefix.specs.Scopes.{quantifier_of}
 use Rattle.calculus.specs.Plays.{AgreeBefore, Circuit, DependsOnEarlier, Wins, total}
 use Rattle.calculus.specs.Rows.{Assignment}
 use Rattle.calculus.proofs.Lists.{contains_cons, contains_head, contains_nil, contains_tail}
-use Rattle.frames.specs.State.{clauses_in}
+use Rattle.frames.specs.State.{open_clauses}
 use Rattle.aig.specs.Circuits.{AreDistinct, IsEdge, IsGate, edge_number, value_of}
 use Rattle.aig.specs.Strategies.{values_of}
 use Rattle.aig.specs.Worked.{both_gate, gate, none_gate}
@@ -211,7 +211,7 @@ trimmed_bytes_denote = record {
 -- both circuits give 7 where neither 2 nor 5 is true
 
 matrix_holds : (values : Assignment) (a b : Bool) → values 2 ≡ a → values 5 ≡ b → values 7 ≡ (not b && not a)
-    → matrix_true (total values) (clauses_in neither.frames) ≡ true
+    → matrix_true (total values) (open_clauses neither) ≡ true
 matrix_holds values true true two five both = rw (two, five, both) refl
 matrix_holds values true false two five both = rw (two, five, both) refl
 matrix_holds values false true two five both = rw (two, five, both) refl
@@ -219,7 +219,7 @@ matrix_holds values false false two five both = rw (two, five, both) refl
 
 module _ (play : Circuit) (two : (v : Assignment) → play v 2 ≡ v 2) (five : (v : Assignment) → play v 5 ≡ v 5)
     (neither_is : (v : Assignment) → play v 7 ≡ (not (v 5) && not (v 2))) where
-  plays_win : Wins Forall neither.scopes (clauses_in neither.frames) [] play
+  plays_win : Wins Forall neither.scopes (open_clauses neither) [] play
   plays_win v allowed = (
     matrix_holds (play v) (v 2) (v 5) (two v) (five v) (neither_is v),
     λ x b e. absurd (let f : None ≡ Some b = e in cc),

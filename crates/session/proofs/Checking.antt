@@ -48,7 +48,7 @@ use Rattle.session.specs.State.{Holds}
 use Rattle.session.specs.Steps.{IsDecided}
 use Rattle.session.specs.Stops.{AddsEntry, IsStopAt}
 use Rattle.session.specs.Terms.{Terms}
-use Rattle.session.proofs.Jobs.{decided}
+use Rattle.session.proofs.Jobs.{decided, rows_open}
 use Rattle.session.proofs.Scripting.{flushed_kept, front_all, some_map}
 
 -- the certificate of a verdict
@@ -130,7 +130,7 @@ module _ (terms : Terms) (f : Formula) (value : Bool) (circuit : Strategy) (has 
 
     wins : Wins (opposite circuit.winner) f.prefix f.clauses [] (values_of circuit)
     wins = subst (λ q. Wins q f.prefix f.clauses [] (values_of circuit)) loser
-        (subst (λ rows. Wins (loser_of value) f.prefix rows [] (values_of circuit)) (append-nil f.clauses)
+        (subst (λ rows. Wins (loser_of value) f.prefix rows [] (values_of circuit)) (rows_open f)
         has.certifies.wins)
 
     pub is_false : (g : Formula)

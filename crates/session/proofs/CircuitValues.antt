@@ -8,7 +8,7 @@ use Rattle.truth.specs.Matrix.{matrix_true}
 use Rattle.calculus.specs.Plays.{AgreeBefore, DependsOnEarlier, total}
 use Rattle.calculus.specs.Rows.{Assignment}
 use Rattle.calculus.proofs.Lists.{contains_cons, contains_head, contains_nil}
-use Rattle.frames.specs.State.{clauses_in}
+use Rattle.frames.specs.State.{open_clauses}
 use Rattle.aig.specs.Circuits.{AreDistinct, IsEdge, edge_number, one, value_of, zero}
 use Rattle.aig.specs.Strategies.{output_of, value_or, values_of}
 use Rattle.aig.specs.declared.edge.Edge.{Edge}
@@ -89,9 +89,9 @@ never_value v = refl
 
 -- without 3 and 4 the formula is lost
 pub three_or_four : (values : Assignment) → values 3 ≡ false → values 4 ≡ false
-    → matrix_true (total values) (clauses_in either.frames) ≡ true → ⊥
+    → matrix_true (total values) (open_clauses either) ≡ true → ⊥
 three_or_four values three four won =
-    let lost : matrix_true (total values) (clauses_in either.frames) ≡ false = rw (three, four) refl in
+    let lost : matrix_true (total values) (open_clauses either) ≡ false = rw (three, four) refl in
     false≢true (sym lost ∙ won)
 
 -- true where 4 is false

@@ -5,7 +5,7 @@ use Rattle.std.specs.Io.KnownBytes.{Appends}
 use Rattle.prefix.specs.Literal.{Literal}
 use Rattle.calculus.specs.Plays.{Circuit, DependsOnEarlier, Wins}
 use Rattle.frames.specs.Fold.{Given}
-use Rattle.frames.specs.State.{OpenFormula, clauses_in}
+use Rattle.frames.specs.State.{OpenFormula, open_clauses}
 use Rattle.engine.specs.Verdicts.{loser_of}
 use Rattle.aig.specs.declared.edge.Edge.{Edge}
 use Rattle.aig.specs.declared.edge.Node.TheVariants.{Constant}
@@ -44,7 +44,7 @@ still_certifies formula given values bound old new is trimmed kept plays = recor
   winner = trimmed.winner ∙ is.winner;
   inputs = trimmed.inputs ∙ is.inputs;
   outputs = trimmed.vars ∙ is.outputs;
-  wins = subst (Wins (loser_of given.truth) formula.scopes (clauses_in formula.frames) given.assumptions) (sym plays)
+  wins = subst (Wins (loser_of given.truth) formula.scopes (open_clauses formula) given.assumptions) (sym plays)
       is.wins;
   earlier = subst (DependsOnEarlier (loser_of given.truth) formula.scopes) (sym plays) is.earlier;
   assumed = λ x b some apart. ap (λ outputs. output_of outputs x) kept.outputs

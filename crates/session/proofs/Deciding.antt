@@ -10,7 +10,7 @@ use Rattle.calculus.specs.Verdicts.{IsProof}
 use Rattle.trail.specs.State.{Account}
 use Rattle.frames.specs.Commands.{Solve as Decide, Stop, Verdict as Found}
 use Rattle.frames.specs.Fold.{state_after}
-use Rattle.frames.specs.State.{OpenFormula, clauses_in}
+use Rattle.frames.specs.State.{OpenFormula, open_clauses}
 use Rattle.calculus.specs.Limits.{propagation_limit}
 use Rattle.search.specs.Counting.{size_of}
 use Rattle.search.specs.Stops.{IsQuickStop}
@@ -64,7 +64,7 @@ module _ (terms : Terms) (s : Standing) (before e : EngineState) (holds : Holds 
 
   module _ (v : Verdict) (t : Bool) (same : v.truth ≡ t)
       (truth : v.truth ≡ truth_under before.formula.assumptions before.formula.scopes
-      (clauses_in before.formula.frames)) (proof : HasProof before.formula v e.verdict)
+      (open_clauses before.formula)) (proof : HasProof before.formula v e.verdict)
       (emptied : e.formula ≡ record before.formula { assumptions = [] }) (same_restarts : e.restarts ≡ before.restarts)
       (counts : e.counts ≡ with_solve terms.budget before.restarts (size_of before.formula.scopes) before.counts)
       (plays : IfSome e.verdict (PlaysFirst e.formula)) where
@@ -117,7 +117,7 @@ module _ (terms : Terms) (s : Standing) (before e : EngineState) (holds : Holds 
     witness : IsWitness before.formula (record { truth = t; assumptions = before.formula.assumptions })
         (record { proof = state.proof; values = first_values e.formula state })
     witness = record {
-      proof = subst (λ b. IsProof (loser_of b) before.formula.scopes (clauses_in before.formula.frames)
+      proof = subst (λ b. IsProof (loser_of b) before.formula.scopes (open_clauses before.formula)
           before.formula.assumptions state.proof) same proof.proof;
       values = first;
     }
@@ -155,7 +155,7 @@ module _ (terms : Terms) (s : Standing) (before e : EngineState) (holds : Holds 
       (same_restarts : e.restarts ≡ before.restarts)
       (counts : e.counts ≡ with_solve counter.budget before.restarts (size_of before.formula.scopes) before.counts)
       (stop : IsStopFor before.restarts before.formula counter now (Spent stopped))
-      (quick : before.counts.solves ≡ 0 → IsRefuted before.formula.scopes (clauses_in before.formula.frames)
+      (quick : before.counts.solves ≡ 0 → IsRefuted before.formula.scopes (open_clauses before.formula)
       before.formula.assumptions → IsQuickStop (size_of before.formula.scopes) counter (Spent stopped)) where
     abbrev left_over : Standing
     left_over = record s { script = state_after s.script (Decide Stop) }
@@ -206,10 +206,10 @@ module _ (terms : Terms) (s : Standing) (before e : EngineState) (holds : Holds 
           restarts = subst (λ r. stopped.restarts ≤ r) holds.restarts stop.stops.restarts;
         }
 
-        slow : s.script.solves ≡ 0 → IsRefuted s.script.formula.scopes (clauses_in s.script.formula.frames)
+        slow : s.script.solves ≡ 0 → IsRefuted s.script.formula.scopes (open_clauses s.script.formula)
             s.script.formula.assumptions → terms.budget < propagation_limit (size_of s.script.formula.scopes)
         slow zero refuted =
             let first : before.counts.solves ≡ 0 = holds.solves ∙ ap (λ m. min m (2 ^ 64 - 1)) zero in
             subst (λ (g : OpenFormula). terms.budget < propagation_limit (size_of g.scopes)) (sym holds.formula)
-            (let fast = quick first (subst (λ (g : OpenFormula). IsRefuted g.scopes (clauses_in g.frames)
+            (let fast = quick first (subst (λ (g : OpenFormula). IsRefuted g.scopes (open_clauses g)
             g.assumptions) holds.formula refuted) in omega (arith, fresh, whole))

@@ -36,7 +36,7 @@ clause_taken scopes rows row valid over few low =
     let long : length (variables_of (numbers row)) ≡ length row = amount row positive over.0 in
     let one : nat_le max_clauses (length rows) ≡ false = grind (arith, nat_tests, few) in
     let two : nat_lt max_literals (literals_in rows + length row) ≡ false = grind (arith, nat_tests, low) in
-    rw (known, no_tautology row positive over.0, append-nil rows, long, one, two) refl
+    rw (known, no_tautology row positive over.0, append-nil rows, append-nil rows, append-nil rows, long, one, two) refl
 
 pub clause_given : (scopes : List Scope) (rows : List (List Literal)) (row : List Literal) → IsPrefix scopes → IsClauseOver scopes row → formula_after (formula_with scopes rows) (AddClause (numbers row)) ≡ formula_with scopes (rows ++ row ∷ [])
 clause_given scopes rows row valid over =

@@ -14,7 +14,7 @@ use Rattle.calculus.specs.Search.{IsRefuted}
 use Rattle.calculus.specs.Limits.{weight_bound}
 use Rattle.frames.specs.Commands.{Solve as Decide, Verdict as Found}
 use Rattle.frames.specs.Fold.{Given, ScriptState, state_after}
-use Rattle.frames.specs.State.{OpenFormula, clauses_in}
+use Rattle.frames.specs.State.{OpenFormula, open_clauses}
 use Rattle.search.specs.Counting.{size_of}
 use Rattle.engine.specs.State.{EngineState}
 use Rattle.qscript.specs.declared.command.Command.{Command}
@@ -85,13 +85,17 @@ pub record Decided (terms : Terms) (f : Formula) (a : Answer) (told : List Accou
   pub right : IsAnswerTo terms f a
   pub entry : (old : List Account) → AddsEntry (IsStopAt terms (size_of f.prefix)) old (old ++ told) a
 
+-- a formula that is built has its clauses open
+pub rows_open : (f : Formula) → open_clauses (opened f) ≡ f.clauses
+rows_open f = append-nil (f.clauses ++ []) ∙ append-nil f.clauses
+
 module _ (plain : (scopes : _) (clauses : List Row) → truth_under [] scopes clauses ≡ truth scopes clauses)
     (terms : Terms) (f : Formula) where
   size : max 0 (size_of f.prefix) ≡ size_of f.prefix
   size = omega arith
 
   by_truth : (t : Bool) (after : Standing) (told : List Account) → told ≡ []
-      → truth_under [] f.prefix (clauses_in (opened f).frames) ≡ t
+      → truth_under [] f.prefix (open_clauses (opened f)) ≡ t
       → IsWitness (opened f) (unassumed t) after.witness
       → after.script ≡ state_after (built f).script (Decide (Found t)) → Decided terms f (answer_with t) told after
   by_truth t after told none right witness state = record {
@@ -103,7 +107,7 @@ module _ (plain : (scopes : _) (clauses : List Row) → truth_under [] scopes cl
       verdict = of t (ap (λ (s : ScriptState). s.verdict) state) witness;
     };
     right = rightly t (sym (plain f.prefix f.clauses)
-        ∙ ap (truth_under [] f.prefix) (sym (append-nil f.clauses)) ∙ right);
+        ∙ ap (truth_under [] f.prefix) (sym (rows_open f)) ∙ right);
     entry = λ old. none_told t old (ap (λ l. old ++ l) none ∙ append-nil old);
   }
     where
@@ -146,7 +150,7 @@ module _ (plain : (scopes : _) (clauses : List Row) → truth_under [] scopes cl
             right = record {
               limit = h.short;
               propagation = λ refuted. h.slow refl
-                  (subst (λ rows. IsRefuted f.prefix rows []) (sym (append-nil f.clauses)) refuted);
+                  (subst (λ rows. IsRefuted f.prefix rows []) (sym (rows_open f)) refuted);
             };
             entry = λ old. (
               h.stopped,

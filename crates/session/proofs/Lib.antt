@@ -6,6 +6,7 @@ pub mod Checking
 pub mod CircuitValues
 pub mod Circuits
 pub mod Telling
+pub mod Coring
 pub mod Deciding
 pub mod Accepting
 pub mod Gates

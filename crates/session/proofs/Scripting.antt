@@ -41,12 +41,12 @@ IsReader reading = (text : List ℕ) (version : Option Version) (cs : List Comma
 
 -- behind a header what is to come is the rest of the text, by the version that the header names
 pub headed_text : (known : Option (List ℕ)) (reading : Option (List ℕ) → Option Reading) (after : Option Script)
-    (version : Version) → AllRead → IsReader reading → Heads (Ok version) (reading known) after
+    (version : Version) → AllRead → IsReader reading → Heads (Ok version) (reading known) (λ _. after)
     → IsOfText known (Some version) after
 headed_text None reading after version all law heads = tt
 headed_text (Some text) reading after version all law heads =
     let r = all text in
-    let is = subst (λ o. Heads (Ok version) o after) (law text r.0 r.1 r.2 r.3) heads in
+    let is = subst (λ o. Heads (Ok version) o (λ _. after)) (law text r.0 r.1 r.2 r.3) heads in
     (r.1, r.2, subst (λ v. ReadsScript text v r.1 r.2) is.0 r.3, is.1)
 
 pub some_map : {X : Type 0} (o : Option X) (P Q : X → Type 0) → ((x : X) → P x → Q x) → IfSome o P → IfSome o Q

@@ -16,12 +16,12 @@ use Rattle.calculus.specs.Rows.{Assignment, Row}
 use Rattle.calculus.specs.Search.{IsRefuted}
 use Rattle.calculus.specs.Verdicts.{relevant_of}
 use Rattle.trail.specs.State.{Account}
-use Rattle.frames.specs.Commands.{AddClause, AddScope, AddVariable, Assume as AssumeLiteral, Command as FrameCommand, Pop as PopFrame, Push as PushFrame, Solve as Decide, Stop, Verdict, refusal_of}
+use Rattle.frames.specs.Commands.{Activate as ActivateGroup, AddClause, AddScope, AddVariable, Assume as AssumeLiteral, CloseGroup as CloseFrames, Command as FrameCommand, Deactivate as DeactivateGroup, OpenGroup as OpenFrames, Pop as PopFrame, Push as PushFrame, Solve as Decide, Stop, Verdict, refusal_of}
 use Rattle.frames.specs.Fold.{Given, ScriptState, state_after}
 use Rattle.frames.specs.Refusal.{number_of}
-use Rattle.frames.specs.State.{OpenFormula, clauses_in}
+use Rattle.frames.specs.State.{OpenFormula, open_clauses}
 use Rattle.qrp_trace.specs.Cores.{IsNumbered, Trace as TraceCore, inferences_of}
-use Rattle.qrp_trace.specs.Texts.{literal_word, qrp_text}
+use Rattle.qrp_trace.specs.Texts.{literal_word, number_word, qrp_text}
 use Rattle.aig.specs.declared.edge.Node.TheVariants.{Constant}
 use Rattle.aig.specs.declared.strategy.Strategy.{Strategy}
 use Rattle.aig.specs.Strategies.{output_of, output_vars, values_of}
@@ -29,10 +29,11 @@ use Rattle.aiger_out.specs.Aag.{IsAagText}
 use Rattle.aiger_out.specs.Binary.{IsAigBytes}
 use Rattle.trim.specs.Trimmed.{IsReached}
 use Rattle.search.specs.Counting.{size_of}
+use Rattle.engine.specs.Cores.{HasCore, core_of}
 use Rattle.engine.specs.Refusals.{is_outermost, winner_of}
 use Rattle.engine.specs.Verdicts.{loser_of}
 use Rattle.qscript.specs.declared.command.Command.{Command}
-use Rattle.qscript.specs.declared.command.Command.TheVariants.{Scope as ScopeCommand, Var, Clause, Push, Pop, Assume, Solve, Value, Relevant, Trace, Cert}
+use Rattle.qscript.specs.declared.command.Command.TheVariants.{Scope as ScopeCommand, Var, Clause, Push, Pop, Assume, Solve, Value, Relevant, Trace, Cert, OpenGroup, CloseGroup, Activate, Deactivate, GroupCore}
 use Rattle.session.specs.Standing.{IsWitness, Standing, start}
 use Rattle.session.specs.Stops.{IsStopAt}
 use Rattle.session.specs.Terms.{Terms}
@@ -71,6 +72,11 @@ abbrev pub no_value : List Scope → Option Given → ℕ → Option ℕ
 no_value scopes None v = Some 50
 no_value scopes (Some given) v = no_first scopes given.truth v
 
+-- without a verdict, or where it is that the formula is true
+abbrev pub no_core : Option Given → Option ℕ
+no_core None = Some 50
+no_core (Some given) = if given.truth then Some 53 else None
+
 -- by the fold over commands
 abbrev pub no_change : OpenFormula → FrameCommand → Option ℕ
 no_change formula command = option_and_then number_of (refusal_of formula command)
@@ -87,6 +93,11 @@ refusal_number s (Value v) = no_value s.script.formula.scopes s.script.verdict v
 refusal_number s Relevant = no_verdict s.script.verdict
 refusal_number s Trace = no_verdict s.script.verdict
 refusal_number s Cert = no_verdict s.script.verdict
+refusal_number s (OpenGroup group) = no_change s.script.formula (OpenFrames group)
+refusal_number s CloseGroup = no_change s.script.formula CloseFrames
+refusal_number s (Activate group) = no_change s.script.formula (ActivateGroup group)
+refusal_number s (Deactivate group) = no_change s.script.formula (DeactivateGroup group)
+refusal_number s GroupCore = no_core s.script.verdict
 
 -- the texts of replies
 
@@ -102,6 +113,10 @@ value_text l = codes "value " ++ (literal_number l ++ codes "\n")
 
 abbrev pub relevant_text : List Literal → Text
 relevant_text lits = codes "relevant " ++ (flat_map literal_word lits ++ codes "0\n")
+
+-- the numbers of groups, and a 0
+abbrev pub core_text : List ℕ → Text
+core_text groups = codes "core " ++ (flat_map number_word groups ++ codes "0\n")
 
 abbrev pub verdict_text : Bool → Text
 verdict_text true = codes "SAT\n"
@@ -143,7 +158,7 @@ pub record Certifies (formula : OpenFormula) (given : Given) (values : List Lite
   pub winner : strategy.winner ≡ winner_of given.truth
   pub inputs : strategy.inputs ≡ variables_with (loser_of given.truth) formula.scopes
   pub outputs : output_vars strategy.outputs ≡ variables_with (winner_of given.truth) formula.scopes
-  pub wins : Wins (loser_of given.truth) formula.scopes (clauses_in formula.frames) given.assumptions
+  pub wins : Wins (loser_of given.truth) formula.scopes (open_clauses formula) given.assumptions
       (values_of strategy)
   pub earlier : DependsOnEarlier (loser_of given.truth) formula.scopes (values_of strategy)
   pub assumed : (x : ℕ) (b : Bool) → assumed_value given.assumptions x ≡ Some b
@@ -193,7 +208,7 @@ pub record Tells (s : Standing) (IsTold : Given → Text → Type 0) (out : Outp
 pub record Decides (s : Standing) (out : Output) (after : Standing) : Type 0 where
   pub truth : Bool
   pub right : truth_under s.script.formula.assumptions s.script.formula.scopes
-      (clauses_in s.script.formula.frames) ≡ truth
+      (open_clauses s.script.formula) ≡ truth
   pub witness : IsWitness s.script.formula (record {
     truth = truth;
     assumptions = s.script.formula.assumptions;
@@ -207,11 +222,28 @@ pub record Decides (s : Standing) (out : Output) (after : Standing) : Type 0 whe
 pub record GivesUp (terms : Terms) (s : Standing) (out : Output) (after : Standing) : Type 0 where
   pub stopped : Account
   pub short : terms.budget < step_limit terms.restarts (size_of s.script.formula.scopes)
-  pub slow : s.script.solves ≡ 0 → IsRefuted s.script.formula.scopes (clauses_in s.script.formula.frames)
+  pub slow : s.script.solves ≡ 0 → IsRefuted s.script.formula.scopes (open_clauses s.script.formula)
       s.script.formula.assumptions → terms.budget < propagation_limit (size_of s.script.formula.scopes)
   pub stop : IsStopAt terms (size_of s.script.formula.scopes) stopped
   pub says_unknown : out ≡ record { text = codes "UNKNOWN\n"; stops = stopped ∷ [] }
   pub state : after ≡ record s { script = state_after s.script (Decide Stop) }
+
+-- The core is that of the verdict's assumptions: with its groups the open formula is false, and without any one of them
+-- it is true. Nothing changes.
+pub record TellsCore (s : Standing) (out : Output) (after : Standing) : Type 0 where
+  pub told : IfSome s.script.verdict (λ given.
+      (out ≡ says (core_text (core_of s.script.formula given.assumptions)))
+      × HasCore s.script.formula given.assumptions)
+  pub same : after ≡ s
+
+-- Without a core the budget is below the step limit of the formula's variables, and a search over these stopped at it.
+-- Nothing changes: the verdict stays.
+pub record GivesUpCore (terms : Terms) (s : Standing) (out : Output) (after : Standing) : Type 0 where
+  pub stopped : Account
+  pub short : terms.budget < step_limit terms.restarts (size_of s.script.formula.scopes)
+  pub stop : IsStopAt terms (size_of s.script.formula.scopes) stopped
+  pub says_unknown : out ≡ record { text = codes "UNKNOWN\n"; stops = stopped ∷ [] }
+  pub same : after ≡ s
 
 abbrev pub IsAccepted : Terms → Standing → Command → Output → Standing → Type 0
 IsAccepted terms s (ScopeCommand quant at) out after = Changes s (AddScope quant at) out after
@@ -230,6 +262,11 @@ IsAccepted terms s Trace out after =
 IsAccepted terms s Cert out after =
     Tells s (λ given text. IsCertText s.script.formula given s.witness.values (gates_after terms s.script) text) out
     after
+IsAccepted terms s (OpenGroup group) out after = Changes s (OpenFrames group) out after
+IsAccepted terms s CloseGroup out after = Changes s CloseFrames out after
+IsAccepted terms s (Activate group) out after = Changes s (ActivateGroup group) out after
+IsAccepted terms s (Deactivate group) out after = Changes s (DeactivateGroup group) out after
+IsAccepted terms s GroupCore out after = TellsCore s out after ⊎ GivesUpCore terms s out after
 
 -- A refused command says its number, and changes nothing.
 abbrev pub IsReplyWith : Option ℕ → Terms → Standing → Command → Output → Standing → Type 0

@@ -58,10 +58,10 @@ abbrev pub AreFirst : List ℕ → Option Version → List Command → Type 0
 AreFirst text version commands =
     (rest : List Command) × (ending : ScriptEnding) × ReadsScript text version (commands ++ rest) ending
 
--- Commands were answered, by the version that the header names: the first of the text's script, if the text is told, and all of them where it was read to its
--- ending. The replies are allowed ones; all of them were written, or after a write fault a front of them. The list of
--- what is told of searches that stopped got an entry for each `UNKNOWN` among them. `written` is what stood on the
--- output and stands on it, `stops` the list before and after.
+-- Commands were answered, by the version that the header names: the first of the text's script, if the text is told,
+-- and all of them where it was read to its ending. The replies are allowed ones; all of them were written, or after a
+-- write fault a front of them. The list of what is told of searches that stopped got an entry for each `UNKNOWN` among
+-- them. `written` is what stood on the output and stands on it, `stops` the list before and after.
 pub record AreAnswered (terms : Terms) (known : Option (List ℕ)) (written : Option (List ℕ) × Option (List ℕ))
     (stops : List Account × List Account) (ending : Ending) : Type 0 where
   pub version : Option Version

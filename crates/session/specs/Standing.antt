@@ -7,7 +7,7 @@ use Rattle.calculus.specs.Verdicts.{IsProof}
 use Rattle.versions.specs.declared.version.Version.{Version}
 use Rattle.versions.specs.declared.version.Version.TheVariants.{One}
 use Rattle.frames.specs.Fold.{Given, ScriptState, script_in}
-use Rattle.frames.specs.State.{OpenFormula, clauses_in}
+use Rattle.frames.specs.State.{OpenFormula, open_clauses}
 use Rattle.engine.specs.Asks.{AreFirstValues}
 use Rattle.engine.specs.Refusals.{winner_of}
 use Rattle.engine.specs.Verdicts.{loser_of}
@@ -37,6 +37,6 @@ start_in (Some version) = start_of version
 
 -- a proof of the verdict, and values of the first scope where this is the winner's
 pub record IsWitness (formula : OpenFormula) (given : Given) (witness : Witness) : Type 0 where
-  pub proof : IsProof (loser_of given.truth) formula.scopes (clauses_in formula.frames) given.assumptions witness.proof
+  pub proof : IsProof (loser_of given.truth) formula.scopes (open_clauses formula) given.assumptions witness.proof
   pub values : quantifier_at formula.scopes 1 ≡ Some (winner_of given.truth) →
       AreFirstValues formula given.truth given.assumptions witness.values

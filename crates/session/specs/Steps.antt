@@ -4,11 +4,11 @@ use Rattle.truth.specs.Truth.{truth_under}
 use Rattle.trail.specs.State.{Account}
 use Rattle.frames.specs.Commands.{Solve as Decide, Stop}
 use Rattle.frames.specs.Fold.{state_after}
-use Rattle.frames.specs.State.{OpenFormula, clauses_in}
+use Rattle.frames.specs.State.{OpenFormula, open_clauses}
 use Rattle.ports.specs.Writing.{Stops, Wrote}
 use Rattle.engine.specs.State.{EngineState}
 use Rattle.qscript.specs.declared.command.Command.{Command}
-use Rattle.qscript.specs.declared.command.Command.TheVariants.{Scope as ScopeCommand, Var, Clause, Push, Pop, Assume, Solve, Value, Relevant, Trace, Cert}
+use Rattle.qscript.specs.declared.command.Command.TheVariants.{Scope as ScopeCommand, Var, Clause, Push, Pop, Assume, Solve, Value, Relevant, Trace, Cert, OpenGroup, CloseGroup, Activate, Deactivate, GroupCore}
 use Rattle.session.specs.declared.answer.Answer.{Answer}
 use Rattle.session.specs.declared.answer.Answer.TheVariants.{Sat as IsSat, Unsat as IsUnsat, Unknown as IsUnknown}
 use Rattle.session.specs.declared.ending.Ending.{Ending}
@@ -39,7 +39,7 @@ listed (Some stopped) = stopped ∷ []
 
 -- the truth of a formula under its assumptions
 abbrev pub truth_of : OpenFormula → Bool
-truth_of f = truth_under f.assumptions f.scopes (clauses_in f.frames)
+truth_of f = truth_under f.assumptions f.scopes (open_clauses f)
 
 -- The reply to a solve of a formula with this truth: the truth, or that the budget was spent first.
 abbrev pub IsSolveReply : Bool → Reply → Type 0
@@ -50,7 +50,17 @@ IsSolveReply truth Unsat = truth ≡ false
 IsSolveReply truth (Unknown stopped) = ⊤
 IsSolveReply truth Written = ⊥
 
--- Which reply an accepted command has: a change none, a solve the truth or `UNKNOWN`, and a question what was asked.
+-- The reply to a question for a core: the core, or that the budget was spent first.
+abbrev pub IsCoreReply : Reply → Type 0
+IsCoreReply Silent = ⊥
+IsCoreReply (Refused number) = ⊥
+IsCoreReply Sat = ⊥
+IsCoreReply Unsat = ⊥
+IsCoreReply (Unknown stopped) = ⊤
+IsCoreReply Written = ⊤
+
+-- Which reply an accepted command has: a change none, a solve the truth or `UNKNOWN`, and a question what was asked,
+-- or one for a core `UNKNOWN`.
 abbrev pub IsAcceptedReply : Standing → Command → Reply → Type 0
 IsAcceptedReply s (ScopeCommand quant at) reply = reply ≡ Silent
 IsAcceptedReply s (Var var scope) reply = reply ≡ Silent
@@ -63,6 +73,11 @@ IsAcceptedReply s (Value v) reply = reply ≡ Written
 IsAcceptedReply s Relevant reply = reply ≡ Written
 IsAcceptedReply s Trace reply = reply ≡ Written
 IsAcceptedReply s Cert reply = reply ≡ Written
+IsAcceptedReply s (OpenGroup group) reply = reply ≡ Silent
+IsAcceptedReply s CloseGroup reply = reply ≡ Silent
+IsAcceptedReply s (Activate group) reply = reply ≡ Silent
+IsAcceptedReply s (Deactivate group) reply = reply ≡ Silent
+IsAcceptedReply s GroupCore reply = IsCoreReply reply
 
 -- Which reply a command has, whose refusal has this number, if it is refused.
 abbrev pub IsReplyFor : Option ℕ → Standing → Command → Reply → Type 0
@@ -103,6 +118,11 @@ left_by (Value v) s = s
 left_by Relevant s = s
 left_by Trace s = s
 left_by Cert s = s
+left_by (OpenGroup group) s = s
+left_by CloseGroup s = s
+left_by (Activate group) s = s
+left_by (Deactivate group) s = s
+left_by GroupCore s = s
 
 -- the reply to a verdict
 abbrev pub reply_of : Bool → Reply
@@ -155,14 +175,19 @@ IsQuestion (Value v) = ⊤
 IsQuestion Relevant = ⊤
 IsQuestion Trace = ⊤
 IsQuestion Cert = ⊤
+IsQuestion (OpenGroup group) = ⊥
+IsQuestion CloseGroup = ⊥
+IsQuestion (Activate group) = ⊥
+IsQuestion (Deactivate group) = ⊥
+IsQuestion GroupCore = ⊤
 
 -- A session is as it was, but that fewer long learned rows may be attached.
 pub record IsAllButLong (old new : SessionState) : Type 0 where
   pub rest : new ≡ record old { engine = record old.engine { kept_long = new.engine.kept_long } }
   pub fewer : new.engine.kept_long ≤ old.engine.kept_long
 
--- What a command leaves of a session where there is no memory for it: all, but that `clause` may have let go of long
--- learned rows. What a solve leaves, `left_by` says.
+-- What a command leaves of a session where there is no memory for it: all, but that `clause` and `activate` may have let
+-- go of long learned rows. What a solve leaves, `left_by` says.
 abbrev pub LeavesAtWant : Command → SessionState → SessionState → Type 0
 LeavesAtWant (ScopeCommand quant at) old new = new ≡ old
 LeavesAtWant (Var var scope) old new = new ≡ old
@@ -175,6 +200,11 @@ LeavesAtWant (Value v) old new = new ≡ old
 LeavesAtWant Relevant old new = new ≡ old
 LeavesAtWant Trace old new = new ≡ old
 LeavesAtWant Cert old new = new ≡ old
+LeavesAtWant (OpenGroup group) old new = new ≡ old
+LeavesAtWant CloseGroup old new = new ≡ old
+LeavesAtWant (Activate group) old new = IsAllButLong old new
+LeavesAtWant (Deactivate group) old new = new ≡ old
+LeavesAtWant GroupCore old new = new ≡ old
 
 -- A command of a script is replied to, and what the reply tells of a search that stopped is listed behind what was;
 -- after a fault too. Without memory nothing is written or listed. `stops` is the list before and after.

@@ -4,10 +4,10 @@ ghost use Rattle.std.specs.Fmt.{decimal};
 ghost use Rattle.aiger_out.specs.Aag.{IsAagText};
 ghost use Rattle.aiger_out.specs.Binary.{IsAigBytes};
 ghost use Rattle.aig.specs.Strategies.{IsStrategy};
-ghost use Rattle.qrp_trace.specs.Texts.{literal_word, qrp_text};
+ghost use Rattle.qrp_trace.specs.Texts.{literal_word, number_word, qrp_text};
 ghost use Rattle.ports.specs.Writing.{Writes};
 ghost use Rattle.blocks.specs.Held.{Puts};
-ghost use Rattle.session.specs.Replies.{Denotes, Text, refused_text, relevant_text, value_text};
+ghost use Rattle.session.specs.Replies.{Denotes, Text, core_text, refused_text, relevant_text, value_text};
 ghost use Rattle.session.specs.Jobs.{IsHeaderOf, solution_line, value_line as line_of_value};
 ghost use Rattle.session.specs.Solve.{answer_line};
 ghost use Rattle.truth.specs.declared.formula.Formula.{Formula};
@@ -59,6 +59,46 @@ fn put_relevant<S: Sink>(lits: &[Lit], block: &mut Block, sink: &mut S) -> Resul
     block.put(b"relevant ", sink)?;
     put_literals(lits, block, sink)?;
     block.put(b"0\n", sink)
+}
+
+// Writes the numbers of a core's groups, in blocks.
+pub(crate) fn write_groups<S: Sink>(groups: &[u32], sink: &mut S) -> Result<(), Failed>
+    ensures { Writes S.written S.flushed S.faults S.has_room sink.old sink.new (core_text groups.now) result }
+{
+    let mut block = Block::new();
+    put_groups(groups, &mut block, sink)?;
+    block.finish(sink)
+}
+
+// Puts the line of a core.
+fn put_groups<S: Sink>(groups: &[u32], block: &mut Block, sink: &mut S) -> Result<(), Failed>
+    ensures { Puts S.written S.flushed S.faults S.has_room sink.old block.old sink.new block.new
+        (core_text groups.now) result }
+{
+    block.put(b"core ", sink)?;
+    put_numbers(groups, block, sink)?;
+    block.put(b"0\n", sink)
+}
+
+// Puts numbers, each with a blank behind it.
+fn put_numbers<S: Sink>(numbers: &[u32], block: &mut Block, sink: &mut S) -> Result<(), Failed>
+    ensures { Puts S.written S.flushed S.faults S.has_room sink.old block.old sink.new block.new
+        (flat_map number_word numbers.now) result }
+{
+    for number in numbers {
+        put_number(*number, block, sink)?;
+    }
+    Ok(())
+}
+
+// Puts a number, and a blank.
+fn put_number<S: Sink>(number: u32, block: &mut Block, sink: &mut S) -> Result<(), Failed>
+    ensures { Puts S.written S.flushed S.faults S.has_room sink.old block.old sink.new block.new
+        (number_word number) result }
+{
+    let mut line = LineText::new();
+    line.number(number, ' ');
+    block.put_line(&line, sink)
 }
 
 // Writes the solution line of an answer, with the numbers of a header.

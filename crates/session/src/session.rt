@@ -8,11 +8,13 @@ ghost use Rattle.session.specs.Replies.{refusal_number};
 ghost use Rattle.session.specs.Steps.{IsDecided, IsQuestion, IsSent, LeavesAtWant, Refuses, Steps as StepsOf, left_by, reply_of};
 ghost use Rattle.session.specs.Terms.{Terms, terms_of, with_restarts};
 
+use crate::answer::Answer;
 use crate::lines::{
-    write_answer, write_circuit, write_core, write_refused, write_relevant, write_value,
+    write_answer, write_circuit, write_core, write_groups, write_refused, write_relevant,
+    write_value,
 };
 use crate::reply::{Reply, SessionStop};
-use engine::{Engine, SolveStop, Verdict};
+use engine::{CoreRefusal, Engine, SolveStop, Verdict};
 use frames::FrameRefusal;
 use ports::{Failed, Sink};
 use qscript::Command;
@@ -86,7 +88,7 @@ impl Session {
     /// does. Which reply comes, the command pins (`IsReplyFor`). Where the reply can't be written, the command is
     /// carried out and a front of the reply is written. Where there is no memory nothing is written; a solve leaves the
     /// formula and the assumptions, and no verdict, and any other command leaves the session as it was, but that
-    /// `clause` may have let go of long learned rows.
+    /// `clause` and `activate` may have let go of long learned rows.
     pub fn step<S: Sink>(&mut self, command: &Command, sink: &mut S) -> Result<Reply, SessionStop>
         ensures terms { self.new.terms ≡ self.old.terms }
         ensures steps { (s : Standing) → Holds self.old.terms self.old.engine s → StepsOf S.written S.flushed S.faults
@@ -109,6 +111,11 @@ impl Session {
             Command::Relevant => tell_relevant(&self.engine, sink),
             Command::Trace => tell_trace(&self.engine, sink),
             Command::Cert => tell_circuit(&self.engine, sink),
+            Command::OpenGroup(group) => accept(self.engine.open_group(*group), sink),
+            Command::CloseGroup => accept(self.engine.close_group(), sink),
+            Command::Activate(group) => accept(self.engine.activate(*group), sink),
+            Command::Deactivate(group) => accept(self.engine.deactivate(*group), sink),
+            Command::GroupCore => tell_core(&self.engine, self.budget, sink),
         }
     }
 }
@@ -227,6 +234,21 @@ fn tell_circuit<S: Sink>(engine: &Engine, sink: &mut S) -> Result<Reply, Session
 {
     match engine.certificate() {
         Ok(strategy) => send(write_circuit(&strategy, false, sink), Reply::Written),
+        Err(refusal) => refuse(refusal.number(), sink),
+    }
+}
+
+// Tells the verdict's core.
+fn tell_core<S: Sink>(engine: &Engine, budget: u64, sink: &mut S) -> Result<Reply, SessionStop>
+    ensures { (terms : Terms) (s : Standing) → terms.budget ≡ budget → Holds terms engine.now s → StepsOf S.written
+        S.flushed S.faults S.has_room terms Command.GroupCore s sink.old sink.new engine.now result }
+{
+    match engine.group_core(budget) {
+        Ok(core) => send(write_groups(&core, sink), Reply::Written),
+        Err(CoreRefusal::Spent(stopped)) => send(
+            write_answer(Answer::Unknown, sink),
+            Reply::Unknown(stopped),
+        ),
         Err(refusal) => refuse(refusal.number(), sink),
     }
 }

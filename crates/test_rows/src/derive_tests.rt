@@ -5,7 +5,7 @@ ghost use Rattle.derive.specs.State.{has_rows};
 
 use super::rows_tests::{has_link, has_lits};
 use derive::{Derivation, Step, StepId};
-use fixtures::{Workshop, by_turns, other, row, variable};
+use fixtures::{Workshop, by_turns, other, row, rows, variable};
 use prefix::{Prefix, Quant};
 use rows::Rows;
 use std::alloc::Global;
@@ -153,13 +153,14 @@ fn shop_after(
 }
 
 // What is done to a derivation after its turns: nothing, or finishes are dropped, or the steps that name a variable
-// outside a prefix, or the rows are taken and put back.
+// outside a prefix, or the rows are taken and put back, or the clauses of a group come in and go.
 #[derive(Clone, Copy)]
 enum End {
     Plain,
     Unfinished,
     Named,
     Taken,
+    Grouped,
 }
 
 // Whether it does what it should.
@@ -171,6 +172,7 @@ fn is_right(alloc: Global, derivation: &mut Derivation, end: End) -> Result<bool
         End::Unfinished => Ok(is_unfinished(derivation)),
         End::Named => go_with_variables(alloc, derivation),
         End::Taken => links_stay(alloc, derivation),
+        End::Grouped => group_comes_again(alloc, derivation),
     }
 }
 
@@ -237,6 +239,55 @@ fn go_with_variables(alloc: Global, derivation: &mut Derivation) -> Result<bool,
     let is_right = names_first(derivation, &prefix);
     derivation.drop_outside(0, &prefix);
     Ok(is_right && are_left(derivation))
+}
+
+// The frame of a group's clauses.
+const GROUP: usize = 65_537;
+
+// Puts in the clauses 1 2 and -1 at once; whether their reductions have these ids.
+fn come_at_once(
+    alloc: Global,
+    derivation: &mut Derivation,
+    prefix: &Prefix,
+    ids: [StepId; 2],
+) -> Result<bool, Fail>
+    requires { IsTrue (has_rows derivation.old) }
+    ensures { IsTrue (has_rows derivation.new) }
+{
+    let clauses = rows(alloc, &[1, 2, 0, -1, 0])?;
+    let mut reductions = Vec::new(alloc);
+    derivation.input_clauses(prefix, &clauses, GROUP, &mut reductions)?;
+    Ok(reductions.as_slice() == ids.as_slice())
+}
+
+// Whether the steps from an id on are an input clause of the group, its reduction, and another such clause, and the
+// last ones. A frame below the group that has no clause has no place among the ids.
+fn are_grouped(derivation: &Derivation, first: StepId) -> bool {
+    first < 10
+        && derivation.next_id() == first + 3
+        && is_grouped(derivation, first, Step::InputClause)
+        && is_grouped(derivation, first + 1, Step::Reduced(first))
+        && is_grouped(derivation, first + 2, Step::InputClause)
+        && derivation.frame_from(GROUP) == first
+        && derivation.frame_from(GROUP - 1) > first + 2
+}
+
+// Whether a step of the group is live, and this.
+fn is_grouped(derivation: &Derivation, id: StepId, step: Step) -> bool {
+    derivation.is_live(id) && derivation.tag(id) == GROUP && derivation.step(id) == step
+}
+
+// Whether the clauses of a group come in behind the steps 0 and 1, of which the second goes, a cube that hits the first
+// of them alone; and whether they go with the group's frame, and come in again.
+fn group_comes_again(alloc: Global, derivation: &mut Derivation) -> Result<bool, Fail>
+    requires { IsTrue (has_rows derivation.old) }
+{
+    let prefix = by_turns(alloc, Quant::Exists, &[1, 1])?;
+    let came = come_at_once(alloc, derivation, &prefix, [3, 4])? && are_grouped(derivation, 2);
+    derivation.drop_frame(GROUP);
+    let went = derivation.is_live(0) && !derivation.is_live(1) && !derivation.is_live(3);
+    let again = come_at_once(alloc, derivation, &prefix, [6, 7])? && are_grouped(derivation, 5);
+    Ok(came && went && again)
 }
 
 // Whether step 1, while the rows are taken, is the clause of frame 1 that it was, and the last step.
@@ -469,4 +520,10 @@ fn links_stay_with_rows_that_are_taken_and_put_back(rt: HostRuntime) -> Result<(
         Turn::Clause([-1, 0], 1, (1, 1)),
     ];
     play_to(rt.alloc(), Quant::Exists, &[1, 1], &turns, End::Taken)
+}
+
+#[test]
+fn a_group_comes_at_once(rt: HostRuntime) -> Result<(), Fail> {
+    let turns = [Turn::Clause([1, 0], 0, (0, 0)), Turn::Cube([1, 0], 1)];
+    play_to(rt.alloc(), Quant::Exists, &[1, 1], &turns, End::Grouped)
 }

@@ -7,6 +7,7 @@ ghost use Rattle.calculus.specs.Search.{value_on};
 use cover::cover;
 use derive::{Derivation, Step};
 use fixtures::{decide, literal, prefix_of, row, rows};
+use matrix::Matrix;
 use prefix::{Lit, LitList, Prefix, Quant};
 use std::alloc::Global;
 use std::marker::Model;
@@ -98,7 +99,8 @@ impl Game {
             return Err("not true")?;
         }
         let mut derivation = Derivation::new(self.alloc);
-        let id = cover(&mut derivation, &self.trail, &self.prefix, &matrix)?;
+        let lent = Matrix::new(self.alloc, &matrix);
+        let id = cover(&mut derivation, &self.trail, &self.prefix, &lent)?;
         Ok(derivation.step(id) == Step::InputCube && derivation.lits(id) == lits.as_slice())
     }
 }

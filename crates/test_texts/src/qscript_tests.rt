@@ -78,6 +78,27 @@ fn headers_name_their_version(rt: HostRuntime) -> Result<(), Fail> {
             "Two: line 2: refused with number 31",
         ),
         ("p qscript 2\n\u{e9}", "Two: line 2: refused with number 7"),
+        (
+            "p qscript 3\nopen 1\nclose\nactivate 02\ndeactivate 3\ncore\n",
+            "Three: OpenGroup(1); CloseGroup; Activate(2); Deactivate(3); GroupCore; end",
+        ),
+        (
+            "p qscript 3\nopen\n",
+            "Three: line 2: refused with number 32",
+        ),
+        (
+            "p qscript 3\nopen -1\n",
+            "Three: line 2: refused with number 32",
+        ),
+        (
+            "p qscript 3\nclose 1\n",
+            "Three: line 2: refused with number 32",
+        ),
+        ("p qscript 2\ncore\n", "Two: line 2: refused with number 31"),
+        (
+            "p qscript 1\nopen 1\n",
+            "One: line 2: refused with number 31",
+        ),
     ] {
         for greatest in [1, 4096] {
             let answer = read_headed(alloc, text, greatest, Vec::new(alloc))?;
@@ -98,7 +119,7 @@ fn other_headers_are_refused(rt: HostRuntime) -> Result<(), Fail> {
         ("p qscript\n2", "line 1: refused with number 30"),
         ("p qscript 0", "line 1: refused with number 30"),
         ("p qscript -1", "line 1: refused with number 30"),
-        ("p qscript 3", "line 1: refused with number 30"),
+        ("p qscript 4", "line 1: refused with number 30"),
         ("p qscript 9", "line 1: refused with number 30"),
         ("p qscript 1 1", "line 1: refused with number 30"),
         ("p qscript 2 x", "line 1: refused with number 30"),

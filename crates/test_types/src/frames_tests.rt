@@ -14,6 +14,10 @@ enum Turn {
     Pop,
     Clause([i64; 2]),
     Assume(i64),
+    Open(u64),
+    Close,
+    Activate(u64),
+    Deactivate(u64),
 }
 
 fn after(frames: &mut Frames, turn: Turn) -> Result<(), FrameRefusal> {
@@ -24,6 +28,10 @@ fn after(frames: &mut Frames, turn: Turn) -> Result<(), FrameRefusal> {
         Turn::Pop => frames.pop(),
         Turn::Clause(lits) => frames.add_clause(&lits),
         Turn::Assume(lit) => frames.assume(lit),
+        Turn::Open(group) => frames.open_group(group),
+        Turn::Close => frames.close_group(),
+        Turn::Activate(group) => frames.activate(group),
+        Turn::Deactivate(group) => frames.deactivate(group),
     }
 }
 
@@ -79,9 +87,14 @@ fn refusals_come_in_order(rt: HostRuntime) -> Result<(), Fail> {
             ]
         )
     );
-    let parts = frames.parts();
-    assert_eq!(rt; parts.assumptions.len(), 2);
-    assert_eq!(rt; (parts.prefix.len(), parts.clauses.len()), (3, 0));
+    assert_eq!(rt;
+        (
+            frames.assumptions().len(),
+            frames.prefix().len(),
+            frames.other_clauses().len()
+        ),
+        (2, 3, 0)
+    );
     frames.clear_assumptions();
     assert_eq!(rt;
         (frames.assumptions().len(), number(frames.assume(-1))),
@@ -104,10 +117,10 @@ fn clauses_go_with_their_frame(rt: HostRuntime) -> Result<(), Fail> {
             ]
         )
     );
-    assert_eq!(rt; (frames.open_clauses().len(), frames.depth()), (2, 1));
+    assert_eq!(rt; (frames.other_clauses().len(), frames.depth()), (2, 1));
     frames.pop()?;
-    assert_eq!(rt; (frames.open_clauses().len(), frames.depth()), (1, 0));
-    assert_eq!(rt; frames.open_clauses()[0].lits().len(), 1);
+    assert_eq!(rt; (frames.other_clauses().len(), frames.depth()), (1, 0));
+    assert_eq!(rt; frames.other_clauses()[0].lits().len(), 1);
     Ok(())
 }
 
@@ -117,11 +130,11 @@ fn a_clause_is_taken_back(rt: HostRuntime) -> Result<(), Fail> {
     frames.add_clause(&[1, 2])?;
     frames.add_clause(&[-1])?;
     frames.take_back();
-    assert_eq!(rt; frames.open_clauses().len(), 1);
+    assert_eq!(rt; frames.other_clauses().len(), 1);
     frames.add_clause(&[1, -1])?;
     frames.take_back();
     assert_eq!(rt;
-        (frames.open_clauses().len(), frames.prefix().len()),
+        (frames.other_clauses().len(), frames.prefix().len()),
         (1, 3)
     );
     Ok(())
@@ -213,5 +226,84 @@ fn the_next_pop_is_told(rt: HostRuntime) -> Result<(), Fail> {
     frames.pop()?;
     assert!(rt; removes(&frames, &[]));
     assert_eq!(rt; frames.prefix().len(), 1);
+    Ok(())
+}
+
+// How many clauses the open formula has.
+fn open_len(alloc: Global, frames: &Frames) -> Result<usize, Fail> {
+    let matrix = frames.open_clauses(alloc)?;
+    let parts = matrix.parts();
+    let mut len = parts.first.len();
+    for part in parts.more {
+        len = len.saturating_add(part.len());
+    }
+    Ok(len)
+}
+
+// The clause 2, group 7 with the clause 1 and group 3 with the clauses -1 and 1 2, of which the last is taken back.
+fn grouped(frames: &mut Frames) -> Result<bool, Fail> {
+    let table = [
+        (Turn::Clause([2, 2]), 0),
+        (Turn::Close, 48),
+        (Turn::Open(0), 47),
+        (Turn::Activate(3), 48),
+        (Turn::Open(7), 0),
+        (Turn::Open(3), 46),
+        (Turn::Push, 46),
+        (Turn::Clause([1, 1]), 0),
+        (Turn::Clause([1, -1]), 0),
+        (Turn::Deactivate(7), 46),
+        (Turn::Close, 0),
+        (Turn::Open(3), 0),
+        (Turn::Clause([-1, -1]), 0),
+    ];
+    let answered = answers(frames, &table);
+    frames.add_clause(&[1, 2])?;
+    frames.take_back();
+    Ok(answered)
+}
+
+// What is told of the groups: the open one, how many there are and the first's number; whether group 7 is active, and
+// how many clauses groups 3 and 7 have.
+fn told(frames: &Frames) -> ((Option<u32>, usize, u32), (bool, usize, usize)) {
+    let first = if frames.groups_len() > 0 {
+        frames.group(0).number()
+    } else {
+        0
+    };
+    let active = frames.is_active(7);
+    let lens = (frames.group_clauses(3).len(), frames.group_clauses(7).len());
+    (
+        (frames.current_group(), frames.groups_len(), first),
+        (active, lens.0, lens.1),
+    )
+}
+
+#[test]
+fn groups_are_opened_and_filled(rt: HostRuntime) -> Result<(), Fail> {
+    let mut frames = two_scopes(rt.alloc())?;
+    assert!(rt; grouped(&mut frames)?);
+    assert_eq!(rt; told(&frames), ((Some(3), 2, 3), (true, 1, 1)));
+    assert_eq!(rt; open_len(rt.alloc(), &frames)?, 3);
+    Ok(())
+}
+
+#[test]
+fn groups_are_made_active_and_inactive(rt: HostRuntime) -> Result<(), Fail> {
+    let mut frames = two_scopes(rt.alloc())?;
+    assert!(rt; grouped(&mut frames)?);
+    let table = [
+        (Turn::Close, 0),
+        (Turn::Push, 0),
+        (Turn::Open(3), 49),
+        (Turn::Deactivate(5), 48),
+        (Turn::Deactivate(7), 0),
+    ];
+    assert!(rt; answers(&mut frames, &table));
+    assert_eq!(rt; told(&frames), ((None, 2, 3), (false, 1, 1)));
+    assert_eq!(rt; open_len(rt.alloc(), &frames)?, 2);
+    frames.activate(7)?;
+    assert_eq!(rt; open_len(rt.alloc(), &frames)?, 3);
+    assert_eq!(rt; (frames.place_of(7), frames.place_of(5)), (Some(1), None));
     Ok(())
 }

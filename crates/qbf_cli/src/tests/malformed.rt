@@ -48,13 +48,15 @@ const HEADERS: [(&str, u32, &str); 4] = [
 ];
 
 // Scripts, each with the replies that come before the refusal, its line and its number.
-const SCRIPTS: [(&str, &str, u32, u32); 20] = [
+const SCRIPTS: [(&str, &str, u32, u32); 22] = [
     ("", "", 1, 30),
     ("solve/", "", 1, 30),
     ("p cnf 1 0/", "", 1, 30),
     ("p qscript 9/", "", 1, 30),
-    ("p qscript 3/push/", "", 1, 30),
+    ("p qscript 4/push/", "", 1, 30),
     ("p qscript 2/cx/", "", 2, 31),
+    ("p qscript 2/open 1/", "", 2, 31),
+    ("p qscript 3/core 1/", "", 2, 32),
     ("p qscript 1/cx/", "", 2, 31),
     ("p qscript 1/5/", "", 2, 31),
     ("p qscript 1/solve/jump/", "SAT/", 3, 31),

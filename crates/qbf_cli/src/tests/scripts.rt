@@ -180,6 +180,47 @@ clause 1 2 0/clause -1 -2 0/solve/cert/",
     Ok(())
 }
 
+// Groups join and leave the open formula, and a core is told of those that are active.
+#[test]
+fn groups_join_and_leave_in_version_three(rt: HostRuntime) -> Result<(), Fail> {
+    let alloc = rt.alloc();
+    for (script, want) in [
+        (
+            "p qscript 3/scope e/var 1 1/open 1/clause 1 0/close/open 2/clause -1 0/close/open 3/clause 1 0/close/\
+solve/core/deactivate 3/solve/core/deactivate 1/solve/core/activate 1/solve/",
+            "UNSAT/core 2 3 0/UNSAT/core 1 2 0/SAT/refused 53/UNSAT/",
+        ),
+        (
+            "p qscript 3/close/open 0/activate 4/open 1/push/close/push/open 2/core/",
+            "refused 48/refused 47/refused 48/refused 46/refused 49/refused 50/",
+        ),
+        (
+            "p qscript 3/scope e/var 1 1/clause 1 0/clause -1 0/open 7/clause 1 0/close/solve/core/core/",
+            "UNSAT/core 0/core 0/",
+        ),
+        (
+            "p qscript 3/scope e/var 1 1/open 5/clause 1 0/close/open 65536/clause -1 0/close/assume 1/solve/core/\
+relevant/deactivate 5/core/solve/",
+            "UNSAT/core 65536 0/relevant 1 0/refused 50/SAT/",
+        ),
+        (
+            "p qscript 3/scope e/var 1 1/open 2/clause 1 0/close/push/var 2 1/clause -1 2 0/clause -2 0/solve/core/\
+deactivate 2/pop/solve/activate 2/activate 2/solve/value 1/",
+            "UNSAT/core 2 0/SAT/SAT/value 1/",
+        ),
+        (
+            "p qscript 3/open 65537/deactivate 65537/open 1/open 1/activate 1/deactivate 0/",
+            "refused 47/refused 47/refused 46/refused 46/refused 47/",
+        ),
+    ] {
+        assert!(rt;
+            replies(alloc, &["qbf", "script"], script, want, 0)?,
+            "{script:?}"
+        );
+    }
+    Ok(())
+}
+
 #[test]
 fn refused_commands_change_nothing(rt: HostRuntime) -> Result<(), Fail> {
     let alloc = rt.alloc();

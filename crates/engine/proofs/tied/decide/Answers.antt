@@ -2,14 +2,13 @@ use Rattle.std.proofs.Common.{ap, ◌∙◌}
 use Rattle.std.proofs.lemmas.Result.{err_from_is_err_and}
 use Rattle.derive.specs.State.{next_id}
 use Rattle.engine.proofs.Bounding.{reductions_fit}
-use Rattle.engine.proofs.Framing.{is_matrix}
+use Rattle.engine.proofs.Framing.{tied_matrix}
 use Rattle.engine.proofs.Telling.{finds, stops}
 use Rattle.engine.proofs.tied.decide.Goals as goal
 
 pub solve-found-requires-clause-matrix : goal.solve-found-requires-clause-matrix
 solve-found-requires-clause-matrix c =
-    rw c.open_clauses-matrix.ensures.value (is_matrix c.args.search.now.derivation c.args.frames.now.formula.frames
-    c.requires.tied.clauses)
+    rw c.requires.matrix (tied_matrix c.args.frames.now.formula c.args.search.now c.requires.tied)
 
 pub returns-in_err-outcome-clause-stop : goal.returns-in_err-outcome-clause-stop
 returns-in_err-outcome-clause-stop c =
@@ -22,7 +21,7 @@ pub returns-clause-found : goal.returns-clause-found
 returns-clause-found c =
     finds c.args.frames.now.formula c.solve-found.new.self.derivation c.in_ok-outcome.outcome c.assumptions-assumptions.ensures.outer
     c.assumptions-assumptions.ensures.ascending
-    (rw (← c.prefix.ensures.value, ← c.requires.assumed, ← c.open_clauses-matrix.ensures.value)
+    (rw (← c.prefix.ensures.value, ← c.requires.assumed, ← c.requires.matrix)
     c.in_ok-outcome.ensures.outcome)
     c.truth_against.result c.truth_against.ensures
 

@@ -14,7 +14,11 @@ clauses = record {
 
 pub returns : goal.returns
 returns c = record {
-  memory = λ before now. record { derivation = clauses; clauses = refl; stops = tt };
+  memory = λ before now. record {
+    derivation = clauses;
+    clauses = record { there = λ row i. i; none_else = λ row i. i };
+    stops = tt;
+  };
   steps_left = λ before h. let e : 8 ≡ 9 = h.stops.spent in omega (arith, e);
   other_budget = λ now h. let e : 8 ≡ 9 = h.stops.budget in omega (arith, e);
   other_variables = λ before now h. let e : 3 ≡ 2 = h.stops.vars in omega (arith, e);

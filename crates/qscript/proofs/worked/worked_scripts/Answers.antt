@@ -35,16 +35,27 @@ returns c = record {
     limit_behind_a_line = refl;
     limit_in_a_line = refl;
     limit_in_the_header = refl;
+    groups = refl;
+    groups_beside_others = refl;
+    no_group_in_the_first = refl;
+    no_core_in_the_second = refl;
+    open_wants_a_group = refl;
+    one_group = refl;
+    negative_group = refl;
+    group_in_letters = refl;
+    close_takes_nothing = refl;
+    core_takes_nothing = refl;
     limit_before_the_header = refl;
   };
   headers = record {
     first_version = only_reading (text (codes "p qscript 1/solve/"));
     second_version = only_reading (text (codes "p qscript 2/solve/"));
     first_alone = only_reading (text (codes "p qscript 1"));
+    third_version = only_reading (text (codes "p qscript 3/open 7/core/"));
     second_alone = only_reading (text (codes "c 1// p  qscript 02"));
     malformed_behind = only_reading (text (codes "p qscript 2/jump/"));
     second_header = only_reading (text (codes "p qscript 2/p qscript 1/"));
-    third_version = only_reading (text (codes "p qscript 3/"));
+    fourth_version = only_reading (text (codes "p qscript 4/"));
     ninth_version = only_reading (text (codes "p qscript 9/"));
     version_of_none = only_reading (text (codes "p qscript 0/"));
     negative_version = only_reading (text (codes "p qscript -1/"));
@@ -57,7 +68,7 @@ returns c = record {
     no_word = only_reading (text (codes "c/ /"));
     command_first = only_reading (text (codes "solve/p qscript 1/"));
     bad_byte_in_the_header = only_reading (text (codes "p qscript 2 " ++ 139 ∷ []));
-    bad_byte_behind_a_word = only_reading (text (codes "p qscript 3 " ++ 139 ∷ []));
+    bad_byte_behind_a_word = only_reading (text (codes "p qscript 4 " ++ 139 ∷ []));
     number_range_in_the_header = only_reading (text (codes "p qscript 9223372036854775808/"));
   };
 }

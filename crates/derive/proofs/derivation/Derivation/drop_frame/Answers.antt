@@ -12,4 +12,4 @@ pub returns-clause-clauses : goal.returns-clause-clauses
 returns-clause-clauses c = ap clauses_of c.self.view_is ∙ clauses_filtered _ _ _ c.drop_all.ensures.drops _ (λ clause. refl)
 
 pub invariant_of-self : goal.invariant_of-self
-invariant_of-self c = (rw c.put_from.ensures (kept_frame _ _ _ _ _ _ _ _ _ c.drop_all.ensures.drops c.self.view_is (c.len.ensures ∙ c.self.inside.notes.ok.0) c.self.invariant.0), c.self.invariant.1)
+invariant_of-self c = (rw c.forget_frame.ensures (kept_frame _ _ _ _ _ _ _ _ _ c.drop_all.ensures.drops c.self.view_is c.self.invariant.0), c.self.invariant.1)

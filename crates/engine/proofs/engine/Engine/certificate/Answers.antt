@@ -2,7 +2,7 @@ use Rattle.std.proofs.Common.{◌≡◌, ◌≤◌, arith, List, Option, Some, I
 use Rattle.prefix.specs.Literal.{Literal}
 use Rattle.prefix.specs.Scopes.{Scope}
 use Rattle.calculus.specs.Verdicts.{IsProof}
-use Rattle.frames.specs.State.{clauses_in}
+use Rattle.frames.specs.State.{open_clauses}
 use Rattle.qrp_trace.specs.Cores.{inferences_of, loser_of}
 use Rattle.search.specs.Counting.{size_of}
 use Rattle.engine.specs.declared.verdict.Held.{Held}
@@ -27,10 +27,10 @@ extract-requires-clause-proof c =
     let facts = subst (λ (o : Option VerdictState). IfSome o (IsVerdictOf f)) there c.in_ok-core.ensures.verdict in
     let scopes : c.prefix.result.now ≡ f.scopes = c.prefix.ensures.value
     ∙ ap (λ (e : EngineState). e.formula.scopes) c.self.view_is in (
-      clauses_in f.frames,
-      subst (λ (ss : List Scope). IsProof (loser_of core) ss (clauses_in f.frames) c.lits.result.now
+      open_clauses f,
+      subst (λ (ss : List Scope). IsProof (loser_of core) ss (open_clauses f) c.lits.result.now
           (inferences_of core.lines)) (sym scopes)
-          (subst (λ (a : List Literal). IsProof (loser_of core) f.scopes (clauses_in f.frames) a
+          (subst (λ (a : List Literal). IsProof (loser_of core) f.scopes (open_clauses f) a
           (inferences_of core.lines)) (sym c.lits.ensures) (core_proves f v core winner list facts)),
     )
 
@@ -50,23 +50,23 @@ returns-clause-certifies c =
     let facts = subst (λ (o : Option VerdictState). IfSome o (IsVerdictOf f)) there c.in_ok-core.ensures.verdict in
     let scopes : c.prefix.result.now ≡ f.scopes = c.prefix.ensures.value
     ∙ ap (λ (e : EngineState). e.formula.scopes) c.self.view_is in
-    let proof = subst (λ (ss : List Scope). IsProof (loser_of core) ss (clauses_in f.frames) c.lits.result.now
+    let proof = subst (λ (ss : List Scope). IsProof (loser_of core) ss (open_clauses f) c.lits.result.now
     (inferences_of core.lines)) (sym scopes)
-    (subst (λ (a : List Literal). IsProof (loser_of core) f.scopes (clauses_in f.frames) a
+    (subst (λ (a : List Literal). IsProof (loser_of core) f.scopes (open_clauses f) a
     (inferences_of core.lines)) (sym c.lits.ensures) (core_proves f v core winner list facts)) in
-    let here : IsExtractedFrom core c.prefix.result.now (clauses_in f.frames) c.lits.result.now s = record {
+    let here : IsExtractedFrom core c.prefix.result.now (open_clauses f) c.lits.result.now s = record {
       won = made.winner;
       inputs = made.inputs;
       outputs = made.outputs;
       keeps = made.keeps;
       follows = made.follows;
-      wins = made.wins (clauses_in f.frames) proof;
+      wins = made.wins (open_clauses f) proof;
       earlier = made.earlier;
       assumed = made.assumed;
       size = made.size;
     } in
-    let extracted = subst (λ (ss : List Scope). IsExtractedFrom core ss (clauses_in f.frames) v.assumptions s) scopes
-    (subst (λ (a : List Literal). IsExtractedFrom core c.prefix.result.now (clauses_in f.frames) a s) c.lits.ensures
+    let extracted = subst (λ (ss : List Scope). IsExtractedFrom core ss (open_clauses f) v.assumptions s) scopes
+    (subst (λ (a : List Literal). IsExtractedFrom core c.prefix.result.now (open_clauses f) a s) c.lits.ensures
     here) in
     subst (λ (o : Option VerdictState). IfSome o (λ (w : VerdictState). IsCertificateOf f w s)) (sym there)
     (certifies f v core winner list facts s extracted c.prefix-valid.ensures.valid.distinct c.plays_exist.ensures
@@ -89,7 +89,7 @@ returns-clause-few c =
     IfSome o (λ _. size_of c.self.inside.frames.formula.scopes ≤ c.self.inside.counts.vars)) c.in-Some.is
     c.self.invariant.variables in
     let known = subst (λ (e : EngineState). size_of e.formula.scopes ≤ e.counts.vars) c.self.view_is variables in
-    let weight = c.gates_are_bounded.ensures (loser_of core) f.scopes (clauses_in f.frames) v.assumptions
+    let weight = c.gates_are_bounded.ensures (loser_of core) f.scopes (open_clauses f) v.assumptions
     (inferences_of core.lines) e.counts.clauses e.counts.solves e.counts.budget e.counts.restarts e.counts.vars
     (core_proves f v core winner list facts) known c.in_ok-core.ensures.few in
     let size = c.in_ok-extract-in-Some.ensures.size in

@@ -1,17 +1,18 @@
-use Rattle.std.proofs.Common.{ap, arith, sym, ◌∙◌}
-use Rattle.derive.specs.State.{open_clauses}
+use Rattle.std.proofs.Common.{ap, arith, subst, sym, ◌∙◌}
+use Rattle.derive.specs.State.{State}
 use Rattle.engine.specs.State.{EngineState}
-use Rattle.frames.specs.State.{clauses_in}
+use Rattle.frames.specs.State.{open_clauses}
 use Rattle.search.specs.Long.{long_in}
+use Rattle.search.specs.Moves.{IsMatrix}
 use Rattle.engine.proofs.Bounding.{finishes_few}
-use Rattle.engine.proofs.Framing.{same_rows}
+use Rattle.engine.proofs.Framing.{tied_matrix}
 use Rattle.engine.proofs.engine.Engine.derivation.Goals as goal
 
 pub returns-clause-clauses : goal.returns-clause-clauses
 returns-clause-clauses c =
-    ap open_clauses c.derivation.ensures
-    ∙ same_rows c.self.inside.search.derivation c.self.inside.frames.formula.frames c.self.invariant.tied.clauses
-    ∙ ap (λ (e : EngineState). clauses_in e.formula.frames) c.self.view_is
+    subst (λ (e : EngineState). IsMatrix c.derivation.result.now (open_clauses e.formula)) c.self.view_is
+    (subst (λ (d : State). IsMatrix d (open_clauses c.self.inside.frames.formula)) (sym c.derivation.ensures)
+    (tied_matrix c.self.inside.frames.formula c.self.inside.search c.self.invariant.tied))
 
 pub returns-clause-few : goal.returns-clause-few
 returns-clause-few c =

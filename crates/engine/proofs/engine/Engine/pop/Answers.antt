@@ -5,6 +5,7 @@ use Rattle.calculus.specs.Rows.{IsRow}
 use Rattle.derive.specs.Dropping.{is_outside, mentions}
 use Rattle.derive.specs.State.{OpenClause, clauses_of}
 use Rattle.frames.specs.Commands.{Pop, formula_after}
+use Rattle.frames.specs.Groups.{grouped_in}
 use Rattle.frames.specs.State.{FramesState, clauses_in, variables_on_top}
 use Rattle.search.specs.State.{IsResting}
 use Rattle.engine.proofs.Changing.{accepted_pop, frame_popped}
@@ -39,11 +40,13 @@ forget_outcome-requires c =
     let resting = subst (λ (g : FramesState). IsResting g.formula.scopes new) c.in_ok-pop.ensures.ok
     c.drop_top.ensures.resting in
     let rows = subst (λ (g : FramesState). AllByRecursion (IsRow g.formula.scopes) (clauses_in g.formula.frames))
-    c.in_ok-pop.ensures.ok c.open_clauses-left.ensures.rows in
+    c.in_ok-pop.ensures.ok c.other_clauses-left.ensures.rows in
+    let grouped = subst (λ (g : FramesState). AllByRecursion (IsRow g.formula.scopes) (grouped_in g.formula.groups))
+    c.in_ok-pop.ensures.ok c.groups_len-groups.ensures.rows in
     let clauses = subst (λ (g : FramesState). clauses_of new.derivation ≡ filter (λ (d : OpenClause).
     not (d.frame == c.depth-top.result || mentions (is_outside g.formula.scopes) d.row)) (clauses_of old.derivation))
     c.in_ok-pop.ensures.ok c.drop_top.ensures.clauses in
-    rw c.in_ok-pop.ensures.ok (frame_popped f old new c.self.invariant.tied accepts resting rows
+    rw c.in_ok-pop.ensures.ok (frame_popped f old new c.self.invariant.tied accepts resting rows grouped
     (clauses ∙ ap (λ (top : ℕ). filter (λ (d : OpenClause).
     not (d.frame == top || mentions (is_outside (formula_after f Pop).scopes) d.row)) (clauses_of old.derivation))
     c.depth-top.ensures))

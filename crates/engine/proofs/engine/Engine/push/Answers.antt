@@ -1,21 +1,15 @@
 use Rattle.std.proofs.Common.{◌≡◌, ◌<◌, ◌++◌, ◌∷◌, [], ℕ, List, Bool, true, false, Some, None, is_ok, vec_len, vec_capacity, refl, ap, subst, ◌∙◌}
-use Rattle.std.specs.Prelude.{◌==◌}
 use Rattle.std.proofs.lemmas.Bool.{cond-true}
 use Rattle.derive.specs.State.{IsLegalFor, next_id}
-use Rattle.frames.specs.declared.refusal.FrameRefusal.TheVariants.{Limit}
-use Rattle.frames.specs.Commands.{first_of, max_pushed}
-use Rattle.frames.specs.State.{FramesState, depth}
+use Rattle.frames.specs.State.{FramesState}
 use Rattle.engine.proofs.Changing.{accepted, frame_pushed}
 use Rattle.engine.proofs.Marked.{frame_marked, older_marked}
 use Rattle.engine.proofs.engine.Engine.push.Goals as goal
 
 pub forget_outcome-requires : goal.forget_outcome-requires
 forget_outcome-requires c =
-    rw c.in_ok-push.ensures.ok (frame_pushed c.self.inside.frames.formula c.self.inside.search c.self.invariant.tied)
-
-below_most : (b : Bool) → first_of ((b, Limit) ∷ []) ≡ None → b ≡ false
-below_most true e = absurd (let g : Some Limit ≡ None = e in cc)
-below_most false e = refl
+    rw c.in_ok-push.ensures.ok (frame_pushed c.self.inside.frames.formula c.self.inside.search c.self.invariant.tied
+    (accepted _ c.push.result c.in_ok-push.field-0 c.in_ok-push.was c.push.ensures.refused))
 
 pub invariant_of-self-2 : goal.invariant_of-self-2
 invariant_of-self-2 c = record {
@@ -32,8 +26,7 @@ invariant_of-self-2 c = record {
       let e = c.forget_outcome.new.search.derivation in
       let accepts = accepted _ c.push.result c.in_ok-push.field-0 c.in_ok-push.was c.push.ensures.refused in
       let old = c.reserve_mark.new.marks in
-      let room : vec_len old < vec_capacity old = c.in_ok-reserve_mark.ensures.room
-      (below_most (depth f.frames == max_pushed) accepts) in
+      let room : vec_len old < vec_capacity old = c.in_ok-reserve_mark.ensures.room accepts in
       let next : c.next_id.result ≡ next_id e = c.next_id.ensures.value ∙ ap next_id c.derivation.ensures in
       let more = c.push-2.ensures.items
       ∙ (cond-true (is_ok c.push-2.result) (old.items ++ c.next_id.result ∷ []) old.items

@@ -7,13 +7,13 @@ use Rattle.calculus.specs.Search.{IsRefuted}
 use Rattle.calculus.specs.Verdicts.{relevant_of}
 use Rattle.derive.specs.State.{State, row_of}
 use Rattle.clean.specs.Turns.{reductions_in}
-use Rattle.frames.specs.State.{clauses_in}
+use Rattle.frames.specs.State.{open_clauses}
 use Rattle.search.specs.Counting.{size_of}
 use Rattle.engine.specs.declared.verdict.Held.{Held}
 use Rattle.engine.specs.Kept.{IsFound}
 use Rattle.engine.specs.State.{EngineState}
 use Rattle.engine.proofs.Bounding.{solve_counted, some_solves, undecided, unsolved_counted}
-use Rattle.engine.proofs.Framing.{same_rows}
+use Rattle.engine.proofs.Framing.{tied_legal}
 use Rattle.engine.proofs.Changing.{found_without, without_assumptions}
 use Rattle.engine.proofs.Telling.{end_ascends, has_proof, stops}
 use Rattle.engine.proofs.Marked.{older_marked}
@@ -30,7 +30,7 @@ returns-in_err-verdict-clause-quick c none refuted =
     let h = err_from_is_err_and c.from_residual-in_err-verdict.result c.from_residual-in_err-verdict.ensures.1 in
     let first : c.self.inside.counts.solves ≡ 0 = ap (λ (e : EngineState). e.counts.solves) c.self.view_is ∙ none in
     let same = subst (λ (e : EngineState). IsRefuted e.formula.scopes
-    (clauses_in e.formula.frames) e.formula.assumptions) (sym c.self.view_is) refuted in
+    (open_clauses e.formula) e.formula.assumptions) (sym c.self.view_is) refuted in
     rw (h.1, h.2, ← c.self.view_is) (c.in_err-verdict.ensures.quick
     (c.forget_outcome.ensures.cubes (c.self.invariant.cubes first)) same)
 
@@ -48,8 +48,7 @@ keep_mentioned-requires c =
     let tied = c.decide.ensures.tied in
     subst (λ (row : Row). IsAscending (variables_in row))
     (sym (c.lits.ensures ∙ ap (λ (s : State). row_of s v.end) c.derivation.ensures))
-    (end_ascends f d f.assumptions v c.prefix-valid.ensures.valid.distinct (same_rows d f.frames tied.clauses)
-    tied.resting.intact.legal c.in_ok-verdict.ensures.found c.end_rows_give_proofs.ensures c.proofs_decide.ensures
+    (end_ascends f d f.assumptions v c.prefix-valid.ensures.valid.distinct (tied_legal f c.decide.new.search tied) c.in_ok-verdict.ensures.found c.end_rows_give_proofs.ensures c.proofs_decide.ensures
     c.steps_are_listed.ensures)
 
 pub returns-clause-proof : goal.returns-clause-proof
@@ -62,8 +61,7 @@ returns-clause-proof c =
     ∙ c.assumptions.ensures.value in
     let found = subst (λ (a : List Literal). IsFound f d a v) (sym assumed) c.in_ok-verdict.ensures.found in
     let held : Held = record { verdict = v; assumed = c.from_vec.result; relevant = c.from_vec-2.result } in
-    rw (← c.self.view_is) (has_proof f d held c.prefix-valid.ensures.valid.distinct (same_rows d f.frames tied.clauses)
-    tied.resting.intact.legal found assumed c.end_rows_give_proofs.ensures c.proofs_decide.ensures
+    rw (← c.self.view_is) (has_proof f d held c.prefix-valid.ensures.valid.distinct (tied_legal f c.decide.new.search tied) found assumed c.end_rows_give_proofs.ensures c.proofs_decide.ensures
     c.steps_are_listed.ensures)
 
 pub invariant_of-self-2 : goal.invariant_of-self-2
@@ -137,3 +135,20 @@ invariant_of-self-in_err-verdict c =
     c.self.invariant.reductions) (older_marked c.self.inside.frames.formula c.self.inside.marks.items c.forget_outcome.new.search.derivation
     c.decide.new.search.derivation c.decide.ensures.older (older_marked c.self.inside.frames.formula c.self.inside.marks.items c.self.inside.search.derivation
     c.forget_outcome.new.search.derivation c.forget_outcome.ensures.older c.self.invariant.marked)))
+
+pub invariant_of-self-in_err-matrix : goal.invariant_of-self-in_err-matrix
+invariant_of-self-in_err-matrix c =
+    let e = c.forget_outcome.ensures in
+    rw c.with_solve-self-inside.ensures (undecided c.self.inside.frames.formula c.forget_outcome.new.search
+    c.self.inside.counts c.self.inside.marks.items c.budget.result c.self.inside.restarts c.len.result e.tied e.finishes
+    (unsolved_counted c.self.inside.counts c.budget.result c.self.inside.restarts c.len.result
+    (reductions_in c.self.inside.search.derivation) (reductions_in c.forget_outcome.new.search.derivation)
+    e.reductions e.fit c.self.invariant.reductions)
+    (older_marked c.self.inside.frames.formula c.self.inside.marks.items c.self.inside.search.derivation
+    c.forget_outcome.new.search.derivation c.forget_outcome.ensures.older c.self.invariant.marked))
+
+pub returns-in_err-matrix-clause-stop : goal.returns-in_err-matrix-clause-stop
+returns-in_err-matrix-clause-stop c =
+    let h = err_from_is_err_and c.from_residual-in_err-matrix.result c.from_residual-in_err-matrix.ensures.1 in
+    rw (h.1, h.2, ← c.self.view_is) (stops c.self.inside.restarts c.self.inside.frames.formula
+    c.forget_outcome.new.search c.args.steps.now c.args.steps.now _ c.forget_outcome.ensures.tied tt)

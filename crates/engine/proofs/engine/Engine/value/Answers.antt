@@ -10,7 +10,7 @@ use Rattle.engine.specs.Kept.{IsHeld}
 use Rattle.engine.specs.Refusals.{winner_of}
 use Rattle.engine.specs.Verdicts.{told as tell}
 use Rattle.engine.proofs.Asking.{first_decide, level_is, value_told}
-use Rattle.engine.proofs.Framing.{same_rows}
+use Rattle.engine.proofs.Framing.{tied_legal}
 use Rattle.engine.proofs.Telling.{before_ascends, holds}
 use Rattle.engine.proofs.engine.Engine.value.Goals as goal
 
@@ -23,8 +23,7 @@ first_value-requires-clause-row c =
     let is = subst (λ (v : Option Held). IfSome v (IsHeld f d)) c.in-Some.is c.self.invariant.held in
     let distinct = c.prefix-prefix.ensures.valid.distinct in
     subst (λ (s : State). IsAscending (variables_in (end_row_of s held.verdict.end))) (sym c.derivation.ensures)
-    (before_ascends f d held.assumed held.verdict distinct (same_rows d f.frames tied.clauses)
-    tied.resting.intact.legal is.found c.end_rows_give_proofs.ensures c.proofs_decide.ensures
+    (before_ascends f d held.assumed held.verdict distinct (tied_legal f c.self.inside.search tied) is.found c.end_rows_give_proofs.ensures c.proofs_decide.ensures
     c.steps_are_listed.ensures)
 
 abbrev literal : ℕ → Bool → Literal
@@ -44,8 +43,7 @@ returns-else-not-is_won-clause-value c =
     (level_is (level_of c.prefix-prefix.result.now x) over.0) in
     let won = same_true (quantifier_at c.prefix-prefix.result.now 1) (winner_of held.verdict.truth)
     (sym c.is_won.ensures ∙ c.if-not-is_won.false) in
-    let told = value_told f d held c.prefix-prefix.ensures.valid.distinct (same_rows d f.frames tied.clauses)
-    tied.resting.intact.legal is.found c.end_rows_give_proofs.ensures c.proofs_decide.ensures
+    let told = value_told f d held c.prefix-prefix.ensures.valid.distinct (tied_legal f c.self.inside.search tied) is.found c.end_rows_give_proofs.ensures c.proofs_decide.ensures
     c.steps_are_listed.ensures c.steps_have_cores.ensures c.plays_exist.ensures c.last_steps_decide.ensures x first
     (subst (λ (ss : List Scope). quantifier_at ss 1 ≡ Some (winner_of held.verdict.truth)) scopes won) in
     let value : c.first_value.result ≡ values_of f (tell d held) x = c.first_value.ensures
@@ -63,7 +61,7 @@ returns-else-not-is_won-clause-decides c =
     let distinct = c.prefix-prefix.ensures.valid.distinct in
     let won = same_true (quantifier_at c.prefix-prefix.result.now 1) (winner_of held.verdict.truth)
     (sym c.is_won.ensures ∙ c.if-not-is_won.false) in
-    let facts = holds f d held distinct (same_rows d f.frames tied.clauses) tied.resting.intact.legal is.found
+    let facts = holds f d held distinct (tied_legal f c.self.inside.search tied) is.found
     c.end_rows_give_proofs.ensures c.proofs_decide.ensures c.steps_are_listed.ensures in
     rw (← c.self.view_is, c.in-Some.is) (first_decide f (tell d held) distinct facts c.plays_exist.ensures
     c.first_values_decide.ensures (subst (λ (ss : List Scope). quantifier_at ss 1 ≡ Some (winner_of held.verdict.truth))

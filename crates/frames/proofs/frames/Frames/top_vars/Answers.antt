@@ -3,6 +3,7 @@ use Rattle.std.specs.Prelude.{is_some}
 use Rattle.prefix.specs.Scopes.{level_of}
 use Rattle.frames.specs.Kept.{at_first, frames_from, last_vars}
 use Rattle.frames.proofs.Starts.{frames_top, last_within}
+use Rattle.frames.proofs.Holding.{held_top}
 use Rattle.frames.proofs.Keeping.{ending}
 use Rattle.frames.proofs.Leaving.{all_top, below_popped, distinct_top, first_top, never_top}
 use Rattle.frames.proofs.frames.Frames.top_vars.Goals as goal
@@ -45,6 +46,12 @@ returns-clause-below c =
     let self = c.self.inside in
     rw (← c.self.view_is) (below_popped (frames_from at_first self.starts.items self.rows.items self.vars.items)
     c.self.invariant.2.outlast)
+
+pub returns-clause-grouped : goal.returns-clause-grouped
+returns-clause-grouped c =
+    let self = c.self.inside in
+    rw (← c.self.view_is) (held_top self.prefix self.starts.items (ending self.rows.items self.vars.items)
+    self.rows.items self.vars.items self.groups self.latest c.self.invariant.0.ascending c.self.invariant.3)
 
 pub returns-clause-never : goal.returns-clause-never
 returns-clause-never c =

@@ -3,6 +3,8 @@ use Rattle.std.specs.Prelude.{is_some, Option, Some, if◌then◌else◌}
 use Rattle.std.proofs.lemmas.Bool.{eq-eqb}
 use Rattle.prefix.specs.Scopes.{level_of, with_variable_at}
 use Rattle.frames.specs.State.{Frame, leaves_in, settled}
+use Rattle.frames.specs.Kept.{outside}
+use Rattle.frames.proofs.Holding.{held_listed}
 use Rattle.frames.proofs.Keeping.{frames_listed, listed_frames, listed_leaving, none_assumed, none_there}
 use Rattle.frames.proofs.Refusing.{variable_free, variable_is}
 use Rattle.frames.proofs.frames.Frames.var.Goals as goal
@@ -39,12 +41,16 @@ invariant_of-self-2 c =
     let free = variable_free self.prefix c.args.var c.args.scope c.variable_for.result c.in_ok-v.v c.in_ok-v.was
     c.variable_for.ensures.value in (
       listed_frames self.version self.prefix c.add_var.new.self self.starts.items self.rows.items self.vars.items
-          c.put_variable.new.vars.items self.literals self.latest c.args.var (listed c) c.self.invariant.0 kept,
+          c.put_variable.new.vars.items (outside self.latest self.groups.current) c.args.var (listed c)
+          c.self.invariant.0 kept,
       none_assumed c.add_var.new.self self.assumptions
           (none_there _ (sym c.is_empty.ensures ∙ c.if-not-is_empty.false)),
       listed_leaving self.version self.prefix c.add_var.new.self self.starts.items self.rows.items self.vars.items
-          c.put_variable.new.vars.items self.literals self.latest c.args.var (listed c) c.self.invariant.0 free there
-          kept c.self.invariant.2,
+          c.put_variable.new.vars.items (outside self.latest self.groups.current) c.args.var (listed c)
+          c.self.invariant.0 free there kept c.self.invariant.2,
+      held_listed self.version self.prefix c.add_var.new.self self.starts.items self.vars.items
+          c.put_variable.new.vars.items self.groups self.latest c.args.var (listed c) free kept c.self.invariant.3,
+      c.self.invariant.4,
     )
 
 pub returns-clause-ok : goal.returns-clause-ok
@@ -56,8 +62,10 @@ returns-clause-ok c =
       scopes =
           with_variable_at self.prefix (c.args.scope - 1) c.args.var;
       frames = frames;
+      groups = self.groups.groups;
+      current = self.groups.current;
       assumptions =
           self.assumptions;
     }))
     (frames_listed self.version self.prefix c.add_var.new.self self.starts.items self.rows.items self.vars.items
-    c.put_variable.new.vars.items self.literals self.latest c.args.var (listed c) c.self.invariant.0))
+    c.put_variable.new.vars.items (outside self.latest self.groups.current) c.args.var (listed c) c.self.invariant.0))

@@ -1,9 +1,11 @@
-use Rattle.std.proofs.Common.{◌≡◌, subst}
+use Rattle.std.proofs.Common.{◌≡◌, ap, arith, subst}
 use Rattle.prefix.specs.declared.quant.Quant.TheVariants.{Exists}
 use Rattle.steps.specs.Counter.{Counter}
 use Rattle.steps.specs.declared.stop.Stop.TheVariants.{Spent as spent}
 use Rattle.derive.specs.State.{row_of}
+use Rattle.clean.specs.Turns.{reductions_in}
 use Rattle.clean.proofs.Keeping.{step_row}
+use Rattle.search.specs.State.{SearchState}
 use Rattle.search.proofs.Learning.{on_err, on_err_at}
 use Rattle.search.proofs.Following.{advances_covered, covers_looked, ends_covered, ends_within, halts_covered, halts_looked, due_between, due_now, matrix_moves}
 use Rattle.search.proofs.Forcing.{few_analysis, few_assignment, forced_level, never_quiet, refuting_looked, refuting_push}
@@ -133,3 +135,17 @@ returns-in-Quiet-clause-reductions c =
     let same = reductions_same c.args.self.now.derivation c.next_found.new.self.derivation
     c.next_found.ensures.looks.steps in
     rw (← same) c.quiet.ensures.reductions
+
+pub returns-in_err-propagate-in-Unit-clause-reductions : goal.returns-in_err-propagate-in-Unit-clause-reductions
+returns-in_err-propagate-in-Unit-clause-reductions c =
+    let between = c.next_found.new.self in
+    let looked = reductions_same c.args.self.now.derivation between.derivation c.in-Unit.ensures.looks.steps in
+    let same = ap (λ (s : SearchState). reductions_in s.derivation) c.in_err-propagate-in-Unit.ensures.same in
+    omega (arith, looked, same)
+
+pub returns-in_ok-propagate-in-Unit-clause-reductions : goal.returns-in_ok-propagate-in-Unit-clause-reductions
+returns-in_ok-propagate-in-Unit-clause-reductions c =
+    let between = c.next_found.new.self in
+    let looked = reductions_same c.args.self.now.derivation between.derivation c.in-Unit.ensures.looks.steps in
+    let same = ap reductions_in c.in_ok-propagate-in-Unit.ensures.pushes.derivation in
+    omega (arith, looked, same)

@@ -1,14 +1,15 @@
 use Rattle.std.proofs.Common.{◌≡◌, SFits, refl, rules, w64}
 use Rattle.std.proofs.Math.Facts.{to_z-of_z}
-use Rattle.std.specs.Prelude.{length, not, ◌&&◌, ◌==◌}
+use Rattle.std.specs.Prelude.{length, is_none, is_some, not, ◌&&◌, ◌==◌}
 use Rattle.std.specs.List.{list_all}
 use Rattle.std.proofs.lemmas.Result.{on_err_weaker, on_ok_weaker}
 use Rattle.clauses.specs.Clause.{is_tautology, variables_of}
-use Rattle.frames.specs.declared.refusal.FrameRefusal.TheVariants.{AssumeClash, AssumeScope, Limit, NoFrame, UnknownVar}
-use Rattle.frames.specs.Commands.{AddClause, AddScope, AddVariable, Assume, Pop, Push, clashes_with, is_beyond, is_known, is_outermost, max_pushed}
-use Rattle.frames.specs.State.{clauses_in, depth}
+use Rattle.frames.specs.declared.refusal.FrameRefusal.TheVariants.{AssumeClash, AssumeScope, GroupFrame, GroupOpen, GroupRange, Limit, NoFrame, NoGroup, UnknownVar}
+use Rattle.frames.specs.Commands.{Activate, AddClause, AddScope, AddVariable, Assume, CloseGroup, Deactivate, OpenGroup, Pop, Push, clashes_with, is_beyond, is_known, is_outermost, max_pushed}
+use Rattle.frames.specs.Groups.{is_group, may_number}
+use Rattle.frames.specs.State.{all_clauses, depth}
 use Rattle.qscript.specs.declared.command.Command.TheVariants as command
-use Rattle.session.proofs.Accepting.{accepts, always, has_changed, has_clause, held_again, one_numbered, scope_numbered, three_numbered, two_numbered, unless_memory, variable_numbered}
+use Rattle.session.proofs.Accepting.{accepts, always, has_changed, has_clause, has_group, held_again, one_numbered, scope_numbered, three_numbered, two_numbered, unless_memory, variable_numbered}
 use Rattle.session.proofs.Leaving.{any_error, at_want, session_same, stays_refused}
 use Rattle.session.proofs.session.Session.step.Goals as goal
 
@@ -48,7 +49,7 @@ returns-in-Clause-clause-steps g c = rw (← c.self.view_is, c.in-Clause.is) (λ
     (command.Clause c.in-Clause.lits) (AddClause c.in-Clause.lits) s c.self.inside.engine c.clause.new.self holds refl
     (λ out after h. h) refl refl refl refl refl refl (λ f. two_numbered
     (not (list_all (is_known f.scopes) c.in-Clause.lits))
-    (not (is_tautology c.in-Clause.lits) && is_beyond (clauses_in f.frames) (length (variables_of c.in-Clause.lits)))
+    (not (is_tautology c.in-Clause.lits) && is_beyond (all_clauses f) (length (variables_of c.in-Clause.lits)))
     UnknownVar Limit refl refl) _ c.clause.result
     c.args.sink.now c.accept-in-Clause.new.sink c.accept-in-Clause.result
     (on_ok_weaker c.clause.result
@@ -63,7 +64,8 @@ pub returns-in-Push-clause-steps : goal.returns-in-Push-clause-steps
 returns-in-Push-clause-steps g c = rw (← c.self.view_is, c.in-Push.is) (λ s holds.
     accepts g.S.Sink.written g.S.Sink.flushed g.S.Sink.faults g.S.Sink.has_room _
     command.Push Push s c.self.inside.engine c.push.new.self holds refl
-    (λ out after h. h) refl refl refl refl refl refl (λ f. one_numbered (depth f.frames == max_pushed) Limit refl) _
+    (λ out after h. h) refl refl refl refl refl refl (λ f. two_numbered (is_some f.current)
+    (depth f.frames == max_pushed) GroupOpen Limit refl refl) _
     c.push.result c.args.sink.now c.accept-in-Push.new.sink c.accept-in-Push.result
     (on_ok_weaker c.push.result
     (λ same. has_changed Push c.self.inside.engine c.push.new.self _ same refl)
@@ -124,6 +126,65 @@ returns-in-Trace-clause-steps g c = rw (← c.self.view_is, c.in-Trace.is) (λ s
 pub returns-in-Cert-clause-steps : goal.returns-in-Cert-clause-steps
 returns-in-Cert-clause-steps g c = rw (← c.self.view_is, c.in-Cert.is) (λ s holds.
     c.tell_circuit.ensures _ s holds)
+
+pub returns-in-OpenGroup-clause-steps : goal.returns-in-OpenGroup-clause-steps
+returns-in-OpenGroup-clause-steps g c = rw (← c.self.view_is, c.in-OpenGroup.is) (λ s holds.
+    accepts g.S.Sink.written g.S.Sink.flushed g.S.Sink.faults g.S.Sink.has_room _
+    (command.OpenGroup c.in-OpenGroup.group) (OpenGroup c.in-OpenGroup.group) s c.self.inside.engine c.open_group.new.self holds refl
+    (λ out after h. h) refl refl refl refl refl refl (λ f. three_numbered (not (may_number c.in-OpenGroup.group)) (is_some f.current)
+    (not (depth f.frames == 0)) GroupRange GroupOpen GroupFrame refl refl refl) _
+    c.open_group.result c.args.sink.now c.accept-in-OpenGroup.new.sink c.accept-in-OpenGroup.result
+    (on_ok_weaker c.open_group.result
+    (λ same. has_changed (OpenGroup c.in-OpenGroup.group) c.self.inside.engine c.open_group.new.self _ same refl)
+    c.open_group.ensures.ok) c.open_group.ensures.refused (unless_memory c.open_group.result)
+    (on_err_weaker c.open_group.result (held_again _ s c.self.inside.engine c.open_group.new.self _ holds)
+    c.open_group.ensures.err)
+    c.accept-in-OpenGroup.ensures)
+
+pub returns-in-CloseGroup-clause-steps : goal.returns-in-CloseGroup-clause-steps
+returns-in-CloseGroup-clause-steps g c = rw (← c.self.view_is, c.in-CloseGroup.is) (λ s holds.
+    accepts g.S.Sink.written g.S.Sink.flushed g.S.Sink.faults g.S.Sink.has_room _
+    command.CloseGroup CloseGroup s c.self.inside.engine c.close_group.new.self holds refl
+    (λ out after h. h) refl refl refl refl refl refl (λ f. one_numbered (is_none f.current) NoGroup refl) _
+    c.close_group.result c.args.sink.now c.accept-in-CloseGroup.new.sink c.accept-in-CloseGroup.result
+    (on_ok_weaker c.close_group.result
+    (λ same. has_changed CloseGroup c.self.inside.engine c.close_group.new.self _ same refl)
+    c.close_group.ensures.ok) c.close_group.ensures.refused (always c.close_group.result)
+    (on_err_weaker c.close_group.result (held_again _ s c.self.inside.engine c.close_group.new.self _ holds)
+    c.close_group.ensures.err)
+    c.accept-in-CloseGroup.ensures)
+
+pub returns-in-Activate-clause-steps : goal.returns-in-Activate-clause-steps
+returns-in-Activate-clause-steps g c = rw (← c.self.view_is, c.in-Activate.is) (λ s holds.
+    accepts g.S.Sink.written g.S.Sink.flushed g.S.Sink.faults g.S.Sink.has_room _
+    (command.Activate c.in-Activate.group) (Activate c.in-Activate.group) s c.self.inside.engine c.activate.new.self holds refl
+    (λ out after h. h) refl refl refl refl refl refl (λ f. three_numbered (not (may_number c.in-Activate.group)) (not (is_group f.groups c.in-Activate.group)) (is_some f.current)
+    GroupRange NoGroup GroupOpen refl refl refl) _
+    c.activate.result c.args.sink.now c.accept-in-Activate.new.sink c.accept-in-Activate.result
+    (on_ok_weaker c.activate.result
+    (λ same. has_group c.in-Activate.group c.self.inside.engine c.activate.new.self same)
+    c.activate.ensures.ok) c.activate.ensures.refused (unless_memory c.activate.result)
+    (on_err_weaker c.activate.result (held_again _ s c.self.inside.engine c.activate.new.self _ holds)
+    c.activate.ensures.err)
+    c.accept-in-Activate.ensures)
+
+pub returns-in-Deactivate-clause-steps : goal.returns-in-Deactivate-clause-steps
+returns-in-Deactivate-clause-steps g c = rw (← c.self.view_is, c.in-Deactivate.is) (λ s holds.
+    accepts g.S.Sink.written g.S.Sink.flushed g.S.Sink.faults g.S.Sink.has_room _
+    (command.Deactivate c.in-Deactivate.group) (Deactivate c.in-Deactivate.group) s c.self.inside.engine c.deactivate.new.self holds refl
+    (λ out after h. h) refl refl refl refl refl refl (λ f. three_numbered (not (may_number c.in-Deactivate.group)) (not (is_group f.groups c.in-Deactivate.group)) (is_some f.current)
+    GroupRange NoGroup GroupOpen refl refl refl) _
+    c.deactivate.result c.args.sink.now c.accept-in-Deactivate.new.sink c.accept-in-Deactivate.result
+    (on_ok_weaker c.deactivate.result
+    (λ same. has_changed (Deactivate c.in-Deactivate.group) c.self.inside.engine c.deactivate.new.self _ same refl)
+    c.deactivate.ensures.ok) c.deactivate.ensures.refused (always c.deactivate.result)
+    (on_err_weaker c.deactivate.result (held_again _ s c.self.inside.engine c.deactivate.new.self _ holds)
+    c.deactivate.ensures.err)
+    c.accept-in-Deactivate.ensures)
+
+pub returns-in-GroupCore-clause-steps : goal.returns-in-GroupCore-clause-steps
+returns-in-GroupCore-clause-steps g c = rw (← c.self.view_is, c.in-GroupCore.is) (λ s holds.
+    c.tell_core.ensures _ s refl holds)
 
 -- what is left where a command is refused, asks, or wants memory
 
@@ -207,3 +268,60 @@ returns-in-Assume-clause-wants g c = rw (← c.self.view_is, c.in-Assume.is) (λ
     (at_want g.S.Sink.written g.S.Sink.flushed g.S.Sink.faults g.S.Sink.has_room c.assume.result
     c.args.sink.now c.accept-in-Assume.new.sink c.accept-in-Assume.result c.accept-in-Assume.ensures
     c.assume.ensures.err none))
+
+pub returns-in-OpenGroup-clause-refused : goal.returns-in-OpenGroup-clause-refused
+returns-in-OpenGroup-clause-refused g c = rw (← c.self.view_is, c.in-OpenGroup.is) (λ s n holds number.
+    stays_refused _ s c.self.inside.engine c.open_group.new.self (OpenGroup c.in-OpenGroup.group) n holds number _
+    c.open_group.result c.open_group.ensures.refused
+    (any_error (c.open_group.new.self ≡ c.self.inside.engine) c.open_group.result c.open_group.ensures.err))
+
+pub returns-in-OpenGroup-clause-wants : goal.returns-in-OpenGroup-clause-wants
+returns-in-OpenGroup-clause-wants g c = rw (← c.self.view_is, c.in-OpenGroup.is) (λ none.
+    session_same _ c.self.inside.engine c.open_group.new.self
+    (at_want g.S.Sink.written g.S.Sink.flushed g.S.Sink.faults g.S.Sink.has_room c.open_group.result
+    c.args.sink.now c.accept-in-OpenGroup.new.sink c.accept-in-OpenGroup.result c.accept-in-OpenGroup.ensures
+    c.open_group.ensures.err none))
+
+pub returns-in-CloseGroup-clause-refused : goal.returns-in-CloseGroup-clause-refused
+returns-in-CloseGroup-clause-refused g c = rw (← c.self.view_is, c.in-CloseGroup.is) (λ s n holds number.
+    stays_refused _ s c.self.inside.engine c.close_group.new.self CloseGroup n holds number _
+    c.close_group.result c.close_group.ensures.refused
+    (any_error (c.close_group.new.self ≡ c.self.inside.engine) c.close_group.result c.close_group.ensures.err))
+
+pub returns-in-CloseGroup-clause-wants : goal.returns-in-CloseGroup-clause-wants
+returns-in-CloseGroup-clause-wants g c = rw (← c.self.view_is, c.in-CloseGroup.is) (λ none.
+    session_same _ c.self.inside.engine c.close_group.new.self
+    (at_want g.S.Sink.written g.S.Sink.flushed g.S.Sink.faults g.S.Sink.has_room c.close_group.result
+    c.args.sink.now c.accept-in-CloseGroup.new.sink c.accept-in-CloseGroup.result c.accept-in-CloseGroup.ensures
+    c.close_group.ensures.err none))
+
+pub returns-in-Deactivate-clause-refused : goal.returns-in-Deactivate-clause-refused
+returns-in-Deactivate-clause-refused g c = rw (← c.self.view_is, c.in-Deactivate.is) (λ s n holds number.
+    stays_refused _ s c.self.inside.engine c.deactivate.new.self (Deactivate c.in-Deactivate.group) n holds number _
+    c.deactivate.result c.deactivate.ensures.refused
+    (any_error (c.deactivate.new.self ≡ c.self.inside.engine) c.deactivate.result c.deactivate.ensures.err))
+
+pub returns-in-Deactivate-clause-wants : goal.returns-in-Deactivate-clause-wants
+returns-in-Deactivate-clause-wants g c = rw (← c.self.view_is, c.in-Deactivate.is) (λ none.
+    session_same _ c.self.inside.engine c.deactivate.new.self
+    (at_want g.S.Sink.written g.S.Sink.flushed g.S.Sink.faults g.S.Sink.has_room c.deactivate.result
+    c.args.sink.now c.accept-in-Deactivate.new.sink c.accept-in-Deactivate.result c.accept-in-Deactivate.ensures
+    c.deactivate.ensures.err none))
+
+pub returns-in-Activate-clause-refused : goal.returns-in-Activate-clause-refused
+returns-in-Activate-clause-refused g c = rw (← c.self.view_is, c.in-Activate.is) (λ s n holds number.
+    stays_refused _ s c.self.inside.engine c.activate.new.self (Activate c.in-Activate.group) n holds number _
+    c.activate.result c.activate.ensures.refused c.activate.ensures.stays)
+
+pub returns-in-Activate-clause-wants : goal.returns-in-Activate-clause-wants
+returns-in-Activate-clause-wants g c = rw (← c.self.view_is, c.in-Activate.is) (λ none.
+    record {
+      rest = session_same _ (record c.self.inside.engine { kept_long = c.activate.new.self.kept_long })
+          c.activate.new.self
+          (at_want g.S.Sink.written g.S.Sink.flushed g.S.Sink.faults g.S.Sink.has_room c.activate.result
+          c.args.sink.now c.accept-in-Activate.new.sink c.accept-in-Activate.result c.accept-in-Activate.ensures
+          c.activate.ensures.err none);
+      fewer = at_want g.S.Sink.written g.S.Sink.flushed g.S.Sink.faults g.S.Sink.has_room c.activate.result
+          c.args.sink.now c.accept-in-Activate.new.sink c.accept-in-Activate.result c.accept-in-Activate.ensures
+          c.activate.ensures.fewer none;
+    })

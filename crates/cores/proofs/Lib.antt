@@ -1,0 +1,5 @@
+pub mod Fewer
+pub mod Keeping
+pub mod Minimal
+pub mod Trying
+pub mod Working

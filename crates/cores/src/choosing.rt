@@ -1,0 +1,198 @@
+//! Groups are tried one after the other.
+ghost use Rattle.std.specs.Prelude.{◌≡◌, ◌≤◌, ◌<◌, ◌+◌, ◌∷◌, ◌++◌, [], ℕ, List, Ok, true, false, Contains, IfOk, IfErr, OnOk, drop, length};
+ghost use Rattle.std.specs.List.{AllByRecursion};
+ghost use Rattle.prefix.specs.Scopes.{IsAscending, all_variables};
+ghost use Rattle.truth.specs.Truth.{truth_under};
+ghost use Rattle.calculus.specs.Rows.{IsRow, Row, variables_in};
+ghost use Rattle.calculus.specs.Verdicts.{AreOuter};
+ghost use Rattle.derive.specs.State.{clauses_of};
+ghost use Rattle.search.specs.State.{IsResting};
+ghost use Rattle.cores.specs.Cores.{Group, core_numbers, grouped_in};
+ghost use Rattle.cores.specs.Trials.{IsStopOn, IsTrialStop, IsTrying, tag_of};
+
+use crate::part::Part;
+use crate::trial::{Question, is_true_with, put_all};
+use matrix::Matrix;
+use prefix::{LitList, Prefix, Var};
+use search::{Search, SolveStop, resting_grows};
+use std::alloc::Global;
+use steps::NoMemory;
+
+/// The numbers of the groups of the core: one group after the other is tried, and kept where the other clauses, with
+/// those of the groups that are kept and of the ones still to be tried, are true under the assumptions. Where the
+/// formula of all clauses is false under them, it is so with the groups of the core, and true without any one of these.
+///
+/// One search decides all trials, each with a counter of its own of the question's budget, and what it learned from
+/// clauses that stay is kept between them. `room` is no less than the number of any variable of the prefix.
+///
+/// Spent comes only where a step is due in a trial and its budget is spent, which is never so where the budget suffices
+/// for the variables and the restarts.
+pub fn core_of(
+    alloc: Global,
+    question: &Question<'_>,
+    room: usize,
+    others: &[LitList],
+    parts: &[Part<'_>],
+) -> Result<Vec<u32>, SolveStop>
+    requires outer { AreOuter question.now.prefix.now question.now.assumptions.now }
+    requires ascending { IsAscending (variables_in question.now.assumptions.now) }
+    requires room { (x : ℕ) → Contains (all_variables question.now.prefix.now) x → x ≤ room }
+    requires others { AllByRecursion (IsRow question.now.prefix.now) others.now }
+    requires parts { AllByRecursion (IsRow question.now.prefix.now) (grouped_in parts.now) }
+    ensures ok { IfOk result (λ core. core.items
+        ≡ core_numbers question.now.assumptions.now question.now.prefix.now others.now parts.now) }
+    ensures stop { IfErr result (IsTrialStop question.now.restarts question.now.budget question.now.prefix.now
+        others.now parts.now question.now.assumptions.now) }
+{
+    let mut search = Search::new(alloc);
+    core_in(alloc, &mut search, question, room, others, parts)
+}
+
+// The same by a new search.
+fn core_in(
+    alloc: Global,
+    search: &mut Search,
+    question: &Question<'_>,
+    room: usize,
+    others: &[LitList],
+    parts: &[Part<'_>],
+) -> Result<Vec<u32>, SolveStop>
+    requires outer { AreOuter question.now.prefix.now question.now.assumptions.now }
+    requires ascending { IsAscending (variables_in question.now.assumptions.now) }
+    requires room { (x : ℕ) → Contains (all_variables question.now.prefix.now) x → x ≤ room }
+    requires others { AllByRecursion (IsRow question.now.prefix.now) others.now }
+    requires parts { AllByRecursion (IsRow question.now.prefix.now) (grouped_in parts.now) }
+    requires resting { IsResting [] search.old }
+    requires none { clauses_of search.old.derivation ≡ [] }
+    ensures ok { IfOk result (λ core. core.items
+        ≡ core_numbers question.now.assumptions.now question.now.prefix.now others.now parts.now) }
+    ensures stop { IfErr result (IsTrialStop question.now.restarts question.now.budget question.now.prefix.now
+        others.now parts.now question.now.assumptions.now) }
+{
+    fill(search, question.prefix, room, others, parts)?;
+    let mut kept = Matrix::new(alloc, others);
+    let mut core = Vec::new(alloc);
+    try_all(alloc, search, question, &mut kept, &mut core, parts)?;
+    Ok(core)
+}
+
+// Tries all groups, and keeps those that are needed.
+fn try_all<'a>(
+    alloc: Global,
+    search: &mut Search,
+    question: &Question<'_>,
+    kept: &mut Matrix<'a>,
+    core: &mut Vec<u32>,
+    parts: &[Part<'a>],
+) -> Result<(), SolveStop>
+    requires outer { AreOuter question.now.prefix.now question.now.assumptions.now }
+    requires ascending { IsAscending (variables_in question.now.assumptions.now) }
+    requires parts { AllByRecursion (IsRow question.now.prefix.now) (grouped_in parts.now) }
+    requires trying { IsTrying question.now.prefix.now search.old kept.old (tag_of 0) parts.now }
+    requires none { core.old.items ≡ [] }
+    ensures ok { OnOk result (core.new.items
+        ≡ core_numbers question.now.assumptions.now question.now.prefix.now kept.old parts.now) }
+    ensures stop { IfErr result (IsTrialStop question.now.restarts question.now.budget question.now.prefix.now
+        kept.old parts.now question.now.assumptions.now) }
+{
+    for place in 0..parts.len() {
+        let stays = is_needed(alloc, search, question, kept, parts, place)?;
+        if !stays {
+            continue;
+        }
+        keep(kept, core, &parts[place])?;
+    }
+    Ok(())
+}
+
+// Puts the other clauses into a new search, and those of each group under a tag of its own.
+fn fill(
+    search: &mut Search,
+    prefix: &Prefix,
+    room: usize,
+    others: &[LitList],
+    parts: &[Part<'_>],
+) -> Result<(), NoMemory>
+    requires room { (x : ℕ) → Contains (all_variables prefix.now) x → x ≤ room }
+    requires others { AllByRecursion (IsRow prefix.now) others.now }
+    requires parts { AllByRecursion (IsRow prefix.now) (grouped_in parts.now) }
+    requires resting { IsResting [] search.old }
+    requires none { clauses_of search.old.derivation ≡ [] }
+    ensures { OnOk result (IsTrying prefix.now search.new others.now (tag_of 0) parts.now) }
+{
+    make_room(search, prefix, room)?;
+    put_all(search, prefix, others, 0)?;
+    put_groups(search, prefix, parts)
+}
+
+// Makes room for the variables of the prefix in a new search.
+fn make_room(search: &mut Search, prefix: &Prefix, room: usize) -> Result<(), NoMemory>
+    requires room { (x : ℕ) → Contains (all_variables prefix.now) x → x ≤ room }
+    requires resting { IsResting [] search.old }
+    ensures resting { OnOk result (IsResting prefix.now search.new) }
+    ensures clauses { clauses_of search.new.derivation ≡ clauses_of search.old.derivation }
+{
+    resting_grows();
+    // The variables are in range.
+    let _valid = prefix.scopes();
+    match Var::new(room.min(Var::MAX as usize) as u32) {
+        Some(greatest) => search.reserve(greatest),
+        None => Ok(()),
+    }
+}
+
+// Puts the clauses of groups in, each under a tag of its own.
+fn put_groups(search: &mut Search, prefix: &Prefix, parts: &[Part<'_>]) -> Result<(), NoMemory>
+    requires resting { IsResting prefix.now search.old }
+    requires parts { AllByRecursion (IsRow prefix.now) (grouped_in parts.now) }
+    ensures { (others : List Row) → IsTrying prefix.now search.old others 1 [] →
+        OnOk result (IsTrying prefix.now search.new others 1 parts.now) }
+{
+    for place in 0..parts.len() {
+        put_all(search, prefix, parts[place].clauses(), place + 1)?;
+    }
+    Ok(())
+}
+
+// Takes a group out, and puts it in again where the formula is true without it.
+fn is_needed(
+    alloc: Global,
+    search: &mut Search,
+    question: &Question<'_>,
+    kept: &Matrix<'_>,
+    parts: &[Part<'_>],
+    place: usize,
+) -> Result<bool, SolveStop>
+    requires outer { AreOuter question.now.prefix.now question.now.assumptions.now }
+    requires ascending { IsAscending (variables_in question.now.assumptions.now) }
+    requires parts { AllByRecursion (IsRow question.now.prefix.now) (grouped_in parts.now) }
+    requires place { place < length parts.now }
+    requires trying { IsTrying question.now.prefix.now search.old kept.now (tag_of place) (drop place parts.now) }
+    ensures truth { IfOk result (λ t. truth_under question.now.assumptions.now question.now.prefix.now
+        (kept.now ++ grouped_in (drop (place + 1) parts.now)) ≡ t) }
+    ensures out { result ≡ Ok false → IsTrying question.now.prefix.now search.new kept.now (tag_of (place + 1))
+        (drop (place + 1) parts.now) }
+    ensures back { result ≡ Ok true → (g : Group) → drop place parts.now ≡ g ∷ drop (place + 1) parts.now →
+        IsTrying question.now.prefix.now search.new (kept.now ++ g.clauses) (tag_of (place + 1))
+        (drop (place + 1) parts.now) }
+    ensures stop { IfErr result (IsStopOn question.now.restarts question.now.budget question.now.prefix.now
+        (kept.now ++ grouped_in (drop (place + 1) parts.now)) question.now.assumptions.now) }
+{
+    search.drop_frame(place + 1);
+    let is_true = is_true_with(alloc, search, question, kept, parts, place + 1)?;
+    if !is_true {
+        return Ok(false);
+    }
+    put_all(search, question.prefix, parts[place].clauses(), place + 1)?;
+    Ok(true)
+}
+
+// Keeps a group: its clauses come behind those that are kept, and its number behind the others of the core.
+fn keep<'a>(kept: &mut Matrix<'a>, core: &mut Vec<u32>, part: &Part<'a>) -> Result<(), NoMemory>
+    ensures clauses { OnOk result (kept.new ≡ kept.old ++ part.now.clauses) }
+    ensures number { OnOk result (core.new.items ≡ core.old.items ++ part.now.number ∷ []) }
+{
+    kept.push(part.clauses())?;
+    core.push(part.number())?;
+    Ok(())
+}

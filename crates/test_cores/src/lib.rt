@@ -1,0 +1,5 @@
+//! Tests of the crate `cores`.
+#![tactic(auto)]
+
+#[cfg(test)]
+mod core_tests;
