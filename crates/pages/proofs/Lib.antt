@@ -1,0 +1,5 @@
+mod Stored
+mod Joining
+mod Paged
+mod Filled
+mod Flags
