@@ -1,15 +1,15 @@
 -- How the rows of an arena stay kept.
-use Rattle.std.proofs.Common.{◌≡◌, ℕ, ◌+◌, ◌-◌, ◌<◌, ◌≤◌, List, [], ◌∷◌, ◌++◌, length, set, Option, Some, None, is_some, sym, ap, subst, ◌∙◌, arith}
+use Rattle.std.proofs.Common.{◌≡◌, ℕ, ◌+◌, ◌-◌, ◌<◌, ◌≤◌, List, [], ◌∷◌, ◌++◌, length, map, set, cond, Option, Some, None, is_some, refl, sym, ap, subst, ◌∙◌, arith}
 use Rattle.std.specs.Prelude.{count_by}
 use Rattle.std.specs.Option.{option_map}
 use Rattle.std.proofs.lemmas.List.{length-map, length-append, map-append}
-use Rattle.std.proofs.lemmas.List.Sums.{count_by-le-length}
+use Rattle.std.proofs.lemmas.List.Sums.{count_by-le-length, sum_by-cons}
 use Rattle.prefix.specs.Literal.{Literal}
 use Rattle.rows.specs.declared.places.Place.{Place}
 use Rattle.rows.specs.declared.blocks.Block.{Block}
 use Rattle.rows.specs.Places.{AreSpread, KeepsParts, Reblocks, blocks_of, most_blocks}
 use Rattle.rows.specs.Blocks.{AreBlocks, LosesBlock, block_at}
-use Rattle.rows.specs.Stored.{AreStored}
+use Rattle.rows.specs.Stored.{AreStored, arena_of, stored}
 use Rattle.rows.proofs.Parts.{spread_more, spread_reblocked, spread_without}
 use Rattle.rows.proofs.Blocking.{blocks_more, blocks_written, count_le, live_more}
 
@@ -74,3 +74,30 @@ stored_put lits row new_lits places new_places blocks live room now e1 e2 s fits
     let P : ℕ → Type 0 = λ n. AreStored n new_places blocks (live + 1) now in
     let Q : List (Option Place) → Type 0 = λ ps. AreStored (length lits + length row) ps blocks (live + 1) now in
     subst P (sym size) (subst Q (sym e2) (stored_more (length lits) (length row) places blocks live room now s fits few))
+
+-- as many rows are live as have a place
+module _ {A : Type 0} (f : Place → A) where
+  abbrev one_of : {B : Type 0} → Option B → ℕ
+  one_of o = cond (is_some o) 1 0
+
+  same_one : (o : Option Place) → one_of (option_map f o) ≡ one_of o
+  same_one None = refl
+  same_one (Some p) = refl
+
+  pub count_mapped : (places : List (Option Place)) → count_by is_some (map (option_map f) places) ≡ count_by is_some places
+  count_mapped [] = refl
+  count_mapped (o ∷ places) =
+      let l : count_by is_some (option_map f o ∷ map (option_map f) places) ≡ one_of (option_map f o)
+      + count_by is_some (map (option_map f) places) = sum_by-cons (λ (x : Option A). one_of x) (option_map f o)
+      (map (option_map f) places) in
+      let r : count_by is_some (o ∷ places) ≡ one_of o + count_by is_some places =
+      sum_by-cons (λ (x : Option Place). one_of x) o places in
+      let s = same_one o in
+      let rest = count_mapped places in
+      omega (arith, l, r, s, rest)
+
+pub live_counted : (size : ℕ) (literals : List Literal) (places : List (Option Place)) (blocks : List Block)
+    (live room : ℕ) → AreStored size places blocks live room → live ≡ count_by is_some (arena_of literals blocks places)
+live_counted size literals places blocks live room s =
+    sym (count_mapped (stored literals blocks) places
+    ∙ (sym (count_mapped (λ (p : Place). p.block) places) ∙ s.counted))

@@ -1,5 +1,5 @@
 //! The arena.
-ghost use Rattle.std.specs.Prelude.{◌≡◌, ◌↔◌, ◌<◌, ◌≤◌, ◌+◌, ℕ, [], ◌∷◌, take, IsFalse, IsTrue, Some, None, IfOk, OnOk, OnErr, length, slice_set};
+ghost use Rattle.std.specs.Prelude.{◌≡◌, ◌↔◌, ◌<◌, ◌≤◌, ◌+◌, ℕ, [], ◌∷◌, take, IsFalse, IsTrue, Some, None, IfOk, OnOk, OnErr, length, slice_set, count_by, is_some};
 ghost use Rattle.rows.specs.Arena.{ChangesAt, ChangesLink, ChangesLinks, next_id, row_at, is_live, literals_at, link_at, new_row, with_row, without_row, with_link, with_links};
 
 use super::blocks::{Block, block_for, forget, read, read_three, write, write_three};
@@ -68,6 +68,13 @@ impl Rows {
         ensures { result ≡ next_id self.now }
     {
         self.places.len()
+    }
+
+    /// How many rows are live.
+    pub fn live(&self) -> usize
+        ensures { result ≡ count_by is_some self.now }
+    {
+        self.live
     }
 
     /// Whether a row is live under an id, which may be any number.
