@@ -14,7 +14,7 @@ use Rattle.calculus.specs.Derivations.Why.{Given, ReducedFrom, ResolvedFrom, Fin
 use Rattle.derive.specs.State.{Note, Notes, State, SameStep, note_in, note_at, is_live, is_step, is_finish, may_be_antecedent, next_id, has_rows, row_of, side_at, side_in, tag_at, why_in, tag_in, step_from, clause_from, with_step}
 use Rattle.derive.specs.Antecedents.{AreSupported, IsAntecedentIn, IsSupportedAt, HasTag, Fits}
 use Rattle.derive.specs.Kept.{AreFrom, AreFromFrames, BelongTogether}
-use Rattle.derive.specs.Dropping.{StepTest, has_tag, is_cube}
+use Rattle.derive.specs.Dropping.{StepTest, is_cube}
 use Rattle.derive.specs.Cubes.{AreListed, is_cube_in}
 use Rattle.derive.specs.Adding.{Adds, AddsBoth, IsOver, Removes, clause_note, note_over}
 use Rattle.derive.proofs.Ids.{listed_push}

@@ -1,15 +1,14 @@
 -- Clauses that come in at once, each with its reduction.
-use Rattle.std.proofs.Common.{◌≡◌, ◌≢◌, ℕ, ◌+◌, ◌≤◌, ◌<◌, Bool, true, false, cond, List, [], ◌∷◌, ◌++◌, length, map, filter, Contains, IsTrue, Option, Some, None, is_some, get_or, take, append_assoc, sym, refl, ap, ap₂, subst, ◌∙◌, inl, inr, ⊎_elim, arith}
+use Rattle.std.proofs.Common.{◌≡◌, ◌≢◌, ℕ, ◌≤◌, ◌<◌, Bool, true, List, [], ◌∷◌, ◌++◌, length, map, filter, Contains, IsTrue, Option, Some, None, is_some, get_or, take, append_assoc, sym, refl, ap, ap₂, subst, ◌∙◌, inl, inr, ⊎_elim, arith}
 use Rattle.std.specs.List.{All}
-use Rattle.std.proofs.lemmas.Bool.{cases_Bool, cond-true, cond-false, false≢true}
+use Rattle.std.proofs.lemmas.Bool.{cases_Bool, cond-false, false≢true}
 use Rattle.std.proofs.lemmas.List.{append-nil, length_push, map_push, map-append}
 use Rattle.std.proofs.lemmas.List.Elements.{All-contains, Contains-append_cases, Contains-append_left, Contains-append_right, Contains-push_cases}
 use lib.Seq.{take-append_seam}
 use Rattle.prefix.specs.declared.quant.Quant.{Quant}
 use Rattle.prefix.specs.declared.quant.Quant.TheVariants.{Exists, Forall}
-use Rattle.prefix.specs.Literal.{Literal}
 use Rattle.prefix.specs.Scopes.{Scope}
-use Rattle.rows.specs.Arena.{Arena, StoredRow, link_at, links_of, literals_of, row_at as stored_at}
+use Rattle.rows.specs.Arena.{StoredRow, links_of, literals_of, row_at as stored_at}
 use Rattle.calculus.specs.Rows.{Row, IsRow, reduce}
 use Rattle.calculus.specs.Derivations.{Step, IsDerivation, IsInput, IsClosed}
 use Rattle.calculus.specs.Derivations.Why.{Given, ReducedFrom}
@@ -17,7 +16,7 @@ use Rattle.calculus.proofs.Lists.{contains_head, contains_nil, filter_at}
 use Rattle.calculus.proofs.StepLemmas.{kept_derivation, one_more_step}
 use Rattle.calculus.proofs.Changes.{changed_derivation, extends_itself}
 use Rattle.calculus.proofs.RowLaws.{reduce_row}
-use Rattle.derive.specs.State.{Note, Notes, State, SameStep, IsLegalFor, OpenClause, arena_of, clauses_of, open_clauses, is_finish, is_live, is_step, may_be_antecedent, next_id, note_at, note_in, row_of, side_at, side_in, steps_of, tag_in, why_in}
+use Rattle.derive.specs.State.{Note, State, SameStep, IsLegalFor, OpenClause, arena_of, clauses_of, open_clauses, is_live, is_step, may_be_antecedent, next_id, note_at, note_in, row_of, side_at, side_in, steps_of, tag_in, why_in}
 use Rattle.derive.specs.Antecedents.{AreSupported}
 use Rattle.derive.specs.Adding.{Adds, AddsClause, IsReductionOf, clause_note, note_over}
 use Rattle.derive.specs.Cubes.{misses_one}

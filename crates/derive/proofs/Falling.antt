@@ -63,7 +63,9 @@ stored_same old rows fits id = ⊎_elim (λ t. sym (cond-true (is_some (note_in 
     stored_none None e = refl
     stored_none (Some x) e = absurd (true≢false e)
 
-pub passed_none : (is_root : StepTest) (old : Notes) (rows : Arena) (from : ℕ) → AreSupported old → Fits old rows → ((id : ℕ) (note : Note) → note_in old id ≡ Some note → id < from → is_root id note ≡ false) → Passed is_root old old rows rows from
+passed_none : (is_root : StepTest) (old : Notes) (rows : Arena) (from : ℕ) → AreSupported old → Fits old rows
+    → ((id : ℕ) (note : Note) → note_in old id ≡ Some note → id < from → is_root id note ≡ false)
+    → Passed is_root old old rows rows from
 passed_none is_root old rows from supported fits below =
     record {
       same_next = refl;
@@ -146,6 +148,40 @@ module _ (is_root : StepTest) (old notes : Notes) (old_rows rows : Arena) (to : 
         rows_follow = dropped_rows new_rows within changes;
       })
 
+-- no step falls where none is live
+no_fall : (is_root : StepTest) (old : Notes) (id : ℕ) → note_in old id ≡ None → Falls is_root old id → ⊥
+no_fall is_root old id past (root j note at r) = none_some (note_in old id) note past at
+no_fall is_root old id past (rests j on note at r falls) = none_some (note_in old id) note past at
+
+-- over ids under which no step is live
+pub passed_skip : (is_root : StepTest) (old notes : Notes) (old_rows rows : Arena) (to next : ℕ) → to ≤ next
+    → ((id : ℕ) → to ≤ id → id < next → note_in notes id ≡ None) → Passed is_root old notes old_rows rows to
+    → Passed is_root old notes old_rows rows next
+passed_skip is_root old notes old_rows rows to next further none passed =
+    record {
+      same_next = passed.same_next;
+      done = λ id h.
+          elim (cases_lt id to) [
+            | inl low ↦ passed.done id low
+            | inr high ↦ inr (no_fall is_root old id (sym (passed.rest id high) ∙ none id high h), passed.rest id high)
+          ];
+      rest = λ id h. passed.rest id (omega arith);
+      same_next_row = passed.same_next_row;
+      rows_follow = passed.rows_follow;
+    }
+
+-- up to the first live step from an id on, below which there is no root
+pub passed_first : (is_root : StepTest) (old : Notes) (rows : Arena) (from first : ℕ) → AreSupported old → Fits old rows
+    → ((id : ℕ) (note : Note) → note_in old id ≡ Some note → id < from → is_root id note ≡ false)
+    → ((id : ℕ) → from ≤ id → id < first → note_in old id ≡ None) → Passed is_root old old rows rows first
+passed_first is_root old rows from first supported fits below none =
+    passed_none is_root old rows first supported fits
+    (λ id note there low.
+    elim (cases_lt id from) [
+      | inl h ↦ below id note there h
+      | inr h ↦ absurd (none_some (note_in old id) note (none id h low) there)
+    ])
+
 -- the whole pass
 pub passed_all : (is_root : StepTest) (old notes : Notes) (old_rows rows : Arena) (to : ℕ) → length notes ≤ to → Passed is_root old notes old_rows rows to → DropsFrom is_root old notes old_rows rows
 passed_all is_root old notes old_rows rows to all passed =
@@ -156,15 +192,11 @@ passed_all is_root old notes old_rows rows to all passed =
             | inl h ↦ passed.done id h
             | inr h ↦
                 let past : note_in old id ≡ None = let e = passed.same_next in get_or_past old id None (omega arith) in
-                inr (no_fall id past, passed.rest id h)
+                inr (no_fall is_root old id past, passed.rest id h)
           ];
       same_next_row = passed.same_next_row;
       rows = passed.rows_follow;
     }
-  where
-    no_fall : (id : ℕ) → note_in old id ≡ None → Falls is_root old id → ⊥
-    no_fall id past (root j note at r) = none_some (note_in old id) note past at
-    no_fall id past (rests j on note at r falls) = none_some (note_in old id) note past at
 
 -- what is found of a step by its row, after the pass came to it, is so before
 pub falls_alike : (test : Arena → StepTest) → ((old_rows rows : Arena) (id : ℕ) (note : Note) → literals_at rows id ≡ literals_at old_rows id → test rows id note ≡ test old_rows id note) → (old notes : Notes) (old_rows rows : Arena) (to : ℕ) → Passed (test old_rows) old notes old_rows rows to → falls_now (test rows) notes to ≡ falls_now (test old_rows) notes to

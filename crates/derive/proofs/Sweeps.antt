@@ -172,6 +172,21 @@ marked_more keep notes old marks id from supported next m u =
         (λ p. let q = p.1 in let e : i < id = ((supported id q.0 q.1).antecedents i q.2).earlier in absurd (omega arith))
         (u.only i h)
 
+-- down over ids under which no step is live
+pub marked_skip : (keep : List ℕ) (notes : Notes) (marks : List Bool) (from to : ℕ)
+    → ((i : ℕ) → to ≤ i → i < from → note_in notes i ≡ None) → AreMarked keep notes marks from
+    → AreMarked keep notes marks to
+marked_skip keep notes marks from to none m =
+    record {
+      sound = m.sound;
+      names = m.names;
+      closed = λ i on note low h there r.
+          elim (cases_lt i from) [
+            | inl below ↦ absurd (none_some (note_in notes i) note (none i low below) there)
+            | inr above ↦ m.closed i on note above h there r
+          ];
+    }
+
 -- a step stays exactly where it is marked or an input clause
 pub stays_marked : (keep : List ℕ) (notes : Notes) (marks : List Bool) → AreMarked keep notes marks 0 → (i : ℕ) → Stays keep notes i → (note : Note) → note_in notes i ≡ Some note → is_unmarked marks i note ≡ true → ⊥
 stays_marked keep notes marks m i s note there u =

@@ -1,12 +1,12 @@
 -- Clauses that come in at once, worked.
-use Rattle.std.proofs.Common.{◌≡◌, ◌≢◌, ℕ, zero, suc, List, [], ◌∷◌, ◌++◌, length, map, Contains, Some, refl, sym, ap, subst, ◌∙◌, inl, inr, ⊎_elim, arith}
+use Rattle.std.proofs.Common.{◌≡◌, ◌≢◌, ℕ, List, [], ◌∷◌, length, map, Contains, refl, sym, ap, subst, ◌∙◌, ⊎_elim, arith}
 use Rattle.prefix.specs.declared.quant.Quant.TheVariants.{Exists}
 use Rattle.calculus.specs.Derivations.Why.{Given, ReducedFrom}
 use Rattle.calculus.specs.Rows.{Row, reduce}
 use Rattle.calculus.specs.Worked.{minus, plus}
-use Rattle.calculus.proofs.Lists.{contains_cons, contains_head, contains_nil, contains_tail}
-use Rattle.derive.specs.State.{OpenClause, State, arena_of, clauses_of, with_step}
-use Rattle.derive.specs.Adding.{AddsClause, IsReductionOf, clause_note}
+use Rattle.calculus.proofs.Lists.{contains_cons, contains_head, contains_nil}
+use Rattle.derive.specs.State.{OpenClause, State, arena_of, with_step}
+use Rattle.derive.specs.Adding.{AddsClause, IsReductionOf}
 use Rattle.derive.specs.Inputs.{AddsClauses, GainsClauses}
 use Rattle.derive.specs.Inputs.AddsClauses.{no_clause, one_more}
 use Rattle.derive.specs.Worked.{WorkedInputs, group_note, group_rows, one_clause, two_scopes, with_group}

@@ -1,5 +1,5 @@
 //! Initial cubes, and which of them miss a clause.
-ghost use Rattle.std.specs.Prelude.{◌≡◌, ◌<◌, ℕ, Some, true, false, IsTrue, OnOk, Contains, filter, length};
+ghost use Rattle.std.specs.Prelude.{◌≡◌, ◌<◌, ℕ, Some, true, false, IsTrue, OnOk, Contains, filter};
 ghost use Rattle.calculus.specs.Rows.{same_literal};
 ghost use Rattle.rows.specs.Arena.{is_live as is_stored};
 ghost use Rattle.derive.specs.State.{Note as Kept, note_in};
@@ -11,6 +11,7 @@ ghost use Rattle.derive.specs.Roots.{is_root};
 use super::StepId;
 use super::dropping::{Roots, drop_roots};
 use super::note::Note;
+use pages::Pages;
 use prefix::{Lit, LitList};
 use rows::Rows;
 use steps::NoMemory;
@@ -30,17 +31,17 @@ pub(crate) fn list_cube(cubes: &mut Vec<StepId>, note: &Note, next: StepId) -> R
 // are left are listed then. Only where one of them goes are other steps looked at, and these from the first such cube
 // on.
 pub(crate) fn drop_cubes(
-    notes: &mut Vec<Option<Note>>,
+    notes: &mut Pages<Option<Note>>,
     rows: &mut Rows,
     cubes: &mut Vec<StepId>,
     roots: &Roots,
 )
-    requires supported { AreSupported notes.old.items }
-    requires fits { Fits notes.old.items rows.old }
-    requires listed { AreListed notes.old.items cubes.old.items }
+    requires supported { AreSupported notes.old }
+    requires fits { Fits notes.old rows.old }
+    requires listed { AreListed notes.old cubes.old.items }
     requires cubes { AreCubes (is_root roots.now rows.old) }
-    ensures drops { DropsFrom (is_root roots.now rows.old) notes.old.items notes.new.items rows.old rows.new }
-    ensures listed { AreListed notes.new.items cubes.new.items }
+    ensures drops { DropsFrom (is_root roots.now rows.old) notes.old notes.new rows.old rows.new }
+    ensures listed { AreListed notes.new cubes.new.items }
 {
     let from = first_cube(cubes.as_slice(), notes, rows, roots);
     drop_roots(notes, rows, from, roots);
@@ -50,14 +51,14 @@ pub(crate) fn drop_cubes(
 // The least id of some initial cubes, and else the id that comes next.
 pub(crate) fn first_cube(
     cubes: &[StepId],
-    notes: &Vec<Option<Note>>,
+    notes: &Pages<Option<Note>>,
     rows: &Rows,
     roots: &Roots,
 ) -> StepId
-    requires fits { Fits notes.now.items rows.now }
-    requires listed { AreListed notes.now.items cubes.now }
+    requires fits { Fits notes.now rows.now }
+    requires listed { AreListed notes.now cubes.now }
     requires cubes { AreCubes (is_root roots.now rows.now) }
-    ensures { (id : ℕ) (note : Kept) → note_in notes.now.items id ≡ Some note → id < result →
+    ensures { (id : ℕ) (note : Kept) → note_in notes.now id ≡ Some note → id < result →
         is_root roots.now rows.now id note ≡ false }
 {
     let mut first = notes.len();
@@ -70,9 +71,9 @@ pub(crate) fn first_cube(
 }
 
 // Whether a live step is a root.
-fn is_root(notes: &Vec<Option<Note>>, rows: &Rows, id: StepId, roots: &Roots) -> bool
-    requires { (note : Kept) → note_in notes.now.items id ≡ Some note → IsTrue (is_stored rows.now id) }
-    ensures { result ≡ holds_in (is_root roots.now rows.now) id (note_in notes.now.items id) }
+fn is_root(notes: &Pages<Option<Note>>, rows: &Rows, id: StepId, roots: &Roots) -> bool
+    requires { (note : Kept) → note_in notes.now id ≡ Some note → IsTrue (is_stored rows.now id) }
+    ensures { result ≡ holds_in (is_root roots.now rows.now) id (note_in notes.now id) }
 {
     match notes.get(id) {
         Some(Some(note)) => roots.contains(id, note, rows),
@@ -127,15 +128,15 @@ fn is_same(a: Lit, b: Lit) -> bool
 }
 
 // Takes the ids out of a list under which no initial cube is live any more.
-pub(crate) fn retain_cubes(cubes: &mut Vec<StepId>, notes: &Vec<Option<Note>>)
-    ensures { cubes.new.items ≡ filter (λ id. is_cube_in (note_in notes.now.items id)) cubes.old.items }
+pub(crate) fn retain_cubes(cubes: &mut Vec<StepId>, notes: &Pages<Option<Note>>)
+    ensures { cubes.new.items ≡ filter (λ id. is_cube_in (note_in notes.now id)) cubes.old.items }
 {
     cubes.retain(|id| is_cube(notes, *id));
 }
 
 // Whether there is an initial cube under an id.
-fn is_cube(notes: &Vec<Option<Note>>, id: StepId) -> bool
-    ensures { result ≡ is_cube_in (note_in notes.now.items id) }
+fn is_cube(notes: &Pages<Option<Note>>, id: StepId) -> bool
+    ensures { result ≡ is_cube_in (note_in notes.now id) }
 {
     match notes.get(id) {
         Some(Some(note)) => note.is_initial_cube(),

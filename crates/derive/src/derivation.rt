@@ -1,5 +1,5 @@
 //! Derivations.
-ghost use Rattle.std.specs.Prelude.{◌≡◌, ◌≢◌, ◌↔◌, ◌<◌, ◌≤◌, ◌⊎◌, ℕ, false, IsTrue, IsFalse, Some, None, IfOk, OnOk, OnErr, Err, List, [], ◌∷◌, ◌++◌, filter, max, min, not, nat_lt, ◌==◌, if◌then◌else◌, length, slice_index_or, slice_set, Contains};
+ghost use Rattle.std.specs.Prelude.{◌≡◌, ◌≢◌, ◌↔◌, ◌<◌, ◌≤◌, ◌⊎◌, ℕ, false, IsTrue, IsFalse, Some, None, IfOk, OnOk, OnErr, Err, List, [], ◌∷◌, ◌++◌, filter, max, min, not, nat_lt, ◌==◌, if◌then◌else◌, count_by, is_some, length, slice_index_or, slice_set, Contains};
 ghost use Rattle.prefix.specs.Scopes.{Scope, IsAscending};
 ghost use Rattle.prefix.specs.declared.quant.Quant.TheVariants.{Exists as exists, Forall as forall};
 ghost use Rattle.rows.specs.Arena.{Arena, literals_at};
@@ -22,12 +22,14 @@ ghost use Rattle.derive.specs.Told.{told, why_of};
 
 use super::cubes::{drop_cubes, first_cube, list_cube, retain_cubes};
 use super::dropping::{Roots, drop_roots};
+use super::entry::{enter, enter_both};
 use super::new_step::NewStep;
 use super::note::Note;
 use super::outside::{first_outside, is_outside};
 use super::removal::{is_reduced_of, push_assumed, reduce_of};
 use super::sweeping::{sweep_all, widen_marks};
 use super::{Step, StepId};
+use pages::{Bits, Pages};
 use prefix::{Lit, LitList, Prefix, Quant, Var};
 use reduce::{Row, resolve};
 use rows::Rows;
@@ -47,7 +49,7 @@ use steps::{NoMemory, Steps, Stop};
 #[derive(Debug, Drop)]
 pub struct Derivation {
     // What is kept of the step of each id, if it is live.
-    notes: Vec<Option<Note>>,
+    notes: Pages<Option<Note>>,
     rows: Option<Rows>,
     // No step with a tag is live under an id before that at the place of its tag, nor with a tag that has no place. The
     // greatest number stands where none came in since the last drop.
@@ -57,7 +59,7 @@ pub struct Derivation {
     // No finish is live under an id before this one.
     finishes_from: StepId,
     // Places for a mark of each id.
-    marks: Vec<bool>,
+    marks: Bits,
 }
 
 impl Model for Derivation {
@@ -68,10 +70,10 @@ impl Model for Derivation {
     ghost use Rattle.std.specs.Prelude.{◌≤◌, length};
     ghost use Rattle.derive.specs.Kept.{BelongTogether};
 
-    ghost view = { λ d. record { notes = d.notes.items; rows = d.rows } };
+    ghost view = { λ d. record { notes = d.notes; rows = d.rows } };
 
-    ghost invariant = { λ d. BelongTogether d.notes.items d.rows d.frames_from.items d.cubes.items d.finishes_from
-        × (length d.notes.items ≤ length d.marks.items) };
+    ghost invariant = { λ d. BelongTogether d.notes d.rows d.frames_from.items d.cubes.items d.finishes_from
+        × (length d.notes ≤ length d.marks) };
 }
 
 impl Derivation {
@@ -81,12 +83,12 @@ impl Derivation {
         ensures legal { (scopes : List Scope) → IsLegalFor scopes result }
     {
         Self {
-            notes: Vec::new(alloc),
+            notes: Pages::new(alloc),
             rows: Some(Rows::new(alloc)),
             frames_from: Vec::new(alloc),
             cubes: Vec::new(alloc),
             finishes_from: 0,
-            marks: Vec::new(alloc),
+            marks: Bits::new(alloc),
         }
     }
 
@@ -104,6 +106,14 @@ impl Derivation {
         ensures { result ≡ is_live self.now id }
     {
         matches!(self.notes.get(id), Some(Some(_)))
+    }
+
+    /// How many steps are live.
+    pub fn live_steps(&self) -> usize
+        requires { IsTrue (has_rows self.now) }
+        ensures { result ≡ count_by is_some (arena_of self.now) }
+    {
+        self.rows().live()
     }
 
     /// What a live step is.
@@ -215,7 +225,7 @@ impl Derivation {
             IsLegalFor prefix.now self.new) }
         ensures err { OnErr result (self.new ≡ self.old) }
     {
-        let mut row = Row::new(*self.notes.allocator());
+        let mut row = Row::new(*self.cubes.allocator());
         resolve(self.lits(a), self.lits(b), pivot, &mut row)?;
         let tag = self.tag(a).max(self.tag(b));
         let note = NewStep::new(self.side(a), Step::Resolved { a, b, pivot }, tag);
@@ -239,7 +249,7 @@ impl Derivation {
         if self.is_reduced(prefix, a) {
             return Ok(a);
         }
-        let mut row = Row::new(*self.notes.allocator());
+        let mut row = Row::new(*self.cubes.allocator());
         reduce_of(self.side(a), prefix, self.lits(a), &mut row)?;
         self.add_removal(a, Step::Reduced(a), row.as_slice())
     }
@@ -272,7 +282,7 @@ impl Derivation {
         if self.is_reduced(prefix, a) {
             return Ok(a);
         }
-        let mut row = Row::new(*self.notes.allocator());
+        let mut row = Row::new(*self.cubes.allocator());
         reduce_of(self.side(a), prefix, self.lits(a), &mut row)?;
         steps.tick()?;
         Ok(self.add_removal(a, Step::Reduced(a), row.as_slice())?)
@@ -301,7 +311,7 @@ impl Derivation {
         ensures legal { OnOk result ((scopes : List Scope) → IsLegalFor scopes self.old → IsLegalFor scopes self.new) }
         ensures err { OnErr result (self.new ≡ self.old) }
     {
-        let mut finish = Row::new(*self.notes.allocator());
+        let mut finish = Row::new(*self.cubes.allocator());
         push_assumed(self.lits(row), assumptions, &mut finish)?;
         self.add_removal(row, Step::Finished(row), finish.as_slice())
     }
@@ -395,8 +405,8 @@ impl Derivation {
     }
 
     /// Keeps the input clauses, the steps with these ids, and all that these rest on, and drops every other step. Then
-    /// the rows are moved together. This goes over all ids given so far four times, and over all literals, and takes no
-    /// memory.
+    /// the rows are moved together. This goes over the live steps and their literals, and over a few bits for each id
+    /// given so far, and takes no memory.
     pub fn sweep(&mut self, keep: &[StepId])
         requires rows { IsTrue (has_rows self.old) }
         requires live { (id : ℕ) → Contains keep.now id → IsTrue (is_live self.old id) }
@@ -485,7 +495,7 @@ impl Derivation {
         ensures value { note_at self.now id ≡ Some result.now }
         ensures supported { AreSupported self.now.notes }
     {
-        self.notes[id].as_ref().unwrap()
+        self.notes.get(id).unwrap().as_ref().unwrap()
     }
 
     // Whether the reduction of a step is the step itself.
@@ -515,12 +525,11 @@ impl Derivation {
         ensures err { OnErr result (self.new ≡ self.old) }
     {
         let note = step.kept()?;
-        self.notes.reserve(1)?;
-        widen_marks(&mut self.marks, self.notes.len() + 1)?;
-        widen(&mut self.frames_from, note.tag(), self.notes.len())?;
-        list_cube(&mut self.cubes, &note, self.notes.len())?;
-        let id = self.rows.as_mut().unwrap().add(lits)?;
-        let _ = self.notes.push(Some(note));
+        let next = self.notes.len();
+        widen_marks(&mut self.marks, next, 1)?;
+        widen(&mut self.frames_from, note.tag(), next)?;
+        list_cube(&mut self.cubes, &note, next)?;
+        let id = enter(&mut self.notes, self.rows.as_mut().unwrap(), note, lits)?;
         Ok(id)
     }
 
@@ -559,7 +568,7 @@ impl Derivation {
             let id = self.add(input, lits)?;
             return Ok((id, id));
         }
-        let mut row = Row::new(*self.notes.allocator());
+        let mut row = Row::new(*self.cubes.allocator());
         reduce_of(Quant::Exists, prefix, lits, &mut row)?;
         self.add_both(lits, row.as_slice(), frame)
     }
@@ -576,14 +585,13 @@ impl Derivation {
         ensures unlinked { OnOk result (AreUnlinked self.old self.new) }
         ensures err { OnErr result (self.new ≡ self.old) }
     {
-        let (input, reduction) = clause_and_reduction(frame, self.notes.len())?;
-        self.notes.reserve(2)?;
-        widen_marks(&mut self.marks, self.notes.len() + 2)?;
-        widen(&mut self.frames_from, frame, self.notes.len())?;
-        let (first, second) = self.rows.as_mut().unwrap().add_pair(lits, row)?;
-        let _ = self.notes.push(Some(input));
-        let _ = self.notes.push(Some(reduction));
-        Ok((first, second))
+        let next = self.notes.len();
+        let both = clause_and_reduction(frame, next)?;
+        widen_marks(&mut self.marks, next, 2)?;
+        widen(&mut self.frames_from, frame, next)?;
+        let rows = self.rows.as_mut().unwrap();
+        let ids = enter_both(&mut self.notes, rows, both, lits, row)?;
+        Ok(ids)
     }
 
     // Takes back the ids from one on, under which no step is live any more.

@@ -1,5 +1,5 @@
 //! Dropping steps with all that rests on them.
-ghost use Rattle.std.specs.Prelude.{◌≡◌, ◌<◌, ℕ, Some, IsTrue, false, length};
+ghost use Rattle.std.specs.Prelude.{◌≡◌, ◌<◌, ℕ, Some, IsTrue, false};
 ghost use Rattle.rows.specs.Arena.{is_live as is_stored};
 ghost use Rattle.derive.specs.State.{Note as Kept, note_in};
 ghost use Rattle.derive.specs.Antecedents.{AreSupported, Fits};
@@ -9,8 +9,10 @@ ghost use Rattle.derive.specs.Missing.{falls_now};
 
 use super::StepId;
 use super::cubes::{misses, misses_one};
+use super::live::next_live;
 use super::note::Note;
 use super::outside::is_outside;
+use pages::Pages;
 use prefix::{Lit, LitList, Prefix};
 use rows::Rows;
 
@@ -49,33 +51,35 @@ impl Roots<'_> {
 
 // Drops the roots with all that rests on them, and frees their rows. No root has an id below `from`.
 pub(crate) fn drop_roots(
-    notes: &mut Vec<Option<Note>>,
+    notes: &mut Pages<Option<Note>>,
     rows: &mut Rows,
     from: StepId,
     roots: &Roots,
 )
-    requires supported { AreSupported notes.old.items }
-    requires fits { Fits notes.old.items rows.old }
-    requires below { (id : ℕ) (note : Kept) → note_in notes.old.items id ≡ Some note → id < from →
+    requires supported { AreSupported notes.old }
+    requires fits { Fits notes.old rows.old }
+    requires below { (id : ℕ) (note : Kept) → note_in notes.old id ≡ Some note → id < from →
         is_root roots.now rows.old id note ≡ false }
-    ensures { DropsFrom (is_root roots.now rows.old) notes.old.items notes.new.items rows.old rows.new }
+    ensures { DropsFrom (is_root roots.now rows.old) notes.old notes.new rows.old rows.new }
 {
-    for id in from..notes.len() {
+    let end = notes.len();
+    let mut id = next_live(notes, from);
+    while id < end {
         if falls(notes, rows, id, roots) {
-            notes[id] = None;
+            notes.clear(id);
             rows.free(id);
         }
+        id = next_live(notes, id + 1);
     }
 }
 
 // Whether a live step is a root, or rests on one that is gone.
-fn falls(notes: &Vec<Option<Note>>, rows: &Rows, id: StepId, roots: &Roots) -> bool
-    requires within { id < length notes.now.items }
-    requires stored { (note : Kept) → note_in notes.now.items id ≡ Some note → IsTrue (is_stored rows.now id) }
-    ensures { result ≡ falls_now (is_root roots.now rows.now) notes.now.items id }
+fn falls(notes: &Pages<Option<Note>>, rows: &Rows, id: StepId, roots: &Roots) -> bool
+    requires { (note : Kept) → note_in notes.now id ≡ Some note → IsTrue (is_stored rows.now id) }
+    ensures { result ≡ falls_now (is_root roots.now rows.now) notes.now id }
 {
-    match &notes[id] {
-        Some(note) => roots.contains(id, note, rows) || note.misses_antecedent(notes),
-        None => false,
+    match notes.get(id) {
+        Some(Some(note)) => roots.contains(id, note, rows) || note.misses_antecedent(notes),
+        _ => false,
     }
 }

@@ -10,6 +10,7 @@ ghost use Rattle.derive.specs.Missing.{misses_antecedent};
 ghost use Rattle.derive.specs.Sweeping.{is_input_clause};
 
 use super::{Step, StepId};
+use pages::{Bits, Pages};
 use prefix::{Quant, Var};
 use std::marker::Model;
 
@@ -135,11 +136,11 @@ impl Note {
     }
 
     // Marks the ids that it rests on.
-    pub(crate) fn mark_antecedents(&self, marks: &mut Vec<bool>)
-        requires { (on : ℕ) → RestsOn self.now.why on → on < length marks.old.items }
-        ensures value { (x : ℕ) → slice_index_or marks.new.items x false ≡ (slice_index_or marks.old.items x false
+    pub(crate) fn mark_antecedents(&self, marks: &mut Bits)
+        requires { (on : ℕ) → RestsOn self.now.why on → on < length marks.old }
+        ensures value { (x : ℕ) → slice_index_or marks.new x false ≡ (slice_index_or marks.old x false
             || rests_on self.now.why x) }
-        ensures count { length marks.new.items ≡ length marks.old.items }
+        ensures count { length marks.new ≡ length marks.old }
     {
         match self.step() {
             Step::InputClause | Step::InputCube => (),
@@ -152,8 +153,8 @@ impl Note {
     }
 
     // Whether no step is live any more under an id that it rests on.
-    pub(crate) fn misses_antecedent(&self, notes: &Vec<Option<Note>>) -> bool
-        ensures { result ≡ misses_antecedent notes.now.items self.now.why }
+    pub(crate) fn misses_antecedent(&self, notes: &Pages<Option<Note>>) -> bool
+        ensures { result ≡ misses_antecedent notes.now self.now.why }
     {
         match self.step() {
             Step::InputClause | Step::InputCube => false,
@@ -171,18 +172,18 @@ fn join(low: u32, high: u8) -> StepId
 }
 
 // Marks an id.
-fn set_mark(marks: &mut Vec<bool>, id: StepId)
-    requires { id < length marks.old.items }
+fn set_mark(marks: &mut Bits, id: StepId)
+    requires { id < length marks.old }
     ensures value { (x : ℕ) →
-        slice_index_or marks.new.items x false ≡ (slice_index_or marks.old.items x false || id == x) }
-    ensures count { length marks.new.items ≡ length marks.old.items }
+        slice_index_or marks.new x false ≡ (slice_index_or marks.old x false || id == x) }
+    ensures count { length marks.new ≡ length marks.old }
 {
-    marks[id] = true;
+    marks.set(id);
 }
 
 // Whether no step is live under an id.
-fn is_gone(notes: &Vec<Option<Note>>, id: StepId) -> bool
-    ensures { result ≡ is_none (note_in notes.now.items id) }
+fn is_gone(notes: &Pages<Option<Note>>, id: StepId) -> bool
+    ensures { result ≡ is_none (note_in notes.now id) }
 {
     !matches!(notes.get(id), Some(Some(_)))
 }

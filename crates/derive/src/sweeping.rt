@@ -1,5 +1,5 @@
 //! Keeping some steps with all that they rest on, and dropping the others.
-ghost use Rattle.std.specs.Prelude.{◌≡◌, ◌<◌, ◌≤◌, ◌||◌, ◌&&◌, ℕ, Bool, List, Some, true, false, IsTrue, is_some, length, replicate, slice_set, OnOk, Contains};
+ghost use Rattle.std.specs.Prelude.{◌≡◌, ◌<◌, ◌≤◌, ◌+◌, ◌||◌, ◌&&◌, ℕ, Bool, List, Some, false, IsTrue, is_some, length, OnOk, Contains};
 ghost use Rattle.calculus.specs.Derivations.{rests_on};
 ghost use Rattle.derive.specs.State.{note_in};
 ghost use Rattle.derive.specs.Antecedents.{AreSupported, Fits};
@@ -7,36 +7,37 @@ ghost use Rattle.derive.specs.Dropping.{DropsFrom};
 ghost use Rattle.derive.specs.Sweeping.{AreClosed, AreMarked, MarksNamed, goes, is_marked, is_unmarked, rests_in};
 
 use super::StepId;
+use super::live::next_live;
 use super::note::Note;
+use pages::{Bits, Pages};
 use rows::Rows;
 use steps::NoMemory;
 
-// Makes places for so many marks.
-pub(crate) fn widen_marks(marks: &mut Vec<bool>, count: usize) -> Result<(), NoMemory>
-    ensures ok { OnOk result (count ≤ length marks.new.items) }
-    ensures grown { length marks.old.items ≤ length marks.new.items }
+// Makes places for the marks of so many ids behind those given.
+pub(crate) fn widen_marks(marks: &mut Bits, given: usize, more: usize) -> Result<(), NoMemory>
+    ensures ok { OnOk result (given + more ≤ length marks.new) }
+    ensures grown { length marks.old ≤ length marks.new }
 {
-    if marks.len() < count {
-        marks.resize(count, false)?;
-    }
+    let count = given.checked_add(more).ok_or(NoMemory)?;
+    marks.grow(count)?;
     Ok(())
 }
 
 // Keeps the input clauses, the steps with these ids and all that they rest on, and drops the other steps with their
 // rows, which are moved together.
 pub(crate) fn sweep_all(
-    notes: &mut Vec<Option<Note>>,
+    notes: &mut Pages<Option<Note>>,
     rows: &mut Rows,
-    marks: &mut Vec<bool>,
+    marks: &mut Bits,
     keep: &[StepId],
 )
-    requires supported { AreSupported notes.old.items }
-    requires fits { Fits notes.old.items rows.old }
-    requires room { length notes.old.items ≤ length marks.old.items }
-    requires live { (id : ℕ) → Contains keep.now id → IsTrue (is_some (note_in notes.old.items id)) }
-    ensures drops { (ms : List Bool) × AreMarked keep.now notes.old.items ms 0
-        × DropsFrom (is_unmarked ms) notes.old.items notes.new.items rows.old rows.new }
-    ensures count { length marks.new.items ≡ length marks.old.items }
+    requires supported { AreSupported notes.old }
+    requires fits { Fits notes.old rows.old }
+    requires room { length notes.old ≤ length marks.old }
+    requires live { (id : ℕ) → Contains keep.now id → IsTrue (is_some (note_in notes.old id)) }
+    ensures drops { (ms : List Bool) × AreMarked keep.now notes.old ms 0
+        × DropsFrom (is_unmarked ms) notes.old notes.new rows.old rows.new }
+    ensures count { length marks.new ≡ length marks.old }
 {
     mark(marks, notes, keep);
     drop_unmarked(notes, rows, marks);
@@ -44,108 +45,103 @@ pub(crate) fn sweep_all(
 }
 
 // Marks the steps with these ids and all that they rest on, and no others.
-fn mark(marks: &mut Vec<bool>, notes: &Vec<Option<Note>>, keep: &[StepId])
-    requires supported { AreSupported notes.now.items }
-    requires room { length notes.now.items ≤ length marks.old.items }
-    requires live { (id : ℕ) → Contains keep.now id → IsTrue (is_some (note_in notes.now.items id)) }
-    ensures marked { AreMarked keep.now notes.now.items marks.new.items 0 }
-    ensures count { length marks.new.items ≡ length marks.old.items }
+fn mark(marks: &mut Bits, notes: &Pages<Option<Note>>, keep: &[StepId])
+    requires supported { AreSupported notes.now }
+    requires room { length notes.now ≤ length marks.old }
+    requires live { (id : ℕ) → Contains keep.now id → IsTrue (is_some (note_in notes.now id)) }
+    ensures marked { AreMarked keep.now notes.now marks.new 0 }
+    ensures count { length marks.new ≡ length marks.old }
 {
-    unmark(marks);
+    marks.clear();
     mark_named(marks, keep);
     mark_down(marks, notes);
 }
 
-// Takes all marks away.
-fn unmark(marks: &mut Vec<bool>)
-    ensures items { marks.new.items ≡ replicate (length marks.old.items) false }
-    ensures count { length marks.new.items ≡ length marks.old.items }
-{
-    marks.fill(false);
-}
-
 // Marks these ids.
-fn mark_named(marks: &mut Vec<bool>, keep: &[StepId])
-    requires { (id : ℕ) → Contains keep.now id → id < length marks.old.items }
-    ensures named { MarksNamed keep.now marks.old.items marks.new.items }
-    ensures count { length marks.new.items ≡ length marks.old.items }
+fn mark_named(marks: &mut Bits, keep: &[StepId])
+    requires { (id : ℕ) → Contains keep.now id → id < length marks.old }
+    ensures named { MarksNamed keep.now marks.old marks.new }
+    ensures count { length marks.new ≡ length marks.old }
 {
     for id in keep {
-        marks[*id] = true;
+        marks.set(*id);
     }
 }
 
-// Marks what marked steps rest on, from the last id down.
-fn mark_down(marks: &mut Vec<bool>, notes: &Vec<Option<Note>>)
-    requires supported { AreSupported notes.now.items }
-    requires room { length notes.now.items ≤ length marks.old.items }
-    ensures marked { (keep : List ℕ) → AreMarked keep notes.now.items marks.old.items (length notes.now.items) →
-        AreMarked keep notes.now.items marks.new.items 0 }
-    ensures count { length marks.new.items ≡ length marks.old.items }
+// Marks what marked steps rest on, from the last live step down.
+fn mark_down(marks: &mut Bits, notes: &Pages<Option<Note>>)
+    requires supported { AreSupported notes.now }
+    requires room { length notes.now ≤ length marks.old }
+    ensures marked { (keep : List ℕ) → AreMarked keep notes.now marks.old (length notes.now) →
+        AreMarked keep notes.now marks.new 0 }
+    ensures count { length marks.new ≡ length marks.old }
 {
-    let mut id = notes.len();
-    while id > 0 {
-        id -= 1;
+    let mut above = notes.len();
+    while let Some(id) = notes.last_filled(above) {
         mark_under(marks, notes, id);
+        above = id;
     }
 }
 
 // Marks what a step rests on, if it is marked and live.
-fn mark_under(marks: &mut Vec<bool>, notes: &Vec<Option<Note>>, id: StepId)
-    requires supported { AreSupported notes.now.items }
-    requires given { id < length notes.now.items }
-    requires room { length notes.now.items ≤ length marks.old.items }
-    ensures value { (x : ℕ) → is_marked marks.new.items x ≡ (is_marked marks.old.items x
-        || (is_marked marks.old.items id && rests_in (note_in notes.now.items id) x)) }
-    ensures count { length marks.new.items ≡ length marks.old.items }
+fn mark_under(marks: &mut Bits, notes: &Pages<Option<Note>>, id: StepId)
+    requires supported { AreSupported notes.now }
+    requires given { id < length notes.now }
+    requires room { length notes.now ≤ length marks.old }
+    ensures value { (x : ℕ) → is_marked marks.new x ≡ (is_marked marks.old x
+        || (is_marked marks.old id && rests_in (note_in notes.now id) x)) }
+    ensures count { length marks.new ≡ length marks.old }
 {
-    if !marks[id] {
+    if !marks.get(id) {
         return;
     }
-    match &notes[id] {
-        Some(note) => mark_for(marks, notes, id, note),
-        None => (),
+    match notes.get(id) {
+        Some(Some(note)) => mark_for(marks, notes, id, note),
+        _ => (),
     }
 }
 
 // Marks what a live step rests on.
-fn mark_for(marks: &mut Vec<bool>, notes: &Vec<Option<Note>>, id: StepId, note: &Note)
-    requires there { note_in notes.now.items id ≡ Some note.now }
-    requires supported { AreSupported notes.now.items }
-    requires given { id < length notes.now.items }
-    requires room { length notes.now.items ≤ length marks.old.items }
-    ensures value { (x : ℕ) → is_marked marks.new.items x ≡ (is_marked marks.old.items x
+fn mark_for(marks: &mut Bits, notes: &Pages<Option<Note>>, id: StepId, note: &Note)
+    requires there { note_in notes.now id ≡ Some note.now }
+    requires supported { AreSupported notes.now }
+    requires given { id < length notes.now }
+    requires room { length notes.now ≤ length marks.old }
+    ensures value { (x : ℕ) → is_marked marks.new x ≡ (is_marked marks.old x
         || rests_on note.now.why x) }
-    ensures count { length marks.new.items ≡ length marks.old.items }
+    ensures count { length marks.new ≡ length marks.old }
 {
     note.mark_antecedents(marks);
 }
 
 // Drops the steps that aren't marked, but for input clauses, and frees their rows. What a marked step rests on is
 // marked.
-fn drop_unmarked(notes: &mut Vec<Option<Note>>, rows: &mut Rows, marks: &Vec<bool>)
-    requires supported { AreSupported notes.old.items }
-    requires fits { Fits notes.old.items rows.old }
-    requires closed { AreClosed notes.old.items marks.now.items 0 }
-    requires room { length notes.old.items ≤ length marks.now.items }
-    ensures { DropsFrom (is_unmarked marks.now.items) notes.old.items notes.new.items rows.old rows.new }
+fn drop_unmarked(notes: &mut Pages<Option<Note>>, rows: &mut Rows, marks: &Bits)
+    requires supported { AreSupported notes.old }
+    requires fits { Fits notes.old rows.old }
+    requires closed { AreClosed notes.old marks.now 0 }
+    requires room { length notes.old ≤ length marks.now }
+    ensures { DropsFrom (is_unmarked marks.now) notes.old notes.new rows.old rows.new }
 {
-    for id in 0..notes.len() {
+    let end = notes.len();
+    let mut id = next_live(notes, 0);
+    while id < end {
         if is_unneeded(notes, marks, id) {
-            notes[id] = None;
+            notes.clear(id);
             rows.free(id);
         }
+        id = next_live(notes, id + 1);
     }
 }
 
 // Whether a live step is no input clause and isn't marked.
-fn is_unneeded(notes: &Vec<Option<Note>>, marks: &Vec<bool>, id: StepId) -> bool
-    requires given { id < length notes.now.items }
-    requires room { length notes.now.items ≤ length marks.now.items }
-    ensures { result ≡ goes marks.now.items id (note_in notes.now.items id) }
+fn is_unneeded(notes: &Pages<Option<Note>>, marks: &Bits, id: StepId) -> bool
+    requires given { id < length notes.now }
+    requires room { length notes.now ≤ length marks.now }
+    ensures { result ≡ goes marks.now id (note_in notes.now id) }
 {
-    match &notes[id] {
-        Some(note) => !note.is_input_clause() && !marks[id],
-        None => false,
+    match notes.get(id) {
+        Some(Some(note)) => !note.is_input_clause() && !marks.get(id),
+        _ => false,
     }
 }

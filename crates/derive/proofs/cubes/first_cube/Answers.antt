@@ -10,12 +10,12 @@ loop-id-preserved c =
     elim c.if-id-first.branch [
       | then-id-first+then-is_root w ↦
           let le : get_or c.args.cubes.now c.loop-id.id-index 0 ≤ c.loop-id.first = omega arith in
-          rw (w.first-is) (none_more test c.args.notes.now.items c.args.cubes.now c.loop-id.id-index _ (omega arith)
+          rw (w.first-is) (none_more test c.args.notes.now c.args.cubes.now c.loop-id.id-index _ (omega arith)
           (λ below. absurd (omega arith))
-          (none_below test c.args.notes.now.items (take c.loop-id.id-index c.args.cubes.now) c.loop-id.first
+          (none_below test c.args.notes.now (take c.loop-id.id-index c.args.cubes.now) c.loop-id.first
           (get_or c.args.cubes.now c.loop-id.id-index 0) le c.loop-id.invariant))
       | else-id-first w ↦
-          rw (w.first-is) (none_more test c.args.notes.now.items c.args.cubes.now c.loop-id.id-index c.loop-id.first
+          rw (w.first-is) (none_more test c.args.notes.now c.args.cubes.now c.loop-id.id-index c.loop-id.first
           (omega arith)
           (elim w.else-id-first.branch [
             | else-id-first-via-then-id-first+else-is_root v ↦ λ below. sym v.is_root.ensures ∙ v.if-is_root.false
@@ -25,5 +25,5 @@ loop-id-preserved c =
     ]
 
 pub returns : goal.returns
-returns c = none_all (is_root c.args.roots.now c.args.rows.now) c.args.notes.now.items c.args.cubes.now
+returns c = none_all (is_root c.args.roots.now c.args.rows.now) c.args.notes.now c.args.cubes.now
     c.loop-id.id-index c.loop-id.first c.requires.cubes (omega arith) c.requires.listed c.loop-id.invariant

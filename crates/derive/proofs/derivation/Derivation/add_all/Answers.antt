@@ -1,4 +1,4 @@
-use Rattle.std.proofs.Common.{◌≡◌, ◌∙◌, List, ℕ, take, length, ap, sym}
+use Rattle.std.proofs.Common.{◌∙◌, take, ap, sym}
 use Rattle.derive.proofs.derivation.Derivation.add_all.Goals as goal
 
 pub returns-in-Err-clause-whole : goal.returns-in-Err-clause-whole

@@ -1,8 +1,4 @@
-use Rattle.std.proofs.Common.{subst, sym}
-use Rattle.derive.specs.Growing.{Grows}
-use Rattle.derive.specs.State.{State}
 use Rattle.derive.proofs.Entering.{grown_one}
-use Rattle.derive.proofs.Growth.{grows_itself}
 use Rattle.derive.proofs.derivation.Derivation.add_listed.Goals as goal
 
 pub returns-clause-ok : goal.returns-clause-ok

@@ -27,7 +27,7 @@ invariant_of-self c = (
 pub returns-clause-drops : goal.returns-clause-drops
 returns-clause-drops c =
     subst (λ (a : Arena). Drops (is_root c.args.roots a) c.args.self.now (record {
-      notes = c.drop_roots.new.notes.items;
+      notes = c.drop_roots.new.notes;
       rows = Some c.drop_roots.new.rows;
     })) (sym (rows_here _ _ _ _ c.self.view_is (here c)))
     (drops_of _ _ _ _ _ _ _ c.self.view_is (here c) c.drop_roots.ensures)

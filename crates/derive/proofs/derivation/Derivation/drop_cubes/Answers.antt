@@ -29,7 +29,7 @@ invariant_of-self c = (
 pub returns-clause-drops : goal.returns-clause-drops
 returns-clause-drops c =
     subst (λ (a : Arena). Drops (is_root c.args.roots.now a) c.args.self.now (record {
-      notes = c.drop_cubes.new.notes.items;
+      notes = c.drop_cubes.new.notes;
       rows = Some c.drop_cubes.new.rows;
     })) (sym (rows_here _ _ _ _ c.self.view_is (here c)))
     (drops_of _ _ _ _ _ _ _ c.self.view_is (here c) c.drop_cubes.ensures.drops)

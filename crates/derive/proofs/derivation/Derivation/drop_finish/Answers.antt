@@ -15,7 +15,11 @@ pub returns-clause-steps : goal.returns-clause-steps
 returns-clause-steps c = ap steps_of c.self.view_is ∙ steps_same _ _ c.drop_all-2.ensures.supported c.drop_all-2.ensures.drops
 
 pub invariant_of-self : goal.invariant_of-self
-invariant_of-self c = (kept_finishes _ _ _ _ _ _ _ _ c.drop_all-2.ensures.drops c.self.view_is (c.len-self-inside.ensures ∙ c.self.inside.notes.ok.0) c.self.invariant.0, c.self.invariant.1)
+invariant_of-self c = (
+  kept_finishes _ _ _ _ _ _ _ _ c.drop_all-2.ensures.drops c.self.view_is c.len-self-inside.ensures
+      c.self.invariant.0,
+  c.self.invariant.1,
+)
 
 pub returns-clause-exactly : goal.returns-clause-exactly
 returns-clause-exactly c id = ap (λ (d : State). note_at d id) c.self.view_is ∙ finishes_go _ _ c.drop_all-2.ensures.supported c.drop_all-2.ensures.drops id

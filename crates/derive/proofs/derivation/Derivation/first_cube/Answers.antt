@@ -29,9 +29,9 @@ returns c =
     c.self.view_is
     (λ id falls. (
       ⊎_elim
-          (λ (low : id < first). absurd (none_below test c.self.inside.notes.items first kept.supported
+          (λ (low : id < first). absurd (none_below test c.self.inside.notes first kept.supported
           c.first_cube.ensures id low falls))
           (λ (high : first ≤ id). high)
           (cases_lt id first),
-      falls_as_cube test c.self.inside.notes.items cubes kept.supported id falls,
+      falls_as_cube test c.self.inside.notes cubes kept.supported id falls,
     )))

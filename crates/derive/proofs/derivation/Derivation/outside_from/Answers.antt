@@ -10,7 +10,7 @@ returns c =
     let test = is_outside c.args.prefix.now in
     let arena = c.rows.result.now in
     let first = c.first_outside.result in
-    let notes = c.self.inside.notes.items in
+    let notes = c.self.inside.notes in
     let rows : arena_of c.args.self.now ≡ arena = ap (λ (o : Option Arena). unwrap_or o []) c.rows.ensures.value in
     subst (λ (a : Arena). (id : ℕ) → Falls (names test a) c.args.self.now.notes id
     → side_at c.args.self.now id ≡ c.args.side → first ≤ id) (sym rows)

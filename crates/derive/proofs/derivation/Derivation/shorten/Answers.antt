@@ -1,4 +1,4 @@
-use Rattle.std.proofs.Common.{◌≡◌, ◌≤◌, ◌∙◌, ℕ, List, length, map, take, is_some, ap, sym, subst, Option, Some, arith}
+use Rattle.std.proofs.Common.{◌≡◌, ◌∙◌, ℕ, length, take, ap, sym, subst, Option, Some, arith}
 use Rattle.std.specs.Prelude.{min}
 use Rattle.std.specs.Option.{option_copied_mut, option_map}
 use Rattle.std.proofs.lemmas.List.{length-take}
@@ -20,15 +20,15 @@ take_back-requires c = λ id past.
 here : (c : goal.After-self-2-1) → c.self.inside.rows ≡ Some c.unwrap.result.now
 here c = sym c.as_mut.ensures.value ∙ ap option_copied_mut c.unwrap.ensures
 
-none : (c : goal.After-self-2-1) → NoneFrom c.self.inside.notes.items c.args.first
+none : (c : goal.After-self-2-1) → NoneFrom c.self.inside.notes c.args.first
 none c = λ id past. ap (λ (d : State). is_live d id) c.self.view_is ∙ c.requires.none id past
 
 kept : (c : goal.After-self-2-1)
-    → BelongTogether c.truncate.new.self.items
+    → BelongTogether c.truncate.new.self
     (Some c.take_back.new.self) c.self.inside.frames_from.items c.self.inside.cubes.items
     (min c.self.inside.finishes_from c.args.first)
 kept c =
-    let notes = c.self.inside.notes.items in
+    let notes = c.self.inside.notes in
     let first = c.args.first in
     let cubes = c.self.inside.cubes.items in
     let lower = min c.self.inside.finishes_from first in
@@ -39,17 +39,17 @@ kept c =
     let front = front_kept notes first
     (none c) c.unwrap.result.now c.self.inside.frames_from.items cubes c.self.inside.finishes_from old in
     subst (λ (ns : Notes). BelongTogether ns (Some c.take_back.new.self) c.self.inside.frames_from.items cubes lower)
-    (sym c.truncate.ensures.items)
+    (sym c.truncate.ensures)
     (subst (λ (a : Arena). BelongTogether (take first notes) (Some a) c.self.inside.frames_from.items cubes lower)
     (sym c.take_back.ensures) front)
 
 pub invariant_of-self : goal.invariant_of-self
 invariant_of-self c = (
   subst
-      (λ (n : ℕ). BelongTogether c.truncate.new.self.items (Some c.take_back.new.self) c.self.inside.frames_from.items
+      (λ (n : ℕ). BelongTogether c.truncate.new.self (Some c.take_back.new.self) c.self.inside.frames_from.items
       c.self.inside.cubes.items n) (sym c.min-self-inside.ensures) (kept c),
-  (let short = length-take c.args.first c.self.inside.notes.items in
-      let same = ap (λ (ns : Notes). length ns) c.truncate.ensures.items in
+  (let short = length-take c.args.first c.self.inside.notes in
+      let same = ap (λ (ns : Notes). length ns) c.truncate.ensures in
       let room = c.self.invariant.1 in omega arith),
 )
 
@@ -59,4 +59,4 @@ returns c =
     sym c.as_mut.ensures.value ∙ ap option_copied_mut c.unwrap.ensures in
     let rows : Some c.take_back.new.self ≡ option_map (take c.args.first) c.self.inside.rows =
     ap Some c.take_back.ensures ∙ sym (ap (option_map (take c.args.first)) here) in
-    (λ i. record { notes = c.truncate.ensures.items i; rows = rows i }) ∙ ap (shortened c.args.first) c.self.view_is
+    (λ i. record { notes = c.truncate.ensures i; rows = rows i }) ∙ ap (shortened c.args.first) c.self.view_is

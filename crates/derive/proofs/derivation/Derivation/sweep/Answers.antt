@@ -15,7 +15,7 @@ pub invariant_of-self : goal.invariant_of-self
 invariant_of-self c =
     let here : c.self.inside.rows ≡ Some c.unwrap.result.now = sym c.as_mut.ensures.value ∙ ap option_copied_mut c.unwrap.ensures in
     let p = c.sweep_all.ensures.drops in
-    let kept = kept_drop (is_unmarked p.0) c.self.inside.notes.items c.sweep_all.new.notes.items c.self.inside.rows c.unwrap.result.now c.sweep_all.new.rows c.self.inside.frames_from.items c.self.inside.cubes.items c.self.inside.finishes_from here p.2 c.self.invariant.0 in (
+    let kept = kept_drop (is_unmarked p.0) c.self.inside.notes c.sweep_all.new.notes c.self.inside.rows c.unwrap.result.now c.sweep_all.new.rows c.self.inside.frames_from.items c.self.inside.cubes.items c.self.inside.finishes_from here p.2 c.self.invariant.0 in (
       kept_listed _ _ _ _ _ _ (listed_left _ c.self.inside.cubes.items _ c.retain_cubes.ensures kept.listed) kept,
       (let same = p.2.same_next in let count = c.sweep_all.ensures.count in let room = c.self.invariant.1 in omega arith),
     )
@@ -24,7 +24,7 @@ pub returns-clause-sweeps : goal.returns-clause-sweeps
 returns-clause-sweeps c =
     let here : c.self.inside.rows ≡ Some c.unwrap.result.now = sym c.as_mut.ensures.value ∙ ap option_copied_mut c.unwrap.ensures in
     let p = c.sweep_all.ensures.drops in
-    let is : c.self.inside.notes.items ≡ c.args.self.now.notes = ap (λ (d : State). d.notes) c.self.view_is in
+    let is : c.self.inside.notes ≡ c.args.self.now.notes = ap (λ (d : State). d.notes) c.self.view_is in
     let P : Notes → Type 0 = λ ns. AreMarked c.args.keep.now ns p.0 0 in
     swept c.args.keep.now c.args.self.now _ p.0 (subst AreSupported is c.self.invariant.0.supported) c.requires.live (subst P is p.1)
     (drops_of (is_unmarked p.0) _ _ _ _ _ _ c.self.view_is here p.2)

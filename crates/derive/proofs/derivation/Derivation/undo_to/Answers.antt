@@ -1,7 +1,4 @@
-use Rattle.std.proofs.Common.{◌≡◌, ◌≤◌, ℕ, false, ap, is_some, sym, subst, ◌∙◌, arith}
-use Rattle.derive.specs.Growing.{Grows}
-use Rattle.derive.specs.Inputs.{IsWhole}
-use Rattle.derive.specs.State.{State, next_id}
+use Rattle.std.proofs.Common.{◌∙◌}
 use Rattle.derive.proofs.Shortening.{cut_front, taken_back}
 use Rattle.derive.proofs.derivation.Derivation.undo_to.Goals as goal
 
