@@ -1,3 +1,4 @@
 pub mod Decision
 pub mod Memory
+pub mod Tree
 pub mod Worked

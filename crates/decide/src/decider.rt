@@ -25,7 +25,7 @@ pub struct Decider {
     // The sign that each variable had last, at its number less 1.
     phases: Vec<Option<bool>>,
     // How many more counted literals of each variable were positive than negative, at its number less 1.
-    tallies: Vec<i64>,
+    tallies: Vec<i32>,
     // The variables that wait, each at its number less 1, with their priorities.
     waiting: WaitingList,
 }
@@ -94,7 +94,7 @@ impl Decider {
     pub fn bump(&mut self, v: Var)
         ensures { self.new ≡ self.old }
     {
-        self.waiting.bump(v.index());
+        self.waiting.bump(v);
     }
 
     /// Lets later calls of `bump` count more: each call by a sixteenth. This takes no memory; one call in several
@@ -254,20 +254,20 @@ impl Decider {
 
     // Whether a variable waits.
     fn is_waiting(&self, v: Var) -> bool {
-        self.waiting.is_waiting(v.index())
+        self.waiting.is_waiting(v)
     }
 
     // Lets a variable of a scope wait.
     fn put(&mut self, v: Var, scope: usize)
         ensures { self.new ≡ self.old }
     {
-        self.waiting.put(v.index(), scope, v.number());
+        self.waiting.put(v, scope);
     }
 
     // Lets a variable wait no longer.
     fn take_out(&mut self, v: Var)
         ensures { self.new ≡ self.old }
     {
-        self.waiting.take_out(v.index());
+        self.waiting.take_out(v);
     }
 }

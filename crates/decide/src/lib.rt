@@ -2,6 +2,7 @@
 #![tactic(auto)]
 
 mod decider;
+mod keys;
 mod waiting;
 mod worked;
 

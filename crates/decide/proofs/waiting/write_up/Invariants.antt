@@ -1,8 +1,9 @@
-use Rattle.std.proofs.Common.{◌≡◌, ◌*◌, ◌<◌, length}
+use Rattle.std.proofs.Common.{◌*◌, ◌<◌, ◌≤◌}
+use Rattle.decide.specs.Tree.{IsTree}
 use Rattle.decide.proofs.waiting.write_up.Given as goal
 
 abbrev pub invariant-loop-i : goal.invariant-loop-i
-invariant-loop-i l = (length l.nodes.items ≡ 2 * l.places) × (l.i < 2 * l.places)
+invariant-loop-i l = IsTree l.nodes.items l.keys × (l.i < 2 * l.keys) × (l.node ≤ l.keys)
 
 abbrev pub decreases-loop-i : goal.decreases-loop-i
 decreases-loop-i l = l.i
