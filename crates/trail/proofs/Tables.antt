@@ -212,15 +212,21 @@ table_pushed all entries e spots capacity larger i s parts table grows is within
     rw parts (table_more entries e spots capacity larger i s table grows is within fresh level spot)
 
 -- there is room for one more
-pub room_left : (entries : List Entry) (spots : List (Option Spot)) (capacity i : ℕ) → IsTable entries spots capacity → i < length spots → spot_at spots (suc i) ≡ None → length entries < capacity
-room_left entries spots capacity i table within free =
+pub spots_left : (entries : List Entry) (spots : List (Option Spot)) (capacity i : ℕ) → IsTable entries spots capacity
+    → i < length spots → spot_at spots (suc i) ≡ None → length entries < length spots
+spots_left entries spots capacity i table within free =
     let filled = table.filled in
-    let room = table.room in
     let d : Spot = record { value = true; place = 0 } in
     let count = count_more spots i d within free in
     let most : count_by is_some (set spots i (Some d)) ≤ length (set spots i (Some d)) = count_by-le-length is_some (set spots i (Some d)) in
     let long = length-set spots i (Some d) in
     omega arith
+
+pub room_left : (entries : List Entry) (spots : List (Option Spot)) (capacity i : ℕ) → IsTable entries spots capacity
+    → i < length spots → spot_at spots (suc i) ≡ None → length entries < capacity
+room_left entries spots capacity i table within free =
+    let left = spots_left entries spots capacity i table within free in
+    omega (arith, table.room)
 
 -- the literal at a place
 pub literal_at : (entries : List Entry) (k : ℕ) (e : Entry) → k < length entries → e ≡ get_or entries k e → slice_get (literals_on (trail_of entries)) k ≡ Some e.lit

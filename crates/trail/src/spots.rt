@@ -13,7 +13,7 @@ use std::marker::Model;
 pub(crate) struct Spots {
     values: Vec<Option<bool>>,
     // The places of those that have a value; there may be more behind them.
-    places: Vec<usize>,
+    places: Vec<u32>,
 }
 
 impl Model for Spots {
@@ -26,7 +26,7 @@ impl Model for Spots {
 
     ghost view = { λ s. spots_of s.values.items s.places.items };
 
-    ghost invariant = { λ s. length s.values.items ≤ length s.places.items };
+    ghost invariant = { λ s. (length s.values.items ≤ length s.places.items) × (length s.values.items ≤ 4294967295) };
 }
 
 impl Spots {
@@ -68,19 +68,23 @@ impl Spots {
         match (self.values.get(index), self.places.get(index)) {
             (Some(Some(value)), Some(place)) => Some(Spot {
                 value: *value,
-                place: *place,
+                place: *place as usize,
             }),
             _ => None,
         }
     }
 
-    // Makes spots for so many variables, the new ones unassigned. With no memory all stays as it was.
+    // Makes spots for so many variables, the new ones unassigned. With no memory all stays as it was; there is none for
+    // more than 32 bits can count.
     #[tactic(auto, using(crate::proofs::Spotting::spots_front, crate::proofs::Spotting::spots_length))]
     pub(crate) fn widen(&mut self, count: usize) -> Result<(), AllocError>
         requires { length self.old ≤ count }
         ensures ok { OnOk result (self.new ≡ self.old ++ replicate (count - length self.old) None) }
         ensures err { OnErr result (self.new ≡ self.old) }
     {
+        if count > u32::MAX as usize {
+            return Err(AllocError);
+        }
         widen_places(&mut self.places, count)?;
         self.values.resize(count, None)?;
         Ok(())
@@ -98,11 +102,12 @@ impl Spots {
     // Says where a variable stands.
     #[tactic(auto, using(crate::proofs::Spotting::spot_set, crate::proofs::Spotting::spots_length))]
     pub(crate) fn set(&mut self, index: usize, spot: Spot)
-        requires { index < length self.old }
+        requires within { index < length self.old }
+        requires place { spot.place < length self.old }
         ensures { self.new ≡ slice_set self.old index (Some spot) }
     {
         self.values[index] = Some(spot.value);
-        self.places[index] = spot.place;
+        self.places[index] = spot.place as u32;
     }
 
     // Says that a variable is unassigned.
@@ -116,7 +121,7 @@ impl Spots {
 }
 
 // Makes room for so many places.
-fn widen_places(places: &mut Vec<usize>, count: usize) -> Result<(), AllocError>
+fn widen_places(places: &mut Vec<u32>, count: usize) -> Result<(), AllocError>
     ensures long { OnOk result (count ≤ length places.new.items) }
     ensures front { take (length places.old.items) places.new.items ≡ places.old.items }
 {

@@ -10,7 +10,7 @@ returns-clause-ok c =
     let values = c.self.inside.values.items in
     let places = c.self.inside.places.items in
     let count = c.args.count in
-    let same = spots_length values places c.self.invariant in
+    let same = spots_length values places c.self.invariant.0 in
     let few : length values ≤ count =
     let h : length c.args.self.now ≤ count = c.requires in
     let l : length (spots_of values places) ≡ length c.args.self.now = ap length c.self.view_is in
@@ -20,6 +20,6 @@ returns-clause-ok c =
     c.in_ok-resize.ensures.items
     ∙ ap₂ (λ (xs : List (Option Bool)) n. xs ++ replicate (count - n) None) kept c.self.inside.values.ok.0 in
     ap (λ (vs : List (Option Bool)). spots_of vs c.widen_places.new.places.items) filled
-    ∙ spots_more values places c.widen_places.new.places.items count c.self.invariant c.widen_places.ensures.front few
+    ∙ spots_more values places c.widen_places.new.places.items count c.self.invariant.0 c.widen_places.ensures.front few
     c.in_ok-widen_places.ensures.long
     ∙ ap (λ (s : List (Option Spot)). s ++ replicate (count - length s) None) c.self.view_is

@@ -8,7 +8,7 @@ use Rattle.trail.specs.declared.allowed.Allowed.TheVariants.{Anything}
 use Rattle.trail.specs.State.{TrailState}
 use Rattle.trail.specs.Table.{HavePlaces, IsTable, IsTallied, depths_of, marks_of, floor_after, floor_from, placed_of, trail_of, spot_at}
 use Rattle.trail.proofs.Placing.{spot_none}
-use Rattle.trail.proofs.Tables.{level_few, room_left, table_pushed}
+use Rattle.trail.proofs.Tables.{level_few, room_left, spots_left, table_pushed}
 use Rattle.trail.proofs.Tallies.{count_few, places_same, tallied_more}
 use Rattle.trail.proofs.trail.Trail.push.Goals as goal
 
@@ -30,6 +30,24 @@ count_up-requires c =
     let few = count_few c.self.inside.entries.items c.self.inside.tallies.items c.args.scope c.self.invariant.1.tallied in
     let fits = c.self.inside.entries.ok in
     let small = c.self.inside.entries.small in
+    omega arith
+
+pub set-requires-clause-place : goal.set-requires-clause-place
+set-requires-clause-place c =
+    let items = c.self.inside.entries.items in
+    let spots = c.self.inside.spots in
+    let next : c.args.lit.variable ≡ suc c.index.result =
+    sym c.var.ensures ∙ (let place = c.index.ensures.place in omega arith) in
+    let room : c.args.lit.variable ≤ length spots = rw (← c.self.view_is) at c.requires.room in
+    let within : c.index.result < length spots = omega arith in
+    let fresh : value_on (trail_of items) c.args.lit.variable ≡ None =
+    ap (λ (t : TrailState). value_on t.placed c.args.lit.variable) c.self.view_is ∙ c.requires.unassigned in
+    let free : spot_at spots (suc c.index.result) ≡ None =
+    ap (spot_at spots) (sym next)
+    ∙ (c.self.invariant.0.found c.args.lit.variable ∙ spot_none (trail_of items) c.args.lit.variable fresh) in
+    let left =
+    spots_left items spots (vec_capacity c.self.inside.entries) c.index.result c.self.invariant.0 within free in
+    let place : c.len-place.result ≡ length items = c.len-place.ensures ∙ c.self.inside.entries.ok.0 in
     omega arith
 
 abbrev entry : (c : goal.After-self-2-1) → Entry
