@@ -152,7 +152,7 @@ impl Search {
     }
 
     // Drops the steps that are no input clauses and that neither a row to watch nor one of these steps rests on. This
-    // is due again once a quarter more ids were given.
+    // is due again once half as many ids were given as steps are live then, and a few more the more ids there are.
     fn clear(&mut self, prefix: &Prefix, keep: &mut Vec<StepId>)
         requires searching { IsSearching prefix.now self.old }
         requires watched { AreLive self.old.derivation self.old.watched }
@@ -166,7 +166,8 @@ impl Search {
         agreeing_laws();
         let _ = keep.extend_from_slice(&self.watched);
         self.derivation.sweep(keep);
-        self.sweep_at = next.saturating_add(next / 4);
+        let live = self.derivation.live_steps();
+        self.sweep_at = next.saturating_add(live / 2).saturating_add(next / 64);
     }
 }
 
