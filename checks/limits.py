@@ -34,6 +34,8 @@ MIB = 2**20
 MOST_SECONDS, MOST_MEMORY = 300, 6 * 2**30
 # Many clauses, and the seconds within which they are taken: a pass over all of them for each one would take minutes.
 MANY, FEW_SECONDS = 400_000, 20
+# Bytes: what 350,000 more commands may leave that drop what they made, and what numbers of variables may take.
+DROPPED, NUMBERS = 8 * MIB, 80 * MIB
 
 
 def lines(*some):
@@ -205,6 +207,45 @@ def check(program, words, pieces, status, out, err, seconds=MOST_SECONDS):
     require(found == (status, out, err), f"{found} where {(status, out, err)} is right")
 
 
+# Memory.
+
+
+def peak(program, words, pieces):
+    """The greatest memory of a run that ends well, in bytes."""
+    with tempfile.TemporaryFile() as text:
+        text.writelines(pieces)
+        text.seek(0)
+        pipes = {"stdin": text, "stdout": subprocess.DEVNULL}
+        child = subprocess.Popen([program, *words], preexec_fn=lambda: bound(MOST_SECONDS), **pipes)
+        _, status, usage = os.wait4(child.pid, 0)
+        child.returncode = os.waitstatus_to_exitcode(status)
+    require(child.returncode in (0, TRUE, FALSE), f"it ends with status {child.returncode}")
+    return usage.ru_maxrss * 1024
+
+
+def rounds(commands):
+    """A script of so many commands that opens a frame of ten drawn clauses, solves and drops it, again and again."""
+    draw = random.Random(1)
+    yield lines("p qscript 1", "scope e", "scope a", "scope e", *(f"var {v} {(v + 9) // 10}" for v in range(1, 31)))
+    for _ in range(commands // 13):
+        some = [draw.choice((-1, 1)) * v for _ in range(10) for v in sorted(draw.sample(range(1, 31), 3))]
+        clauses = (f"clause {some[i]} {some[i + 1]} {some[i + 2]} 0" for i in range(0, 30, 3))
+        yield lines("push", *clauses, "solve", "pop")
+
+
+def check_dropped(program):
+    """A script that comes back to no clause again and again keeps nothing of what it dropped but a place for each id."""
+    few, many = (peak(program, ["script"], rounds(commands)) for commands in (50_000, 400_000))
+    require(many - few <= DROPPED, f"{many} bytes for 400,000 commands, {few} for 50,000")
+
+
+def check_number(program):
+    """What the greatest number of a variable costs, where but two have one."""
+    text = lines("p cnf 1048576 1", "e 1 1048576 0", "1 1048576 0")
+    used = peak(program, ["solve"], [text])
+    require(used <= NUMBERS, f"{used} bytes for two variables, one of them 1,048,576")
+
+
 # Budgets.
 
 
@@ -250,6 +291,8 @@ def cases(program, is_heavy):
     rows = [rows_of_prefixes(), rows_of_words(), rows_of_many_clauses()]
     for name, *row in itertools.chain(*rows, rows_that_are_heavy() if is_heavy else []):
         yield name, check, row
+    yield "memory_of_what_was_dropped", check_dropped, []
+    yield "memory_of_a_great_number", check_number, []
     yield "budgets", all_budgets, []
 
 
