@@ -405,8 +405,8 @@ impl Derivation {
     }
 
     /// Keeps the input clauses, the steps with these ids, and all that these rest on, and drops every other step. Then
-    /// the rows are moved together. This goes over the live steps and their literals, and over a few bits for each id
-    /// given so far, and takes no memory.
+    /// the rows are moved together. This goes over the live steps and their literals, over a few bits for each id given
+    /// so far, and once over the places of all rows, and takes no memory.
     pub fn sweep(&mut self, keep: &[StepId])
         requires rows { IsTrue (has_rows self.old) }
         requires live { (id : ℕ) → Contains keep.now id → IsTrue (is_live self.old id) }
