@@ -4,7 +4,8 @@ use Rattle.std.specs.Prelude.{nat_lt, if◌then◌else◌}
 use Rattle.std.proofs.lemmas.Bool.{le-ltb, lt-ltb, ltb-false}
 use Rattle.prefix.specs.Literal.{Literal}
 use Rattle.builder.specs.declared.beyond.Beyond.TheVariants.{Clauses, Literals}
-use Rattle.builder.specs.Building.{AreFew, Builds, Kept, amount_of, beyond_of, max_clauses, max_literals}
+use Rattle.builder.specs.Building.{AreFew, Builds, Kept, amount_of, beyond_of}
+use Rattle.truth.specs.Limits.{max_clauses, max_literals}
 use Rattle.builder.specs.Rows.{rows_of}
 
 pub many_clauses : (rows : List (List Literal)) → max_clauses < length rows → beyond_of rows ≡ Some Clauses

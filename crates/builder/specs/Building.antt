@@ -5,12 +5,7 @@ use Rattle.prefix.specs.Literal.{Literal}
 use Rattle.builder.specs.Rows.{literal_of, rows_of}
 use Rattle.builder.specs.declared.beyond.Beyond.{Beyond}
 use Rattle.builder.specs.declared.beyond.Beyond.TheVariants.{Clauses, Literals}
-
-abbrev pub max_clauses : ℕ
-max_clauses = 2 ^ 24
-
-abbrev pub max_literals : ℕ
-max_literals = 2 ^ 28
+use Rattle.truth.specs.Limits.{max_clauses, max_literals}
 
 -- how many literals rows have
 abbrev pub amount_of : List (List Literal) → ℕ

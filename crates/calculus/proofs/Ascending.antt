@@ -12,11 +12,13 @@ Below a b = a.variable < b.variable
 abbrev pub IsAscendingRow : Row → Type 0
 IsAscendingRow row = AllPairs (λ a b. a.variable < b.variable) row
 
-all_above : (x : ℕ) (ls : Row) → AllByRecursion (λ y. x < y) (variables_in ls) → (m : Literal) → Contains ls m → x < m.variable
+all_above : (x : ℕ) (ls : Row) → AllByRecursion (λ y. x < y) (variables_in ls) → (m : Literal) → Contains ls m
+    → x < m.variable
 all_above x [] a m i = absurd (contains_nil m i)
 all_above x (l ∷ ls) a m i = ⊎_elim (λ e. rw (← e) a.0) (λ j. all_above x ls a.1 m j) (contains_cons l ls m i)
 
-above_all : (x : ℕ) (ls : Row) → ((m : Literal) → Contains ls m → x < m.variable) → AllByRecursion (λ y. x < y) (variables_in ls)
+above_all : (x : ℕ) (ls : Row) → ((m : Literal) → Contains ls m → x < m.variable) → AllByRecursion (λ y. x < y)
+    (variables_in ls)
 above_all x [] a = tt
 above_all x (l ∷ ls) a = (a l (contains_head l ls), above_all x ls (λ m i. a m (contains_tail l ls m i)))
 
@@ -31,5 +33,6 @@ pairs_to (l ∷ ls) a = (above_all l.variable ls (pairs_head Below l ls a), pair
 pub rises : {scopes : List Scope} {row : Row} → IsRow scopes row → IsAscendingRow row
 rises {scopes} {row} is_row = pairs_from row is_row.ascending
 
-pub row_of : (scopes : List Scope) (row : Row) → IsAscendingRow row → ((l : Literal) → Contains row l → Contains (all_variables scopes) l.variable) → IsRow scopes row
+pub row_of : (scopes : List Scope) (row : Row) → IsAscendingRow row
+    → ((l : Literal) → Contains row l → Contains (all_variables scopes) l.variable) → IsRow scopes row
 row_of scopes row up over = record { ascending = pairs_to row up; over_prefix = over }

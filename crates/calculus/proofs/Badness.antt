@@ -9,10 +9,13 @@ use Rattle.calculus.specs.Plays.{total}
 use Rattle.calculus.specs.Search.{IsClean, is_bad_if}
 use Rattle.calculus.proofs.Lists.{any_at, all_from}
 
-pub extended_true : (partial : Values) (values : Assignment) (l : Literal) → ((x : ℕ) (b : Bool) → partial x ≡ Some b → values x ≡ b) → literal_true partial l ≡ true → literal_true (total values) l ≡ true
+pub extended_true : (partial : Values) (values : Assignment) (l : Literal)
+    → ((x : ℕ) (b : Bool) → partial x ≡ Some b → values x ≡ b) → literal_true partial l ≡ true
+    → literal_true (total values) l ≡ true
 extended_true partial values l extends h = by_value (partial l.variable) refl h
   where
-    by_value : (o : Option Bool) → partial l.variable ≡ o → is_true_of o l.positive ≡ true → same_bool (values l.variable) l.positive ≡ true
+    by_value : (o : Option Bool) → partial l.variable ≡ o → is_true_of o l.positive ≡ true
+        → same_bool (values l.variable) l.positive ≡ true
     by_value None e g = absurd (false≢true g)
     by_value (Some b) e g = ap (λ c. same_bool c l.positive) (extends l.variable b e) ∙ g
 
@@ -32,9 +35,11 @@ not_either : (a b : Bool) → (not a && not b) ≡ not (a || b)
 not_either true b = refl
 not_either false b = refl
 
-pub bad_clause : (values : Assignment) (row : Row) → is_bad_throughout Exists values row ≡ not (clause_true (total values) row)
+pub bad_clause : (values : Assignment) (row : Row) → is_bad_throughout Exists values row ≡ not
+    (clause_true (total values) row)
 bad_clause values [] = refl
-bad_clause values (l ∷ ls) = ap₂ (λ a b. a && b) (false_is_bad (values l.variable) l.positive) (bad_clause values ls) ∙ not_either (literal_true (total values) l) (clause_true (total values) ls)
+bad_clause values (l ∷ ls) = ap₂ (λ a b. a && b) (false_is_bad (values l.variable) l.positive) (bad_clause values ls)
+    ∙ not_either (literal_true (total values) l) (clause_true (total values) ls)
 
 pub bad_cube : (values : Assignment) (row : Row) → is_bad_throughout Forall values row ≡ cube_true (total values) row
 bad_cube values [] = refl
@@ -55,7 +60,9 @@ true_now None l e = absurd (false≢true e)
 true_now (Some b) l e = sym (true_is_bad b l.positive) ∙ e
 
 pub clean_clause : (values : Values) (row : Row) → IsClean Exists values row → clause_true values row ≡ false
-clean_clause values row clean = false_from_ne_true (clause_true values row) (λ t. let r = any_at (literal_true values) row t in let l = r.0 in true≢false (sym r.2 ∙ false_now (values l.variable) l (clean l r.1)))
+clean_clause values row clean = false_from_ne_true (clause_true values row)
+    (λ t. let r = any_at (literal_true values) row t in let l = r.0 in
+    true≢false (sym r.2 ∙ false_now (values l.variable) l (clean l r.1)))
 
 pub clean_cube : (values : Values) (row : Row) → IsClean Forall values row → cube_true values row ≡ true
 clean_cube values row clean = all_from (literal_true values) row (λ l i. true_now (values l.variable) l (clean l i))

@@ -6,7 +6,8 @@ use Rattle.calculus.proofs.Lists.{contains_head, contains_tail}
 
 -- levels don't fall
 pub after_least : (before : ℕ) (p : Placed) → before ≤ level_after before p
-after_least before p = cond_both (is_decision p.cause) (suc before) before (λ n. before ≤ n) (λ t. omega arith) (λ f. omega arith)
+after_least before p = cond_both (is_decision p.cause) (suc before) before (λ n. before ≤ n) (λ t. omega arith)
+    (λ f. omega arith)
 
 pub level_least : (before : ℕ) (trail : Trail) → before ≤ last_level_from before trail
 level_least before [] = omega arith
@@ -19,10 +20,12 @@ level_least before (p ∷ trail) =
 module _ (before b : ℕ) (p : Placed) (trail : Trail) where
   -- the first literal stays, or all go
   cut_here : level_after before p ≤ b → cut_from before b (p ∷ trail) ≡ p ∷ cut_from (level_after before p) b trail
-  cut_here low = cond-true (nat_le (level_after before p) b) (p ∷ cut_from (level_after before p) b trail) [] (le-leb (level_after before p) b low)
+  cut_here low = cond-true (nat_le (level_after before p) b) (p ∷ cut_from (level_after before p) b trail) []
+      (le-leb (level_after before p) b low)
 
   cut_none : b < level_after before p → cut_from before b (p ∷ trail) ≡ []
-  cut_none high = cond-false (nat_le (level_after before p) b) (p ∷ cut_from (level_after before p) b trail) [] (lt-leb (level_after before p) b high)
+  cut_none high = cond-false (nat_le (level_after before p) b) (p ∷ cut_from (level_after before p) b trail) []
+      (lt-leb (level_after before p) b high)
 
 -- a cut at no lower level changes nothing
 pub cut_all : (before b : ℕ) (trail : Trail) → last_level_from before trail ≤ b → cut_from before b trail ≡ trail
@@ -40,7 +43,8 @@ pub record IsCutAt (b : ℕ) (front : Trail) (trail : Trail) : Type 0 where
   pub is_decision : is_decision decision.cause ≡ true
   pub parts : trail ≡ front ++ decision ∷ back
 
-pub cut_at : (before b : ℕ) (trail : Trail) → before ≤ b → b < last_level_from before trail → IsCutAt b (cut_from before b trail) trail
+pub cut_at : (before b : ℕ) (trail : Trail) → before ≤ b → b < last_level_from before trail
+    → IsCutAt b (cut_from before b trail) trail
 cut_at before b [] least high = absurd (let h : b < before = high in omega arith)
 cut_at before b (p ∷ trail) least high =
     let now = level_after before p in
@@ -48,7 +52,9 @@ cut_at before b (p ∷ trail) least high =
     (λ (above : b < now). record {
       decision = p;
       back = trail;
-      is_decision = ⊎_elim (λ t. t) (λ f. absurd (let same : now ≡ before = cond-false (is_decision p.cause) (suc before) before f in omega arith)) (cases_Bool (is_decision p.cause));
+      is_decision = ⊎_elim (λ t. t)
+          (λ f. absurd (let same : now ≡ before = cond-false (is_decision p.cause) (suc before) before f in
+          omega arith)) (cases_Bool (is_decision p.cause));
       parts = ap (λ t. t ++ p ∷ trail) (sym (cut_none before b p trail above));
     })
     (λ (low : now ≤ b).
@@ -57,7 +63,8 @@ cut_at before b (p ∷ trail) least high =
       decision = later.decision;
       back = later.back;
       is_decision = later.is_decision;
-      parts = ap (λ t. p ∷ t) later.parts ∙ ap (λ t. t ++ later.decision ∷ later.back) (sym (cut_here before b p trail low));
+      parts = ap (λ t. p ∷ t) later.parts ∙ ap (λ t. t ++ later.decision ∷ later.back)
+          (sym (cut_here before b p trail low));
     })
     (cases_lt b now)
 
@@ -67,10 +74,17 @@ cut_front before b [] = ([], refl)
 cut_front before b (p ∷ trail) =
     let now = level_after before p in
     ⊎_elim
-    (λ (high : b < now). (p ∷ trail, ap (λ t. t ++ p ∷ trail) (sym (cond-false (nat_le now b) (p ∷ cut_from now b trail) [] (lt-leb now b high)))))
+    (λ (high : b < now). (
+      p ∷ trail,
+      ap (λ t. t ++ p ∷ trail)
+          (sym (cond-false (nat_le now b) (p ∷ cut_from now b trail) [] (lt-leb now b high))),
+    ))
     (λ (low : now ≤ b).
-    let r = cut_front now b trail in
-    (r.0, ap (λ t. p ∷ t) r.1 ∙ ap (λ t. t ++ r.0) (sym (cond-true (nat_le now b) (p ∷ cut_from now b trail) [] (le-leb now b low)))))
+    let r = cut_front now b trail in (
+      r.0,
+      ap (λ t. p ∷ t) r.1 ∙ ap (λ t. t ++ r.0)
+          (sym (cond-true (nat_le now b) (p ∷ cut_from now b trail) [] (le-leb now b low))),
+    ))
     (cases_lt b now)
 
 take_front : (front back : Trail) → take (length front) (front ++ back) ≡ front
@@ -78,11 +92,14 @@ take_front [] back = refl
 take_front (p ∷ front) back = ap (λ t. p ∷ t) (take_front front back)
 
 pub cut_taken : (trail : Trail) (b : ℕ) → cut_trail b trail ≡ take (length (cut_trail b trail)) trail
-cut_taken trail b = let r = cut_front 0 b trail in sym (take_front (cut_trail b trail) r.0) ∙ ap (take (length (cut_trail b trail))) (sym r.1)
+cut_taken trail b = let r = cut_front 0 b trail in sym (take_front (cut_trail b trail) r.0)
+    ∙ ap (take (length (cut_trail b trail))) (sym r.1)
 
 length_more : (front : Trail) (d : Placed) (back : Trail) → length front < length (front ++ d ∷ back)
-length_more [] d back = let h : length (d ∷ back) ≡ suc (length back) = refl in let g : length {A = Placed} [] ≡ 0 = refl in omega arith
-length_more (p ∷ front) d back = let h = length_more front d back in let g : length (p ∷ front) ≡ suc (length front) = refl in let k : length (p ∷ (front ++ d ∷ back)) ≡ suc (length (front ++ d ∷ back)) = refl in omega arith
+length_more [] d back = let h : length (d ∷ back) ≡ suc (length back) = refl in let g : length {A = Placed} [] ≡ 0 =
+    refl in omega arith
+length_more (p ∷ front) d back = let h = length_more front d back in let g : length (p ∷ front) ≡ suc (length front) =
+    refl in let k : length (p ∷ (front ++ d ∷ back)) ≡ suc (length (front ++ d ∷ back)) = refl in omega arith
 
 pub cut_shorter : (trail : Trail) (b : ℕ) → b < last_level trail → length (cut_trail b trail) < length trail
 cut_shorter trail b high =
@@ -92,11 +109,14 @@ cut_shorter trail b high =
     omega arith
 
 after_most : (before : ℕ) (p : Placed) → level_after before p ≤ suc before
-after_most before p = cond_both (is_decision p.cause) (suc before) before (λ n. n ≤ suc before) (λ t. omega arith) (λ f. omega arith)
+after_most before p = cond_both (is_decision p.cause) (suc before) before (λ n. n ≤ suc before) (λ t. omega arith)
+    (λ f. omega arith)
 
 -- a cut is at its level
-pub cut_reached : (before b : ℕ) (trail : Trail) → before ≤ b → b ≤ last_level_from before trail → last_level_from before (cut_from before b trail) ≡ b
-cut_reached before b [] least high = let h : b ≤ before = high in let g : last_level_from before (cut_from before b []) ≡ before = refl in omega arith
+pub cut_reached : (before b : ℕ) (trail : Trail) → before ≤ b → b ≤ last_level_from before trail
+    → last_level_from before (cut_from before b trail) ≡ b
+cut_reached before b [] least high = let h : b ≤ before = high in let g : last_level_from before
+    (cut_from before b []) ≡ before = refl in omega arith
 cut_reached before b (p ∷ trail) least high =
     let now = level_after before p in
     ⊎_elim
@@ -109,7 +129,8 @@ cut_reached before b (p ∷ trail) least high =
     (cases_lt b now)
 
 -- a trail without decisions is at level 0
-pub level_none : (before : ℕ) (trail : Trail) → ((p : Placed) → Contains trail p → is_decision p.cause ≡ false) → last_level_from before trail ≡ before
+pub level_none : (before : ℕ) (trail : Trail) → ((p : Placed) → Contains trail p → is_decision p.cause ≡ false)
+    → last_level_from before trail ≡ before
 level_none before [] none = refl
 level_none before (p ∷ rest) none =
     ap (λ b. last_level_from (cond b (suc before) before) rest) (none p (contains_head p rest))

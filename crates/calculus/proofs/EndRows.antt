@@ -18,23 +18,34 @@ use Rattle.calculus.proofs.RowLemmas.{over_from, some_from}
 use Rattle.calculus.proofs.Verdict.{proof_decides}
 
 pub filter_row : (scopes : List Scope) (p : Literal → Bool) (row : Row) → IsRow scopes row → IsRow scopes (filter p row)
-filter_row scopes p row is_row = row_of scopes (filter p row) (AllPairs-filter (λ a b. a.variable < b.variable) p row (rises is_row)) (λ l i. is_row.over_prefix l (filter_at p row l i).0)
+filter_row scopes p row is_row = row_of scopes (filter p row)
+    (AllPairs-filter (λ a b. a.variable < b.variable) p row (rises is_row))
+    (λ l i. is_row.over_prefix l (filter_at p row l i).0)
 
-module _ (pivot : Quant) (scopes : List Scope) (clauses : List Row) (assumptions : List Literal) (end : Row) (ends : IsEndRow pivot scopes assumptions end) where
-  with_finish : (earlier : List Row) (steps : List Inference) → ((r : Row) → Contains earlier r → IsRow scopes r) → IsLegalAfter pivot scopes clauses earlier steps → Contains earlier end ⊎ Contains (rows_of steps) end → AreSoundSteps pivot scopes clauses assumptions earlier (steps ++ finish_of assumptions end ∷ [])
+module _ (pivot : Quant) (scopes : List Scope) (clauses : List Row) (assumptions : List Literal) (end : Row)
+    (ends : IsEndRow pivot scopes assumptions end) where
+  with_finish : (earlier : List Row) (steps : List Inference) → ((r : Row) → Contains earlier r → IsRow scopes r)
+      → IsLegalAfter pivot scopes clauses earlier steps → Contains earlier end ⊎ Contains (rows_of steps) end
+      → AreSoundSteps pivot scopes clauses assumptions earlier (steps ++ finish_of assumptions end ∷ [])
   with_finish earlier [] are legal where_ =
-      let stands : Contains earlier end = ⊎_elim (λ i. i) (λ i. absurd (contains_nil end i)) where_ in
-      (filter_row scopes (λ l. is_some (assumed_value assumptions l.variable)) end (are end stands), (stands, inr (ends, refl)), tt)
+      let stands : Contains earlier end = ⊎_elim (λ i. i) (λ i. absurd (contains_nil end i)) where_ in (
+        filter_row scopes (λ l. is_some (assumed_value assumptions l.variable)) end (are end stands),
+        (stands, inr (ends, refl)),
+        tt,
+      )
   with_finish earlier (s ∷ steps) are legal where_ = (
     legal.0,
     legal_step pivot scopes clauses assumptions earlier s.row s.reason legal.1,
     with_finish (s.row ∷ earlier) steps
         (λ r i. ⊎_elim (λ e. rw (← e) legal.0) (λ j. are r j) (contains_cons s.row earlier r i))
         legal.2
-        (⊎_elim (λ i. inl (contains_tail s.row earlier end i)) (λ i. ⊎_elim (λ e. inl (rw e (contains_head end earlier))) inr (contains_cons s.row (rows_of steps) end i)) where_),
+        (⊎_elim (λ i. inl (contains_tail s.row earlier end i))
+        (λ i. ⊎_elim (λ e. inl (rw e (contains_head end earlier))) inr (contains_cons s.row (rows_of steps) end i))
+        where_),
   )
 
-  pub end_row_proof : (steps : List Inference) → IsLegal pivot scopes clauses steps → Contains (rows_of steps) end → IsSound pivot scopes clauses assumptions (steps ++ finish_of assumptions end ∷ [])
+  pub end_row_proof : (steps : List Inference) → IsLegal pivot scopes clauses steps → Contains (rows_of steps) end
+      → IsSound pivot scopes clauses assumptions (steps ++ finish_of assumptions end ∷ [])
   end_row_proof steps legal stands = record {
     front = steps;
     last = finish_of assumptions end;
@@ -47,26 +58,35 @@ module _ (pivot : Quant) (scopes : List Scope) (clauses : List Row) (assumptions
         (r.0, r.1, ends.bad l r.0 kept.0 r.1);
   }
 
-pub end_row_truth : (pivot : Quant) (scopes : List Scope) (clauses : List Row) (assumptions : List Literal) (steps : List Inference) (end : Row) → AreDistinct (all_variables scopes) → AreOuter scopes assumptions → IsLegal pivot scopes clauses steps → Contains (rows_of steps) end → IsEndRow pivot scopes assumptions end → truth_under assumptions scopes clauses ≡ bad_of pivot
+pub end_row_truth : (pivot : Quant) (scopes : List Scope) (clauses : List Row) (assumptions : List Literal)
+    (steps : List Inference) (end : Row) → AreDistinct (all_variables scopes) → AreOuter scopes assumptions
+    → IsLegal pivot scopes clauses steps → Contains (rows_of steps) end → IsEndRow pivot scopes assumptions end
+    → truth_under assumptions scopes clauses ≡ bad_of pivot
 end_row_truth pivot scopes clauses assumptions steps end distinct outer legal stands ends =
-    proof_decides pivot scopes clauses assumptions (steps ++ finish_of assumptions end ∷ []) distinct outer (end_row_proof pivot scopes clauses assumptions end ends steps legal stands)
+    proof_decides pivot scopes clauses assumptions (steps ++ finish_of assumptions end ∷ []) distinct outer
+    (end_row_proof pivot scopes clauses assumptions end ends steps legal stands)
 
 -- the verdict rests on the assumptions over variables of the last row alone
 
-relevant_value : (assumptions : List Literal) (row : Row) (x : ℕ) → mentions row x ≡ true → assumed_value (relevant_of assumptions row) x ≡ assumed_value assumptions x
+relevant_value : (assumptions : List Literal) (row : Row) (x : ℕ) → mentions row x ≡ true
+    → assumed_value (relevant_of assumptions row) x ≡ assumed_value assumptions x
 relevant_value [] row x t = refl
 relevant_value (l ∷ ls) row x t =
-    cond_both (mentions row l.variable) (l ∷ relevant_of ls row) (relevant_of ls row) (λ rest. assumed_value rest x ≡ assumed_value (l ∷ ls) x)
+    cond_both (mentions row l.variable) (l ∷ relevant_of ls row) (relevant_of ls row)
+    (λ rest. assumed_value rest x ≡ assumed_value (l ∷ ls) x)
     (λ m. ap (λ o. cond (nat_eq l.variable x) (Some l.positive) o) (relevant_value ls row x t))
     (λ n. ⊎_elim (λ e. absurd (true≢false (sym t ∙ (ap (mentions row) (sym (eqb-true l.variable x e)) ∙ n))))
     (λ ne. relevant_value ls row x t ∙ sym (cond-false (nat_eq l.variable x) (Some l.positive) (assumed_value ls x) ne))
     (cases_Bool (nat_eq l.variable x)))
 
-relevant_none : (assumptions : List Literal) (row : Row) (x : ℕ) → mentions row x ≡ false → assumed_value (relevant_of assumptions row) x ≡ None
+relevant_none : (assumptions : List Literal) (row : Row) (x : ℕ) → mentions row x ≡ false
+    → assumed_value (relevant_of assumptions row) x ≡ None
 relevant_none [] row x t = refl
 relevant_none (l ∷ ls) row x t =
-    cond_both (mentions row l.variable) (l ∷ relevant_of ls row) (relevant_of ls row) (λ rest. assumed_value rest x ≡ None)
-    (λ m. cond-false (nat_eq l.variable x) (Some l.positive) (assumed_value (relevant_of ls row) x) (ne_eqb l.variable x (λ e. true≢false (sym m ∙ (ap (mentions row) e ∙ t)))) ∙ relevant_none ls row x t)
+    cond_both (mentions row l.variable) (l ∷ relevant_of ls row) (relevant_of ls row)
+    (λ rest. assumed_value rest x ≡ None)
+    (λ m. cond-false (nat_eq l.variable x) (Some l.positive) (assumed_value (relevant_of ls row) x)
+    (ne_eqb l.variable x (λ e. true≢false (sym m ∙ (ap (mentions row) e ∙ t)))) ∙ relevant_none ls row x t)
     (λ n. relevant_none ls row x t)
 
 mentioned : (row : Row) (l : Literal) → Contains row l → mentions row l.variable ≡ true
@@ -77,45 +97,67 @@ module _ (pivot : Quant) (scopes : List Scope) (clauses : List Row) (assumptions
   fewer = relevant_of assumptions row
 
   -- where the assumptions over the variables of a row are kept, its finish is the same
-  relevant_finish : (before : Row) → IsFinish pivot scopes assumptions before row → IsFinish pivot scopes (relevant_of assumptions row) before row
+  relevant_finish : (before : Row) → IsFinish pivot scopes assumptions before row → IsFinish pivot scopes
+      (relevant_of assumptions row) before row
   relevant_finish before finish =
       let is_assumed = λ (l : Literal). is_some (assumed_value assumptions l.variable) in
       let is_relevant = λ (l : Literal). is_some (assumed_value (relevant_of assumptions row) l.variable) in
-      let kept : (l : Literal) → Contains before l → is_assumed l ≡ true → mentions row l.variable ≡ true = λ l i t. mentioned row l (rw finish.1 (filter_from is_assumed before l i t)) in
+      let kept : (l : Literal) → Contains before l → is_assumed l ≡ true → mentions row l.variable ≡ true =
+      λ l i t. mentioned row l (rw finish.1 (filter_from is_assumed before l i t)) in
       let same : (l : Literal) → Contains before l → is_assumed l ≡ is_relevant l = λ l i.
       ⊎_elim (λ t. sym (ap is_some (relevant_value assumptions row l.variable (kept l i t))))
-      (λ f. ⊎_elim (λ m. sym (ap is_some (relevant_value assumptions row l.variable m))) (λ n. f ∙ sym (ap is_some (relevant_none assumptions row l.variable n))) (cases_Bool (mentions row l.variable)))
+      (λ f. ⊎_elim (λ m. sym (ap is_some (relevant_value assumptions row l.variable m)))
+      (λ n. f ∙ sym (ap is_some (relevant_none assumptions row l.variable n)))
+      (cases_Bool (mentions row l.variable)))
       (cases_Bool (is_assumed l)) in (
         record {
           pivots = λ l i t. sym (same l i) ∙ finish.0.pivots l i t;
-          bad = λ l b i e. finish.0.bad l b i (sym (relevant_value assumptions row l.variable (kept l i (same l i ∙ ap is_some e))) ∙ e);
+          bad = λ l b i e. finish.0.bad l b i
+              (sym (relevant_value assumptions row l.variable (kept l i (same l i ∙ ap is_some e))) ∙ e);
         },
         finish.1 ∙ filter_same is_assumed is_relevant before same,
       )
 
-  relevant_last : (earlier : List Row) (reason : Reason) → IsSoundStep pivot scopes clauses assumptions earlier row reason → IsSoundStep pivot scopes clauses (relevant_of assumptions row) earlier row reason
+  relevant_last : (earlier : List Row) (reason : Reason) → IsSoundStep pivot scopes clauses assumptions earlier row
+      reason → IsSoundStep pivot scopes clauses (relevant_of assumptions row) earlier row reason
   relevant_last earlier Input step = step
   relevant_last earlier (One before) step = (step.0, ⊎_elim inl (λ f. inr (relevant_finish before f)) step.1)
   relevant_last earlier (Two a b x) step = step
 
-  relevant_steps : (earlier : List Row) (front : List Inference) (reason : Reason) → IsLegalAfter pivot scopes clauses earlier front → AreSoundSteps pivot scopes clauses assumptions earlier (front ++ record { row = row; reason = reason } ∷ []) → AreSoundSteps pivot scopes clauses (relevant_of assumptions row) earlier (front ++ record { row = row; reason = reason } ∷ [])
+  relevant_steps : (earlier : List Row) (front : List Inference) (reason : Reason) → IsLegalAfter pivot scopes clauses
+      earlier front → AreSoundSteps pivot scopes clauses assumptions earlier
+      (front ++ record { row = row; reason = reason } ∷ []) → AreSoundSteps pivot scopes clauses
+      (relevant_of assumptions row) earlier (front ++ record { row = row; reason = reason } ∷ [])
   relevant_steps earlier [] reason legal are = (are.0, relevant_last earlier reason are.1, tt)
-  relevant_steps earlier (s ∷ front) reason legal are =
-      (legal.0, legal_step pivot scopes clauses (relevant_of assumptions row) earlier s.row s.reason legal.1, relevant_steps (s.row ∷ earlier) front reason legal.2 are.2)
+  relevant_steps earlier (s ∷ front) reason legal are = (
+    legal.0,
+    legal_step pivot scopes clauses (relevant_of assumptions row) earlier s.row s.reason legal.1,
+    relevant_steps (s.row ∷ earlier) front reason legal.2 are.2,
+  )
 
-pub relevant_proof : (pivot : Quant) (scopes : List Scope) (clauses : List Row) (assumptions : List Literal) (steps : List Inference) (proof : IsSound pivot scopes clauses assumptions steps) → IsSound pivot scopes clauses (relevant_of assumptions proof.last.row) steps
+pub relevant_proof : (pivot : Quant) (scopes : List Scope) (clauses : List Row) (assumptions : List Literal)
+    (steps : List Inference) (proof : IsSound pivot scopes clauses assumptions steps) → IsSound pivot scopes clauses
+    (relevant_of assumptions proof.last.row) steps
 relevant_proof pivot scopes clauses assumptions steps proof = record {
   front = proof.front;
   last = proof.last;
   parts = proof.parts;
   legal = proof.legal;
-  last_step = rw proof.parts (relevant_steps pivot scopes clauses assumptions proof.last.row [] proof.front proof.last.reason proof.legal (rw proof.parts at proof.last_step));
-  decided = λ l i. let d = proof.decided l i in (d.0, relevant_value assumptions proof.last.row l.variable (mentioned proof.last.row l i) ∙ d.1, d.2);
+  last_step = rw proof.parts (relevant_steps pivot scopes clauses assumptions proof.last.row [] proof.front
+      proof.last.reason proof.legal (rw proof.parts at proof.last_step));
+  decided = λ l i. let d = proof.decided l i in
+      (d.0, relevant_value assumptions proof.last.row l.variable (mentioned proof.last.row l i) ∙ d.1, d.2);
 }
 
-pub relevant_outer : (scopes : List Scope) (assumptions : List Literal) (row : Row) → AreOuter scopes assumptions → AreOuter scopes (relevant_of assumptions row)
+pub relevant_outer : (scopes : List Scope) (assumptions : List Literal) (row : Row) → AreOuter scopes assumptions
+    → AreOuter scopes (relevant_of assumptions row)
 relevant_outer scopes assumptions row outer l i = outer l (filter_at (λ l. mentions row l.variable) assumptions l i).0
 
-pub relevant_truth : (pivot : Quant) (scopes : List Scope) (clauses : List Row) (assumptions : List Literal) (steps : List Inference) → AreDistinct (all_variables scopes) → AreOuter scopes assumptions → (proof : IsSound pivot scopes clauses assumptions steps) → truth_under (relevant_of assumptions proof.last.row) scopes clauses ≡ bad_of pivot
+pub relevant_truth : (pivot : Quant) (scopes : List Scope) (clauses : List Row) (assumptions : List Literal)
+    (steps : List Inference) → AreDistinct (all_variables scopes) → AreOuter scopes assumptions
+    → (proof : IsSound pivot scopes clauses assumptions steps) → truth_under (relevant_of assumptions proof.last.row)
+    scopes clauses ≡ bad_of pivot
 relevant_truth pivot scopes clauses assumptions steps distinct outer proof =
-    proof_decides pivot scopes clauses (relevant_of assumptions proof.last.row) steps distinct (relevant_outer scopes assumptions proof.last.row outer) (relevant_proof pivot scopes clauses assumptions steps proof)
+    proof_decides pivot scopes clauses (relevant_of assumptions proof.last.row) steps distinct
+    (relevant_outer scopes assumptions proof.last.row outer)
+    (relevant_proof pivot scopes clauses assumptions steps proof)

@@ -33,12 +33,14 @@ less_by m n = by_test (nat_lt m n) (nat_eq m n)
     by_test false false = refl
 
 -- two compared levels
-both_some : (o p : Option ℕ) (r : Ordering) → option_and_then (λ m. option_map (nat_cmp m) p) o ≡ Some r → (m : ℕ) × (n : ℕ) × (o ≡ Some m) × (p ≡ Some n) × (nat_cmp m n ≡ r)
+both_some : (o p : Option ℕ) (r : Ordering) → option_and_then (λ m. option_map (nat_cmp m) p) o ≡ Some r → (m : ℕ)
+    × (n : ℕ) × (o ≡ Some m) × (p ≡ Some n) × (nat_cmp m n ≡ r)
 both_some None p r e = absurd (let g : None ≡ Some r = e in cc)
 both_some (Some m) None r e = absurd (let g : None ≡ Some r = e in cc)
 both_some (Some m) (Some n) r e = (m, n, refl, refl, (let g : Some (nat_cmp m n) ≡ Some r = e in cc))
 
-compared_as : (scopes : List Scope) (x y m n : ℕ) → level_of scopes x ≡ Some m → level_of scopes y ≡ Some n → levels_compared scopes x y ≡ Some (nat_cmp m n)
+compared_as : (scopes : List Scope) (x y m n : ℕ) → level_of scopes x ≡ Some m → level_of scopes y ≡ Some n
+    → levels_compared scopes x y ≡ Some (nat_cmp m n)
 compared_as scopes x y m n e f = ap₂ (λ o p. option_and_then (λ k. option_map (nat_cmp k) p) o) e f
 
 depth_at : (scopes : List Scope) (x m : ℕ) → level_of scopes x ≡ Some m → depth_of scopes x ≡ m
@@ -52,11 +54,14 @@ module _ (old new : List Scope) (keeps : KeepsOrder old new) where
   there x i = let r = level_at x i in ap is_some r.1
 
   -- the levels of two variables, before and after
-  both : (x y : ℕ) (i : Contains (all_variables old) x) (j : Contains (all_variables old) y) → (m : ℕ) × (n : ℕ) × (level_of new x ≡ Some m) × (level_of new y ≡ Some n) × (nat_cmp m n ≡ nat_cmp (level_at x i).0 (level_at y j).0)
+  both : (x y : ℕ) (i : Contains (all_variables old) x) (j : Contains (all_variables old) y) → (m : ℕ) × (n : ℕ)
+      × (level_of new x ≡ Some m) × (level_of new y ≡ Some n)
+      × (nat_cmp m n ≡ nat_cmp (level_at x i).0 (level_at y j).0)
   both x y i j =
       let a = level_at x i in
       let b = level_at y j in
-      both_some (level_of new x) (level_of new y) (nat_cmp a.0 b.0) (keeps.order x y (there x i) (there y j) ∙ compared_as old x y a.0 b.0 a.1 b.1)
+      both_some (level_of new x) (level_of new y) (nat_cmp a.0 b.0)
+      (keeps.order x y (there x i) (there y j) ∙ compared_as old x y a.0 b.0 a.1 b.1)
 
   pub kept_extends : Extends old new
   kept_extends = record {

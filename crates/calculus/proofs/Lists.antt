@@ -7,7 +7,8 @@ use Rattle.prefix.specs.Scopes.{is_among}
 
 -- membership
 
-at_cons : {X : Type 0} (y : X) (ys : List X) (x : X) (k : ℕ) → k < length (y ∷ ys) → get_or (y ∷ ys) k x ≡ x → (y ≡ x) ⊎ Contains ys x
+at_cons : {X : Type 0} (y : X) (ys : List X) (x : X) (k : ℕ) → k < length (y ∷ ys) → get_or (y ∷ ys) k x ≡ x → (y ≡ x)
+    ⊎ Contains ys x
 at_cons y ys x zero below e = inl e
 at_cons y ys x (suc k) below e = inr (k, omega arith, e)
 
@@ -33,7 +34,8 @@ all_at p (y ∷ ys) h x c =
 
 pub all_from : {X : Type 0} (p : X → Bool) (xs : List X) → ((x : X) → Contains xs x → p x ≡ true) → list_all p xs ≡ true
 all_from p [] h = refl
-all_from p (y ∷ ys) h = and_from (p y) (list_all p ys) (h y (contains_head y ys)) (all_from p ys (λ x c. h x (contains_tail y ys x c)))
+all_from p (y ∷ ys) h = and_from (p y) (list_all p ys) (h y (contains_head y ys))
+    (all_from p ys (λ x c. h x (contains_tail y ys x c)))
 
 pub any_at : {X : Type 0} (p : X → Bool) (xs : List X) → list_any p xs ≡ true → (x : X) × Contains xs x × (p x ≡ true)
 any_at p [] h = absurd (false≢true h)
@@ -51,49 +53,64 @@ any_from p (y ∷ ys) x c h =
 
 -- filters
 
-pub filter_at : {X : Type 0} (p : X → Bool) (xs : List X) (x : X) → Contains (filter p xs) x → Contains xs x × (p x ≡ true)
+pub filter_at : {X : Type 0} (p : X → Bool) (xs : List X) (x : X) → Contains (filter p xs) x → Contains xs x
+    × (p x ≡ true)
 filter_at p [] x c = absurd (contains_nil x c)
 filter_at p (y ∷ ys) x c =
     ⊎_elim (λ t. let d = rw (cond-true (p y) (y ∷ filter p ys) (filter p ys) t) at c in
-    ⊎_elim (λ e. (rw e (contains_head x ys), ap p (sym e) ∙ t)) (λ r. let s = filter_at p ys x r in (contains_tail y ys x s.0, s.1)) (contains_cons y (filter p ys) x d))
-    (λ f. let s = filter_at p ys x (rw (cond-false (p y) (y ∷ filter p ys) (filter p ys) f) at c) in (contains_tail y ys x s.0, s.1))
+    ⊎_elim (λ e. (rw e (contains_head x ys), ap p (sym e) ∙ t))
+    (λ r. let s = filter_at p ys x r in (contains_tail y ys x s.0, s.1)) (contains_cons y (filter p ys) x d))
+    (λ f. let s = filter_at p ys x (rw (cond-false (p y) (y ∷ filter p ys) (filter p ys) f) at c) in
+    (contains_tail y ys x s.0, s.1))
     (cases_Bool (p y))
 
-pub filter_from : {X : Type 0} (p : X → Bool) (xs : List X) (x : X) → Contains xs x → p x ≡ true → Contains (filter p xs) x
+pub filter_from : {X : Type 0} (p : X → Bool) (xs : List X) (x : X) → Contains xs x → p x ≡ true
+    → Contains (filter p xs) x
 filter_from p [] x c h = absurd (contains_nil x c)
 filter_from p (y ∷ ys) x c h =
     ⊎_elim (λ t. rw (cond-true (p y) (y ∷ filter p ys) (filter p ys) t)
-    (⊎_elim (λ e. rw e (contains_head x (filter p ys))) (λ d. contains_tail y (filter p ys) x (filter_from p ys x d h)) (contains_cons y ys x c)))
+    (⊎_elim (λ e. rw e (contains_head x (filter p ys))) (λ d. contains_tail y (filter p ys) x (filter_from p ys x d h))
+    (contains_cons y ys x c)))
     (λ f. rw (cond-false (p y) (y ∷ filter p ys) (filter p ys) f)
-    (⊎_elim (λ e. absurd (true≢false (sym h ∙ (ap p (sym e) ∙ f)))) (λ d. filter_from p ys x d h) (contains_cons y ys x c)))
+    (⊎_elim (λ e. absurd (true≢false (sym h ∙ (ap p (sym e) ∙ f)))) (λ d. filter_from p ys x d h)
+    (contains_cons y ys x c)))
     (cases_Bool (p y))
 
 pub among_at : (xs : List ℕ) (x : ℕ) → is_among x xs ≡ true → Contains xs x
 among_at [] x h = absurd (false≢true h)
 among_at (y ∷ ys) x h =
-    ⊎_elim (λ e. rw (← eqb-true y x e) (contains_head y ys)) (λ r. contains_tail y ys x (among_at ys x r)) (or_cases (nat_eq y x) (is_among x ys) h)
+    ⊎_elim (λ e. rw (← eqb-true y x e) (contains_head y ys)) (λ r. contains_tail y ys x (among_at ys x r))
+    (or_cases (nat_eq y x) (is_among x ys) h)
 
 pub among_from : (xs : List ℕ) (x : ℕ) → Contains xs x → is_among x xs ≡ true
 among_from [] x i = absurd (contains_nil x i)
 among_from (y ∷ ys) x i =
-    ⊎_elim (λ e. or_left (nat_eq y x) (is_among x ys) (eq-eqb y x e)) (λ j. or_right (nat_eq y x) (is_among x ys) (among_from ys x j)) (contains_cons y ys x i)
+    ⊎_elim (λ e. or_left (nat_eq y x) (is_among x ys) (eq-eqb y x e))
+    (λ j. or_right (nat_eq y x) (is_among x ys) (among_from ys x j)) (contains_cons y ys x i)
 
 -- tests that agree on the elements
-pub filter_same : {X : Type 0} (p q : X → Bool) (xs : List X) → ((x : X) → Contains xs x → p x ≡ q x) → filter p xs ≡ filter q xs
+pub filter_same : {X : Type 0} (p q : X → Bool) (xs : List X) → ((x : X) → Contains xs x → p x ≡ q x)
+    → filter p xs ≡ filter q xs
 filter_same p q [] same = refl
-filter_same p q (x ∷ xs) same = ap₂ (λ b rest. cond b (x ∷ rest) rest) (same x (contains_head x xs)) (filter_same p q xs (λ y i. same y (contains_tail x xs y i)))
+filter_same p q (x ∷ xs) same = ap₂ (λ b rest. cond b (x ∷ rest) rest) (same x (contains_head x xs))
+    (filter_same p q xs (λ y i. same y (contains_tail x xs y i)))
 
 pub filter_all : {X : Type 0} (p : X → Bool) (xs : List X) → ((x : X) → Contains xs x → p x ≡ true) → filter p xs ≡ xs
 filter_all p [] all = refl
-filter_all p (x ∷ xs) all = cond-true (p x) (x ∷ filter p xs) (filter p xs) (all x (contains_head x xs)) ∙ ap (λ rest. x ∷ rest) (filter_all p xs (λ y i. all y (contains_tail x xs y i)))
+filter_all p (x ∷ xs) all = cond-true (p x) (x ∷ filter p xs) (filter p xs) (all x (contains_head x xs))
+    ∙ ap (λ rest. x ∷ rest) (filter_all p xs (λ y i. all y (contains_tail x xs y i)))
 
-pub any_same : {X : Type 0} (p q : X → Bool) (xs : List X) → ((x : X) → Contains xs x → p x ≡ q x) → list_any p xs ≡ list_any q xs
+pub any_same : {X : Type 0} (p q : X → Bool) (xs : List X) → ((x : X) → Contains xs x → p x ≡ q x)
+    → list_any p xs ≡ list_any q xs
 any_same p q [] same = refl
-any_same p q (x ∷ xs) same = ap₂ (λ a b. a || b) (same x (contains_head x xs)) (any_same p q xs (λ y i. same y (contains_tail x xs y i)))
+any_same p q (x ∷ xs) same = ap₂ (λ a b. a || b) (same x (contains_head x xs))
+    (any_same p q xs (λ y i. same y (contains_tail x xs y i)))
 
 -- pairs by cases on the list
-pub pairs_head : {X : Type 0} (R : X → X → Type 0) (x : X) (xs : List X) → AllPairs R (x ∷ xs) → (y : X) → Contains xs y → R x y
-pairs_head R x xs pairs y i = let r : R x (get_or xs i.0 y) = pairs zero (suc i.0) y (omega arith) (let b : i.0 < length xs = i.1 in omega arith) in rw i.2 at r
+pub pairs_head : {X : Type 0} (R : X → X → Type 0) (x : X) (xs : List X) → AllPairs R (x ∷ xs) → (y : X) → Contains xs y
+    → R x y
+pairs_head R x xs pairs y i = let r : R x (get_or xs i.0 y) = pairs zero (suc i.0) y (omega arith)
+    (let b : i.0 < length xs = i.1 in omega arith) in rw i.2 at r
 
 pub pairs_tail : {X : Type 0} (R : X → X → Type 0) (x : X) (xs : List X) → AllPairs R (x ∷ xs) → AllPairs R xs
 pairs_tail R x xs pairs i j d below fits = pairs (suc i) (suc j) d (omega arith) (omega arith)
@@ -102,11 +119,13 @@ pairs_tail R x xs pairs i j d below fits = pairs (suc i) (suc j) d (omega arith)
 pub pairs_nil : {X : Type 0} (R : X → X → Type 0) → AllPairs R []
 pairs_nil R i j d below fits = absurd (omega arith)
 
-pairs_at : {X : Type 0} (R : X → X → Type 0) (x : X) (xs : List X) → ((y : X) → Contains xs y → R x y) → AllPairs R xs → (i j : ℕ) (d : X) → i < j → j < length (x ∷ xs) → R (get_or (x ∷ xs) i d) (get_or (x ∷ xs) j d)
+pairs_at : {X : Type 0} (R : X → X → Type 0) (x : X) (xs : List X) → ((y : X) → Contains xs y → R x y) → AllPairs R xs
+    → (i j : ℕ) (d : X) → i < j → j < length (x ∷ xs) → R (get_or (x ∷ xs) i d) (get_or (x ∷ xs) j d)
 pairs_at R x xs first rest zero zero d below fits = absurd (omega arith)
 pairs_at R x xs first rest (suc i) zero d below fits = absurd (omega arith)
 pairs_at R x xs first rest zero (suc j) d below fits = first (get_or xs j d) (Contains-get_or xs j d (omega arith))
 pairs_at R x xs first rest (suc i) (suc j) d below fits = rest i j d (omega arith) (omega arith)
 
-pub pairs_cons : {X : Type 0} (R : X → X → Type 0) (x : X) (xs : List X) → ((y : X) → Contains xs y → R x y) → AllPairs R xs → AllPairs R (x ∷ xs)
+pub pairs_cons : {X : Type 0} (R : X → X → Type 0) (x : X) (xs : List X) → ((y : X) → Contains xs y → R x y)
+    → AllPairs R xs → AllPairs R (x ∷ xs)
 pairs_cons R x xs first rest = pairs_at R x xs first rest

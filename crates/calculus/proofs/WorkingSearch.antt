@@ -61,9 +61,13 @@ one_not_three = apart 1 3 (omega arith)
 module _ (pivot : Quant) where
   -- one literal of a pending row
   abbrev Stays : Values → Option Literal → Literal → Type 0
-  Stays values kept l = IsKept kept l ⊎ (IsTrue (is_bad_now pivot values l) ⊎ (IsTrue (is_open values l) × IsFalse (is_pivot pivot (alternating pivot) l) × IsLater (alternating pivot) kept l))
+  Stays values kept l = IsKept kept l
+      ⊎ (IsTrue (is_bad_now pivot values l)
+      ⊎ (IsTrue (is_open values l) × IsFalse (is_pivot pivot (alternating pivot) l) × IsLater (alternating pivot) kept
+      l))
 
-  unit_in_last : (values : Values) → values 1 ≡ Some (bad_of pivot) → values 2 ≡ Some (bad_of pivot) → values 3 ≡ None → IsUnitIn pivot (alternating pivot) values three (plus 3)
+  unit_in_last : (values : Values) → values 1 ≡ Some (bad_of pivot) → values 2 ≡ Some (bad_of pivot) → values 3 ≡ None
+      → IsUnitIn pivot (alternating pivot) values three (plus 3)
   unit_in_last values a b n = record {
     stands = third;
     pivot_type = ours pivot;
@@ -79,25 +83,31 @@ module _ (pivot : Quant) where
     stands = first;
     pivot_type = ours pivot;
     open_yet = refl;
-    others = each (Stays (assumed_value (bad pivot 3 ∷ [])) (Some (plus 1))) (inl refl) (inr (inr (refl, theirs pivot, (let h : 1 < 2 = omega arith in h)))) (inr (inl (bad_is pivot 3)));
+    others = each (Stays (assumed_value (bad pivot 3 ∷ [])) (Some (plus 1))) (inl refl)
+        (inr (inr (refl, theirs pivot, (let h : 1 < 2 = omega arith in h)))) (inr (inl (bad_is pivot 3)));
   }
 
   not_with_earlier : IsUnitIn pivot (alternating pivot) (assumed_value (bad pivot 1 ∷ [])) three (plus 3) → ⊥
   not_with_earlier unit =
-      ⊎_elim two_not_three (λ r. ⊎_elim (λ b. false≢true b) (λ o. let h : 3 < 2 = o.2 in omega arith) r) (unit.others (plus 2) second)
+      ⊎_elim two_not_three (λ r. ⊎_elim (λ b. false≢true b) (λ o. let h : 3 < 2 = o.2 in omega arith) r)
+      (unit.others (plus 2) second)
 
   bad_with_open : IsBadRow pivot (alternating pivot) (assumed_value (bad pivot 1 ∷ bad pivot 3 ∷ [])) three
-  bad_with_open = each (Stays (assumed_value (bad pivot 1 ∷ bad pivot 3 ∷ [])) None) (inr (inl (bad_is pivot 1))) (inr (inr (refl, theirs pivot, tt))) (inr (inl (bad_is pivot 3)))
+  bad_with_open = each (Stays (assumed_value (bad pivot 1 ∷ bad pivot 3 ∷ [])) None) (inr (inl (bad_is pivot 1)))
+      (inr (inr (refl, theirs pivot, tt))) (inr (inl (bad_is pivot 3)))
 
   -- an open pivot-type literal
   not_bad : (values : Values) → values 3 ≡ None → IsBadRow pivot (alternating pivot) values three → ⊥
   not_bad values n bad_row =
       ⊎_elim (λ k. k)
-      (λ r. ⊎_elim (λ b. false≢true (ap (λ o. is_bad_if pivot o (plus 3)) (sym n) ∙ b)) (λ o. true≢false (sym (ours pivot) ∙ o.1)) r)
+      (λ r. ⊎_elim (λ b. false≢true (ap (λ o. is_bad_if pivot o (plus 3)) (sym n) ∙ b))
+      (λ o. true≢false (sym (ours pivot) ∙ o.1)) r)
       (bad_row (plus 3) third)
 
-  not_unit : (l : Literal) → Contains three l → IsUnitIn pivot (alternating pivot) (assumed_value (bad pivot 1 ∷ [])) three l → ⊥
-  not_unit = each (λ l. IsUnitIn pivot (alternating pivot) (assumed_value (bad pivot 1 ∷ [])) three l → ⊥) (λ unit. false≢true unit.open_yet) (λ unit. false≢true (sym (theirs pivot) ∙ unit.pivot_type)) not_with_earlier
+  not_unit : (l : Literal) → Contains three l → IsUnitIn pivot (alternating pivot) (assumed_value (bad pivot 1 ∷ []))
+      three l → ⊥
+  not_unit = each (λ l. IsUnitIn pivot (alternating pivot) (assumed_value (bad pivot 1 ∷ [])) three l → ⊥)
+      (λ unit. false≢true unit.open_yet) (λ unit. false≢true (sym (theirs pivot) ∙ unit.pivot_type)) not_with_earlier
 
   one_row : (row : Row) → Contains (three ∷ []) row → three ≡ row
   one_row row i = ⊎_elim (λ e. e) (λ n. absurd (contains_nil row n)) (contains_cons three [] row i)
@@ -110,16 +120,25 @@ module _ (pivot : Quant) where
     unit = unit_in_last (assumed_value (bad pivot 1 ∷ bad pivot 2 ∷ [])) refl refl refl;
     unit_with_later = with_later;
     earlier_open = not_with_earlier;
-    one_good = λ unit. ⊎_elim two_not_three (λ r. ⊎_elim (λ b. true≢false (sym b ∙ good_not pivot 2)) (λ o. false≢true o.0) r) (unit.others (plus 2) second);
+    one_good = λ unit. ⊎_elim two_not_three
+        (λ r. ⊎_elim (λ b. true≢false (sym b ∙ good_not pivot 2)) (λ o. false≢true o.0) r)
+        (unit.others (plus 2) second);
     none_open = λ unit. false≢true unit.open_yet;
     other_type = λ unit. false≢true (sym (theirs pivot) ∙ unit.pivot_type);
-    absent = λ unit. each (λ l. l ≡ minus 3 → ⊥) (λ e. true≢false (ap (λ (l : Literal). l.positive) e)) (λ e. true≢false (ap (λ (l : Literal). l.positive) e)) (λ e. true≢false (ap (λ (l : Literal). l.positive) e)) (minus 3) unit.stands refl;
+    absent = λ unit. each (λ l. l ≡ minus 3 → ⊥) (λ e. true≢false (ap (λ (l : Literal). l.positive) e))
+        (λ e. true≢false (ap (λ (l : Literal). l.positive) e)) (λ e. true≢false (ap (λ (l : Literal). l.positive) e))
+        (minus 3) unit.stands refl;
     is_bad = bad_with_open;
     pivot_open = not_bad (assumed_value (bad pivot 1 ∷ bad pivot 2 ∷ [])) refl;
-    good_row = λ bad_row. ⊎_elim (λ k. k) (λ r. ⊎_elim (λ b. true≢false (sym b ∙ good_not pivot 2)) (λ o. false≢true o.0) r) (bad_row (plus 2) second);
+    good_row = λ bad_row. ⊎_elim (λ k. k)
+        (λ r. ⊎_elim (λ b. true≢false (sym b ∙ good_not pivot 2)) (λ o. false≢true o.0) r) (bad_row (plus 2) second);
     quiet = record {
-      none_bad = λ row i bad_row. not_bad (assumed_value (bad pivot 1 ∷ [])) refl (subst (λ r. IsBadRow pivot (alternating pivot) (assumed_value (bad pivot 1 ∷ [])) r) (sym (one_row row i)) bad_row);
-      none_unit = λ row l i unit. let u = subst (λ r. IsUnitIn pivot (alternating pivot) (assumed_value (bad pivot 1 ∷ [])) r l) (sym (one_row row i)) unit in not_unit l u.stands u;
+      none_bad = λ row i bad_row. not_bad (assumed_value (bad pivot 1 ∷ [])) refl
+          (subst (λ r. IsBadRow pivot (alternating pivot) (assumed_value (bad pivot 1 ∷ [])) r) (sym (one_row row i))
+          bad_row);
+      none_unit = λ row l i unit. let u =
+          subst (λ r. IsUnitIn pivot (alternating pivot) (assumed_value (bad pivot 1 ∷ [])) r l) (sym (one_row row i))
+          unit in not_unit l u.stands u;
     };
     unit_not_quiet = λ quiet. quiet.none_unit three (plus 1) alone with_later;
     bad_not_quiet = λ quiet. quiet.none_bad three alone bad_with_open;
@@ -127,7 +146,9 @@ module _ (pivot : Quant) where
 
   -- one literal of a row that is clean but for 3
   abbrev Behind : Trail → Literal → Type 0
-  Behind trail l = (l ≡ plus 3) ⊎ (IsTrue (is_bad_now pivot (value_on trail) l) × (IsTrue (is_some (value_on trail 3)) → place_on trail l.variable < place_on trail 3))
+  Behind trail l = (l ≡ plus 3)
+      ⊎ (IsTrue (is_bad_now pivot (value_on trail) l)
+      × (IsTrue (is_some (value_on trail 3)) → place_on trail l.variable < place_on trail 3))
 
   pub clean_rows : WorkedCleanRows pivot
   clean_rows = record {
@@ -138,14 +159,25 @@ module _ (pivot : Quant) where
     cut = refl;
     cut_below = refl;
     not_cut = refl;
-    clean = each (λ l. IsTrue (is_bad_now pivot (value_on (with_last pivot (bad pivot 3))) l)) (bad_is pivot 1) (bad_is pivot 2) (bad_is pivot 3);
+    clean = each (λ l. IsTrue (is_bad_now pivot (value_on (with_last pivot (bad pivot 3))) l)) (bad_is pivot 1)
+        (bad_is pivot 2) (bad_is pivot 3);
     last_good = λ clean. true≢false (sym (clean (plus 3) third) ∙ good_not pivot 3);
     last_open = λ clean. false≢true (clean (plus 3) third);
-    clean_but = each (Behind (with_last pivot (good pivot 3))) (inr (bad_is pivot 1, λ a. (let h : 0 < 2 = omega arith in h))) (inr (bad_is pivot 2, λ a. (let h : 1 < 2 = omega arith in h))) (inl refl);
-    clean_but_open = each (Behind (cut_trail 1 (with_last pivot (good pivot 3)))) (inr (bad_is pivot 1, λ a. absurd (false≢true a))) (inr (bad_is pivot 2, λ a. absurd (false≢true a))) (inl refl);
+    clean_but = each (Behind (with_last pivot (good pivot 3)))
+        (inr (bad_is pivot 1, λ a. (let h : 0 < 2 = omega arith in h)))
+        (inr (bad_is pivot 2, λ a. (let h : 1 < 2 = omega arith in h))) (inl refl);
+    clean_but_open = each (Behind (cut_trail 1 (with_last pivot (good pivot 3))))
+        (inr (bad_is pivot 1, λ a. absurd (false≢true a))) (inr (bad_is pivot 2, λ a. absurd (false≢true a)))
+        (inl refl);
     two_after = λ but. ⊎_elim two_not_three (λ r. let h : 2 < 1 = r.1 refl in omega arith) (but (plus 2) second);
     two_open = λ but. ⊎_elim two_not_three (λ r. false≢true r.0) (but (plus 2) second);
-    unit_at_one = record { below = (let h : 1 < 2 = omega arith in h); unit = unit_in_last (value_on (cut_trail 1 (with_last pivot (bad pivot 3)))) refl refl refl };
-    not_at_none = λ makes. ⊎_elim one_not_three (λ r. ⊎_elim (λ b. false≢true b) (λ o. true≢false (sym (ours pivot) ∙ o.1)) r) (makes.unit.others (plus 1) first);
+    unit_at_one = record {
+      below = (let h : 1 < 2 = omega arith in h);
+      unit = unit_in_last
+          (value_on (cut_trail 1 (with_last pivot (bad pivot 3)))) refl refl refl;
+    };
+    not_at_none = λ makes. ⊎_elim one_not_three
+        (λ r. ⊎_elim (λ b. false≢true b) (λ o. true≢false (sym (ours pivot) ∙ o.1)) r)
+        (makes.unit.others (plus 1) first);
     not_at_its_own = λ makes. let h : 1 < 1 = makes.below in omega arith;
   }

@@ -5,9 +5,9 @@ use Rattle.std.specs.Option.{option_map}
 use Rattle.std.specs.Result.{IfOk}
 use Rattle.std.specs.List.{AllByRecursion}
 use Rattle.truth.specs.declared.formula.Formula.{Formula}
-use Rattle.qdimacs.specs.declared.refusal.Quantity.TheVariants.{Variables}
-use Rattle.qdimacs.specs.Formed.{IsClauseOver, IsFormed}
-use Rattle.qdimacs.specs.Rules.{max_vars}
+use Rattle.reading.specs.declared.refusal.Quantity.TheVariants.{Variables}
+use Rattle.truth.specs.Formed.{IsClauseOver, IsFormed}
+use Rattle.truth.specs.Limits.{max_vars}
 use Rattle.builder.specs.declared.beyond.Beyond.{Beyond}
 use Rattle.builder.specs.Building.{beyond_of}
 use Rattle.builder.proofs.Finishing.{few_from}

@@ -5,7 +5,7 @@ use Rattle.std.proofs.lemmas.Bool.{false_from_ne_true, true≢false, or_right, n
 use Rattle.prefix.specs.Literal.{Literal}
 use Rattle.prefix.specs.Scopes.{Scope, all_variables, is_among, IsAscending}
 use Rattle.clauses.specs.Clause.{ascending}
-use Rattle.qdimacs.specs.Formed.{IsClauseOver}
+use Rattle.truth.specs.Formed.{IsClauseOver}
 use Rattle.clauses.specs.Codes.{has_pair}
 use Rattle.clauses.proofs.Ascending.{ascending_is}
 use Rattle.clauses.proofs.Rows.{halves_ascend, pair_witness}

@@ -5,9 +5,9 @@ use Rattle.prefix.specs.declared.quant.Quant.{Quant}
 use Rattle.prefix.specs.declared.quant.Quant.TheVariants.{Exists, Forall}
 use Rattle.prefix.specs.Literal.{Literal}
 use Rattle.truth.specs.declared.formula.Formula.{Formula}
-use Rattle.qdimacs.specs.declared.refusal.Quantity.{Quantity}
-use Rattle.qdimacs.specs.declared.refusal.Quantity.TheVariants.{Variables, Clauses, Literals}
-use Rattle.qdimacs.specs.Rules.{max_vars}
+use Rattle.reading.specs.declared.refusal.Quantity.{Quantity}
+use Rattle.reading.specs.declared.refusal.Quantity.TheVariants.{Variables, Clauses, Literals}
+use Rattle.truth.specs.Limits.{max_vars}
 use Rattle.aig.specs.declared.strategy.Strategy.{Strategy}
 use Rattle.builder.specs.declared.beyond.Beyond.{Beyond}
 use Rattle.builder.specs.declared.beyond.Beyond.TheVariants.{Clauses as OfClauses, Literals as OfLiterals}

@@ -1,7 +1,7 @@
 -- The theorems on check formulas, as statements for contracts.
 use Rattle.std.specs.Prelude.{◌≡◌, ◌↔◌, false, List, filter}
 use Rattle.std.specs.List.{AllByRecursion}
-use Rattle.qdimacs.specs.Formed.{IsClauseOver}
+use Rattle.truth.specs.Formed.{IsClauseOver}
 use Rattle.prefix.specs.Literal.{Literal}
 use Rattle.prefix.specs.Scopes.{Scope, quantifier_of, all_variables, AreDistinct}
 use Rattle.prefix.specs.Sides.{is_of, opposite}

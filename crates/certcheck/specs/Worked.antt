@@ -3,7 +3,7 @@ use Rattle.std.specs.Prelude.{◌≡◌, ℕ, true, false, List, [], ◌∷◌, 
 use Rattle.prefix.specs.declared.quant.Quant.TheVariants.{Exists, Forall}
 use Rattle.prefix.specs.Literal.{Literal}
 use Rattle.truth.specs.Truth.{truth}
-use Rattle.qdimacs.specs.declared.refusal.Quantity.TheVariants.{Variables}
+use Rattle.reading.specs.declared.refusal.Quantity.TheVariants.{Variables}
 use Rattle.aig.specs.Circuits.{one, zero, opposite}
 use Rattle.aig.specs.Worked.{input, both, gate}
 use Rattle.aig.specs.declared.edge.Edge.{Edge}

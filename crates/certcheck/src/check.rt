@@ -6,7 +6,7 @@ ghost use Rattle.prefix.specs.Literal.{Literal};
 ghost use Rattle.prefix.specs.Sides.{opposite};
 ghost use Rattle.truth.specs.Truth.{truth};
 ghost use Rattle.calculus.specs.Plays.{Wins};
-ghost use Rattle.qdimacs.specs.Formed.{IsFormed};
+ghost use Rattle.truth.specs.Formed.{IsFormed};
 ghost use Rattle.aig.specs.Strategies.{IsStrategy, values_of};
 ghost use Rattle.builder.specs.Rows.{rows_of};
 ghost use Rattle.certcheck.specs.Check.{check_clauses, checked, formula_over, gate_clauses, given, given_outputs as given_outputs_of, greatest, lost_count, named_inputs, scopes_to, units};
@@ -24,7 +24,7 @@ use crate::put::{put_gates, put_units};
 use aig::Strategy;
 use builder::{Beyond, RowBuilder, add_scope};
 use prefix::{Lit, LitList, Prefix, PrefixRefusal, Quant, Var};
-use qdimacs::Quantity;
+use reading::Quantity;
 use std::alloc::{AllocError, Global};
 use truth::Formula;
 

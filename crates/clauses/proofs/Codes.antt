@@ -14,35 +14,43 @@ or_regrouped true b c = refl
 or_regrouped false b c = refl
 
 -- whether there is a pair with one more code
-pub pair_more : (xs : List ℕ) (i d : ℕ) → suc i < length xs → has_pair (take (suc (suc i)) xs) ≡ (has_pair (take (suc i) xs) || (get_or xs i d / 2 == get_or xs (suc i) d / 2))
+pub pair_more : (xs : List ℕ) (i d : ℕ) → suc i < length xs → has_pair (take (suc (suc i)) xs) ≡
+    (has_pair (take (suc i) xs) || (get_or xs i d / 2 == get_or xs (suc i) d / 2))
 pair_more [] i d low = absurd (omega arith)
 pair_more (x ∷ []) i d low = absurd (omega arith)
 pair_more (x ∷ y ∷ xs) zero d low = sym (or_off (x / 2 == y / 2))
-pair_more (x ∷ y ∷ xs) (suc i) d low = ap (λ b. (x / 2 == y / 2) || b) (pair_more (y ∷ xs) i d (omega arith)) ∙ or_regrouped (x / 2 == y / 2) (has_pair (take (suc i) (y ∷ xs))) (get_or (y ∷ xs) i d / 2 == get_or (y ∷ xs) (suc i) d / 2)
+pair_more (x ∷ y ∷ xs) (suc i) d low = ap (λ b. (x / 2 == y / 2) || b) (pair_more (y ∷ xs) i d (omega arith))
+    ∙ or_regrouped (x / 2 == y / 2) (has_pair (take (suc i) (y ∷ xs)))
+    (get_or (y ∷ xs) i d / 2 == get_or (y ∷ xs) (suc i) d / 2)
 
 or_true : (b : Bool) → (b || true) ≡ true
 or_true true = refl
 or_true false = refl
 
-pub pair_at : (xs : List ℕ) (i d : ℕ) → suc i < length xs → (get_or xs i d / 2 == get_or xs (suc i) d / 2) ≡ true → has_pair xs ≡ true
+pub pair_at : (xs : List ℕ) (i d : ℕ) → suc i < length xs → (get_or xs i d / 2 == get_or xs (suc i) d / 2) ≡ true
+    → has_pair xs ≡ true
 pair_at [] i d low e = absurd (omega arith)
 pair_at (x ∷ []) i d low e = absurd (omega arith)
 pair_at (x ∷ y ∷ xs) zero d low e = ap (λ b. b || has_pair (y ∷ xs)) e
-pair_at (x ∷ y ∷ xs) (suc i) d low e = ap (λ b. (x / 2 == y / 2) || b) (pair_at (y ∷ xs) i d (omega arith) e) ∙ or_true (x / 2 == y / 2)
+pair_at (x ∷ y ∷ xs) (suc i) d low e = ap (λ b. (x / 2 == y / 2) || b) (pair_at (y ∷ xs) i d (omega arith) e)
+    ∙ or_true (x / 2 == y / 2)
 
 pub no_pair_first : (xs : List ℕ) → has_pair (take 1 xs) ≡ false
 no_pair_first [] = refl
 no_pair_first (x ∷ xs) = refl
 
 -- the same, over the place behind the pair
-pub pair_before : (xs : List ℕ) (i d : ℕ) → 1 ≤ i → i < length xs → has_pair (take (i + 1) xs) ≡ (has_pair (take i xs) || (get_or xs (i - 1) d / 2 == get_or xs i d / 2))
+pub pair_before : (xs : List ℕ) (i d : ℕ) → 1 ≤ i → i < length xs → has_pair (take (i + 1) xs) ≡
+    (has_pair (take i xs) || (get_or xs (i - 1) d / 2 == get_or xs i d / 2))
 pair_before xs zero d some low = absurd (omega arith)
 pair_before xs (suc i) d some low =
     let plus : suc i + 1 ≡ suc (suc i) = omega arith in
     let minus : i ≡ suc i - 1 = omega arith in
-    ap (λ m. has_pair (take m xs)) plus ∙ pair_more xs i d low ∙ ap (λ m. has_pair (take (suc i) xs) || (get_or xs m d / 2 == get_or xs (suc i) d / 2)) minus
+    ap (λ m. has_pair (take m xs)) plus ∙ pair_more xs i d low
+    ∙ ap (λ m. has_pair (take (suc i) xs) || (get_or xs m d / 2 == get_or xs (suc i) d / 2)) minus
 
-pub pair_found : (xs : List ℕ) (i d : ℕ) → 1 ≤ i → i < length xs → (get_or xs (i - 1) d / 2 == get_or xs i d / 2) ≡ true → has_pair xs ≡ true
+pub pair_found : (xs : List ℕ) (i d : ℕ) → 1 ≤ i → i < length xs → (get_or xs (i - 1) d / 2 == get_or xs i d / 2) ≡ true
+    → has_pair xs ≡ true
 pair_found xs zero d some low e = absurd (omega arith)
 pair_found xs (suc i) d some low e =
     let minus : i ≡ suc i - 1 = omega arith in
@@ -58,7 +66,8 @@ code_negative (negsuc k) v code e is m sign = omega (arith, e, is)
 code_negative (pos k) v code e is m sign = cc
 
 code_range : (n : ℤ) → IsInRange n → (2 ≤ code_of n) × (code_of n < 2097154)
-code_range (pos m) h = let low : 1 ≤ m = h.0 in let high : m ≤ 1048576 = h.1 in (omega (arith, low), omega (arith, high))
+code_range (pos m) h = let low : 1 ≤ m = h.0 in let high : m ≤ 1048576 = h.1 in
+    (omega (arith, low), omega (arith, high))
 code_range (negsuc m) h = let high : suc m ≤ 1048576 = h.1 in (omega arith, omega (arith, high))
 
 -- each code of a clause is that of a literal
@@ -66,7 +75,8 @@ pub codes_in_range : (ns : List ℤ) → AllByRecursion IsInRange ns → All (λ
 codes_in_range [] all = λ k d low. absurd (omega (arith, low))
 codes_in_range (n ∷ ns) all = at (codes_in_range ns all.1)
   where
-    at : All (λ c. (2 ≤ c) × (c < 2097154)) (codes_of ns) → (k d : ℕ) → k < length (codes_of (n ∷ ns)) → (2 ≤ get_or (codes_of (n ∷ ns)) k d) × (get_or (codes_of (n ∷ ns)) k d < 2097154)
+    at : All (λ c. (2 ≤ c) × (c < 2097154)) (codes_of ns) → (k d : ℕ) → k < length (codes_of (n ∷ ns))
+        → (2 ≤ get_or (codes_of (n ∷ ns)) k d) × (get_or (codes_of (n ∷ ns)) k d < 2097154)
     at rest zero d low = code_range n all.0
     at rest (suc k) d low = rest k d (omega (arith, low))
 

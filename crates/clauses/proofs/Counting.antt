@@ -13,7 +13,8 @@ pub map_among : (v : ℕ) (xs : List ℤ) → is_among v (map nat_abs xs) ≡ li
 map_among v [] = refl
 map_among v (x ∷ xs) = ap (λ b. nat_abs x == v || b) (map_among v xs)
 
-put_length : (n : ℕ) (ms : List ℕ) → IsAscending ms → length (put n ms) ≡ cond (is_among n ms) (length ms) (suc (length ms))
+put_length : (n : ℕ) (ms : List ℕ) → IsAscending ms → length (put n ms) ≡ cond (is_among n ms) (length ms)
+    (suc (length ms))
 put_length n [] a = refl
 put_length n (m ∷ ms) a = by (nat_lt n m) (n == m) refl refl (put_length n ms a.1)
   where
@@ -21,18 +22,22 @@ put_length n (m ∷ ms) a = by (nat_lt n m) (n == m) refl refl (put_length n ms 
     suc_cond true k = refl
     suc_cond false k = refl
 
-    by : (b c : Bool) → nat_lt n m ≡ b → (n == m) ≡ c → length (put n ms) ≡ cond (is_among n ms) (length ms) (suc (length ms))
-        → length (if b then n ∷ m ∷ ms else if c then m ∷ ms else m ∷ put n ms) ≡ cond (m == n || is_among n ms) (suc (length ms)) (suc (suc (length ms)))
+    by : (b c : Bool) → nat_lt n m ≡ b → (n == m) ≡ c → length (put n ms) ≡ cond (is_among n ms) (length ms)
+        (suc (length ms))
+        → length (if b then n ∷ m ∷ ms else if c then m ∷ ms else m ∷ put n ms) ≡ cond (m == n || is_among n ms)
+        (suc (length ms)) (suc (suc (length ms)))
     by true c e f later =
         let low : n < m = grind (arith, nat_tests, e) in
-        let none : (m == n || is_among n ms) ≡ false = below_all n (m ∷ ms) (low, all_from (λ z. m < z) (λ z. n < z) ms (λ z h. omega (arith, h, low)) a.0) in
+        let none : (m == n || is_among n ms) ≡ false = below_all n (m ∷ ms)
+        (low, all_from (λ z. m < z) (λ z. n < z) ms (λ z h. omega (arith, h, low)) a.0) in
         ap (λ b. cond b (suc (length ms)) (suc (suc (length ms)))) (sym none)
     by false true e f later =
         let same : (m == n) ≡ true = eq-eqb m n (sym (eqb-true n m f)) in
         ap (λ b. cond (b || is_among n ms) (suc (length ms)) (suc (suc (length ms)))) (sym same)
     by false false e f later =
         let other : (m == n) ≡ false = ne_eqb m n (λ q. eqb-false n m f (sym q)) in
-        ap suc later ∙ suc_cond (is_among n ms) (length ms) ∙ ap (λ b. cond (b || is_among n ms) (suc (length ms)) (suc (suc (length ms)))) (sym other)
+        ap suc later ∙ suc_cond (is_among n ms) (length ms)
+        ∙ ap (λ b. cond (b || is_among n ms) (suc (length ms)) (suc (suc (length ms)))) (sym other)
 
 or_regrouped : (a b c : Bool) → (a || (b || c)) ≡ (b || (a || c))
 or_regrouped true true c = refl
@@ -54,7 +59,8 @@ take_last (x ∷ xs) (suc i) d low = ap (λ r. x ∷ r) (take_last xs i d (omega
 
 -- one more literal
 pub variables_more : (xs : List ℤ) (i : ℕ) (d : ℤ) → i < length xs
-    → length (variables_of (take (i + 1) xs)) ≡ cond (is_among (nat_abs (get_or xs i d)) (map nat_abs (take i xs))) (length (variables_of (take i xs))) (suc (length (variables_of (take i xs))))
+    → length (variables_of (take (i + 1) xs)) ≡ cond (is_among (nat_abs (get_or xs i d)) (map nat_abs (take i xs)))
+    (length (variables_of (take i xs))) (suc (length (variables_of (take i xs))))
 variables_more xs i d low =
     let v : ℕ = nat_abs (get_or xs i d) in
     let vs : List ℕ = map nat_abs (take i xs) in
@@ -66,12 +72,20 @@ variables_more xs i d low =
     ∙ put_length v (ascending vs) (ascending_is vs)
     ∙ ap (λ b. cond b (length (ascending vs)) (suc (length (ascending vs)))) (ascending_among v vs)
 
-pub variables_kept : (xs : List ℤ) (i count : ℕ) (d : ℤ) → i < length xs → list_any (λ m. nat_abs m == nat_abs (get_or xs i d)) (take i xs) ≡ true
+pub variables_kept : (xs : List ℤ) (i count : ℕ) (d : ℤ) → i < length xs
+    → list_any (λ m. nat_abs m == nat_abs (get_or xs i d)) (take i xs) ≡ true
     → count ≡ length (variables_of (take i xs)) → count ≡ length (variables_of (take (i + 1) xs))
-variables_kept xs i count d low e is = is ∙ sym (variables_more xs i d low ∙ ap (λ b. cond b (length (variables_of (take i xs))) (suc (length (variables_of (take i xs))))) (map_among (nat_abs (get_or xs i d)) (take i xs) ∙ e))
+variables_kept xs i count d low e is = is
+    ∙ sym (variables_more xs i d low
+    ∙ ap (λ b. cond b (length (variables_of (take i xs))) (suc (length (variables_of (take i xs)))))
+    (map_among (nat_abs (get_or xs i d)) (take i xs) ∙ e))
 
-pub variables_grown : (xs : List ℤ) (i count : ℕ) (d : ℤ) → i < length xs → list_any (λ m. nat_abs m == nat_abs (get_or xs i d)) (take i xs) ≡ false
+pub variables_grown : (xs : List ℤ) (i count : ℕ) (d : ℤ) → i < length xs
+    → list_any (λ m. nat_abs m == nat_abs (get_or xs i d)) (take i xs) ≡ false
     → count ≡ length (variables_of (take i xs)) → count + 1 ≡ length (variables_of (take (i + 1) xs))
 variables_grown xs i count d low e is =
-    let more : length (variables_of (take (i + 1) xs)) ≡ suc (length (variables_of (take i xs))) = variables_more xs i d low ∙ ap (λ b. cond b (length (variables_of (take i xs))) (suc (length (variables_of (take i xs))))) (map_among (nat_abs (get_or xs i d)) (take i xs) ∙ e) in
+    let more : length (variables_of (take (i + 1) xs)) ≡ suc (length (variables_of (take i xs))) =
+    variables_more xs i d low
+    ∙ ap (λ b. cond b (length (variables_of (take i xs))) (suc (length (variables_of (take i xs)))))
+    (map_among (nat_abs (get_or xs i d)) (take i xs) ∙ e) in
     omega (arith, is, more)

@@ -54,17 +54,20 @@ pivot_one Exists = refl
 pivot_one Forall = refl
 
 -- where 2 and 3 are bad no literal but the first is open
-one_open : (q : Quant) (l : Literal) → Contains three l → is_open (value_on (before_on (all_assigned q).placed 1)) l ≡ true
+one_open : (q : Quant) (l : Literal) → Contains three l → is_open (value_on (before_on (all_assigned q).placed 1))
+    l ≡ true
     → is_pivot q (alternating q) l ≡ false → ⊥
 one_open q =
-    each (λ l. is_open (value_on (before_on (all_assigned q).placed 1)) l ≡ true → is_pivot q (alternating q) l ≡ false → ⊥)
+    each (λ l. is_open (value_on (before_on (all_assigned q).placed 1)) l ≡ true → is_pivot q (alternating q) l ≡ false
+    → ⊥)
     (λ o t. true≢false (let e : true ≡ false = rw (← pivot_one q) t in e)) (λ o t. false≢true o) (λ o t. false≢true o)
 
 pub left : (pivot : Quant) → WorkedReasonsLeft pivot
 left pivot = record {
   reason_blocked = record {
     unmarked = refl;
-    blocked = λ id e. subst (λ n. IsBlocked pivot (alternating pivot) (before_on (propagated pivot).placed 1) (row_of (stored pivot) n))
+    blocked = λ id e. subst (λ n. IsBlocked pivot (alternating pivot) (before_on (propagated pivot).placed 1)
+        (row_of (stored pivot) n))
         (step_is 0 id e) (three_blocked pivot);
   };
   marked = λ b. true≢false b.unmarked;

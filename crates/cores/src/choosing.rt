@@ -13,10 +13,10 @@ ghost use Rattle.cores.specs.Trials.{IsStopOn, IsTrialStop, IsTrying, tag_of};
 use crate::part::Part;
 use crate::trial::{Question, is_true_with, put_all};
 use matrix::Matrix;
+use memory::NoMemory;
 use prefix::{LitList, Prefix, Var};
 use search::{Search, SolveStop, resting_grows};
 use std::alloc::Global;
-use steps::NoMemory;
 
 /// The numbers of the groups of the core: one group after the other is tried, and kept where the other clauses, with
 /// those of the groups that are kept and of the ones still to be tried, are true under the assumptions. Where the

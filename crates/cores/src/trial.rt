@@ -14,10 +14,11 @@ ghost use Rattle.cores.specs.Trials.{GainsClauses, IsStopOn};
 
 use crate::part::Part;
 use matrix::Matrix;
+use memory::NoMemory;
 use prefix::{Lit, LitList, Prefix, Quant};
 use search::{Search, SolveStop};
 use std::alloc::Global;
-use steps::{NoMemory, Steps};
+use steps::Steps;
 
 /// What each trial is asked: whether its clauses are true under a prefix and under assumptions, and how long it may
 /// search.

@@ -5,9 +5,9 @@ ghost use Rattle.prefix.specs.Literal.{Literal};
 ghost use Rattle.calculus.specs.Search.{value_on};
 ghost use Rattle.cover.specs.Choices.{Chooses, IsInnermost, is_better as better, is_chosen as chosen, is_true_one as true_one};
 
+use memory::NoMemory;
 use prefix::{Lit, Prefix, Side};
 use std::alloc::Global;
-use steps::NoMemory;
 use trail::Trail;
 
 // Whether a literal is true, and of a variable with the side's pivot quantifier.

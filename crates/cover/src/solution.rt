@@ -12,8 +12,8 @@ ghost use Rattle.cover.specs.Covers.{Covers};
 use super::choices::{choose, chosen_row, innermost, is_hit};
 use derive::{Derivation, StepId};
 use matrix::Matrix;
+use memory::NoMemory;
 use prefix::{Clauses, Cubes, Lit, LitList, Prefix};
-use steps::NoMemory;
 use trail::Trail;
 
 /// Puts in an initial cube of true literals that holds a literal of every clause of the matrix, and answers its id: of

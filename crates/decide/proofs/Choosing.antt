@@ -14,23 +14,29 @@ use Rattle.trail.proofs.Counting.{variables_before, variables_in, variables_with
 use Rattle.decide.specs.Decision.{IsDecision, IsOpenIn}
 
 -- a variable of a scope is of no later one
-counted_most : (start : ℕ) (scopes : List Scope) (i x : ℕ) → Contains (variables_in scopes i) x → level_from start scopes x ≤ start + i
+counted_most : (start : ℕ) (scopes : List Scope) (i x : ℕ) → Contains (variables_in scopes i) x
+    → level_from start scopes x ≤ start + i
 counted_most start [] i x h = absurd (contains_nil x h)
 counted_most start (s ∷ scopes) zero x h =
-    let here : level_from start (s ∷ scopes) x ≡ start = cond-true (is_among x s.variables) start (level_from (suc start) scopes x) (among_from s.variables x h) in
+    let here : level_from start (s ∷ scopes) x ≡ start = cond-true (is_among x s.variables) start
+    (level_from (suc start) scopes x) (among_from s.variables x h) in
     omega arith
 counted_most start (s ∷ scopes) (suc i) x h =
     let later : level_from (suc start) scopes x ≤ suc start + i = counted_most (suc start) scopes i x h in
     ⊎_elim
-    (λ t. let here : level_from start (s ∷ scopes) x ≡ start = cond-true (is_among x s.variables) start (level_from (suc start) scopes x) t in omega arith)
-    (λ f. let there : level_from start (s ∷ scopes) x ≡ level_from (suc start) scopes x = cond-false (is_among x s.variables) start (level_from (suc start) scopes x) f in omega arith)
+    (λ t. let here : level_from start (s ∷ scopes) x ≡ start = cond-true (is_among x s.variables) start
+    (level_from (suc start) scopes x) t in omega arith)
+    (λ f. let there : level_from start (s ∷ scopes) x ≡ level_from (suc start) scopes x =
+    cond-false (is_among x s.variables) start (level_from (suc start) scopes x) f in omega arith)
     (cases_Bool (is_among x s.variables))
 
 -- an unassigned variable of the first scope that has one
-pub open_in : (scopes : List Scope) (trail : Trail) (scope x : ℕ) → IsFirstOpen scopes trail scope → Contains (variables_at scopes scope) x → value_on trail x ≡ None → IsOpenIn scopes trail scope x
+pub open_in : (scopes : List Scope) (trail : Trail) (scope x : ℕ) → IsFirstOpen scopes trail scope
+    → Contains (variables_at scopes scope) x → value_on trail x ≡ None → IsOpenIn scopes trail scope x
 open_in scopes trail scope x first stands none =
     let low = first.first in
-    let is : variables_at scopes scope ≡ variables_in scopes (scope - 1) = variables_before scopes scope (scope - 1) (omega arith) in
+    let is : variables_at scopes scope ≡ variables_in scopes (scope - 1) = variables_before scopes scope (scope - 1)
+    (omega arith) in
     let there : Contains (variables_in scopes (scope - 1)) x = rw (← is) stands in
     let known = variables_within scopes (scope - 1) x there in
     let counted = depth_counted scopes x in
@@ -39,12 +45,14 @@ open_in scopes trail scope x first stands none =
       known = known;
       unassigned = none;
       depth = ⊎_elim
-          (λ (earlier : depth_of scopes x < scope). absurd (true≢false (sym (first.earlier x known earlier) ∙ ap is_some none)))
+          (λ (earlier : depth_of scopes x < scope). absurd
+          (true≢false (sym (first.earlier x known earlier) ∙ ap is_some none)))
           (λ (least : scope ≤ depth_of scopes x). omega arith)
           (cases_lt (depth_of scopes x) scope);
     }
 
-pub level_open : (scopes : List Scope) (trail : Trail) (scope x : ℕ) → level_of scopes x ≡ Some scope → value_on trail x ≡ None → IsOpenIn scopes trail scope x
+pub level_open : (scopes : List Scope) (trail : Trail) (scope x : ℕ) → level_of scopes x ≡ Some scope
+    → value_on trail x ≡ None → IsOpenIn scopes trail scope x
 level_open scopes trail scope x at none = record {
   known = level_in_prefix scopes x scope at;
   unassigned = none;
@@ -52,7 +60,8 @@ level_open scopes trail scope x at none = record {
 }
 
 -- it may be decided
-pub decision : (scopes : List Scope) (trail : Trail) (scope x : ℕ) → IsFirstOpen scopes trail scope → IsOpenIn scopes trail scope x → IsDecision scopes trail x
+pub decision : (scopes : List Scope) (trail : Trail) (scope x : ℕ) → IsFirstOpen scopes trail scope
+    → IsOpenIn scopes trail scope x → IsDecision scopes trail x
 decision scopes trail scope x first here = record {
   known = here.known;
   unassigned = here.unassigned;
@@ -70,7 +79,8 @@ pub one_none : (scopes : List Scope) (trail : Trail) (scope : ℕ) (xs : List �
 one_none scopes trail scope xs = record { within = λ x i. i; found = tt; missed = λ e x i. inl i }
 
 -- one more is looked at
-module _ (scopes : List Scope) (trail : Trail) (scope : ℕ) (xs left later : List ℕ) (one : Option ℕ) (v : ℕ) (before : HasOne scopes trail scope xs left one) (is : left ≡ v ∷ later) where
+module _ (scopes : List Scope) (trail : Trail) (scope : ℕ) (xs left later : List ℕ) (one : Option ℕ) (v : ℕ)
+    (before : HasOne scopes trail scope xs left one) (is : left ≡ v ∷ later) where
   pub one_stands : Contains xs v
   one_stands = before.within v (rw is (contains_head v later))
 

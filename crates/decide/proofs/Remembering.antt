@@ -22,7 +22,8 @@ drop_at [] n l at = absurd (let h : None ≡ Some l = at in cc)
 drop_at (m ∷ ls) zero l at = let same : m ≡ l = cc in ap (λ k. k ∷ ls) same
 drop_at (m ∷ ls) (suc n) l at = drop_at ls n l at
 
-pub saved_next : (literals : List Literal) (k : ℕ) (l : Literal) (memory : Memory) → slice_get literals k ≡ Some l → saved (drop k literals) memory ≡ saved (drop (k + 1) literals) (with_phase memory l)
+pub saved_next : (literals : List Literal) (k : ℕ) (l : Literal) (memory : Memory) → slice_get literals k ≡ Some l
+    → saved (drop k literals) memory ≡ saved (drop (k + 1) literals) (with_phase memory l)
 saved_next literals k l memory at =
     let next : suc k ≡ k + 1 = omega arith in
     ap (λ ls. saved ls memory) (drop_at literals k l at) ∙ ap (λ n. saved (drop n literals) (with_phase memory l)) next

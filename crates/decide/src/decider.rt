@@ -8,10 +8,10 @@ ghost use Rattle.decide.specs.Memory.{phase_of, saved, with_phase};
 ghost use Rattle.decide.specs.Decision.{IsDecision, IsOpenIn};
 
 use super::waiting::{Waiting, WaitingList};
+use memory::NoMemory;
 use prefix::{Lit, Prefix, Quant, Var};
 use std::alloc::Global;
 use std::marker::Model;
-use steps::NoMemory;
 use trail::Trail;
 
 /// Chooses decisions. Contracts see it as the list of the signs that the variables had last, for as many variables as

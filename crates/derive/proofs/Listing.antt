@@ -16,10 +16,18 @@ record IsInputOf (d : State) (c : OpenClause) (k : ℕ) (side : Quant) (why : Wh
   frame : c.frame ≡ tag
   has_row : c.row ≡ row
 
-told_by : (d : State) (c : OpenClause) (k : ℕ) (row : Row) (tag : ℕ) (side : Quant) (why : Why) → clause_with k row tag side why ≡ Some c → IsInputOf d c k side why tag row
+told_by : (d : State) (c : OpenClause) (k : ℕ) (row : Row) (tag : ℕ) (side : Quant) (why : Why)
+    → clause_with k row tag side why ≡ Some c → IsInputOf d c k side why tag row
 told_by d c k row tag Exists Given e =
     let is : record { id = k; frame = tag; row = row } ≡ c = cc in
-    record { of_side = refl; given = refl; id = ap (λ (x : OpenClause). x.id) (sym is); frame = ap (λ (x : OpenClause). x.frame) (sym is); has_row = ap (λ (x : OpenClause). x.row) (sym is) }
+    record {
+      of_side = refl;
+      given = refl;
+      id = ap (λ (x : OpenClause). x.id) (sym is);
+      frame =
+          ap (λ (x : OpenClause). x.frame) (sym is);
+      has_row = ap (λ (x : OpenClause). x.row) (sym is);
+    }
 told_by d c k row tag Exists (ReducedFrom a) e = absurd (cc)
 told_by d c k row tag Exists (ResolvedFrom a b x) e = absurd (cc)
 told_by d c k row tag Exists (FinishedFrom a) e = absurd (cc)
@@ -47,16 +55,26 @@ found d c i =
         record {
           note = note;
           there = ap (note_at d) same ∙ there;
-          input = record { of_side = told.of_side; given = told.given; id = refl; frame = told.frame; has_row = told.has_row ∙ ap (row_of d) (sym same) };
+          input = record {
+            of_side = told.of_side;
+            given = told.given;
+            id = refl;
+            frame = told.frame;
+            has_row =
+                told.has_row ∙ ap (row_of d) (sym same);
+          };
         }
       where
-        some_at : (j : ℕ) (n : Note) → note_at d j ≡ Some n → clause_at d j ≡ clause_with j (row_of d j) n.tag n.side n.why
+        some_at : (j : ℕ) (n : Note) → note_at d j ≡ Some n → clause_at d j ≡ clause_with j (row_of d j) n.tag n.side
+            n.why
         some_at j n h = rw h refl
 
-pub listed_note : (d : State) (c : OpenClause) → Contains (clauses_of d) c → note_at d c.id ≡ Some (record { side = Exists; why = Given; tag = c.frame })
+pub listed_note : (d : State) (c : OpenClause) → Contains (clauses_of d) c → note_at d c.id ≡ Some
+    (record { side = Exists; why = Given; tag = c.frame })
 listed_note d c i =
     let f = found d c i in
-    let is : f.note ≡ record { side = Exists; why = Given; tag = c.frame } = (λ j. record { side = f.input.of_side j; why = f.input.given j; tag = sym f.input.frame j }) in
+    let is : f.note ≡ record { side = Exists; why = Given; tag = c.frame } =
+    (λ j. record { side = f.input.of_side j; why = f.input.given j; tag = sym f.input.frame j }) in
     f.there ∙ ap Some is
 
 pub listed_row : (d : State) (c : OpenClause) → Contains (clauses_of d) c → row_of d c.id ≡ c.row

@@ -22,7 +22,8 @@ use Rattle.derive.specs.Cubes.{AreCubes, AreListed, hits_clause, is_cube_in, mis
 same_self : (l : Literal) → same_literal l l ≡ true
 same_self l = and_from _ _ (eq-eqb l.variable l.variable refl) (same_sign l.positive)
   where
-    same_sign : (b : Bool) → same_literal (record { variable = 0; positive = b }) (record { variable = 0; positive = b }) ≡ true
+    same_sign : (b : Bool) → same_literal (record { variable = 0; positive = b })
+        (record { variable = 0; positive = b }) ≡ true
     same_sign true = refl
     same_sign false = refl
 
@@ -33,11 +34,14 @@ hits_at row clause h =
     (p.0, p.1, subst (λ (l : Literal). Contains row l) (sym (same_literal_true p.0 q.0 q.2)) q.1)
 
 pub hits_from : (row clause : Row) (l : Literal) → Contains clause l → Contains row l → hits_clause row clause ≡ true
-hits_from row clause l in_clause in_row = any_from (stands_in row) clause l in_clause (any_from (same_literal l) row l in_row (same_self l))
+hits_from row clause l in_clause in_row = any_from (stands_in row) clause l in_clause
+    (any_from (same_literal l) row l in_row (same_self l))
 
 -- an initial cube that misses a clause is one
-pub cube_missing : (clause : Row) (rows : Arena) (id : ℕ) (note : Note) → misses clause rows id note ≡ true → is_cube note.side note.why ≡ true
-cube_missing clause rows id note m = (and_parts (is_cube note.side note.why) (not (hits_clause (literals_at rows id) clause)) m).0
+pub cube_missing : (clause : Row) (rows : Arena) (id : ℕ) (note : Note) → misses clause rows id note ≡ true
+    → is_cube note.side note.why ≡ true
+cube_missing clause rows id note m =
+    (and_parts (is_cube note.side note.why) (not (hits_clause (literals_at rows id) clause)) m).0
 
 pub cubes_missing : (clause : Row) (rows : Arena) → AreCubes (misses clause rows)
 cubes_missing clause rows id note m = cube_missing clause rows id note m
@@ -67,15 +71,19 @@ misses_from clauses clause rows id note at m =
     (any_from (λ c. not (hits_clause (literals_at rows id) c)) clauses clause at p.1)
 
 -- where one doesn't miss it, it holds a literal of it
-pub hits_unless : (clause : Row) (rows : Arena) (id : ℕ) (note : Note) → is_cube note.side note.why ≡ true → (misses clause rows id note ≡ true → ⊥) → (l : Literal) × Contains clause l × Contains (literals_at rows id) l
+pub hits_unless : (clause : Row) (rows : Arena) (id : ℕ) (note : Note) → is_cube note.side note.why ≡ true
+    → (misses clause rows id note ≡ true → ⊥) → (l : Literal) × Contains clause l × Contains (literals_at rows id) l
 hits_unless clause rows id note cube not_missing =
     hits_at (literals_at rows id) clause
     (⊎_elim
     (λ h. h)
-    (λ h. absurd (not_missing (and_from (is_cube note.side note.why) (not (hits_clause (literals_at rows id) clause)) cube (ap not h))))
+    (λ h. absurd
+    (not_missing (and_from (is_cube note.side note.why) (not (hits_clause (literals_at rows id) clause)) cube
+    (ap not h))))
     (cases_Bool (hits_clause (literals_at rows id) clause)))
 
-pub hit_no_miss : (clause : Row) (rows : Arena) (id : ℕ) (note : Note) → ((l : Literal) × Contains clause l × Contains (literals_at rows id) l) → misses clause rows id note ≡ true → ⊥
+pub hit_no_miss : (clause : Row) (rows : Arena) (id : ℕ) (note : Note)
+    → ((l : Literal) × Contains clause l × Contains (literals_at rows id) l) → misses clause rows id note ≡ true → ⊥
 hit_no_miss clause rows id note hit m =
     let missed = (and_parts (is_cube note.side note.why) (not (hits_clause (literals_at rows id) clause)) m).1 in
     let held = hits_from (literals_at rows id) clause hit.0 hit.1 hit.2 in
@@ -97,8 +105,10 @@ cube_given Forall (ResolvedFrom a b x) e = absurd (false≢true e)
 cube_given Forall (FinishedFrom a) e = absurd (false≢true e)
 
 -- the same rows are missed
-pub misses_same : (clause : Row) (old_rows rows : Arena) (id : ℕ) (note : Note) → literals_at rows id ≡ literals_at old_rows id → misses clause rows id note ≡ misses clause old_rows id note
-misses_same clause old_rows rows id note e = ap (λ (r : Row). is_cube note.side note.why && not (hits_clause r clause)) e
+pub misses_same : (clause : Row) (old_rows rows : Arena) (id : ℕ) (note : Note) → literals_at rows id ≡ literals_at
+    old_rows id → misses clause rows id note ≡ misses clause old_rows id note
+misses_same clause old_rows rows id note e = ap (λ (r : Row). is_cube note.side note.why && not (hits_clause r clause))
+    e
 
 pub misses_one_same : (clauses : List Row) (old_rows rows : Arena) (id : ℕ) (note : Note)
     → literals_at rows id ≡ literals_at old_rows id
@@ -143,8 +153,10 @@ none_all test notes ids n first cubes all listed none id note there below =
 
 -- the list of what is left
 
-pub listed_left : (notes : Notes) (ids left : List ℕ) → left ≡ filter (λ id. is_cube_in (note_in notes id)) ids → AreListed notes ids → AreListed notes left
-listed_left notes ids left is listed id cube = rw is (filter_from (λ k. is_cube_in (note_in notes k)) ids id (listed id cube) cube)
+pub listed_left : (notes : Notes) (ids left : List ℕ) → left ≡ filter (λ id. is_cube_in (note_in notes id)) ids
+    → AreListed notes ids → AreListed notes left
+listed_left notes ids left is listed id cube =
+    rw is (filter_from (λ k. is_cube_in (note_in notes k)) ids id (listed id cube) cube)
 
 -- what falls with initial cubes is a cube
 cube_side : (side : Quant) (why : Why) → is_cube side why ≡ true → side ≡ Forall

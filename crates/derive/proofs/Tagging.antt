@@ -21,7 +21,8 @@ none_is : (n : Note) → None ≡ Some n → ⊥
 none_is n e = cc
 
 -- what rests on nothing
-given_there : (id : ℕ) (side : Quant) (tag : ℕ) → (side ≡ Forall → tag ≡ 0) → IsSupportedAt three_frames id (noted side Given tag)
+given_there : (id : ℕ) (side : Quant) (tag : ℕ) → (side ≡ Forall → tag ≡ 0) → IsSupportedAt three_frames id
+    (noted side Given tag)
 given_there id side tag h = record { antecedents = λ on r. absurd r; tag = h }
 
 resolvent_there : IsSupportedAt three_frames 3 (noted Exists (ResolvedFrom 1 0 3) 2)
@@ -33,10 +34,24 @@ resolvent_there = record {
 }
   where
     first : IsAntecedentIn three_frames 3 Exists 0
-    first = record { under = noted Exists Given 0; there = refl; earlier = omega arith; one_side = refl; no_finish = refl }
+    first = record {
+      under = noted Exists Given 0;
+      there = refl;
+      earlier = omega arith;
+      one_side = refl;
+      no_finish =
+          refl;
+    }
 
     second : IsAntecedentIn three_frames 3 Exists 1
-    second = record { under = noted Exists Given 2; there = refl; earlier = omega arith; one_side = refl; no_finish = refl }
+    second = record {
+      under = noted Exists Given 2;
+      there = refl;
+      earlier = omega arith;
+      one_side = refl;
+      no_finish =
+          refl;
+    }
 
 over_resolvent : IsAntecedentIn three_frames 4 Exists 3
 over_resolvent = record {
@@ -48,7 +63,14 @@ over_resolvent = record {
 }
 
 over_cube : IsAntecedentIn three_frames 6 Forall 5
-over_cube = record { under = noted Forall Given 0; there = refl; earlier = omega arith; one_side = refl; no_finish = refl }
+over_cube = record {
+  under = noted Forall Given 0;
+  there = refl;
+  earlier = omega arith;
+  one_side = refl;
+  no_finish =
+      refl;
+}
 
 reduction_there : IsSupportedAt three_frames 4 (noted Exists (ReducedFrom 3) 2)
 reduction_there = record {
@@ -94,7 +116,8 @@ the_greatest : IsGreatestFrame three_frames 4 2
 the_greatest = greatest three_frames all_supported 4 (noted Exists (ReducedFrom 3) 2) 2 refl refl
 
 -- an input in the support of a step is given
-is_given : (notes : Notes) (id input : ℕ) → Supports notes id input → (n : Note) × (note_in notes input ≡ Some n) × (n.why ≡ Given)
+is_given : (notes : Notes) (id input : ℕ) → Supports notes id input → (n : Note) × (note_in notes input ≡ Some n)
+    × (n.why ≡ Given)
 is_given notes id input (itself j n at given) = (n, at, given)
 is_given notes id input (through j on i n at r s) = is_given notes on input s
 
@@ -113,8 +136,10 @@ tags = record {
   not_another = λ h. let e : 2 ≡ 5 = h in omega (arith, e);
   antecedent = over_resolvent;
   later = λ a. let e : 3 < 3 = a.earlier in omega (arith, e);
-  other_side = λ a. not_theirs (sym a.one_side ∙ ap (λ (n : Note). n.side) (sym (one_of (noted Forall Given 0) a.under a.there)));
-  no_finish = λ a. finishes_not (ap (λ (n : Note). is_finish n.why) (one_of (noted Forall (FinishedFrom 5) 0) a.under a.there) ∙ a.no_finish);
+  other_side = λ a. not_theirs
+      (sym a.one_side ∙ ap (λ (n : Note). n.side) (sym (one_of (noted Forall Given 0) a.under a.there)));
+  no_finish = λ a. finishes_not
+      (ap (λ (n : Note). is_finish n.why) (one_of (noted Forall (FinishedFrom 5) 0) a.under a.there) ∙ a.no_finish);
   dropped = λ a. none_is a.under a.there;
   supported = all_supported;
   not_supported = λ h. let e : 0 ≡ 2 = (h 1 (noted Exists (ReducedFrom 0) 0) refl).tag in omega (arith, e);

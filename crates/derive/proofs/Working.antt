@@ -36,7 +36,8 @@ second_stays : Goes 2 → ⊥
 second_stays f = false≢true (given_root missed all_cubes.notes 2 (note Forall Given) refl refl f)
 
 over_second_stays : Goes 4 → ⊥
-over_second_stays f = over_stays (plus 2 ∷ []) (arena_of all_cubes) all_cubes.notes 4 (note Forall (ReducedFrom 2)) 2 refl refl second_stays f
+over_second_stays f = over_stays (plus 2 ∷ []) (arena_of all_cubes) all_cubes.notes 4 (note Forall (ReducedFrom 2)) 2
+    refl refl second_stays f
 
 pub none_goes : (is_root : StepTest) (notes : Notes) (id : ℕ) → note_in notes id ≡ None → Falls is_root notes id → ⊥
 none_goes is_root notes id none (root j n at r) = none_some (note_in notes id) n none at
@@ -45,16 +46,19 @@ none_goes is_root notes id none (rests j on n at r falls) = none_some (note_in n
 abbrev left : State
 left = with_cubes false true false true false
 
-steps_left : (id : ℕ) → (Goes id × (note_in left.notes id ≡ None)) ⊎ ((Goes id → ⊥) × (note_in left.notes id ≡ note_in all_cubes.notes id))
+steps_left : (id : ℕ) → (Goes id × (note_in left.notes id ≡ None))
+    ⊎ ((Goes id → ⊥) × (note_in left.notes id ≡ note_in all_cubes.notes id))
 steps_left zero = inr (clause_stays, refl)
 steps_left (suc zero) = inl (first_goes, refl)
 steps_left (suc (suc zero)) = inr (second_stays, refl)
 steps_left (suc (suc (suc zero))) = inl (over_first_goes, refl)
 steps_left (suc (suc (suc (suc zero)))) = inr (over_second_stays, refl)
 steps_left (suc (suc (suc (suc (suc zero))))) = inl (both_go, refl)
-steps_left (suc (suc (suc (suc (suc (suc id)))))) = inr (none_goes missed all_cubes.notes (suc (suc (suc (suc (suc (suc id)))))) refl, refl)
+steps_left (suc (suc (suc (suc (suc (suc id)))))) =
+    inr (none_goes missed all_cubes.notes (suc (suc (suc (suc (suc (suc id)))))) refl, refl)
 
-rows_left : (id : ℕ) → stored_at (arena_of left) id ≡ cond (is_some (note_in left.notes id)) (stored_at (arena_of all_cubes) id) None
+rows_left : (id : ℕ) → stored_at (arena_of left) id ≡ cond (is_some (note_in left.notes id))
+    (stored_at (arena_of all_cubes) id) None
 rows_left zero = refl
 rows_left (suc zero) = refl
 rows_left (suc (suc zero)) = refl
@@ -73,7 +77,8 @@ leaves_left = dropped missed all_cubes left refl drops_left
 is_gone : (after : State) (id : ℕ) → LeavesAt2 after → Goes id → note_in after.notes id ≡ None
 is_gone after id leaves goes = ⊎_elim (λ f. f.1) (λ k. absurd (k.0 goes)) (leaves.exactly.steps id)
 
-is_left : (after : State) (id : ℕ) → LeavesAt2 after → (Goes id → ⊥) → note_in after.notes id ≡ note_in all_cubes.notes id
+is_left : (after : State) (id : ℕ) → LeavesAt2 after → (Goes id → ⊥) → note_in after.notes id ≡ note_in all_cubes.notes
+    id
 is_left after id leaves stays = ⊎_elim (λ f. absurd (stays f.0)) (λ k. k.1) (leaves.exactly.steps id)
 
 pub cubes : WorkedCubes
@@ -94,8 +99,12 @@ cubes = record {
   clause_of_both = refl;
   leaves = leaves_left;
   not_all = λ l. none_some (Some (note Forall Given)) (note Forall Given) (is_gone all_cubes 1 l first_goes) refl;
-  not_over = λ l. none_some (Some (note Forall (ReducedFrom 1))) (note Forall (ReducedFrom 1)) (is_gone (with_cubes false true true true false) 3 l over_first_goes) refl;
-  not_both = λ l. none_some (Some (note Forall (ResolvedFrom 4 3 2))) (note Forall (ResolvedFrom 4 3 2)) (is_gone (with_cubes false true false true true) 5 l both_go) refl;
-  not_none = λ l. none_some None (note Forall Given) refl (is_left (with_cubes false false false false false) 2 l second_stays);
-  not_over_second = λ l. none_some None (note Forall (ReducedFrom 2)) refl (is_left (with_cubes false true false false false) 4 l over_second_stays);
+  not_over = λ l. none_some (Some (note Forall (ReducedFrom 1))) (note Forall (ReducedFrom 1))
+      (is_gone (with_cubes false true true true false) 3 l over_first_goes) refl;
+  not_both = λ l. none_some (Some (note Forall (ResolvedFrom 4 3 2))) (note Forall (ResolvedFrom 4 3 2))
+      (is_gone (with_cubes false true false true true) 5 l both_go) refl;
+  not_none = λ l. none_some None (note Forall Given) refl
+      (is_left (with_cubes false false false false false) 2 l second_stays);
+  not_over_second = λ l. none_some None (note Forall (ReducedFrom 2)) refl
+      (is_left (with_cubes false true false false false) 4 l over_second_stays);
 }

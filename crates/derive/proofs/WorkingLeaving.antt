@@ -37,7 +37,8 @@ abbrev left : State
 left = with_third false false false true
 
 steps_left : (id : ℕ)
-    → (Goes id × (note_in left.notes id ≡ None)) ⊎ ((Goes id → ⊥) × (note_in left.notes id ≡ note_in all_third.notes id))
+    → (Goes id × (note_in left.notes id ≡ None))
+    ⊎ ((Goes id → ⊥) × (note_in left.notes id ≡ note_in all_third.notes id))
 steps_left zero = inr (clause_stays, refl)
 steps_left (suc zero) = inl (first_goes, refl)
 steps_left (suc (suc zero)) = inl (second_goes, refl)

@@ -11,8 +11,8 @@ ghost use Rattle.derive.specs.State.{IsLegalFor, Note as Kept, SameStep, State, 
 
 use super::dropping::Roots;
 use super::{Derivation, StepId};
+use memory::NoMemory;
 use prefix::{Lit, LitList, Prefix};
-use steps::NoMemory;
 
 impl Derivation {
     /// Puts in clauses of the formula, of a frame, each with its reduction, as `input_clause` does, and lists the ids

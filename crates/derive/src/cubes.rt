@@ -11,10 +11,10 @@ ghost use Rattle.derive.specs.Roots.{is_root};
 use super::StepId;
 use super::dropping::{Roots, drop_roots};
 use super::note::Note;
+use memory::NoMemory;
 use pages::Pages;
 use prefix::{Lit, LitList};
 use rows::Rows;
-use steps::NoMemory;
 
 // Lists the id that comes next, where its step is to be an initial cube.
 pub(crate) fn list_cube(cubes: &mut Vec<StepId>, note: &Note, next: StepId) -> Result<(), NoMemory>

@@ -29,13 +29,14 @@ use super::outside::{first_outside, is_outside};
 use super::removal::{is_reduced_of, push_assumed, reduce_of};
 use super::sweeping::{sweep_all, widen_marks};
 use super::{Step, StepId};
+use memory::NoMemory;
 use pages::{Bits, Pages};
 use prefix::{Lit, LitList, Prefix, Quant, Var};
 use reduce::{Row, resolve};
 use rows::Rows;
 use std::alloc::Global;
 use std::marker::Model;
-use steps::{NoMemory, Steps, Stop};
+use steps::{Steps, Stop};
 
 /// A derivation of clauses and cubes: input steps, reductions, resolvents and finishes, each with its row. Contracts
 /// see it as the list that has, for each id given so far, what is kept of the step that is live under it, and beside

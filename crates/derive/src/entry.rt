@@ -4,10 +4,10 @@ ghost use Rattle.rows.specs.Arena.{next_id as next_row, with_row};
 
 use super::StepId;
 use super::note::Note;
+use memory::NoMemory;
 use pages::Pages;
 use prefix::Lit;
 use rows::Rows;
-use steps::NoMemory;
 
 // Puts in a note with its row. With no memory nothing changes.
 pub(crate) fn enter(

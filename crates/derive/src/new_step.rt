@@ -5,9 +5,9 @@ ghost use Rattle.derive.specs.Told.{told, why_of};
 
 use super::note::{HALF, Kind, Note};
 use super::{Step, StepId};
+use memory::NoMemory;
 use prefix::Quant;
 use std::marker::Model;
-use steps::NoMemory;
 
 // The side of a step, what it is, and the greatest frame in its support.
 #[derive(Debug, Drop)]

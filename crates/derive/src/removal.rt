@@ -5,9 +5,9 @@ ghost use Rattle.truth.specs.Truth.{assumed_value};
 ghost use Rattle.calculus.specs.Rows.{reduce as reduction, variables_in};
 ghost use Rattle.calculus.specs.Verdicts.{finished};
 
+use memory::NoMemory;
 use prefix::{Clauses, Cubes, Lit, Prefix, Quant, Var};
 use reduce::{Row, is_reduced, reduce};
-use steps::NoMemory;
 
 // Whether the reduction of a row of that side is the row itself.
 pub(crate) fn is_reduced_of(side: Quant, prefix: &Prefix, lits: &[Lit]) -> bool

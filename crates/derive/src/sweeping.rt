@@ -9,9 +9,9 @@ ghost use Rattle.derive.specs.Sweeping.{AreClosed, AreMarked, MarksNamed, goes, 
 use super::StepId;
 use super::live::next_live;
 use super::note::Note;
+use memory::NoMemory;
 use pages::{Bits, Pages};
 use rows::Rows;
-use steps::NoMemory;
 
 // Makes places for the marks of so many ids behind those given.
 pub(crate) fn widen_marks(marks: &mut Bits, given: usize, more: usize) -> Result<(), NoMemory>

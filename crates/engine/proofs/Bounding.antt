@@ -196,7 +196,8 @@ one_passes test end a (suc n) one =
     ⊎_elim
     (λ yes.
     let none : count_by test (range_with_len (a + 1) n) ≡ 0 =
-    none_pass test (a + 1) n (λ id later pass. absurd (let here = one a yes in let there = one id pass in omega arith)) in
+    none_pass test (a + 1) n (λ id later pass. absurd (let here = one a yes in let there = one id pass in omega arith))
+    in
     let first = ap {B = ℕ} (λ b. cond b 1 0) yes in
     omega (arith, whole, none, first))
     (λ no. let first = ap {B = ℕ} (λ b. cond b 1 0) no in omega (arith, whole, rest, first))
@@ -212,7 +213,8 @@ finishes_few (Some held) d one = one_passes (λ id. is_finish (why_at d id)) hel
 
 -- a proof has no more removals than its derivation has reductions, and one more
 
-removals_counted : (steps : List Inference) → removals_of steps ≡ count_by (λ (s : Inference). is_removal s.reason) steps
+removals_counted : (steps : List Inference) → removals_of steps ≡ count_by (λ (s : Inference). is_removal s.reason)
+    steps
 removals_counted [] = refl
 removals_counted (s ∷ steps) =
     ap (λ n. cond (is_removal s.reason) 1 0 + n) (removals_counted steps)

@@ -149,7 +149,8 @@ listed f scopes var s tied = by (leaves_in f.version (depth f.frames))
       frames = let same = some_with_leaving var f.frames in let some = tied.frames in omega (arith, same, some);
       few = let same = some_with_leaving var f.frames in let few = tied.few in omega (arith, same, few);
       rising = tied.rising;
-      clauses = λ tag. tied.clauses tag ∙ sym (other_frames f (with_leaving var f.frames) tag (rows_leaving var f.frames tag));
+      clauses = λ tag. tied.clauses tag
+          ∙ sym (other_frames f (with_leaving var f.frames) tag (rows_leaving var f.frames tag));
     }
 
 pub variable_added : (f : OpenFormula) (s : SearchState) (var scope : ℕ) → AreTied f s → IsRoomy var s
@@ -159,7 +160,8 @@ variable_added f s var scope tied roomy accepts prefixes grows =
     let fits = variable_fits f var scope accepts in
     let room = tied.resting.intact.room in
     let one = λ (x : ℕ). one_of f.scopes (scope - 1) var x fits.0 in
-    listed f (with_variable_at f.scopes (scope - 1) var) var s (grown f (with_variable_at f.scopes (scope - 1) var) s tied
+    listed f (with_variable_at f.scopes (scope - 1) var) var s
+    (grown f (with_variable_at f.scopes (scope - 1) var) s tied
     (prefixes.variable f.scopes (scope - 1) var fits.0 fits.1)
     (record {
       trail = λ x i. ⊎_elim (λ e. roomy.trail x (omega (arith, e))) (λ j. room.trail x j) (one x i);
@@ -251,7 +253,8 @@ frame_popped f old new tied accepts resting rows grouped clauses = record {
     test = mentions (is_outside after.scopes)
 
     inside : (tag : ℕ) → AllByRecursion (λ (row : Row). test row ≡ false) (tagged_rows after tag)
-    inside tag = all_tagged (λ (row : Row). test row ≡ false) after tag (rows_inside after.scopes (clauses_in after.frames) rows)
+    inside tag = all_tagged (λ (row : Row). test row ≡ false) after tag
+        (rows_inside after.scopes (clauses_in after.frames) rows)
         (rows_inside after.scopes (grouped_in after.groups) grouped)
 
     at : (tag : ℕ) (b : Bool) → (tag == depth f.frames) ≡ b
@@ -264,8 +267,10 @@ frame_popped f old new tied accepts resting rows grouped clauses = record {
         ∙ sym (under_frames after tag low ∙ rows_gone f.frames tag same)
     at tag false e =
         let stay : tagged_rows f tag ≡ tagged_rows after tag =
-        sym (other_frames f (popped f.frames) tag (rows_stay f.frames tag tied.frames (apart tag (depth f.frames) e))) in
-        let all = subst (AllByRecursion (λ (row : Row). test row ≡ false)) (sym (tied.clauses tag ∙ stay)) (inside tag) in
+        sym (other_frames f (popped f.frames) tag (rows_stay f.frames tag tied.frames (apart tag (depth f.frames) e)))
+        in
+        let all = subst (AllByRecursion (λ (row : Row). test row ≡ false)) (sym (tied.clauses tag ∙ stay))
+        (inside tag) in
         under_left tag (depth f.frames) test (clauses_of old.derivation) e all ∙ tied.clauses tag ∙ stay
 
 -- clauses
@@ -321,7 +326,8 @@ row_added f old new row tied resting adds = by f.current refl
         (subst (λ o. AddsIn o row (clauses_of old.derivation) (clauses_of new.derivation)) (ap (tag_for f) e) adds)
       where
         turned : (b : Bool) → is_active f.groups n ≡ b
-            → AddsIn (if b then Some (group_tag n) else None) row (clauses_of old.derivation) (clauses_of new.derivation)
+            → AddsIn (if b then Some (group_tag n) else None) row (clauses_of old.derivation)
+            (clauses_of new.derivation)
             → AreTied (with_row_at (Some n) row f) new
         turned true on one = group n on one
         turned false off same = none same n off

@@ -31,19 +31,22 @@ all_right : {X : Type 0} (P : X → Type 0) (xs ys : List X) → AllByRecursion 
 all_right P [] ys all = all
 all_right P (x ∷ xs) ys all = all_right P xs ys all.1
 
-all_both : {X : Type 0} (P : X → Type 0) (xs ys : List X) → AllByRecursion P xs → AllByRecursion P ys → AllByRecursion P (xs ++ ys)
+all_both : {X : Type 0} (P : X → Type 0) (xs ys : List X) → AllByRecursion P xs → AllByRecursion P ys → AllByRecursion P
+    (xs ++ ys)
 all_both P [] ys all each = each
 all_both P (x ∷ xs) ys all each = (all.0, all_both P xs ys all.1 each)
 
 all_active : (P : Row → Type 0) (gs : List Group) → AllByRecursion P (grouped_in gs) → AllByRecursion P (active_in gs)
 all_active P [] all = tt
-all_active P (g ∷ gs) all = all_both P (active_of g) (active_in gs) (by g.active) (all_active P gs (all_right P g.clauses (grouped_in gs) all))
+all_active P (g ∷ gs) all = all_both P (active_of g) (active_in gs) (by g.active)
+    (all_active P gs (all_right P g.clauses (grouped_in gs) all))
   where
     by : (b : Bool) → AllByRecursion P (if b then g.clauses else [])
     by true = all_left P g.clauses (grouped_in gs) all
     by false = tt
 
-pub all_parts : (P : Row → Type 0) (gs : List Group) → AllByRecursion P (grouped_in gs) → AllByRecursion P (parts_in (active_parts gs))
+pub all_parts : (P : Row → Type 0) (gs : List Group) → AllByRecursion P (grouped_in gs) → AllByRecursion P
+    (parts_in (active_parts gs))
 all_parts P gs all = subst (AllByRecursion P) (sym (parts_open gs)) (all_active P gs all)
 
 -- one more group
@@ -79,7 +82,8 @@ same_part p g n rows is number clauses = is ∙ ap₂ made number clauses
 pub left_out : (gs : List Group) (i : ℕ) (g : Group) → slice_get gs i ≡ Some g → g.active ≡ false
     → active_parts (take (i + 1) gs) ≡ active_parts (take i gs)
 left_out gs i g e off = one_more gs i g e
-    ∙ ap (λ b. active_parts (take i gs) ++ (if b then part_of g ∷ [] else [])) off ∙ append-nil (active_parts (take i gs))
+    ∙ ap (λ b. active_parts (take i gs) ++ (if b then part_of g ∷ [] else [])) off
+    ∙ append-nil (active_parts (take i gs))
 
 pub put_behind : (gs : List Group) (i : ℕ) (g : Group) → slice_get gs i ≡ Some g → g.active ≡ true
     → active_parts (take (i + 1) gs) ≡ active_parts (take i gs) ++ part_of g ∷ []

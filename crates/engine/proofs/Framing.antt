@@ -81,7 +81,8 @@ under_top tag test (c ∷ cs) = by (c.frame == tag) (test c.row) refl (under_top
         (filter (has_tag tag) rest) e) ∙ none
 
 pub under_left : (tag top : ℕ) (test : Row → Bool) (cs : List OpenClause) → (tag == top) ≡ false
-    → AllByRecursion (λ (row : Row). test row ≡ false) (under tag cs) → under tag (filter (is_left top test) cs) ≡ under tag cs
+    → AllByRecursion (λ (row : Row). test row ≡ false) (under tag cs) → under tag (filter (is_left top test) cs) ≡ under
+    tag cs
 under_left tag top test [] apart all = refl
 under_left tag top test (c ∷ cs) apart all = by (c.frame == tag) (c.frame == top) (test c.row) refl refl refl
     (under_left tag top test cs apart) all
@@ -91,8 +92,10 @@ under_left tag top test (c ∷ cs) apart all = by (c.frame == tag) (c.frame == t
 
     by : (b o t : Bool) → (c.frame == tag) ≡ b → (c.frame == top) ≡ o → test c.row ≡ t
         → (AllByRecursion (λ (row : Row). test row ≡ false) (under tag cs) → under tag rest ≡ under tag cs)
-        → AllByRecursion (λ (row : Row). test row ≡ false) (map row_in (cond b (c ∷ filter (has_tag tag) cs) (filter (has_tag tag) cs)))
-        → under tag (cond (not (o || t)) (c ∷ rest) rest) ≡ map row_in (cond b (c ∷ filter (has_tag tag) cs) (filter (has_tag tag) cs))
+        → AllByRecursion (λ (row : Row). test row ≡ false)
+        (map row_in (cond b (c ∷ filter (has_tag tag) cs) (filter (has_tag tag) cs)))
+        → under tag (cond (not (o || t)) (c ∷ rest) rest) ≡ map row_in
+        (cond b (c ∷ filter (has_tag tag) cs) (filter (has_tag tag) cs))
     by true true t at top_at told later is = absurd
         (let same : tag ≡ top = sym (eqb-true c.frame tag at) ∙ eqb-true c.frame top top_at in
         let e : (tag == top) ≡ true = eq-eqb tag top same in let f = apart in cc)
@@ -103,16 +106,21 @@ under_left tag top test (c ∷ cs) apart all = by (c.frame == tag) (c.frame == t
     by false true t at top_at told later is = later is
     by false false true at apart_at told later is = later is
     by false false false at apart_at told later is =
-        ap (map row_in) (cond-false (c.frame == tag) (c ∷ filter (has_tag tag) rest) (filter (has_tag tag) rest) at) ∙ later is
+        ap (map row_in) (cond-false (c.frame == tag) (c ∷ filter (has_tag tag) rest) (filter (has_tag tag) rest) at)
+        ∙ later is
 
 -- what is under a tag is open
-pub under_open : (tag : ℕ) (cs : List OpenClause) (row : Row) → Contains (under tag cs) row → Contains (map row_in cs) row
+pub under_open : (tag : ℕ) (cs : List OpenClause) (row : Row) → Contains (under tag cs) row
+    → Contains (map row_in cs) row
 under_open tag cs row i =
-    let at : (c : OpenClause) × Contains (filter (has_tag tag) cs) c × (c.row ≡ row) = map_contains row_in (filter (has_tag tag) cs) row i in
-    subst (λ (r : Row). Contains (map row_in cs) r) at.2 (contains_map_of row_in cs at.0 (filter_at (has_tag tag) cs at.0 at.1).0)
+    let at : (c : OpenClause) × Contains (filter (has_tag tag) cs) c × (c.row ≡ row) = map_contains row_in
+    (filter (has_tag tag) cs) row i in
+    subst (λ (r : Row). Contains (map row_in cs) r) at.2
+    (contains_map_of row_in cs at.0 (filter_at (has_tag tag) cs at.0 at.1).0)
 
 -- and what is open is under some tag
-pub open_under : (cs : List OpenClause) (row : Row) → Contains (map row_in cs) row → (tag : ℕ) × Contains (under tag cs) row
+pub open_under : (cs : List OpenClause) (row : Row) → Contains (map row_in cs) row → (tag : ℕ)
+    × Contains (under tag cs) row
 open_under cs row i =
     let at : (c : OpenClause) × Contains cs c × (c.row ≡ row) = map_contains row_in cs row i in (
       at.0.frame,
@@ -206,7 +214,8 @@ some_with_leaving v [] = refl
 some_with_leaving v (f ∷ []) = refl
 some_with_leaving v (f ∷ g ∷ rest) = ap suc (some_with_leaving v (g ∷ rest))
 
-frame_in : (frames : List Frame) (n : ℕ) (row : Row) → Contains (frame_rows frames n) row → Contains (clauses_in frames) row
+frame_in : (frames : List Frame) (n : ℕ) (row : Row) → Contains (frame_rows frames n) row → Contains (clauses_in frames)
+    row
 frame_in [] n row i = absurd (contains_nil row i)
 frame_in (f ∷ frames) zero row i = Contains-append_left f.clauses (clauses_in frames) row i
 frame_in (f ∷ frames) (suc n) row i = Contains-append_right f.clauses (clauses_in frames) row (frame_in frames n row i)
@@ -241,14 +250,16 @@ none_above : (gs : List Group) (n : ℕ) → AreAbove n gs → group_at gs n ≡
 none_above [] n above = refl
 none_above (g ∷ gs) n above =
     let low = above.0 in
-    cond-false (g.number == n) (Some g) (group_at gs n) (ne_eqb g.number n (λ e. omega (arith, low, e))) ∙ none_above gs n above.1
+    cond-false (g.number == n) (Some g) (group_at gs n) (ne_eqb g.number n (λ e. omega (arith, low, e)))
+    ∙ none_above gs n above.1
 
 above_more : (gs : List Group) (m n : ℕ) → m < n → AreAbove n gs → AreAbove m gs
 above_more [] m n low above = tt
 above_more (g ∷ gs) m n low above = (let high = above.0 in omega (arith, low, high), above_more gs m n low above.1)
 
 -- a new group has no clause
-opened_at : (n : ℕ) (gs : List Group) (m : ℕ) → AreRising gs → turned m (group_at (with_group n gs) m) ≡ turned m (group_at gs m)
+opened_at : (n : ℕ) (gs : List Group) (m : ℕ) → AreRising gs → turned m (group_at (with_group n gs) m) ≡ turned m
+    (group_at gs m)
 opened_at n [] m rising = by (n == m)
   where
     by : (b : Bool) → turned m (if b then Some (new_group n) else None) ≡ []
@@ -277,7 +288,8 @@ opened_at n (g ∷ gs) m rising = by (nat_lt n g.number) (g.number == n) refl (o
     by false true high rest = refl
     by false false high rest = later (g.number == m) rest
 
-pub active_opened : (n : ℕ) (gs : List Group) (m : ℕ) → AreRising gs → active_rows (with_group n gs) m ≡ active_rows gs m
+pub active_opened : (n : ℕ) (gs : List Group) (m : ℕ) → AreRising gs → active_rows (with_group n gs) m ≡ active_rows gs
+    m
 active_opened n gs m rising = active_by (with_group n gs) m ∙ opened_at n gs m rising ∙ sym (active_by gs m)
 
 -- a change of one group that keeps numbers
@@ -285,7 +297,8 @@ mapped_at : (f : Group → Group) → KeepsNumbers f → (gs : List Group) (m : 
     → group_at (map f gs) m ≡ option_map f (group_at gs m)
 mapped_at f keeps [] m = refl
 mapped_at f keeps (g ∷ gs) m =
-    ap (λ k. if k == m then Some (f g) else group_at (map f gs) m) (keeps g) ∙ by (g.number == m) (mapped_at f keeps gs m)
+    ap (λ k. if k == m then Some (f g) else group_at (map f gs) m) (keeps g) ∙ by (g.number == m)
+    (mapped_at f keeps gs m)
   where
     by : (b : Bool) → group_at (map f gs) m ≡ option_map f (group_at gs m)
         → (if b then Some (f g) else group_at (map f gs) m) ≡ option_map f (if b then Some g else group_at gs m)
@@ -313,14 +326,16 @@ stays_other f n m keeps others gs far =
 
 pub marked_apart : (active : Bool) (n m : ℕ) (gs : List Group) → (m ≡ n → ⊥)
     → active_rows (with_mark active n gs) m ≡ active_rows gs m
-marked_apart active n m gs far = stays_other (marked active n) n m (marked_numbers active n) (marked_others active n) gs far
+marked_apart active n m gs far = stays_other (marked active n) n m (marked_numbers active n) (marked_others active n) gs
+    far
 
 pub grown_apart : (row : Row) (n m : ℕ) (gs : List Group) → (m ≡ n → ⊥)
     → active_rows (with_clause_at row n gs) m ≡ active_rows gs m
 grown_apart row n m gs far = stays_other (grown row n) n m (grown_numbers row n) (grown_others row n) gs far
 
 -- a group that gets a clause is active as it was
-pub activity_kept : (row : Row) (n : ℕ) (gs : List Group) (m : ℕ) → is_active (with_clause_at row n gs) m ≡ is_active gs m
+pub activity_kept : (row : Row) (n : ℕ) (gs : List Group) (m : ℕ) → is_active (with_clause_at row n gs) m ≡ is_active gs
+    m
 activity_kept row n gs m =
     ap (λ (o : Option Group). unwrap_or (option_map (λ (g : Group). g.active) o) false)
     (mapped_at (grown row n) (grown_numbers row n) gs m) ∙ by (group_at gs m)
@@ -336,46 +351,54 @@ activity_kept row n gs m =
 
 -- a group that is made inactive has no open clause, and one that is made active all of its clauses
 pub marked_off : (n : ℕ) (gs : List Group) → active_rows (with_mark false n gs) n ≡ []
-marked_off n gs = active_by (with_mark false n gs) n ∙ ap (turned n) (mapped_at (marked false n) (marked_numbers false n) gs n) ∙ by (group_at gs n) refl
+marked_off n gs = active_by (with_mark false n gs) n
+    ∙ ap (turned n) (mapped_at (marked false n) (marked_numbers false n) gs n) ∙ by (group_at gs n) refl
   where
     by : (o : Option Group) → group_at gs n ≡ o → turned n (option_map (marked false n) o) ≡ []
     by None e = refl
-    by (Some g) e = ap active_of (cond-true (g.number == n) (record g { active = false }) g (eq-eqb g.number n (numbered_at gs n g e)))
+    by (Some g) e = ap active_of
+        (cond-true (g.number == n) (record g { active = false }) g (eq-eqb g.number n (numbered_at gs n g e)))
 
 pub marked_on : (n : ℕ) (gs : List Group) → active_rows (with_mark true n gs) n ≡ clauses_at gs n
-marked_on n gs = active_by (with_mark true n gs) n ∙ ap (turned n) (mapped_at (marked true n) (marked_numbers true n) gs n) ∙ by (group_at gs n) refl
+marked_on n gs = active_by (with_mark true n gs) n
+    ∙ ap (turned n) (mapped_at (marked true n) (marked_numbers true n) gs n) ∙ by (group_at gs n) refl
   where
     by : (o : Option Group) → group_at gs n ≡ o
         → turned n (option_map (marked true n) o) ≡ unwrap_or (option_map (λ (g : Group). g.clauses) o) []
     by None e = refl
-    by (Some g) e = ap active_of (cond-true (g.number == n) (record g { active = true }) g (eq-eqb g.number n (numbered_at gs n g e)))
+    by (Some g) e = ap active_of
+        (cond-true (g.number == n) (record g { active = true }) g (eq-eqb g.number n (numbered_at gs n g e)))
 
 -- and one more clause is open where its group is active
 pub grown_on : (row : Row) (n : ℕ) (gs : List Group) → is_active gs n ≡ true
     → active_rows (with_clause_at row n gs) n ≡ active_rows gs n ++ row ∷ []
 grown_on row n gs on =
-    active_by (with_clause_at row n gs) n ∙ ap (turned n) (mapped_at (grown row n) (grown_numbers row n) gs n) ∙ by (group_at gs n) refl on
+    active_by (with_clause_at row n gs) n ∙ ap (turned n) (mapped_at (grown row n) (grown_numbers row n) gs n)
+    ∙ by (group_at gs n) refl on
     ∙ ap (λ rs. rs ++ row ∷ []) (sym (active_by gs n))
   where
     by : (o : Option Group) → group_at gs n ≡ o → unwrap_or (option_map (λ (g : Group). g.active) o) false ≡ true
         → turned n (option_map (grown row n) o) ≡ turned n o ++ row ∷ []
     by None e is = absurd (cc)
     by (Some g) e is =
-        ap active_of (cond-true (g.number == n) (record g { clauses = g.clauses ++ row ∷ [] }) g (eq-eqb g.number n (numbered_at gs n g e)))
+        ap active_of (cond-true (g.number == n) (record g { clauses = g.clauses ++ row ∷ [] }) g
+        (eq-eqb g.number n (numbered_at gs n g e)))
         ∙ cond-true g.active (g.clauses ++ row ∷ []) [] is
         ∙ sym (ap (λ rs. rs ++ row ∷ []) (cond-true g.active g.clauses [] is))
 
 pub grown_off : (row : Row) (n : ℕ) (gs : List Group) → is_active gs n ≡ false
     → active_rows (with_clause_at row n gs) n ≡ active_rows gs n
 grown_off row n gs off =
-    active_by (with_clause_at row n gs) n ∙ ap (turned n) (mapped_at (grown row n) (grown_numbers row n) gs n) ∙ by (group_at gs n) refl off
+    active_by (with_clause_at row n gs) n ∙ ap (turned n) (mapped_at (grown row n) (grown_numbers row n) gs n)
+    ∙ by (group_at gs n) refl off
     ∙ sym (active_by gs n)
   where
     by : (o : Option Group) → group_at gs n ≡ o → unwrap_or (option_map (λ (g : Group). g.active) o) false ≡ false
         → turned n (option_map (grown row n) o) ≡ turned n o
     by None e is = refl
     by (Some g) e is =
-        ap active_of (cond-true (g.number == n) (record g { clauses = g.clauses ++ row ∷ [] }) g (eq-eqb g.number n (numbered_at gs n g e)))
+        ap active_of (cond-true (g.number == n) (record g { clauses = g.clauses ++ row ∷ [] }) g
+        (eq-eqb g.number n (numbered_at gs n g e)))
         ∙ cond-false g.active (g.clauses ++ row ∷ []) [] is
         ∙ sym (cond-false g.active g.clauses [] is)
 
@@ -383,13 +406,15 @@ grown_off row n gs off =
 pub marked_same : (active : Bool) (n : ℕ) (gs : List Group) (m : ℕ) → is_active gs n ≡ active
     → active_rows (with_mark active n gs) m ≡ active_rows gs m
 marked_same active n gs m as_is =
-    active_by (with_mark active n gs) m ∙ ap (turned m) (mapped_at (marked active n) (marked_numbers active n) gs m ∙ at (m == n) refl)
+    active_by (with_mark active n gs) m ∙ ap (turned m) (mapped_at (marked active n) (marked_numbers active n) gs m
+    ∙ at (m == n) refl)
     ∙ sym (active_by gs m)
   where
     own : (o : Option Group) → group_at gs n ≡ o → unwrap_or (option_map (λ (g : Group). g.active) o) false ≡ active
         → option_map (marked active n) o ≡ o
     own None e is = refl
-    own (Some g) e is = ap Some (cond-true (g.number == n) (record g { active = active }) g (eq-eqb g.number n (numbered_at gs n g e))
+    own (Some g) e is =
+        ap Some (cond-true (g.number == n) (record g { active = active }) g (eq-eqb g.number n (numbered_at gs n g e))
         ∙ ap (λ b. record g { active = b }) (sym is))
 
     other : (o : Option Group) → group_at gs m ≡ o → (m ≡ n → ⊥) → option_map (marked active n) o ≡ o
@@ -397,10 +422,13 @@ marked_same active n gs m as_is =
     other (Some g) e far = ap Some (marked_others active n g (λ x. far (sym (numbered_at gs m g e) ∙ x)))
 
     at : (b : Bool) → (m == n) ≡ b → option_map (marked active n) (group_at gs m) ≡ group_at gs m
-    at true e = subst (λ k. option_map (marked active n) (group_at gs k) ≡ group_at gs k) (sym (eqb-true m n e)) (own (group_at gs n) refl as_is)
-    at false e = other (group_at gs m) refl (λ same. absurd (let f : (m == n) ≡ true = eq-eqb m n same in let g = e in cc))
+    at true e = subst (λ k. option_map (marked active n) (group_at gs k) ≡ group_at gs k) (sym (eqb-true m n e))
+        (own (group_at gs n) refl as_is)
+    at false e = other (group_at gs m) refl
+        (λ same. absurd (let f : (m == n) ≡ true = eq-eqb m n same in let g = e in cc))
 
-turned_in : (gs : List Group) (n : ℕ) (row : Row) → Contains (turned n (group_at gs n)) row → Contains (active_in gs) row
+turned_in : (gs : List Group) (n : ℕ) (row : Row) → Contains (turned n (group_at gs n)) row
+    → Contains (active_in gs) row
 turned_in [] n row i = i
 turned_in (g ∷ gs) n row i = by (g.number == n) (turned_in gs n row) i
   where
@@ -441,7 +469,8 @@ turned_from (g ∷ gs) row rising i = ⊎_elim own (λ j. later (turned_from gs 
         let none : group_at gs n ≡ None = none_above gs n above in
         let f : Some h ≡ None = sym there ∙ none in cc)
 
-    later : ((n : ℕ) × Contains (turned n (group_at gs n)) row) → (n : ℕ) × Contains (turned n (group_at (g ∷ gs) n)) row
+    later : ((n : ℕ) × Contains (turned n (group_at gs n)) row) → (n : ℕ) × Contains (turned n (group_at (g ∷ gs) n))
+        row
     later r = let there = some_turned gs r.0 row r.1 in (r.0, by r.0 (g.number == r.0) refl there.0 there.1 r.1)
 
 active_from : (gs : List Group) (row : Row) → AreRising gs → Contains (active_in gs) row
@@ -462,7 +491,8 @@ under_groups f n = cond-false (nat_le (group_tag n) max_pushed) (frame_rows f.fr
     ∙ ap (active_rows f.groups) (omega arith)
 
 -- each tag is that of a frame or of a group
-pub which_tag : (P : ℕ → Type 0) → ((tag : ℕ) → tag ≤ max_pushed → P tag) → ((n : ℕ) → P (group_tag n)) → (tag : ℕ) → P tag
+pub which_tag : (P : ℕ → Type 0) → ((tag : ℕ) → tag ≤ max_pushed → P tag) → ((n : ℕ) → P (group_tag n)) → (tag : ℕ)
+    → P tag
 which_tag P frame group tag = by (nat_le tag max_pushed) refl
   where
     by : (b : Bool) → nat_le tag max_pushed ≡ b → P tag
@@ -495,7 +525,8 @@ is_matrix d f rising few same = record { there = there; none_else = none_else }
 
     none_else : (row : Row) → Contains (open_clauses f) row → Contains (clauses_in_search d) row
     none_else row i = ⊎_elim
-        (λ j. let at : (n : ℕ) × (n < length f.frames) × Contains (frame_rows f.frames n) row = frame_from f.frames row j in
+        (λ j. let at : (n : ℕ) × (n < length f.frames) × Contains (frame_rows f.frames n) row =
+        frame_from f.frames row j in
         let low : at.0 ≤ max_pushed = (let below = at.1 in let top = few in omega (arith, below, top)) in
         in_search at.0 row (subst (λ rs. Contains rs row) (sym (under_frames f at.0 low)) at.2))
         (λ j. let at : (n : ℕ) × Contains (active_rows f.groups n) row = active_from f.groups row rising j in
@@ -561,7 +592,8 @@ pub grown_none : (row : Row) (n m : ℕ) (gs : List Group) → is_active gs n �
 grown_none row n m gs off = by (m == n) refl
   where
     by : (b : Bool) → (m == n) ≡ b → active_rows (with_clause_at row n gs) m ≡ active_rows gs m
-    by true e = subst (λ k. active_rows (with_clause_at row n gs) k ≡ active_rows gs k) (sym (eqb-true m n e)) (grown_off row n gs off)
+    by true e = subst (λ k. active_rows (with_clause_at row n gs) k ≡ active_rows gs k) (sym (eqb-true m n e))
+        (grown_off row n gs off)
     by false e = grown_apart row n m gs (apart m n e)
 
 -- a property of all clauses of frames and groups
@@ -580,7 +612,8 @@ all_turned P (g ∷ gs) n all = by (g.number == n) (all_turned P gs n (all_right
     own true = all_left P g.clauses (grouped_in gs) all
     own false = tt
 
-    by : (b : Bool) → AllByRecursion P (turned n (group_at gs n)) → AllByRecursion P (turned n (if b then Some g else group_at gs n))
+    by : (b : Bool) → AllByRecursion P (turned n (group_at gs n)) → AllByRecursion P
+        (turned n (if b then Some g else group_at gs n))
     by true rest = own g.active
     by false rest = rest
 
@@ -592,7 +625,8 @@ pub all_tagged : (P : Row → Type 0) (f : OpenFormula) (tag : ℕ) → AllByRec
     → AllByRecursion P (grouped_in f.groups) → AllByRecursion P (tagged_rows f tag)
 all_tagged P f tag frames groups = by (nat_le tag max_pushed)
   where
-    by : (b : Bool) → AllByRecursion P (if b then frame_rows f.frames tag else active_rows f.groups (tag - (max_pushed + 1)))
+    by : (b : Bool) → AllByRecursion P (if b then frame_rows f.frames tag else active_rows f.groups
+        (tag - (max_pushed + 1)))
     by true = all_in_frame P f.frames tag frames
     by false = all_in_group P f.groups (tag - (max_pushed + 1)) groups
 
@@ -606,12 +640,14 @@ under_added tag at row old new adds =
     one : OpenClause
     one = record { id = adds.id; frame = tag; row = row }
 
-    by : (b : Bool) → under at old ++ map row_in (cond b (one ∷ []) []) ≡ (if b then under at old ++ row ∷ [] else under at old)
+    by : (b : Bool) → under at old ++ map row_in (cond b (one ∷ []) []) ≡
+        (if b then under at old ++ row ∷ [] else under at old)
     by true = refl
     by false = append-nil (under at old)
 
 pub tagged_with_row : (f : OpenFormula) (row : Row) → 1 ≤ length f.frames → depth f.frames ≤ max_pushed → (tag : ℕ)
-    → tagged_rows (with_row_at None row f) tag ≡ (if depth f.frames == tag then tagged_rows f tag ++ row ∷ [] else tagged_rows f tag)
+    → tagged_rows (with_row_at None row f) tag ≡
+    (if depth f.frames == tag then tagged_rows f tag ++ row ∷ [] else tagged_rows f tag)
 tagged_with_row f row some few tag = by (depth f.frames == tag) refl
   where
     by : (b : Bool) → (depth f.frames == tag) ≡ b
@@ -621,14 +657,18 @@ tagged_with_row f row some few tag = by (depth f.frames == tag) refl
         let low : tag ≤ max_pushed = omega (arith, same, few) in
         under_frames (with_row_at None row f) tag low ∙ rows_top row f.frames tag some same
         ∙ ap (λ rs. rs ++ row ∷ []) (sym (under_frames f tag low))
-    by false e = other_frames f (with_row row f.frames) tag (rows_below row f.frames tag (λ x. apart (depth f.frames) tag e (sym x)))
+    by false e = other_frames f (with_row row f.frames) tag
+        (rows_below row f.frames tag (λ x. apart (depth f.frames) tag e (sym x)))
 
 pub tagged_grown : (f : OpenFormula) (n : ℕ) (row : Row) → is_active f.groups n ≡ true → (tag : ℕ)
-    → tagged_rows (with_row_at (Some n) row f) tag ≡ (if group_tag n == tag then tagged_rows f tag ++ row ∷ [] else tagged_rows f tag)
+    → tagged_rows (with_row_at (Some n) row f) tag ≡
+    (if group_tag n == tag then tagged_rows f tag ++ row ∷ [] else tagged_rows f tag)
 tagged_grown f n row on = which_tag
-    (λ tag. tagged_rows (with_row_at (Some n) row f) tag ≡ (if group_tag n == tag then tagged_rows f tag ++ row ∷ [] else tagged_rows f tag))
+    (λ tag. tagged_rows (with_row_at (Some n) row f) tag ≡
+    (if group_tag n == tag then tagged_rows f tag ++ row ∷ [] else tagged_rows f tag))
     (λ tag low. under_frames (with_row_at (Some n) row f) tag low ∙ sym (under_frames f tag low)
-    ∙ sym (cond-false (group_tag n == tag) (tagged_rows f tag ++ row ∷ []) (tagged_rows f tag) (grind (arith, nat_tests))))
+    ∙ sym (cond-false (group_tag n == tag) (tagged_rows f tag ++ row ∷ []) (tagged_rows f tag)
+    (grind (arith, nat_tests))))
     (λ m. by m (group_tag n == group_tag m) refl)
   where
     by : (m : ℕ) (b : Bool) → (group_tag n == group_tag m) ≡ b → tagged_rows (with_row_at (Some n) row f) (group_tag m)
@@ -637,7 +677,8 @@ tagged_grown f n row on = which_tag
         let tags : group_tag n ≡ group_tag m = eqb-true (group_tag n) (group_tag m) e in
         let same : n ≡ m = omega (arith, tags) in
         under_groups (with_row_at (Some n) row f) m
-        ∙ subst (λ k. active_rows (with_clause_at row n f.groups) k ≡ active_rows f.groups k ++ row ∷ []) same (grown_on row n f.groups on)
+        ∙ subst (λ k. active_rows (with_clause_at row n f.groups) k ≡ active_rows f.groups k ++ row ∷ []) same
+        (grown_on row n f.groups on)
         ∙ ap (λ rs. rs ++ row ∷ []) (sym (under_groups f m))
     by m false e =
         under_groups (with_row_at (Some n) row f) m
@@ -648,7 +689,8 @@ tagged_grown f n row on = which_tag
 
 left_without : (top : ℕ) (cs : List OpenClause)
     → filter (λ (c : OpenClause). not (c.frame == top)) cs ≡ filter (is_left top (λ row. false)) cs
-left_without top cs = filter_same (λ (c : OpenClause). not (c.frame == top)) (is_left top (λ row. false)) cs (λ c i. by (c.frame == top))
+left_without top cs = filter_same (λ (c : OpenClause). not (c.frame == top)) (is_left top (λ row. false)) cs
+    (λ c i. by (c.frame == top))
   where
     by : (b : Bool) → not b ≡ not (b || false)
     by true = refl
@@ -658,19 +700,25 @@ none_told : (rows : List Row) → AllByRecursion (λ (row : Row). false ≡ fals
 none_told [] = tt
 none_told (row ∷ rows) = (refl, none_told rows)
 
-pub dropped_marked : (f : OpenFormula) (n : ℕ) (cs : List OpenClause) → ((tag : ℕ) → under tag cs ≡ tagged_rows f tag) → (tag : ℕ)
-    → under tag (filter (λ (c : OpenClause). not (c.frame == group_tag n)) cs) ≡ tagged_rows (record f { groups = with_mark false n f.groups }) tag
+pub dropped_marked : (f : OpenFormula) (n : ℕ) (cs : List OpenClause) → ((tag : ℕ) → under tag cs ≡ tagged_rows f tag)
+    → (tag : ℕ)
+    → under tag (filter (λ (c : OpenClause). not (c.frame == group_tag n)) cs) ≡ tagged_rows
+    (record f { groups = with_mark false n f.groups }) tag
 dropped_marked f n cs same tag = ap (under tag) (left_without (group_tag n) cs) ∙ which_tag
-    (λ t. under t (filter (is_left (group_tag n) (λ row. false)) cs) ≡ tagged_rows (record f { groups = with_mark false n f.groups }) t)
-    (λ t low. left t (grind (arith, nat_tests)) ∙ under_frames f t low ∙ sym (under_frames (record f { groups = with_mark false n f.groups }) t low))
+    (λ t. under t (filter (is_left (group_tag n) (λ row. false)) cs) ≡ tagged_rows
+    (record f { groups = with_mark false n f.groups }) t)
+    (λ t low. left t (grind (arith, nat_tests)) ∙ under_frames f t low
+    ∙ sym (under_frames (record f { groups = with_mark false n f.groups }) t low))
     (λ m. by m (group_tag m == group_tag n) refl)
     tag
   where
-    left : (t : ℕ) → (t == group_tag n) ≡ false → under t (filter (is_left (group_tag n) (λ row. false)) cs) ≡ tagged_rows f t
+    left : (t : ℕ) → (t == group_tag n) ≡ false → under t (filter (is_left (group_tag n) (λ row. false)) cs) ≡
+        tagged_rows f t
     left t e = under_left t (group_tag n) (λ row. false) cs e (none_told (under t cs)) ∙ same t
 
     by : (m : ℕ) (b : Bool) → (group_tag m == group_tag n) ≡ b
-        → under (group_tag m) (filter (is_left (group_tag n) (λ row. false)) cs) ≡ tagged_rows (record f { groups = with_mark false n f.groups }) (group_tag m)
+        → under (group_tag m) (filter (is_left (group_tag n) (λ row. false)) cs) ≡ tagged_rows
+        (record f { groups = with_mark false n f.groups }) (group_tag m)
     by m true e =
         let tags : group_tag m ≡ group_tag n = eqb-true (group_tag m) (group_tag n) e in
         let numbers : n ≡ m = omega (arith, tags) in
@@ -688,22 +736,26 @@ pub put_marked : (f : OpenFormula) (n : ℕ) (old new : List OpenClause) → ((t
     → under tag new ≡ tagged_rows (record f { groups = with_mark true n f.groups }) tag
 put_marked f n old new same off adds tag = ap (under tag) adds.clauses ∙ under_append tag old adds.added ∙ which_tag
     (λ t. under t old ++ under t adds.added ≡ tagged_rows (record f { groups = with_mark true n f.groups }) t)
-    (λ t low. others t (grind (arith, nat_tests)) ∙ under_frames f t low ∙ sym (under_frames (record f { groups = with_mark true n f.groups }) t low))
+    (λ t low. others t (grind (arith, nat_tests)) ∙ under_frames f t low
+    ∙ sym (under_frames (record f { groups = with_mark true n f.groups }) t low))
     (λ m. by m (group_tag n == group_tag m) refl)
     tag
   where
     others : (t : ℕ) → (group_tag n == t) ≡ false → under t old ++ under t adds.added ≡ tagged_rows f t
-    others t e = ap (λ rs. under t old ++ rs) (under_other t (group_tag n) adds.added adds.of_frame e) ∙ append-nil (under t old) ∙ same t
+    others t e = ap (λ rs. under t old ++ rs) (under_other t (group_tag n) adds.added adds.of_frame e)
+        ∙ append-nil (under t old) ∙ same t
 
     was_none : under (group_tag n) old ≡ []
     was_none = same (group_tag n) ∙ under_groups f n ∙ cond-false (is_active f.groups n) (clauses_at f.groups n) [] off
 
     by : (m : ℕ) (b : Bool) → (group_tag n == group_tag m) ≡ b
-        → under (group_tag m) old ++ under (group_tag m) adds.added ≡ tagged_rows (record f { groups = with_mark true n f.groups }) (group_tag m)
+        → under (group_tag m) old ++ under (group_tag m) adds.added ≡ tagged_rows
+        (record f { groups = with_mark true n f.groups }) (group_tag m)
     by m true e =
         let tags : group_tag n ≡ group_tag m = eqb-true (group_tag n) (group_tag m) e in
         let numbers : n ≡ m = omega (arith, tags) in
-        subst (λ k. under (group_tag k) old ++ under (group_tag k) adds.added ≡ tagged_rows (record f { groups = with_mark true n f.groups }) (group_tag k)) numbers
+        subst (λ k. under (group_tag k) old ++ under (group_tag k) adds.added ≡ tagged_rows
+        (record f { groups = with_mark true n f.groups }) (group_tag k)) numbers
         (ap₂ (λ (a b : List Row). a ++ b) was_none (under_own (group_tag n) adds.added adds.of_frame ∙ adds.has_rows)
         ∙ sym (under_groups (record f { groups = with_mark true n f.groups }) n ∙ marked_on n f.groups))
     by m false e =

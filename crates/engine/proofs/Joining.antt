@@ -36,12 +36,14 @@ pub joined_kept : (row : Row) (f : OpenFormula) → joined_tag (with_row_at f.cu
 joined_kept row f = ap (tag_for (with_row_at f.current row f)) (current_kept f.current row f) ∙ tag_kept f.current row f
 
 -- one that joins stands under its tag
-joined_row : (f : OpenFormula) (row : Row) → 1 ≤ length f.frames → depth f.frames ≤ max_pushed → (o : Option ℕ) (tag : ℕ)
+joined_row : (f : OpenFormula) (row : Row) → 1 ≤ length f.frames → depth f.frames ≤ max_pushed
+    → (o : Option ℕ) (tag : ℕ)
     → tag_for f o ≡ Some tag → tagged_rows (with_row_at o row f) tag ≡ tagged_rows f tag ++ row ∷ []
 joined_row f row some few None tag e =
     let same : depth f.frames ≡ tag = cc in
     tagged_with_row f row some few tag
-    ∙ cond-true (depth f.frames == tag) (tagged_rows f tag ++ row ∷ []) (tagged_rows f tag) (eq-eqb (depth f.frames) tag same)
+    ∙ cond-true (depth f.frames == tag) (tagged_rows f tag ++ row ∷ []) (tagged_rows f tag)
+    (eq-eqb (depth f.frames) tag same)
 joined_row f row some few (Some n) tag e = by (is_active f.groups n) refl e
   where
     by : (b : Bool) → is_active f.groups n ≡ b → (if b then Some (group_tag n) else None) ≡ Some tag
@@ -49,7 +51,8 @@ joined_row f row some few (Some n) tag e = by (is_active f.groups n) refl e
     by true on at =
         let same : group_tag n ≡ tag = cc in
         tagged_grown f n row on tag
-        ∙ cond-true (group_tag n == tag) (tagged_rows f tag ++ row ∷ []) (tagged_rows f tag) (eq-eqb (group_tag n) tag same)
+        ∙ cond-true (group_tag n == tag) (tagged_rows f tag ++ row ∷ []) (tagged_rows f tag)
+        (eq-eqb (group_tag n) tag same)
     by false off at = absurd (cc)
 
 module _ (now before : OpenFormula) (row : Row) (s : SearchState) (is : now ≡ with_row_at before.current row before)

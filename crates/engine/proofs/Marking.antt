@@ -257,9 +257,11 @@ marked_popped (f ∷ fs) ms m scopes d are = by (last_of f fs)
           (λ id low live.
               ⊎_elim
               (λ out.
-              let l = any_at (λ (k : Literal). is_outside (without_variables t.variables scopes) k.variable) (row_of d id)
+              let l = any_at (λ (k : Literal). is_outside (without_variables t.variables scopes) k.variable)
+              (row_of d id)
               out in
-              absurd (true≢false (sym (any_from (λ (k : Literal). is_late (t ∷ []) scopes k.variable) (row_of d id) l.0 l.1
+              absurd (true≢false
+              (sym (any_from (λ (k : Literal). is_late (t ∷ []) scopes k.variable) (row_of d id) l.0 l.1
               (subst (λ vs. (is_among l.0.variable vs || is_outside scopes l.0.variable) ≡ true)
               (sym (append-nil t.variables)) (left_or_outside t.variables scopes l.0.variable l.2)))
               ∙ split.0 id low live)))

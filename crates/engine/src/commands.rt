@@ -10,9 +10,9 @@ use crate::variables::variable_for;
 use calculus::prefixes_grow;
 use derive::StepId;
 use frames::{FrameRefusal, Frames};
+use memory::NoMemory;
 use prefix::Quant;
 use search::resting_grows;
-use steps::NoMemory;
 
 impl Engine {
     /// Puts in a scope without variables as number `at`, or as the last; scopes from there on move up by one.
@@ -93,7 +93,8 @@ impl Engine {
         Ok(())
     }
 
-    /// Drops the top pushed frame with its clauses, the variables that leave with it and the assumptions over these, and
+    /// Drops the top pushed frame with its clauses, the variables that leave with it and the assumptions over these,
+    /// and
     /// all that was learned from such clauses or names such a variable. Refused with NoFrame where no pushed frame is
     /// open; it takes no memory. The time is that of dropping clauses and variables, and of going over the literals of
     /// the steps since the frame was pushed.

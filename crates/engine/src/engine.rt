@@ -17,11 +17,12 @@ use crate::verdict::{Held, Verdict};
 use calculus::{end_rows_give_proofs, proofs_decide};
 use derive::{StepId, steps_are_listed};
 use frames::{Assumptions, Frames};
+use memory::NoMemory;
 use prefix::{Lit, LitList, Prefix};
 use search::{Search, SolveStop};
 use std::alloc::Global;
 use std::marker::Model;
-use steps::{NoMemory, Steps};
+use steps::Steps;
 use versions::Version;
 
 /// An incremental solver: commands build a formula, `solve` decides it under the assumptions, and what it learns stays

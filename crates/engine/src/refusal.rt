@@ -3,7 +3,7 @@ ghost use Rattle.std.specs.Prelude.{◌≡◌};
 ghost use Rattle.engine.specs.declared.refusal.AskRefusal.TheVariants.{NoMemory as no_memory};
 ghost use Rattle.engine.specs.Refusals.{ask_number};
 
-use steps::NoMemory;
+use memory::NoMemory;
 use thiserror::Error;
 
 /// Why a question about the last verdict isn't answered. The verdict stays.

@@ -24,9 +24,10 @@ use crate::verdict::{Verdict, truth_against};
 use derive::StepId;
 use frames::{FrameRefusal, Frames};
 use matrix::Matrix;
+use memory::NoMemory;
 use prefix::Lit;
 use search::{Search, SolveStop};
-use steps::{NoMemory, Steps};
+use steps::Steps;
 
 // Drops the finish of the last outcome.
 pub(crate) fn forget_outcome(search: &mut Search, frames: &Frames)
@@ -86,7 +87,8 @@ pub(crate) fn decide(
     })
 }
 
-// Puts a clause into the frames, and its row into the search, where it is open. With no memory the formula and the steps
+// Puts a clause into the frames, and its row into the search, where it is open. With no memory the formula and the
+// steps
 // stay; where the clause is refused, all does.
 pub(crate) fn put_clause(
     frames: &mut Frames,

@@ -6,7 +6,8 @@ ghost use Rattle.example_engine.specs.Answers.{IsRight};
 
 use aig::Strategy;
 use engine::{AskRefusal, Engine, SolveStop};
-use steps::{NoMemory, Steps};
+use memory::NoMemory;
+use steps::Steps;
 
 /// Whether a formula is true, and a circuit by which the side that wins does so.
 #[derive(Debug, Drop)]

@@ -7,9 +7,9 @@ ghost use Rattle.example_engine.specs.Differing.{Holds, differing};
 use crate::answer::{Answer, decide};
 use engine::Engine;
 use frames::FrameRefusal;
+use memory::NoMemory;
 use prefix::Quant;
 use std::alloc::Global;
-use steps::NoMemory;
 
 // So many steps always suffice for two variables: (8 * 2 + 8) * 2^(2 + 1).
 const ENOUGH: u64 = 192;

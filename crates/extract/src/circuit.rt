@@ -19,11 +19,11 @@ use crate::index::{RemovalList, index_of};
 use crate::rule::first_falsified;
 use aig::{Aig, Edge, Output, OutputList, Strategy, VarList};
 use calculus::circuits_win;
+use memory::NoMemory;
 use prefix::{Lit, Prefix, Quant, Var};
 use qrp_trace::Core;
 use std::alloc::Global;
 use std::collections::BTreeSet;
-use steps::NoMemory;
 
 // The variables of a prefix, in order.
 fn variables_of(alloc: Global, prefix: &Prefix) -> Result<Vec<Var>, NoMemory>

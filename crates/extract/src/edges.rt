@@ -3,8 +3,8 @@ ghost use Rattle.std.specs.Prelude.{◌≡◌, ℕ, ◌+◌, ◌<◌, ◌^◌, �
 ghost use Rattle.extract.specs.Tables.{edge_of};
 
 use aig::Edge;
+use memory::NoMemory;
 use prefix::Var;
-use steps::NoMemory;
 
 // The edge of a variable.
 pub(crate) fn edge_at(table: &Vec<Option<Edge>>, v: Var) -> Option<Edge>

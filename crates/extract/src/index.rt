@@ -6,11 +6,11 @@ ghost use Rattle.qrp_trace.specs.Cores.{core_rows, inferences_of};
 ghost use Rattle.extract.specs.Removals.{removals, stands_over};
 ghost use Rattle.extract.specs.Tables.{removals_at, unmarked, removals_here, removals_of_line, removed_of};
 
+use memory::NoMemory;
 use prefix::{Lit, Quant, Var};
 use qrp_trace::{Core, CoreStep};
 use std::alloc::Global;
 use std::marker::Model;
-use steps::NoMemory;
 
 // A removal of a literal: the place of the step that removed it, from 0, and the value that it forces.
 #[derive(Clone, Copy, Debug)]

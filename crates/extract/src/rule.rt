@@ -10,9 +10,9 @@ ghost use Rattle.extract.specs.Removals.{first_bad, weight_of};
 use crate::edges::{edge_at, entry_at, put_entry};
 use crate::index::Removal;
 use aig::{Aig, Edge};
+use memory::NoMemory;
 use prefix::{Lit, Quant};
 use qrp_trace::Core;
-use steps::NoMemory;
 
 // The edge that is true where a literal is bad.
 fn bad_edge(pivot: Quant, table: &Vec<Option<Edge>>, lit: Lit) -> Edge

@@ -11,7 +11,8 @@ use Rattle.frames.specs.declared.frames.Latest.{Latest}
 use Rattle.frames.specs.declared.frames.Latest.TheVariants.{Kept, Other}
 use Rattle.frames.specs.declared.frames.Start.{Start}
 use Rattle.frames.specs.declared.total.Total.{Total}
-use Rattle.frames.specs.Commands.{exceeds, is_beyond, max_clauses, max_literals}
+use Rattle.frames.specs.Commands.{exceeds, is_beyond}
+use Rattle.truth.specs.Limits.{max_clauses, max_literals}
 use Rattle.frames.specs.Groups.{Group, active_in, clauses_at, group_at, grouped_in, grown, inactive_in, is_group, with_clause_at}
 use Rattle.frames.specs.Kept.{at_first, frames_from, last_in, last_vars, outside, rows_with, AreCounted, AreFrames, AreGrouped, AreStarts, IsShallow, LeavesGroup}
 use Rattle.frames.specs.Leaving.{AreLeaving, FirstKeeps, NamesNone}

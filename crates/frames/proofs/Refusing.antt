@@ -10,7 +10,8 @@ use Rattle.prefix.specs.Refusals.{variable_refusal}
 use Rattle.prefix.specs.declared.refusal.PrefixRefusal.{PrefixRefusal}
 use Rattle.prefix.specs.declared.refusal.PrefixRefusal.TheVariants.{VarTwice, VarRange, ScopeRange}
 use Rattle.clauses.specs.Clause.{ascending, put, variables_of}
-use Rattle.frames.specs.Commands.{exceeds, max_clauses, max_literals}
+use Rattle.frames.specs.Commands.{exceeds}
+use Rattle.truth.specs.Limits.{max_clauses, max_literals}
 use Rattle.frames.specs.declared.frames.Start.{Start}
 use Rattle.frames.specs.declared.refusal.FrameRefusal.{FrameRefusal}
 use Rattle.frames.specs.declared.refusal.FrameRefusal.TheVariants.{UnknownVar, Limit, NoMemory}

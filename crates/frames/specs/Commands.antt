@@ -14,6 +14,7 @@ use Rattle.frames.specs.declared.refusal.FrameRefusal.TheVariants.{NoFrame, Unkn
 use Rattle.frames.specs.Refusal.{refusal_for}
 use Rattle.frames.specs.Groups.{is_group, may_number, with_clause_at, with_group, with_mark}
 use Rattle.frames.specs.State.{OpenFormula, all_clauses, depth, variables_on_top, literals_in, with_row, with_variable, pushed, popped, without_variables, without_assumed, literal_from, put_assumption, is_positive}
+use Rattle.truth.specs.Limits.{max_clauses, max_literals}
 
 -- how a decision of the formula ended: with its truth, or without a verdict
 pub data Answer : Type 0 where
@@ -37,12 +38,6 @@ pub data Command : Type 0 where
 
 abbrev pub max_pushed : ℕ
 max_pushed = 65536
-
-abbrev pub max_clauses : ℕ
-max_clauses = 2 ^ 24
-
-abbrev pub max_literals : ℕ
-max_literals = 2 ^ 28
 
 -- whether a number's variable is in the prefix; 0 is no variable
 abbrev pub is_known : List Scope → ℤ → Bool

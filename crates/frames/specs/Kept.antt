@@ -11,7 +11,8 @@ use Rattle.frames.specs.declared.frames.Latest.TheVariants.{Other, LeftOut, Kept
 use Rattle.frames.specs.declared.frames.Start.{Start}
 use Rattle.frames.specs.declared.total.Total.{Total}
 use Rattle.frames.specs.State.{Frame, OpenFormula, FramesState, literals_in}
-use Rattle.frames.specs.Commands.{max_pushed, max_clauses, max_literals}
+use Rattle.frames.specs.Commands.{max_pushed}
+use Rattle.truth.specs.Limits.{max_clauses, max_literals}
 use Rattle.frames.specs.Groups.{Group, clauses_at, grouped_in}
 use Rattle.frames.specs.Leaving.{NamesNone}
 use Rattle.frames.specs.Places.{GroupsState, without_last}

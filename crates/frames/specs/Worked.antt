@@ -10,7 +10,8 @@ use Rattle.frames.specs.declared.refusal.FrameRefusal.{FrameRefusal}
 use Rattle.frames.specs.declared.refusal.FrameRefusal.TheVariants.{Prefix, NoFrame, UnknownVar, AssumeScope, AssumeClash, AssumptionsHeld}
 use Rattle.calculus.specs.Rows.{Row}
 use Rattle.frames.specs.State.{Frame, OpenFormula, depth, empty_frame, literals_in, open_clauses, variables_on_top}
-use Rattle.frames.specs.Commands.{Command, AddScope, AddVariable, AddClause, Push, Pop, Assume, Solve, Verdict, Stop, is_beyond, max_clauses, max_literals, max_pushed, refusal_of}
+use Rattle.frames.specs.Commands.{Command, AddScope, AddVariable, AddClause, Push, Pop, Assume, Solve, Verdict, Stop, is_beyond, max_pushed, refusal_of}
+use Rattle.truth.specs.Limits.{max_clauses, max_literals}
 use Rattle.frames.specs.Fold.{script_in, state_from, state_of}
 
 -- a variable as a literal

@@ -21,10 +21,10 @@ use crate::total::Total;
 use crate::variables::{leaves, make_room, put_variable, take_out, variable_for, vars_from};
 use clauses::row_of;
 use matrix::Matrix;
+use memory::NoMemory;
 use prefix::{Lit, LitList, Prefix, Quant, Var};
 use std::alloc::Global;
 use std::marker::Model;
-use steps::NoMemory;
 use versions::Version;
 
 // What the last command was, where that matters for taking it back.

@@ -4,10 +4,10 @@ ghost use Rattle.frames.specs.Groups.{AreRising, active_in, clauses_at, group_at
 ghost use Rattle.frames.specs.Places.{AreInOrder, IsGapFor, IsGroupAt, with_joined, without_last};
 
 use matrix::Matrix;
+use memory::NoMemory;
 use prefix::LitList;
 use std::alloc::{AllocError, Global};
 use std::marker::Model;
-use steps::NoMemory;
 
 /// Clauses under a number. They are in the open formula while the group is active.
 #[derive(Debug, Drop)]

@@ -2,7 +2,8 @@
 ghost use Rattle.std.specs.Prelude.{◌≡◌, ◌≤◌, ℕ, nat_abs, true, Some, None, length, take, if◌then◌else◌, not, ◌&&◌, ◌+◌, ◌++◌, [], OnOk, OnErr, IfSome};
 ghost use Rattle.std.specs.List.{AllByRecursion, list_all};
 ghost use Rattle.clauses.specs.Codes.{IsInRange};
-ghost use Rattle.frames.specs.Commands.{exceeds, is_known, max_literals};
+ghost use Rattle.frames.specs.Commands.{exceeds, is_known};
+ghost use Rattle.truth.specs.Limits.{max_literals};
 ghost use Rattle.frames.specs.Groups.{clauses_at, grouped_in, may_number};
 ghost use Rattle.frames.specs.Kept.{AreCounted, last_in, rows_before, rows_with};
 ghost use Rattle.frames.specs.Places.{AreInOrder, with_joined, without_last};

@@ -105,10 +105,10 @@ impl<T: Drop> From<AllocFailed<T>> for FrameRefusal {
     }
 }
 
-impl From<steps::NoMemory> for FrameRefusal {
+impl From<memory::NoMemory> for FrameRefusal {
     ghost from_gives = { λ _ e. e ≡ NoMemory };
 
-    fn from(_error: steps::NoMemory) -> Self {
+    fn from(_error: memory::NoMemory) -> Self {
         Self::NoMemory
     }
 }

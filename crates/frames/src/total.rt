@@ -1,6 +1,7 @@
 //! How many clauses and literals stand.
 ghost use Rattle.std.specs.Prelude.{◌≡◌, ◌≤◌, ◌+◌, ◌^◌, ◌<◌};
-ghost use Rattle.frames.specs.Commands.{exceeds, max_literals};
+ghost use Rattle.frames.specs.Commands.{exceeds};
+ghost use Rattle.truth.specs.Limits.{max_literals};
 
 use crate::frames::Frames;
 

@@ -7,7 +7,7 @@ use Rattle.std.proofs.lemmas.List.{append-nil}
 use Rattle.std.proofs.lemmas.List.FromFn.{length-map-range_with_len, length-range_with_len}
 use Rattle.prefix.specs.Literal.{Literal}
 use Rattle.prefix.specs.Scopes.{AreDistinct, IsAscending, IsPrefix, all_variables, is_among}
-use Rattle.qdimacs.specs.Formed.{IsClauseOver, IsFormed}
+use Rattle.truth.specs.Formed.{IsClauseOver, IsFormed}
 use Rattle.qdimacs.proofs.Ascending.{below_all}
 use Rattle.generate.specs.Draws.{start_of}
 use Rattle.generate.specs.Made.{by_variable, clause_at, first_place, literals_drawn, made, put, scopes_over, second_place, third_place}

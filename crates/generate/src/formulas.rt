@@ -2,15 +2,15 @@
 ghost use Rattle.std.specs.Prelude.{◌≡◌, ◌∷◌, ◌++◌, [], ◌+◌, ◌≤◌, ◌<◌, length, IfOk, OnOk, IsOkUnless};
 ghost use Rattle.std.specs.List.{AllByRecursion};
 ghost use Rattle.prefix.specs.Scopes.{all_variables};
-ghost use Rattle.qdimacs.specs.Formed.{IsFormed};
+ghost use Rattle.truth.specs.Formed.{IsFormed};
 ghost use Rattle.generate.specs.Draws.{start_of};
 ghost use Rattle.generate.specs.Made.{clauses_from, made, scope_from, scopes_over};
 
 use crate::clause::draw_clause;
 use crate::draws::Draws;
+use memory::NoMemory;
 use prefix::{Prefix, PrefixRefusal, Quant};
 use std::alloc::{AllocError, Global};
-use steps::NoMemory;
 use truth::{ClauseList, Formula};
 
 /// The formula that SEED, a number of variables and a number of clauses stand for.

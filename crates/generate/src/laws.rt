@@ -3,7 +3,7 @@ ghost use Rattle.std.specs.Prelude.{◌≡◌, ◌≤◌, ℕ, List, length};
 ghost use Rattle.std.specs.List.{AllByRecursion, range_with_len};
 ghost use Rattle.prefix.specs.Literal.{Literal};
 ghost use Rattle.prefix.specs.Scopes.{IsPrefix, all_variables};
-ghost use Rattle.qdimacs.specs.Formed.{IsFormed};
+ghost use Rattle.truth.specs.Formed.{IsFormed};
 ghost use Rattle.generate.specs.Made.{made, scopes_over};
 
 /// A made formula is as one that was read is: its scopes are those of a prefix, which has each declared number as a

@@ -32,46 +32,63 @@ shape_of [] = Empty
 shape_of (b ∷ bs) = first_shape (b == 45) b bs
 
 abbrev pub scan_of : List ℕ → Scan
-scan_of w = record { text = take 16 w; is_long = nat_lt 16 (length w); is_bad = list_any (λ b. not (is_plain b)) w; shape = shape_of w }
+scan_of w = record {
+  text = take 16 w;
+  is_long = nat_lt 16 (length w);
+  is_bad = list_any (λ b. not (is_plain b)) w;
+  shape = shape_of w;
+}
 
 both : (a b : Bool) → (a && b) ≡ true → (a ≡ true) × (b ≡ true)
 both true b h = (refl, h)
 both false b h = cc
 
 digit_range : (b : ℕ) → is_digit b ≡ true → (48 ≤ b) × (b ≤ 57)
-digit_range b h = let parts : (nat_le 48 b ≡ true) × (nat_le b 57 ≡ true) = both (nat_le 48 b) (nat_le b 57) h in (leb-true 48 b parts.0, leb-true b 57 parts.1)
+digit_range b h = let parts : (nat_le 48 b ≡ true) × (nat_le b 57 ≡ true) = both (nat_le 48 b) (nat_le b 57) h in
+    (leb-true 48 b parts.0, leb-true b 57 parts.1)
 
 digit_is : (b : ℕ) → is_digit b ≡ true → digit_value b ≡ b - 48
 digit_is b h = let r : (48 ≤ b) × (b ≤ 57) = digit_range b h in omega (arith, digit_value_digit b r)
 
 -- one digit
-one_digit : (t : Bool) (negative : Bool) (b : ℕ) → is_digit b ≡ t → digits_shape negative (b ∷ []) ≡ digits_begun negative t (b - 48)
+one_digit : (t : Bool) (negative : Bool) (b : ℕ) → is_digit b ≡ t → digits_shape negative (b ∷ []) ≡ digits_begun
+    negative t (b - 48)
 one_digit true negative b h =
     let r : (48 ≤ b) × (b ≤ 57) = digit_range b h in
     let d : digit_value b ≡ b - 48 = digit_is b h in
     let v : capped (0 * 10 + digit_value b) ≡ b - 48 = omega (arith, d) in
-    ap (λ t. if t && true then Digits negative (capped (digits_value 10 (b ∷ []))) else NoNumber) h ∙ ap (λ n. Digits negative n) v
-one_digit false negative b h = ap (λ t. if t && true then Digits negative (capped (digits_value 10 (b ∷ []))) else NoNumber) h
+    ap (λ t. if t && true then Digits negative (capped (digits_value 10 (b ∷ []))) else NoNumber) h
+    ∙ ap (λ n. Digits negative n) v
+one_digit false negative b h =
+    ap (λ t. if t && true then Digits negative (capped (digits_value 10 (b ∷ []))) else NoNumber) h
 
 -- a further digit
 capped_step : (v d : ℕ) → capped (v * 10 + d) ≡ capped (capped (capped v * 10) + d)
 capped_step v d = omega arith
 
-more_digits : (t u : Bool) (negative : Bool) (ds : List ℕ) (b : ℕ) → list_all is_digit ds ≡ t → is_digit b ≡ u → digits_shape negative (ds ++ b ∷ []) ≡ shape_after (digits_shape negative ds) b
+more_digits : (t u : Bool) (negative : Bool) (ds : List ℕ) (b : ℕ) → list_all is_digit ds ≡ t → is_digit b ≡ u
+    → digits_shape negative (ds ++ b ∷ []) ≡ shape_after (digits_shape negative ds) b
 more_digits t u negative ds b e h =
-    let all : list_all is_digit (ds ++ b ∷ []) ≡ (t && (u && true)) = list_all-append is_digit ds (b ∷ []) ∙ ap (λ x. x && (is_digit b && true)) e ∙ ap (λ x. t && (x && true)) h in
+    let all : list_all is_digit (ds ++ b ∷ []) ≡ (t && (u && true)) = list_all-append is_digit ds (b ∷ [])
+    ∙ ap (λ x. x && (is_digit b && true)) e ∙ ap (λ x. t && (x && true)) h in
     ap (λ x. if x then Digits negative (capped (digits_value 10 (ds ++ b ∷ []))) else NoNumber) all
     ∙ more t u h
     ∙ ap (λ x. shape_after (if x then Digits negative (capped (digits_value 10 ds)) else NoNumber) b) (sym e)
   where
-    more : (t u : Bool) → is_digit b ≡ u → (if t && (u && true) then Digits negative (capped (digits_value 10 (ds ++ b ∷ []))) else NoNumber) ≡ shape_after (if t then Digits negative (capped (digits_value 10 ds)) else NoNumber) b
+    more : (t u : Bool) → is_digit b ≡ u
+        → (if t && (u && true) then Digits negative (capped (digits_value 10 (ds ++ b ∷ []))) else NoNumber) ≡
+        shape_after (if t then Digits negative (capped (digits_value 10 ds)) else NoNumber) b
     more true true h =
-        ap (λ n. Digits negative n) (ap capped (digits_value_push 10 ds b ∙ ap (λ d. digits_value 10 ds * 10 + d) (digit_is b h)) ∙ capped_step (digits_value 10 ds) (b - 48))
+        ap (λ n. Digits negative n)
+        (ap capped (digits_value_push 10 ds b ∙ ap (λ d. digits_value 10 ds * 10 + d) (digit_is b h))
+        ∙ capped_step (digits_value 10 ds) (b - 48))
         ∙ ap (λ x. digits_begun negative x (capped (capped (capped (digits_value 10 ds) * 10) + (b - 48)))) (sym h)
-    more true false h = ap (λ x. digits_begun negative x (capped (capped (capped (digits_value 10 ds) * 10) + (b - 48)))) (sym h)
+    more true false h =
+        ap (λ x. digits_begun negative x (capped (capped (capped (digits_value 10 ds) * 10) + (b - 48)))) (sym h)
     more false u h = refl
 
-shape_first : (t : Bool) (b : ℕ) → (b == 45) ≡ t → first_shape t b [] ≡ (if t then Minus else digits_begun false (is_digit b) (b - 48))
+shape_first : (t : Bool) (b : ℕ) → (b == 45) ≡ t → first_shape t b [] ≡
+    (if t then Minus else digits_begun false (is_digit b) (b - 48))
 shape_first true b e = refl
 shape_first false b e = one_digit (is_digit b) false b refl
 
@@ -89,11 +106,14 @@ text_step zero w b = refl
 text_step (suc n) [] b = refl
 text_step (suc n) (a ∷ w) b = ap (λ r. a ∷ r) (text_step n w b)
 
-long_step : (n : ℕ) (w : List ℕ) (b : ℕ) → nat_lt n (length (w ++ b ∷ [])) ≡ (nat_lt n (length w) || (length (take n w) == n))
+long_step : (n : ℕ) (w : List ℕ) (b : ℕ) → nat_lt n (length (w ++ b ∷ [])) ≡
+    (nat_lt n (length w) || (length (take n w) == n))
 long_step n w b = rw (length-append w (b ∷ []), length-take n w) (grind (arith, nat_tests))
 
-bad_step : (w : List ℕ) (b : ℕ) → list_any (λ b. not (is_plain b)) (w ++ b ∷ []) ≡ (list_any (λ b. not (is_plain b)) w || not (is_plain b))
-bad_step w b = list_any-append (λ b. not (is_plain b)) w (b ∷ []) ∙ ap (λ x. list_any (λ b. not (is_plain b)) w || x) (or_nil (not (is_plain b)))
+bad_step : (w : List ℕ) (b : ℕ) → list_any (λ b. not (is_plain b)) (w ++ b ∷ []) ≡
+    (list_any (λ b. not (is_plain b)) w || not (is_plain b))
+bad_step w b = list_any-append (λ b. not (is_plain b)) w (b ∷ []) ∙ ap (λ x. list_any (λ b. not (is_plain b)) w || x)
+    (or_nil (not (is_plain b)))
   where
     or_nil : (x : Bool) → (x || false) ≡ x
     or_nil true = refl
@@ -103,8 +123,10 @@ bad_step w b = list_any-append (λ b. not (is_plain b)) w (b ∷ []) ∙ ap (λ 
 pub scan_step : (w : List ℕ) (b : ℕ) → scan_of (w ++ b ∷ []) ≡ scan_after (scan_of w) b
 scan_step w b =
     let texts : take 16 (w ++ b ∷ []) ≡ take 16 (take 16 w ++ b ∷ []) = text_step 16 w b in
-    let longs : nat_lt 16 (length (w ++ b ∷ [])) ≡ (nat_lt 16 (length w) || (length (take 16 w) == 16)) = long_step 16 w b in
-    let bads : list_any (λ b. not (is_plain b)) (w ++ b ∷ []) ≡ (list_any (λ b. not (is_plain b)) w || not (is_plain b)) = bad_step w b in
+    let longs : nat_lt 16 (length (w ++ b ∷ [])) ≡ (nat_lt 16 (length w) || (length (take 16 w) == 16)) =
+    long_step 16 w b in
+    let bads : list_any (λ b. not (is_plain b)) (w ++ b ∷ []) ≡ (list_any (λ b. not (is_plain b)) w || not (is_plain b))
+    = bad_step w b in
     let shapes : shape_of (w ++ b ∷ []) ≡ shape_after (shape_of w) b = shape_step w b in
     rw (texts, longs, bads, shapes) refl
 
@@ -114,22 +136,28 @@ pub bytes_again : (w : List ℕ) → bytes_of (map byte w) ≡ w
 bytes_again [] = refl
 bytes_again (b ∷ w) = ap (λ r. b ∷ r) (bytes_again w)
 
-fault_or : (t : Bool) (n b : ℕ) (bs : List Seen) (rest : Bool) (o : Option Item) → fault_of n bs ≡ (if rest then Some (bad_byte n) else o)
+fault_or : (t : Bool) (n b : ℕ) (bs : List Seen) (rest : Bool) (o : Option Item)
+    → fault_of n bs ≡ (if rest then Some (bad_byte n) else o)
     → (if t then fault_of n bs else Some (bad_byte n)) ≡ (if not t || rest then Some (bad_byte n) else o)
 fault_or true n b bs rest o e = e
 fault_or false n b bs rest o e = refl
 
 -- the fault of a word, and of one that goes on beyond the limit
-pub fault_found : (n : ℕ) (w : List ℕ) → fault_of n (map byte w) ≡ (if list_any (λ b. not (is_plain b)) w then Some (bad_byte n) else None)
+pub fault_found : (n : ℕ) (w : List ℕ) → fault_of n (map byte w) ≡
+    (if list_any (λ b. not (is_plain b)) w then Some (bad_byte n) else None)
 fault_found n [] = refl
-fault_found n (b ∷ w) = fault_or (is_plain b) n b (map byte w) (list_any (λ b. not (is_plain b)) w) None (fault_found n w)
+fault_found n (b ∷ w) = fault_or (is_plain b) n b (map byte w) (list_any (λ b. not (is_plain b)) w) None
+    (fault_found n w)
 
-pub fault_beyond : (n : ℕ) (w : List ℕ) → fault_of n (map byte w ++ beyond ∷ []) ≡ (if list_any (λ b. not (is_plain b)) w then Some (bad_byte n) else Some (too_long n))
+pub fault_beyond : (n : ℕ) (w : List ℕ) → fault_of n (map byte w ++ beyond ∷ []) ≡
+    (if list_any (λ b. not (is_plain b)) w then Some (bad_byte n) else Some (too_long n))
 fault_beyond n [] = refl
-fault_beyond n (b ∷ w) = fault_or (is_plain b) n b (map byte w ++ beyond ∷ []) (list_any (λ b. not (is_plain b)) w) (Some (too_long n)) (fault_beyond n w)
+fault_beyond n (b ∷ w) = fault_or (is_plain b) n b (map byte w ++ beyond ∷ []) (list_any (λ b. not (is_plain b)) w)
+    (Some (too_long n)) (fault_beyond n w)
 
 -- a text
-text_whole : (w : List ℕ) (t : Bool) → nat_le (length w) 16 ≡ t → (if t then Text w else Other) ≡ (if not t then Other else Text (take 16 w))
+text_whole : (w : List ℕ) (t : Bool) → nat_le (length w) 16 ≡ t → (if t then Text w else Other) ≡
+    (if not t then Other else Text (take 16 w))
 text_whole w true e = ap Text (sym (take_all 16 w (leb-true (length w) 16 e)))
   where
     take_all : (n : ℕ) (w : List ℕ) → length w ≤ n → take n w ≡ w
@@ -149,22 +177,28 @@ as_text n w = ap (λ v. word (record { word = v; line = n })) (text_kept w)
 
 -- a number
 abbrev value_or : ℕ → Bool → ℕ → Item
-value_or n positive v = if nat_le v (2 ^ 63 - 1) then word (record { word = Num (signed positive v); line = n }) else number_range n
+value_or n positive v = if nat_le v (2 ^ 63 - 1) then word (record { word = Num (signed positive v); line = n }) else
+    number_range n
 
-value_capped : (t : Bool) (n : ℕ) (positive : Bool) (v : ℕ) → nat_le v (2 ^ 63 - 1) ≡ t → value_or n positive v ≡ value_or n positive (capped v)
-value_capped true n positive v e = let same : capped v ≡ v = (let le : v ≤ 2 ^ 63 - 1 = leb-true v (2 ^ 63 - 1) e in omega arith) in rw same refl
+value_capped : (t : Bool) (n : ℕ) (positive : Bool) (v : ℕ) → nat_le v (2 ^ 63 - 1) ≡ t
+    → value_or n positive v ≡ value_or n positive (capped v)
+value_capped true n positive v e = let same : capped v ≡ v =
+    (let le : v ≤ 2 ^ 63 - 1 = leb-true v (2 ^ 63 - 1) e in omega arith) in rw same refl
 value_capped false n positive v e =
     let lt : 2 ^ 63 - 1 < v = leb-false v (2 ^ 63 - 1) e in
-    let off : nat_le (capped v) (2 ^ 63 - 1) ≡ false = (let le : 2 ^ 63 - 1 < capped v = omega arith in grind (arith, nat_tests)) in
+    let off : nat_le (capped v) (2 ^ 63 - 1) ≡ false =
+    (let le : 2 ^ 63 - 1 < capped v = omega arith in grind (arith, nat_tests)) in
     rw (e, off) refl
 
 positive_number : (t : Bool) (n : ℕ) (w : List ℕ) → list_all is_digit w ≡ t
-    → classified n w (if t then Some (true, digits_value 10 w) else None) ≡ scanned_shape n (scan_of w) (if t then Digits false (capped (digits_value 10 w)) else NoNumber)
+    → classified n w (if t then Some (true, digits_value 10 w) else None) ≡ scanned_shape n (scan_of w)
+    (if t then Digits false (capped (digits_value 10 w)) else NoNumber)
 positive_number true n w e = value_capped (nat_le (digits_value 10 w) (2 ^ 63 - 1)) n true (digits_value 10 w) refl
 positive_number false n w e = as_text n w
 
 negative_value : (z : Bool) (n v : ℕ) (w : List ℕ) → (v == 0) ≡ z
-    → classified n w (if not z then Some (false, v) else None) ≡ (if z then scanned_text n (scan_of w) else scanned_number n true (capped v))
+    → classified n w (if not z then Some (false, v) else None) ≡
+    (if z then scanned_text n (scan_of w) else scanned_number n true (capped v))
 negative_value true n v w e = as_text n w
 negative_value false n v w e = value_capped (nat_le v (2 ^ 63 - 1)) n false v refl
 
@@ -175,7 +209,8 @@ positive_test : (v : ℕ) → nat_lt 0 v ≡ not (v == 0)
 positive_test v = grind (arith, nat_tests)
 
 negative_number : (t : Bool) (n v : ℕ) (w : List ℕ)
-    → classified n w (if t && nat_lt 0 v then Some (false, v) else None) ≡ scanned_shape n (scan_of w) (if t then Digits true (capped v) else NoNumber)
+    → classified n w (if t && nat_lt 0 v then Some (false, v) else None) ≡ scanned_shape n (scan_of w)
+    (if t then Digits true (capped v) else NoNumber)
 negative_number true n v w =
     ap (λ x. classified n w (if x then Some (false, v) else None)) (positive_test v)
     ∙ negative_value (v == 0) n v w refl
@@ -198,22 +233,35 @@ number_by p m v u = if p then Some (true, v) else if m then Some (false, u) else
 no_digits : (b : ℕ) (w : List ℕ) → (b == 45) ≡ true → are_digits (b ∷ w) ≡ false
 no_digits b w e = are_digits_is b w ∙ ap (λ x. x && list_all is_digit w) (minus_no_digit b e)
 
-classified_is : (m : Bool) (n b : ℕ) (w : List ℕ) → (b == 45) ≡ m → classified n (b ∷ w) (number_of (b ∷ w)) ≡ scanned_shape n (scan_of (b ∷ w)) (first_shape m b w)
+classified_is : (m : Bool) (n b : ℕ) (w : List ℕ) → (b == 45) ≡ m → classified n (b ∷ w)
+    (number_of (b ∷ w)) ≡ scanned_shape n (scan_of (b ∷ w)) (first_shape m b w)
 classified_is true n b [] e =
-    ap (λ p. classified n (b ∷ []) (number_by p ((b == 45) && are_digits [] && nat_lt 0 (digits_value 10 [])) (digits_value 10 (b ∷ [])) (digits_value 10 []))) (no_digits b [] e)
-    ∙ ap (λ m. classified n (b ∷ []) (number_by false (m && are_digits [] && nat_lt 0 (digits_value 10 [])) (digits_value 10 (b ∷ [])) (digits_value 10 []))) e
+    ap (λ p. classified n (b ∷ []) (number_by p ((b == 45) && are_digits [] && nat_lt 0 (digits_value 10 []))
+    (digits_value 10 (b ∷ [])) (digits_value 10 []))) (no_digits b [] e)
+    ∙ ap (λ m. classified n (b ∷ []) (number_by false (m && are_digits [] && nat_lt 0 (digits_value 10 []))
+    (digits_value 10 (b ∷ [])) (digits_value 10 []))) e
     ∙ as_text n (b ∷ [])
 classified_is true n b (d ∷ ds) e =
-    ap (λ p. classified n (b ∷ d ∷ ds) (number_by p ((b == 45) && are_digits (d ∷ ds) && nat_lt 0 (digits_value 10 (d ∷ ds))) (digits_value 10 (b ∷ d ∷ ds)) (digits_value 10 (d ∷ ds)))) (no_digits b (d ∷ ds) e)
-    ∙ ap (λ m. classified n (b ∷ d ∷ ds) (number_by false (m && are_digits (d ∷ ds) && nat_lt 0 (digits_value 10 (d ∷ ds))) (digits_value 10 (b ∷ d ∷ ds)) (digits_value 10 (d ∷ ds)))) e
-    ∙ ap (λ q. classified n (b ∷ d ∷ ds) (number_by false (q && nat_lt 0 (digits_value 10 (d ∷ ds))) (digits_value 10 (b ∷ d ∷ ds)) (digits_value 10 (d ∷ ds)))) (are_digits_is d ds)
+    ap (λ p. classified n (b ∷ d ∷ ds)
+    (number_by p ((b == 45) && are_digits (d ∷ ds) && nat_lt 0 (digits_value 10 (d ∷ ds)))
+    (digits_value 10 (b ∷ d ∷ ds)) (digits_value 10 (d ∷ ds)))) (no_digits b (d ∷ ds) e)
+    ∙ ap (λ m. classified n (b ∷ d ∷ ds)
+    (number_by false (m && are_digits (d ∷ ds) && nat_lt 0 (digits_value 10 (d ∷ ds)))
+    (digits_value 10 (b ∷ d ∷ ds)) (digits_value 10 (d ∷ ds)))) e
+    ∙ ap (λ q. classified n (b ∷ d ∷ ds)
+    (number_by false (q && nat_lt 0 (digits_value 10 (d ∷ ds))) (digits_value 10 (b ∷ d ∷ ds))
+    (digits_value 10 (d ∷ ds)))) (are_digits_is d ds)
     ∙ negative_number (list_all is_digit (d ∷ ds)) n (digits_value 10 (d ∷ ds)) (b ∷ d ∷ ds)
 classified_is false n b w e =
-    ap (λ p. classified n (b ∷ w) (number_by p ((b == 45) && are_digits w && nat_lt 0 (digits_value 10 w)) (digits_value 10 (b ∷ w)) (digits_value 10 w))) (are_digits_is b w)
-    ∙ ap (λ m. classified n (b ∷ w) (number_by (list_all is_digit (b ∷ w)) (m && are_digits w && nat_lt 0 (digits_value 10 w)) (digits_value 10 (b ∷ w)) (digits_value 10 w))) e
+    ap (λ p. classified n (b ∷ w) (number_by p ((b == 45) && are_digits w && nat_lt 0 (digits_value 10 w))
+    (digits_value 10 (b ∷ w)) (digits_value 10 w))) (are_digits_is b w)
+    ∙ ap (λ m. classified n (b ∷ w)
+    (number_by (list_all is_digit (b ∷ w)) (m && are_digits w && nat_lt 0 (digits_value 10 w))
+    (digits_value 10 (b ∷ w)) (digits_value 10 w))) e
     ∙ positive_number (list_all is_digit (b ∷ w)) n (b ∷ w) refl
 
-item_or : (t : Bool) (n : ℕ) (item : Item) → unwrap_or (if t then Some (bad_byte n) else None) item ≡ (if t then bad_byte n else item)
+item_or : (t : Bool) (n : ℕ) (item : Item) → unwrap_or (if t then Some (bad_byte n) else None) item ≡
+    (if t then bad_byte n else item)
 item_or true n item = refl
 item_or false n item = refl
 
@@ -223,17 +271,23 @@ item_scanned n b w =
     ap (λ bytes. unwrap_or (fault_of n (map byte (b ∷ w))) (classified n bytes (number_of bytes))) (bytes_again (b ∷ w))
     ∙ ap (λ fault. unwrap_or fault (classified n (b ∷ w) (number_of (b ∷ w)))) (fault_found n (b ∷ w))
     ∙ item_or (list_any (λ b. not (is_plain b)) (b ∷ w)) n (classified n (b ∷ w) (number_of (b ∷ w)))
-    ∙ ap (λ item. if list_any (λ b. not (is_plain b)) (b ∷ w) then bad_byte n else item) (classified_is (b == 45) n b w refl)
+    ∙ ap (λ item. if list_any (λ b. not (is_plain b)) (b ∷ w) then bad_byte n else item)
+    (classified_is (b == 45) n b w refl)
 
-cut_or : (t : Bool) (n : ℕ) (item : Item) → unwrap_or (if t then Some (bad_byte n) else Some (too_long n)) item ≡ (if t then bad_byte n else too_long n)
+cut_or : (t : Bool) (n : ℕ) (item : Item) → unwrap_or (if t then Some (bad_byte n) else Some (too_long n)) item ≡
+    (if t then bad_byte n else too_long n)
 cut_or true n item = refl
 cut_or false n item = refl
 
 -- the item of a word that goes on beyond the limit
-pub item_cut : (n : ℕ) (w : List ℕ) → item_of n (map byte w ++ beyond ∷ []) ≡ (if (scan_of w).is_bad then bad_byte n else too_long n)
+pub item_cut : (n : ℕ) (w : List ℕ) → item_of n (map byte w ++ beyond ∷ []) ≡
+    (if (scan_of w).is_bad then bad_byte n else too_long n)
 item_cut n w =
-    ap (λ fault. unwrap_or fault (classified n (bytes_of (map byte w ++ beyond ∷ [])) (number_of (bytes_of (map byte w ++ beyond ∷ []))))) (fault_beyond n w)
-    ∙ cut_or (list_any (λ b. not (is_plain b)) w) n (classified n (bytes_of (map byte w ++ beyond ∷ [])) (number_of (bytes_of (map byte w ++ beyond ∷ []))))
+    ap (λ fault. unwrap_or fault
+    (classified n (bytes_of (map byte w ++ beyond ∷ [])) (number_of (bytes_of (map byte w ++ beyond ∷ [])))))
+    (fault_beyond n w)
+    ∙ cut_or (list_any (λ b. not (is_plain b)) w) n
+    (classified n (bytes_of (map byte w ++ beyond ∷ [])) (number_of (bytes_of (map byte w ++ beyond ∷ []))))
 
 -- whether it begins a comment
 pub begins_kept : (c : Comments) (w : List ℕ) → begins_comment c (map byte w) ≡ begins_comment c (map byte (take 16 w))
@@ -245,7 +299,8 @@ begins_kept Script (b ∷ d ∷ w) = refl
 begins_kept Hash [] = refl
 begins_kept Hash (b ∷ w) = refl
 
-pub begins_cut_kept : (c : Comments) (w : List ℕ) → begins_comment c (map byte w ++ beyond ∷ []) ≡ begins_comment c (map byte (take 16 w) ++ beyond ∷ [])
+pub begins_cut_kept : (c : Comments) (w : List ℕ) → begins_comment c (map byte w ++ beyond ∷ []) ≡ begins_comment c
+    (map byte (take 16 w) ++ beyond ∷ [])
 begins_cut_kept Dimacs [] = refl
 begins_cut_kept Dimacs (b ∷ w) = refl
 begins_cut_kept Script [] = refl

@@ -23,9 +23,11 @@ abbrev pub IsWhole : (Seen → Bool) → List Seen → Type 0
 IsWhole parts [] = Unit {0}
 IsWhole parts (b ∷ w) = (parts b ≡ false) × IsWhole parts w
 
-pub pieces_glue : (parts : Seen → Bool) (w x : List Seen) → IsWhole parts w → pieces parts (w ++ x) ≡ glue w (pieces parts x)
+pub pieces_glue : (parts : Seen → Bool) (w x : List Seen) → IsWhole parts w → pieces parts (w ++ x) ≡ glue w
+    (pieces parts x)
 pieces_glue parts [] x h = refl
-pieces_glue parts (b ∷ w) x h = ap (λ t. with_front t b (pieces parts (w ++ x))) h.0 ∙ ap (with_front false b) (pieces_glue parts w x h.1)
+pieces_glue parts (b ∷ w) x h = ap (λ t. with_front t b (pieces parts (w ++ x))) h.0 ∙ ap (with_front false b)
+    (pieces_glue parts w x h.1)
 
 -- a word has no line end
 or_false : (a b : Bool) → (a || b) ≡ false → b ≡ false
@@ -70,8 +72,10 @@ EndsWord (byte b ∷ x) = is_blank b ≡ true
 EndsWord (beyond ∷ x) = ⊥
 
 -- the words of a line that begins with a word
-pub words_first : (a : Seen) (w l : List Seen) → IsWhole parts_words (a ∷ w) → EndsWord l → words_of ((a ∷ w) ++ l) ≡ (a ∷ w) ∷ words_of l
-words_first a w [] h e = ap (filter is_some_word) (pieces_glue parts_words (a ∷ w) [] h ∙ glue_cons (a ∷ w) [] []) ∙ ap (λ v. v ∷ []) (append-nil (a ∷ w))
+pub words_first : (a : Seen) (w l : List Seen) → IsWhole parts_words (a ∷ w) → EndsWord l → words_of ((a ∷ w) ++ l) ≡
+    (a ∷ w) ∷ words_of l
+words_first a w [] h e = ap (filter is_some_word) (pieces_glue parts_words (a ∷ w) [] h ∙ glue_cons (a ∷ w) [] [])
+    ∙ ap (λ v. v ∷ []) (append-nil (a ∷ w))
 words_first a w (byte b ∷ l) h e =
     ap (filter is_some_word) (pieces_glue parts_words (a ∷ w) (byte b ∷ l) h
     ∙ ap (λ t. glue (a ∷ w) (with_front t (byte b) (pieces parts_words l))) e
@@ -96,7 +100,8 @@ script_ends [] e = tt
 script_ends (byte b ∷ x) e = e
 script_ends (beyond ∷ x) e = absurd e
 
-choose : (h m : Bool) (b : ℕ) (rest : List Seen) → (is_blank b || (m || h)) ≡ true → EndsWord (if h then [] else if m then byte 32 ∷ byte b ∷ byte 32 ∷ rest else byte b ∷ rest)
+choose : (h m : Bool) (b : ℕ) (rest : List Seen) → (is_blank b || (m || h)) ≡ true
+    → EndsWord (if h then [] else if m then byte 32 ∷ byte b ∷ byte 32 ∷ rest else byte b ∷ rest)
 choose true m b rest e = tt
 choose false true b rest e = refl
 choose false false b rest e = sym (or_none (is_blank b)) ∙ e
@@ -110,7 +115,8 @@ spaced_ends [] e = tt
 spaced_ends (byte b ∷ x) e = choose (b == 35) (is_mark b) b (spaced x) e
 spaced_ends (beyond ∷ x) e = absurd e
 
-go_on : (h m : Bool) (b : ℕ) (rest : List Seen) → (is_blank b || (m || h)) ≡ false → (if h then [] else if m then byte 32 ∷ byte b ∷ byte 32 ∷ rest else byte b ∷ rest) ≡ byte b ∷ rest
+go_on : (h m : Bool) (b : ℕ) (rest : List Seen) → (is_blank b || (m || h)) ≡ false
+    → (if h then [] else if m then byte 32 ∷ byte b ∷ byte 32 ∷ rest else byte b ∷ rest) ≡ byte b ∷ rest
 go_on true m b rest e = absurd (none (is_blank b) m e)
   where
     none : (t m : Bool) → (t || (m || true)) ≡ false → ⊥
@@ -127,13 +133,16 @@ go_on false false b rest e = refl
 -- a word stays as it is in a line that is laid out
 pub spaced_word : (w x : List Seen) → IsWhole (parts_at Hash) w → spaced (w ++ x) ≡ w ++ spaced x
 spaced_word [] x h = refl
-spaced_word (byte b ∷ w) x h = go_on (b == 35) (is_mark b) b (spaced (w ++ x)) h.0 ∙ ap (λ r. byte b ∷ r) (spaced_word w x h.1)
+spaced_word (byte b ∷ w) x h = go_on (b == 35) (is_mark b) b (spaced (w ++ x)) h.0 ∙ ap (λ r. byte b ∷ r)
+    (spaced_word w x h.1)
 spaced_word (beyond ∷ w) x h = ap (λ r. beyond ∷ r) (spaced_word w x h.1)
 
-pub laid_first : (c : Comments) (a : Seen) (w l : List Seen) → IsWhole (parts_at c) (a ∷ w) → EndsAt c l → words_of (laid_out c ((a ∷ w) ++ l)) ≡ (a ∷ w) ∷ words_of (laid_out c l)
+pub laid_first : (c : Comments) (a : Seen) (w l : List Seen) → IsWhole (parts_at c) (a ∷ w) → EndsAt c l
+    → words_of (laid_out c ((a ∷ w) ++ l)) ≡ (a ∷ w) ∷ words_of (laid_out c l)
 laid_first Dimacs a w l h e = words_first a w l (in_words Dimacs (a ∷ w) h) (plain_ends l e)
 laid_first Script a w l h e = words_first a w l (in_words Script (a ∷ w) h) (script_ends l e)
-laid_first Hash a w l h e = ap words_of (spaced_word (a ∷ w) l h) ∙ words_first a w (spaced l) (in_words Hash (a ∷ w) h) (spaced_ends l e)
+laid_first Hash a w l h e = ap words_of (spaced_word (a ∷ w) l h) ∙ words_first a w (spaced l) (in_words Hash (a ∷ w) h)
+    (spaced_ends l e)
 
 not_whole : (c : Comments) (ws : List (List Seen)) → outside_comment c false ws ≡ ws
 not_whole c [] = refl
@@ -143,28 +152,40 @@ not_whole c (w ∷ ws) = refl
 abbrev pub behind : Bool → Comments → ℕ → List Seen → List (List Seen) → List Item
 behind t c n w ls = if t then items_of_lines c true (n + 1) (drop 1 ls) else item_of n w ∷ items_of_lines c false n ls
 
-pub chosen : (t : Bool) (c : Comments) (n : ℕ) (w l : List Seen) (ls : List (List Seen)) → map (item_of n) (if t then [] else w ∷ words_of (laid_out c l)) ++ items_of_lines c true (n + 1) ls ≡ behind t c n w (l ∷ ls)
+pub chosen : (t : Bool) (c : Comments) (n : ℕ) (w l : List Seen) (ls : List (List Seen))
+    → map (item_of n) (if t then [] else w ∷ words_of (laid_out c l)) ++ items_of_lines c true (n + 1) ls ≡ behind t c n
+    w (l ∷ ls)
 chosen true c n w l ls = refl
-chosen false c n w l ls = ap (λ ws. item_of n w ∷ (map (item_of n) ws ++ items_of_lines c true (n + 1) ls)) (sym (not_whole c (words_of (laid_out c l))))
+chosen false c n w l ls = ap (λ ws. item_of n w ∷ (map (item_of n) ws ++ items_of_lines c true (n + 1) ls))
+    (sym (not_whole c (words_of (laid_out c l))))
 
-line_of_word : (c : Comments) (fresh : Bool) (n : ℕ) (a : Seen) (w l : List Seen) (ls : List (List Seen)) → IsWhole (parts_at c) (a ∷ w) → EndsAt c l
+line_of_word : (c : Comments) (fresh : Bool) (n : ℕ) (a : Seen) (w l : List Seen) (ls : List (List Seen))
+    → IsWhole (parts_at c) (a ∷ w) → EndsAt c l
     → items_of_lines c fresh n (glue (a ∷ w) (l ∷ ls)) ≡ behind (fresh && begins_comment c (a ∷ w)) c n (a ∷ w) (l ∷ ls)
 line_of_word c fresh n a w l ls h e =
     ap (items_of_lines c fresh n) (glue_cons (a ∷ w) l ls)
-    ∙ ap (λ ws. map (item_of n) (outside_comment c fresh ws) ++ items_of_lines c true (n + 1) ls) (laid_first c a w l h e)
+    ∙ ap (λ ws. map (item_of n) (outside_comment c fresh ws) ++ items_of_lines c true (n + 1) ls)
+    (laid_first c a w l h e)
     ∙ chosen (fresh && begins_comment c (a ∷ w)) c n (a ∷ w) l ls
 
 -- the items of a text that begins with a word
-lines_behind : (t : Bool) (c : Comments) (fresh : Bool) (n : ℕ) (a : Seen) (w : List Seen) (b : ℕ) (ls : List (List Seen)) → IsWhole (parts_at c) (a ∷ w) → ends_word c b ≡ true
-    → items_of_lines c fresh n (glue (a ∷ w) (with_front t (byte b) ls)) ≡ behind (fresh && begins_comment c (a ∷ w)) c n (a ∷ w) (with_front t (byte b) ls)
+lines_behind : (t : Bool) (c : Comments) (fresh : Bool) (n : ℕ) (a : Seen) (w : List Seen) (b : ℕ)
+    (ls : List (List Seen)) → IsWhole (parts_at c) (a ∷ w) → ends_word c b ≡ true
+    → items_of_lines c fresh n (glue (a ∷ w) (with_front t (byte b) ls)) ≡ behind (fresh && begins_comment c (a ∷ w)) c
+    n (a ∷ w) (with_front t (byte b) ls)
 lines_behind true c fresh n a w b ls h e = line_of_word c fresh n a w [] ls h tt
 lines_behind false c fresh n a w b [] h e = line_of_word c fresh n a w (byte b ∷ []) [] h e
 lines_behind false c fresh n a w b (l ∷ ls) h e = line_of_word c fresh n a w (byte b ∷ l) ls h e
 
-pub word_first : (c : Comments) (fresh : Bool) (n : ℕ) (a : Seen) (w x : List Seen) → IsWhole (parts_at c) (a ∷ w) → EndsAt c x
-    → items_of_lines c fresh n (lines_of ((a ∷ w) ++ x)) ≡ behind (fresh && begins_comment c (a ∷ w)) c n (a ∷ w) (lines_of x)
-word_first c fresh n a w [] h e = ap (items_of_lines c fresh n) (pieces_glue parts_lines (a ∷ w) [] (in_line c (a ∷ w) h)) ∙ line_of_word c fresh n a w [] [] h tt
-word_first c fresh n a w (byte b ∷ x) h e = ap (items_of_lines c fresh n) (pieces_glue parts_lines (a ∷ w) (byte b ∷ x) (in_line c (a ∷ w) h)) ∙ lines_behind (is_line_end b) c fresh n a w b (lines_of x) h e
+pub word_first : (c : Comments) (fresh : Bool) (n : ℕ) (a : Seen) (w x : List Seen) → IsWhole (parts_at c) (a ∷ w)
+    → EndsAt c x
+    → items_of_lines c fresh n (lines_of ((a ∷ w) ++ x)) ≡ behind (fresh && begins_comment c (a ∷ w)) c n (a ∷ w)
+    (lines_of x)
+word_first c fresh n a w [] h e = ap (items_of_lines c fresh n)
+    (pieces_glue parts_lines (a ∷ w) [] (in_line c (a ∷ w) h)) ∙ line_of_word c fresh n a w [] [] h tt
+word_first c fresh n a w (byte b ∷ x) h e = ap (items_of_lines c fresh n)
+    (pieces_glue parts_lines (a ∷ w) (byte b ∷ x) (in_line c (a ∷ w) h)) ∙ lines_behind (is_line_end b) c fresh n a w b
+    (lines_of x) h e
 word_first c fresh n a w (beyond ∷ x) h e = absurd e
 
 -- a word of one byte
@@ -178,7 +199,8 @@ mark_apart b e = (grind (arith, nat_tests, e), grind (arith, nat_tests, e), grin
 mark_spaced : (b : ℕ) (l : List Seen) → is_mark b ≡ true → spaced (byte b ∷ l) ≡ byte 32 ∷ byte b ∷ byte 32 ∷ spaced l
 mark_spaced b l e = let other : (b == 35) ≡ false = (mark_apart b e).0 in rw (other, e) refl
 
-mark_words : (b : ℕ) (l : List Seen) → is_mark b ≡ true → words_of (spaced (byte b ∷ l)) ≡ (byte b ∷ []) ∷ words_of (spaced l)
+mark_words : (b : ℕ) (l : List Seen) → is_mark b ≡ true → words_of (spaced (byte b ∷ l)) ≡ (byte b ∷ []) ∷ words_of
+    (spaced l)
 mark_words b l e =
     ap words_of (mark_spaced b l e)
     ∙ words_behind_blank 32 (byte b ∷ byte 32 ∷ spaced l) refl
@@ -189,16 +211,19 @@ mark_line : (fresh : Bool) (n b : ℕ) (l : List Seen) (ls : List (List Seen)) �
     → items_of_lines Hash fresh n ((byte b ∷ l) ∷ ls) ≡ item_of n (byte b ∷ []) ∷ items_of_lines Hash false n (l ∷ ls)
 mark_line fresh n b l ls e =
     ap (λ ws. map (item_of n) (outside_comment Hash fresh ws) ++ items_of_lines Hash true (n + 1) ls) (mark_words b l e)
-    ∙ ap (λ t. map (item_of n) (if t then [] else (byte b ∷ []) ∷ words_of (spaced l)) ++ items_of_lines Hash true (n + 1) ls) (and_false fresh)
+    ∙ ap (λ t. map (item_of n) (if t then [] else (byte b ∷ []) ∷ words_of (spaced l)) ++ items_of_lines Hash true
+    (n + 1) ls) (and_false fresh)
     ∙ chosen false Hash n (byte b ∷ []) l ls
 
 pub mark_first : (fresh : Bool) (n b : ℕ) (ls : List (List Seen)) → is_mark b ≡ true
-    → items_of_lines Hash fresh n (with_front false (byte b) ls) ≡ item_of n (byte b ∷ []) ∷ items_of_lines Hash false n ls
+    → items_of_lines Hash fresh n (with_front false (byte b) ls) ≡ item_of n (byte b ∷ []) ∷ items_of_lines Hash false n
+    ls
 mark_first fresh n b [] e = mark_line fresh n b [] [] e
 mark_first fresh n b (l ∷ ls) e = mark_line fresh n b l ls e
 
 -- what stands behind # is comment
-pub hash_first : (fresh : Bool) (n : ℕ) (ls : List (List Seen)) → items_of_lines Hash fresh n (with_front false (byte 35) ls) ≡ items_of_lines Hash true (n + 1) (drop 1 ls)
+pub hash_first : (fresh : Bool) (n : ℕ) (ls : List (List Seen)) → items_of_lines Hash fresh n
+    (with_front false (byte 35) ls) ≡ items_of_lines Hash true (n + 1) (drop 1 ls)
 hash_first fresh n [] = refl
 hash_first fresh n (l ∷ ls) = refl
 

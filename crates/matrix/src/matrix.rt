@@ -2,10 +2,10 @@
 ghost use Rattle.std.specs.Prelude.{◌≡◌, ◌++◌, OnOk, OnErr};
 ghost use Rattle.std.specs.List.{flat_map};
 
+use memory::NoMemory;
 use prefix::LitList;
 use std::alloc::Global;
 use std::marker::Model;
-use steps::NoMemory;
 
 /// The clauses of a formula that stand in several lists, its parts, which it only lends. Contracts see the clauses of
 /// all parts, one part behind the other.

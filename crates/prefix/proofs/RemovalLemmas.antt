@@ -32,7 +32,8 @@ module _ (v x : ℕ) (xs : List ℕ) where
 among_by : (w v x : ℕ) (b c : Bool) → c ≡ (not (w == v) && b) → (x == v) ≡ true → c ≡ (not (w == v) && (x == w || b))
 among_by w v x b c h e = grind (arith, nat_tests)
 
-among_by_other : (w v x : ℕ) (b c : Bool) → c ≡ (not (w == v) && b) → (x == v) ≡ false → (x == w || c) ≡ (not (w == v) && (x == w || b))
+among_by_other : (w v x : ℕ) (b c : Bool) → c ≡ (not (w == v) && b) → (x == v) ≡ false
+    → (x == w || c) ≡ (not (w == v) && (x == w || b))
 among_by_other w v x b c h e = grind (arith, nat_tests)
 
 pub among_rest : (w v : ℕ) (xs : List ℕ) → is_among w (rest v xs) ≡ (not (w == v) && is_among w xs)
@@ -43,20 +44,25 @@ among_rest w v [] = none (not (w == v))
     none false = refl
 among_rest w v (x ∷ xs) =
     ⊎_elim
-    (λ t. ap (is_among w) (rest_here v x xs t) ∙ among_by w v x (is_among w xs) (is_among w (rest v xs)) (among_rest w v xs) t)
-    (λ f. ap (is_among w) (rest_past v x xs f) ∙ among_by_other w v x (is_among w xs) (is_among w (rest v xs)) (among_rest w v xs) f)
+    (λ t. ap (is_among w) (rest_here v x xs t) ∙ among_by w v x (is_among w xs) (is_among w (rest v xs))
+    (among_rest w v xs) t)
+    (λ f. ap (is_among w) (rest_past v x xs f) ∙ among_by_other w v x (is_among w xs) (is_among w (rest v xs))
+    (among_rest w v xs) f)
     (cases_Bool (x == v))
 
 -- the levels of the others stay
-pub level-without : (ss : List Scope) (v w : ℕ) → level_of (without_variable v ss) w ≡ cond (w == v) None (level_of ss w)
+pub level-without : (ss : List Scope) (v w : ℕ) → level_of (without_variable v ss) w ≡ cond (w == v) None
+    (level_of ss w)
 level-without [] v w = none (w == v)
   where
     none : (b : Bool) → ◌≡◌ {A = Option ℕ} None (cond b None None)
     none true = refl
     none false = refl
-level-without (s ∷ ss) v w = rw (among_rest w v s.variables, level-without ss v w) (both (w == v) (is_among w s.variables) (level_of ss w))
+level-without (s ∷ ss) v w = rw (among_rest w v s.variables, level-without ss v w)
+    (both (w == v) (is_among w s.variables) (level_of ss w))
   where
-    both : (e b : Bool) (o : Option ℕ) → cond (not e && b) (Some 1) (option_map (λ n. n + 1) (cond e None o)) ≡ cond e None (cond b (Some 1) (option_map (λ n. n + 1) o))
+    both : (e b : Bool) (o : Option ℕ) → cond (not e && b) (Some 1) (option_map (λ n. n + 1) (cond e None o)) ≡ cond e
+        None (cond b (Some 1) (option_map (λ n. n + 1) o))
     both true b o = refl
     both false b o = refl
 
@@ -65,12 +71,15 @@ rest-append v [] ys = refl
 rest-append v (x ∷ xs) ys =
     ⊎_elim
     (λ t. rest_here v x (xs ++ ys) t ∙ (rest-append v xs ys ∙ ap (λ zs. zs ++ rest v ys) (sym (rest_here v x xs t))))
-    (λ f. rest_past v x (xs ++ ys) f ∙ (ap (λ zs. x ∷ zs) (rest-append v xs ys) ∙ ap (λ zs. zs ++ rest v ys) (sym (rest_past v x xs f))))
+    (λ f. rest_past v x (xs ++ ys) f
+    ∙ (ap (λ zs. x ∷ zs) (rest-append v xs ys) ∙ ap (λ zs. zs ++ rest v ys) (sym (rest_past v x xs f))))
     (cases_Bool (x == v))
 
-pub all_variables-without : (ss : List Scope) (v : ℕ) → all_variables (without_variable v ss) ≡ rest v (all_variables ss)
+pub all_variables-without : (ss : List Scope) (v : ℕ) → all_variables (without_variable v ss) ≡ rest v
+    (all_variables ss)
 all_variables-without [] v = refl
-all_variables-without (s ∷ ss) v = ap (λ zs. rest v s.variables ++ zs) (all_variables-without ss v) ∙ sym (rest-append v s.variables (all_variables ss))
+all_variables-without (s ∷ ss) v = ap (λ zs. rest v s.variables ++ zs) (all_variables-without ss v)
+    ∙ sym (rest-append v s.variables (all_variables ss))
 
 rest_absent : (v : ℕ) (xs : List ℕ) → is_among v xs ≡ false → rest v xs ≡ xs
 rest_absent v [] h = refl
@@ -125,26 +134,32 @@ length_rest v (x ∷ xs) d h =
 all_rest : (P : ℕ → Type 0) (v : ℕ) (xs : List ℕ) → AllByRecursion P xs → AllByRecursion P (rest v xs)
 all_rest P v [] a = tt
 all_rest P v (x ∷ xs) a =
-    ⊎_elim (λ t. rw (rest_here v x xs t) (all_rest P v xs a.1)) (λ f. rw (rest_past v x xs f) (a.0, all_rest P v xs a.1)) (cases_Bool (x == v))
+    ⊎_elim (λ t. rw (rest_here v x xs t) (all_rest P v xs a.1))
+    (λ f. rw (rest_past v x xs f) (a.0, all_rest P v xs a.1)) (cases_Bool (x == v))
 
 ascending_rest : (v : ℕ) (xs : List ℕ) → IsAscending xs → IsAscending (rest v xs)
 ascending_rest v [] a = tt
 ascending_rest v (x ∷ xs) a =
-    ⊎_elim (λ t. rw (rest_here v x xs t) (ascending_rest v xs a.1)) (λ f. rw (rest_past v x xs f) (all_rest (λ y. x < y) v xs a.0, ascending_rest v xs a.1)) (cases_Bool (x == v))
+    ⊎_elim (λ t. rw (rest_here v x xs t) (ascending_rest v xs a.1))
+    (λ f. rw (rest_past v x xs f) (all_rest (λ y. x < y) v xs a.0, ascending_rest v xs a.1)) (cases_Bool (x == v))
 
 distinct_rest : (v : ℕ) (xs : List ℕ) → AreDistinct xs → AreDistinct (rest v xs)
 distinct_rest v [] d = tt
 distinct_rest v (x ∷ xs) d =
     ⊎_elim
     (λ t. rw (rest_here v x xs t) (distinct_rest v xs d.1))
-    (λ f. rw (rest_past v x xs f) (among_rest x v xs ∙ (ap (λ b. not (x == v) && b) d.0 ∙ none (not (x == v))), distinct_rest v xs d.1))
+    (λ f. rw (rest_past v x xs f) (
+      among_rest x v xs ∙ (ap (λ b. not (x == v) && b) d.0 ∙ none (not (x == v))),
+      distinct_rest v xs d.1,
+    ))
     (cases_Bool (x == v))
   where
     none : (b : Bool) → (b && false) ≡ false
     none true = refl
     none false = refl
 
-scopes_ascending : (v : ℕ) (ss : List Scope) → AllByRecursion (λ s. IsAscending s.variables) ss → AllByRecursion (λ s. IsAscending s.variables) (without_variable v ss)
+scopes_ascending : (v : ℕ) (ss : List Scope) → AllByRecursion (λ s. IsAscending s.variables) ss
+    → AllByRecursion (λ s. IsAscending s.variables) (without_variable v ss)
 scopes_ascending v [] a = tt
 scopes_ascending v (s ∷ ss) a = (ascending_rest v s.variables a.0, scopes_ascending v ss a.1)
 
@@ -153,7 +168,8 @@ apart : (v : ℕ) (xs ys : List ℕ) → AreDistinct (xs ++ ys) → is_among v x
 apart v [] ys d h = absurd (true≢false (sym h))
 apart v (x ∷ xs) ys d h =
     ⊎_elim
-    (λ t. ap (λ n. is_among n ys) (sym (eqb-true x v t)) ∙ (or_parts (is_among x xs) (is_among x ys) (sym (is_among-append x xs ys) ∙ d.0)).1)
+    (λ t. ap (λ n. is_among n ys) (sym (eqb-true x v t))
+    ∙ (or_parts (is_among x xs) (is_among x ys) (sym (is_among-append x xs ys) ∙ d.0)).1)
     (λ f. apart v xs ys d.1 (later_by (x == v) (is_among v xs) f h))
     (cases_Bool (x == v))
   where
@@ -161,13 +177,15 @@ apart v (x ∷ xs) ys d h =
     later_by true b e h = absurd (true≢false e)
     later_by false b e h = h
 
-same_scope : (v : ℕ) (s : Scope) → is_among v s.variables ≡ false → s ≡ record { quantifier = s.quantifier; variables = rest v s.variables }
+same_scope : (v : ℕ) (s : Scope) → is_among v s.variables ≡ false
+    → s ≡ record { quantifier = s.quantifier; variables = rest v s.variables }
 same_scope v s h = λ i. record { quantifier = s.quantifier; variables = sym (rest_absent v s.variables h) i }
 
 pub without_absent : (v : ℕ) (ss : List Scope) → is_among v (all_variables ss) ≡ false → ss ≡ without_variable v ss
 without_absent v [] h = refl
 without_absent v (s ∷ ss) h =
-    let parts = or_parts (is_among v s.variables) (is_among v (all_variables ss)) (sym (is_among-append v s.variables (all_variables ss)) ∙ h) in
+    let parts = or_parts (is_among v s.variables) (is_among v (all_variables ss))
+    (sym (is_among-append v s.variables (all_variables ss)) ∙ h) in
     cons s _ ss _ (same_scope v s parts.0) (without_absent v ss parts.1)
   where
     cons : (s t : Scope) (ss ts : List Scope) → s ≡ t → ss ≡ ts → (s ∷ ss) ≡ (t ∷ ts)
@@ -177,12 +195,15 @@ without_absent v (s ∷ ss) h =
 abbrev taken : ℕ → Scope → Scope
 taken v s = record { quantifier = s.quantifier; variables = rest v s.variables }
 
-parts_by : (b : Bool) (o : Option ℕ) (n : ℕ) → IfSome o (λ m. 1 ≤ m) → cond b (Some 1) (option_map (λ m. m + 1) o) ≡ Some (n + 1) → ((n ≡ 0) × (b ≡ true)) ⊎ ((b ≡ false) × (o ≡ Some n) × (1 ≤ n))
+parts_by : (b : Bool) (o : Option ℕ) (n : ℕ) → IfSome o (λ m. 1 ≤ m) → cond b (Some 1) (option_map (λ m. m + 1) o) ≡
+    Some (n + 1) → ((n ≡ 0) × (b ≡ true)) ⊎ ((b ≡ false) × (o ≡ Some n) × (1 ≤ n))
 parts_by true o n p h = inl (let e : Some 1 ≡ Some (n + 1) = h in let one : 1 ≡ n + 1 = cc in (omega arith, refl))
 parts_by false None n p h = absurd (cc)
-parts_by false (Some m) n p h = inr (let e : Some (m + 1) ≡ Some (n + 1) = h in let one : m + 1 ≡ n + 1 = cc in let same : m ≡ n = omega arith in (refl, ap Some same, omega (arith, p)))
+parts_by false (Some m) n p h = inr (let e : Some (m + 1) ≡ Some (n + 1) = h in let one : m + 1 ≡ n + 1 = cc in
+    let same : m ≡ n = omega arith in (refl, ap Some same, omega (arith, p)))
 
-pub set-without : (ss : List Scope) (n v : ℕ) (d : Scope) → AreDistinct (all_variables ss) → level_of ss v ≡ Some (n + 1) → set ss n (taken v (get_or ss n d)) ≡ without_variable v ss
+pub set-without : (ss : List Scope) (n v : ℕ) (d : Scope) → AreDistinct (all_variables ss) → level_of ss v ≡ Some
+    (n + 1) → set ss n (taken v (get_or ss n d)) ≡ without_variable v ss
 set-without [] n v d distinct h = absurd (cc)
 set-without (s ∷ ss) zero v d distinct h =
     ⊎_elim
@@ -194,7 +215,8 @@ set-without (s ∷ ss) (suc n) v d distinct h =
     (λ here. absurd (let zero_is = here.0 in omega arith))
     (λ later.
     let next : level_of ss v ≡ Some (n + 1) = later.1 ∙ ap Some (let e : suc n ≡ n + 1 = omega arith in e) in
-    cons s _ (set ss n (taken v (get_or ss n d))) _ (same_scope v s later.0) (set-without ss n v d (right s.variables (all_variables ss) distinct) next))
+    cons s _ (set ss n (taken v (get_or ss n d))) _ (same_scope v s later.0)
+    (set-without ss n v d (right s.variables (all_variables ss) distinct) next))
     (parts_by (is_among v s.variables) (level_of ss v) (suc n) (level_positive ss v) h)
   where
     cons : (s t : Scope) (ss ts : List Scope) → s ≡ t → ss ≡ ts → (s ∷ ss) ≡ (t ∷ ts)
@@ -205,7 +227,8 @@ set-without (s ∷ ss) (suc n) v d distinct h =
     right (x ∷ xs) ys d = right xs ys d.1
 
 -- the homes
-slice_get-set_other : {X : Type 0} (xs : List X) (i k : ℕ) (x : X) → (k ≡ i → ⊥) → slice_get (set xs i x) k ≡ slice_get xs k
+slice_get-set_other : {X : Type 0} (xs : List X) (i k : ℕ) (x : X) → (k ≡ i → ⊥) → slice_get (set xs i x) k ≡ slice_get
+    xs k
 slice_get-set_other [] i k x h = refl
 slice_get-set_other (y ∷ ys) zero zero x h = absurd (h refl)
 slice_get-set_other (y ∷ ys) zero (suc k) x h = refl
@@ -249,8 +272,11 @@ table_without ss ids ns hs k i id n t level home within stands =
       small = t.small;
       ascending = scopes_ascending v ss t.ascending;
       distinct = rw (all_variables-without ss v) (distinct_rest v (all_variables ss) t.distinct);
-      in_range = rw (all_variables-without ss v) (all_rest (λ u. (1 ≤ u) × (u ≤ 1048576)) v (all_variables ss) t.in_range);
-      counted = (let less = length_rest v (all_variables ss) t.distinct stands in let was = t.counted in let same : length (all_variables (without_variable v ss)) ≡ length (rest v (all_variables ss)) = ap length (all_variables-without ss v) in omega arith);
+      in_range = rw (all_variables-without ss v)
+          (all_rest (λ u. (1 ≤ u) × (u ≤ 1048576)) v (all_variables ss) t.in_range);
+      counted = (let less = length_rest v (all_variables ss) t.distinct stands in let was = t.counted in let same :
+          length (all_variables (without_variable v ss)) ≡ length (rest v (all_variables ss)) =
+          ap length (all_variables-without ss v) in omega arith);
       homes_counted = (let less = count-cleared hs i id within home in let was = t.homes_counted in omega arith);
       homes_small = rw length-set t.homes_small;
     }
@@ -258,7 +284,8 @@ table_without ss ids ns hs k i id n t level home within stands =
     v : ℕ
     v = suc i
 
-    split : (b : Bool) (o h : Option ℕ) → o ≡ option_and_then (slice_get ns) h → cond b None o ≡ option_and_then (slice_get ns) (cond b None h)
+    split : (b : Bool) (o h : Option ℕ) → o ≡ option_and_then (slice_get ns) h → cond b None o ≡ option_and_then
+        (slice_get ns) (cond b None h)
     split true o h e = refl
     split false o h e = e
 
@@ -267,10 +294,13 @@ table_without ss ids ns hs k i id n t level home within stands =
     fits false h e = e
 
 -- what it keeps
-level_left : (ss : List Scope) (v w : ℕ) → IsSome (level_of (without_variable v ss) w) → level_of (without_variable v ss) w ≡ level_of ss w
+level_left : (ss : List Scope) (v w : ℕ) → IsSome (level_of (without_variable v ss) w)
+    → level_of (without_variable v ss) w ≡ level_of ss w
 level_left ss v w h =
     ⊎_elim
-    (λ t. absurd (not_there (level_of (without_variable v ss) w) (level-without ss v w ∙ cond-true (w == v) None (level_of ss w) t) h))
+    (λ t. absurd
+    (not_there (level_of (without_variable v ss) w)
+    (level-without ss v w ∙ cond-true (w == v) None (level_of ss w) t) h))
     (λ f. level-without ss v w ∙ cond-false (w == v) None (level_of ss w) f)
     (cases_Bool (w == v))
   where
@@ -278,7 +308,8 @@ level_left ss v w h =
     not_there None p q = cc
     not_there (Some n) p q = cc
 
-quantifier_get : (ss : List Scope) (v k : ℕ) → option_map (λ (s : Scope). s.quantifier) (slice_get (without_variable v ss) k) ≡ option_map (λ (s : Scope). s.quantifier) (slice_get ss k)
+quantifier_get : (ss : List Scope) (v k : ℕ) → option_map (λ (s : Scope). s.quantifier)
+    (slice_get (without_variable v ss) k) ≡ option_map (λ (s : Scope). s.quantifier) (slice_get ss k)
 quantifier_get [] v k = refl
 quantifier_get (s ∷ ss) v zero = refl
 quantifier_get (s ∷ ss) v (suc k) = quantifier_get ss v k
@@ -293,12 +324,14 @@ removal_keeps_order ss v =
       quantifiers = λ u k. rw (level_left ss v u k) (sym (same_at (level_of ss u)));
     }
   where
-    same_at : (o : Option ℕ) → option_and_then (quantifier_at (without_variable v ss)) o ≡ option_and_then (quantifier_at ss) o
+    same_at : (o : Option ℕ) → option_and_then (quantifier_at (without_variable v ss)) o ≡ option_and_then
+        (quantifier_at ss) o
     same_at None = refl
     same_at (Some m) = quantifier-without ss v m
 
 -- what the call has at hand
-pub without_is : (ss new : List Scope) (scope v : ℕ) → AreDistinct (all_variables ss) → level_of ss v ≡ Some scope → 1 ≤ scope → IsTakenOut v (scope - 1) ss new → new ≡ without_variable v ss
+pub without_is : (ss new : List Scope) (scope v : ℕ) → AreDistinct (all_variables ss) → level_of ss v ≡ Some scope
+    → 1 ≤ scope → IsTakenOut v (scope - 1) ss new → new ≡ without_variable v ss
 without_is ss new scope v distinct level low taken_out =
     let d : Scope = record { quantifier = Exists; variables = [] } in
     let back : scope ≡ (scope - 1) + 1 = omega arith in
@@ -313,7 +346,8 @@ home_within [] i id e = absurd (cc)
 home_within (h ∷ hs) zero id e = omega arith
 home_within (h ∷ hs) (suc i) id e = let r : i < length hs = home_within hs i id e in omega arith
 
-module _ (ss : List Scope) (ids ns : List ℕ) (hs : List (Option ℕ)) (k i v scope : ℕ) (next : i + 1 ≡ v) (t : IsTable ss ids ns hs k) (level : level_of ss v ≡ Some scope) where
+module _ (ss : List Scope) (ids ns : List ℕ) (hs : List (Option ℕ)) (k i v scope : ℕ) (next : i + 1 ≡ v)
+    (t : IsTable ss ids ns hs k) (level : level_of ss v ≡ Some scope) where
   is_next : v ≡ suc i
   is_next = omega arith
 
@@ -326,7 +360,8 @@ module _ (ss : List Scope) (ids ns : List ℕ) (hs : List (Option ℕ)) (k i v s
   pub index_within : i < length hs
   index_within = home_within hs i home_here.0 home_here.1
 
-  pub table_taken : (new : List Scope) (others : List ℕ) → is_among v (all_variables ss) ≡ true → new ≡ without_variable v ss → others ≡ ids → IsTable new others ns (set hs i None) (k - 1)
+  pub table_taken : (new : List Scope) (others : List ℕ) → is_among v (all_variables ss) ≡ true
+      → new ≡ without_variable v ss → others ≡ ids → IsTable new others ns (set hs i None) (k - 1)
   table_taken new others among is same =
       rw (is, same, is_next)
       (table_without ss ids ns hs k i home_here.0 scope t level_here home_here.1 index_within

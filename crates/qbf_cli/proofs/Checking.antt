@@ -4,7 +4,7 @@ use Rattle.std.specs.Prelude.{IfSome}
 use Rattle.std.specs.Io.KnownBytes.{Keeps}
 use Rattle.truth.specs.declared.formula.Formula.{Formula}
 use Rattle.trail.specs.State.{Account}
-use Rattle.qdimacs.specs.declared.refusal.Quantity.{Quantity}
+use Rattle.reading.specs.declared.refusal.Quantity.{Quantity}
 use Rattle.qdimacs.specs.Reads.{Reads}
 use Rattle.qdimacs.specs.Rules.{limit, parsed, refused}
 use Rattle.command.specs.Forms.{Asks, HasNoForm, Text}
@@ -202,7 +202,8 @@ module _ (words : List Text) (content : Content) (left : Option Text) (output : 
       → AskedCheck words content IsLimitedCheck
   beyond_some quantity text on = asked_check IsLimitedCheck
       (some_map (content (input_of c)) (λ bytes. Reads bytes (parsed on.formula)) (IsLimitedCheck decide terms)
-      (λ bytes reads. (quantity, (on.formula, reads, on.is.value, on.is.circuit, on.is.certified, on.is.limit))) on.read)
+      (λ bytes reads. (quantity, (on.formula, reads, on.is.value, on.is.circuit, on.is.certified, on.is.limit)))
+      on.read)
 
   pub check_verdict : (f : Ending) → Works f → IsVerdict words content (status_of (Worked f))
   check_verdict (Done s) so =

@@ -5,7 +5,7 @@ use Rattle.std.specs.Io.KnownBytes.{Appends}
 use Rattle.trail.specs.State.{Account}
 use Rattle.command.specs.Forms.{Asks, HasNoForm, Text}
 use Rattle.command.specs.declared.command.Command.{Command}
-use Rattle.qdimacs.specs.declared.refusal.Quantity.TheVariants.{Bytes}
+use Rattle.reading.specs.declared.refusal.Quantity.TheVariants.{Bytes}
 use Rattle.qscript.specs.declared.command.Command.{Command as ScriptCommand}
 use Rattle.versions.specs.declared.version.Version.{Version}
 use Rattle.qscript.specs.Reads.{Ending as ScriptEnding, ReadsScript, done, limit as script_limit, refused as script_refused}

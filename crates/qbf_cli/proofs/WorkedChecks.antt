@@ -5,7 +5,7 @@ use Rattle.steps.specs.Counter.{step_limit}
 use Rattle.truth.specs.declared.formula.Formula.{Formula}
 use Rattle.truth.specs.Truth.{truth}
 use Rattle.search.specs.Counting.{size_of}
-use Rattle.qdimacs.specs.declared.refusal.Quantity.TheVariants.{Variables}
+use Rattle.reading.specs.declared.refusal.Quantity.TheVariants.{Variables}
 use Rattle.command.specs.Forms.{AreAlike, Asks, Text, check_flags}
 use Rattle.command.specs.Forms.Flag.{the_decide}
 use Rattle.command.specs.declared.command.Command.{Command}

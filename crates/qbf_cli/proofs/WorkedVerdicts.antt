@@ -14,7 +14,7 @@ use Rattle.calculus.specs.Search.{IsRefuted}
 use Rattle.calculus.specs.Search.IsRefuted.{bad_clause}
 use Rattle.calculus.proofs.Lists.{contains_head, contains_nil}
 use Rattle.search.specs.Counting.{size_of}
-use Rattle.qdimacs.specs.declared.refusal.Quantity.TheVariants.{Bytes, Variables}
+use Rattle.reading.specs.declared.refusal.Quantity.TheVariants.{Bytes, Variables}
 use Rattle.qdimacs.specs.Reads.{Reads}
 use Rattle.qdimacs.specs.Rules.{limit, parsed, refused}
 use Rattle.qdimacs.proofs.Before.{one_outcome}

@@ -30,8 +30,8 @@ use Rattle.truth.specs.declared.formula.Formula.{Formula}
 use Rattle.truth.specs.Truth.{truth}
 use Rattle.qdimacs.specs.Rules.{parsed, refused, limit}
 use Rattle.qdimacs.specs.Reads.{Reads}
-use Rattle.qdimacs.specs.declared.refusal.Quantity.{Quantity}
-use Rattle.qdimacs.specs.declared.refusal.Quantity.TheVariants.{Variables, Scopes, Clauses, Literals, Bytes}
+use Rattle.reading.specs.declared.refusal.Quantity.{Quantity}
+use Rattle.reading.specs.declared.refusal.Quantity.TheVariants.{Variables, Scopes, Clauses, Literals, Bytes}
 use Rattle.qcir.specs.declared.circuit.Circuit.{Circuit}
 use Rattle.qcir.specs.Truth.{circuit_truth}
 use Rattle.qcir_reader.specs.Rules.{parsed as circuit}

@@ -12,7 +12,7 @@ use Rattle.qscript.specs.Reads.{Ending as ScriptEnding, ReadsScript}
 use Rattle.session.specs.declared.answer.Answer.{Answer}
 use Rattle.session.specs.Replies.{Leads, Output}
 use Rattle.session.specs.Scripts.{AreFirst}
-use Rattle.qdimacs.specs.declared.refusal.Quantity.{Quantity}
+use Rattle.reading.specs.declared.refusal.Quantity.{Quantity}
 use Rattle.session.specs.declared.check.Outcome.{Outcome}
 use Rattle.session.specs.declared.check.Outcome.TheVariants.{Beyond}
 use Rattle.session.specs.declared.ending.Ending.TheVariants.{Done}

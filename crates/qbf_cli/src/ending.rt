@@ -7,7 +7,7 @@ ghost use Rattle.std.specs.Fmt.{decimal};
 ghost use Rattle.qbf_cli.specs.Run.{check_limit_line as line_of_check_limit, status_of, line_of, quantity_name as name_of_quantity, placed_line};
 
 use ports::{Failed, Sink, write_all};
-use qdimacs::Quantity;
+use reading::Quantity;
 use session::Ending;
 
 // How a run ends.

@@ -10,7 +10,7 @@ use Rattle.prefix.specs.Scopes.{Scope, IsAscending, all_variables, is_among}
 use Rattle.calculus.proofs.Lists.{contains_head, contains_tail}
 use Rattle.clauses.specs.Clause.{as_row, ascending, is_tautology, put}
 use Rattle.clauses.proofs.Ascending.{ascending_among, ascending_is}
-use Rattle.qdimacs.specs.Formed.{IsClauseOver, IsFormed}
+use Rattle.truth.specs.Formed.{IsClauseOver, IsFormed}
 use Rattle.qcir.specs.declared.circuit.Circuit.{Circuit}
 use Rattle.qcir.specs.declared.circuit.Gate.{Gate}
 use Rattle.qcir.specs.declared.circuit.GateKind.{GateKind}

@@ -1,7 +1,7 @@
 //! The formula of a circuit.
 ghost use Rattle.std.specs.Prelude.{◌≡◌, ◌≤◌, ◌^◌, length, IfOk};
 ghost use Rattle.truth.specs.Truth.{truth};
-ghost use Rattle.qdimacs.specs.Formed.{IsFormed};
+ghost use Rattle.truth.specs.Formed.{IsFormed};
 ghost use Rattle.qcir.specs.Truth.{circuit_truth, gate_names};
 ghost use Rattle.qcir.specs.Translation.{IsCircuit, clause_count, scopes_with, translated};
 
@@ -9,8 +9,8 @@ use crate::circuit::Circuit;
 use crate::laws::translations_decide;
 use crate::matrix::rows_of;
 use crate::scopes::{greatest_var, prefix_of};
+use memory::NoMemory;
 use std::alloc::Global;
-use steps::NoMemory;
 use truth::{ClauseList, Formula};
 
 /// The formula of a circuit, by Tseitin's translation: it is true exactly where the circuit is.

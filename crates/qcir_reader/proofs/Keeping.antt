@@ -7,7 +7,7 @@ use Rattle.prefix.specs.declared.quant.Quant.{Quant}
 use Rattle.prefix.specs.declared.quant.Quant.TheVariants.{Exists, Forall}
 use Rattle.prefix.specs.Scopes.{is_among}
 use Rattle.qdimacs.specs.declared.sets.Sets.{Sets}
-use Rattle.qdimacs.specs.declared.refusal.Quantity.TheVariants.{Scopes, Clauses}
+use Rattle.reading.specs.declared.refusal.Quantity.TheVariants.{Scopes, Clauses}
 use Rattle.qdimacs.specs.Formula.{QuantSet, merged, declared, in_order, same_quant}
 use Rattle.qdimacs.specs.Kept.{sets_of, put_last, last_differs}
 use Rattle.qdimacs.proofs.Grown.{declared_more, merged_empty}
@@ -21,14 +21,17 @@ use Rattle.qcir_reader.specs.declared.sign.Stage.TheVariants.{Between, InSet, In
 use Rattle.qcir_reader.specs.declared.sign.Sign.{Sign}
 use Rattle.qcir_reader.specs.declared.sign.Sign.TheVariants.{Quantifier, Kind, Closing, Number}
 use Rattle.qcir_reader.specs.declared.reader.Reader.{Reader}
-use Rattle.qcir_reader.specs.Rules.{GateText, Front, first_of, refused, limit, is_no_name, is_no_variable, is_known, quantified, gate_of, gate_names_of, amount, literal_of, scopes_of, number_rules, variable_rules, name_rules, input_rules, max_scopes, max_clauses}
+use Rattle.qcir_reader.specs.Rules.{GateText, Front, first_of, refused, limit, is_no_name, is_no_variable, is_known, quantified, gate_of, gate_names_of, amount, literal_of, scopes_of, number_rules, variable_rules, name_rules, input_rules}
+use Rattle.truth.specs.Limits.{max_scopes, max_clauses}
 use Rattle.qcir_reader.specs.Run.{noted, with_variable, with_set, with_output, with_name, with_kind, with_input, with_gate}
 use Rattle.qcir_reader.specs.Kept.{is_beyond, variable_rules_kept, name_rules_kept, input_rules_kept}
 use Rattle.qcir_reader.specs.Represents.{Keeps}
 use Rattle.qcir_reader.proofs.Gates.{amount_more}
 
 -- one more mark
-pub mark_more : (marks : List Bool) (known : ℕ → Bool) (v : ℕ) → v < length marks → ((u : ℕ) → slice_index_or marks u false ≡ known u) → (u : ℕ) → slice_index_or (set marks v true) u false ≡ (v == u || known u)
+pub mark_more : (marks : List Bool) (known : ℕ → Bool) (v : ℕ) → v < length marks
+    → ((u : ℕ) → slice_index_or marks u false ≡ known u) → (u : ℕ) → slice_index_or (set marks v true) u false ≡
+    (v == u || known u)
 mark_more marks known v low m u = ⊎_elim same other (cases_eq u v)
   where
     same : u ≡ v → slice_index_or (set marks v true) u false ≡ (v == u || known u)
@@ -38,56 +41,94 @@ mark_more marks known v low m u = ⊎_elim same other (cases_eq u v)
     other n = get_or-set_other marks v u true false n ∙ m u ∙ sym (ap (λ b. b || known u) (ne_eqb v u (λ e. n (sym e))))
 
 -- the rules over what is kept
-scopes_same : (r : Reader) (f : Front) (v : ℕ) → Keeps r f → nat_lt max_scopes (length (merged (f.sets ++ (f.quant, f.vars ++ v ∷ []) ∷ []))) ≡ is_beyond f.quant (sets_of r.sets.rows.items)
+scopes_same : (r : Reader) (f : Front) (v : ℕ) → Keeps r f → nat_lt max_scopes
+    (length (merged (f.sets ++ (f.quant, f.vars ++ v ∷ []) ∷ []))) ≡ is_beyond f.quant (sets_of r.sets.rows.items)
 scopes_same r f v k =
     let all : List QuantSet = sets_of r.sets.rows.items in
-    ap (λ n. nat_lt max_scopes n) (ap length (merged_put f.sets f.quant f.vars v) ∙ ap (λ x. length (put_last f.quant v x)) (sym k.scopes) ∙ put_length f.quant v all)
+    ap (λ n. nat_lt max_scopes n) (ap length (merged_put f.sets f.quant f.vars v)
+    ∙ ap (λ x. length (put_last f.quant v x)) (sym k.scopes) ∙ put_length f.quant v all)
     ∙ scopes_limit (last_differs f.quant all) (length all) k.few_scopes
 
-pub variable_same : (r : Reader) (f : Front) (n : ℤ) (line : ℕ) → Keeps r f → variable_rules f n line ≡ variable_rules_kept r.sets.marks.items (sets_of r.sets.rows.items) r.quant n line
+pub variable_same : (r : Reader) (f : Front) (n : ℤ) (line : ℕ) → Keeps r f
+    → variable_rules f n line ≡ variable_rules_kept r.sets.marks.items (sets_of r.sets.rows.items) r.quant n line
 variable_same r f n line k =
-    ap (λ b. (is_no_variable n, refused 71 line) ∷ (b, refused 73 line) ∷ (nat_lt max_scopes (length (merged (f.sets ++ (f.quant, f.vars ++ nat_abs n ∷ []) ∷ []))), limit Scopes line) ∷ []) (sym (k.marks (nat_abs n)))
-    ∙ ap (λ b. (is_no_variable n, refused 71 line) ∷ (slice_index_or r.sets.marks.items (nat_abs n) false, refused 73 line) ∷ (b, limit Scopes line) ∷ []) (scopes_same r f (nat_abs n) k ∙ ap (λ q. is_beyond q (sets_of r.sets.rows.items)) (sym k.quant))
+    ap (λ b. (is_no_variable n, refused 71 line) ∷ (b, refused 73 line) ∷
+    (nat_lt max_scopes (length (merged (f.sets ++ (f.quant, f.vars ++ nat_abs n ∷ []) ∷ []))), limit Scopes line) ∷
+    []) (sym (k.marks (nat_abs n)))
+    ∙ ap (λ b. (is_no_variable n, refused 71 line) ∷ (
+      slice_index_or r.sets.marks.items (nat_abs n) false,
+      refused 73 line,
+    ) ∷ (b, limit Scopes line) ∷ [])
+    (scopes_same r f (nat_abs n) k ∙ ap (λ q. is_beyond q (sets_of r.sets.rows.items)) (sym k.quant))
 
-last_length : (q : Quant) (vs : List ℕ) (v : ℕ) → length (joined_last q vs (v ∷ [])) ≡ (if not (same_quant q Exists) then 2 else 1)
+last_length : (q : Quant) (vs : List ℕ) (v : ℕ) → length (joined_last q vs (v ∷ [])) ≡
+    (if not (same_quant q Exists) then 2 else 1)
 last_length Exists vs v = refl
 last_length Forall vs v = refl
 
-with_length : (xs : List QuantSet) (v : ℕ) → length (scopes_with (map in_order xs) (v ∷ [])) ≡ (if last_differs Exists xs then suc (length xs) else length xs)
+with_length : (xs : List QuantSet) (v : ℕ) → length (scopes_with (map in_order xs) (v ∷ [])) ≡
+    (if last_differs Exists xs then suc (length xs) else length xs)
 with_length [] v = refl
 with_length (x ∷ []) v = last_length x.0 (in_order x).variables v
 with_length (x ∷ y ∷ rest) v = ap suc (with_length (y ∷ rest) v) ∙ by (last_differs Exists (y ∷ rest))
   where
-    by : (s : Bool) → suc (if s then suc (length (y ∷ rest)) else length (y ∷ rest)) ≡ (if s then suc (length (x ∷ y ∷ rest)) else length (x ∷ y ∷ rest))
+    by : (s : Bool) → suc (if s then suc (length (y ∷ rest)) else length (y ∷ rest)) ≡
+        (if s then suc (length (x ∷ y ∷ rest)) else length (x ∷ y ∷ rest))
     by true = refl
     by false = refl
 
-gates_scope_same : (r : Reader) (f : Front) (v : ℕ) → Keeps r f → f.vars ≡ [] → nat_lt max_scopes (length (scopes_with (scopes_of f.sets) (v ∷ []))) ≡ is_beyond Exists (sets_of r.sets.rows.items)
+gates_scope_same : (r : Reader) (f : Front) (v : ℕ) → Keeps r f → f.vars ≡ [] → nat_lt max_scopes
+    (length (scopes_with (scopes_of f.sets) (v ∷ []))) ≡ is_beyond Exists (sets_of r.sets.rows.items)
 gates_scope_same r f v k none =
     let all : List QuantSet = sets_of r.sets.rows.items in
-    let same : merged f.sets ≡ all = sym (merged_empty f.sets f.quant) ∙ ap (λ vs. merged (f.sets ++ (f.quant, vs) ∷ [])) (sym none) ∙ sym k.scopes in
+    let same : merged f.sets ≡ all = sym (merged_empty f.sets f.quant)
+    ∙ ap (λ vs. merged (f.sets ++ (f.quant, vs) ∷ [])) (sym none) ∙ sym k.scopes in
     ap (λ x. nat_lt max_scopes (length (scopes_with (map in_order x) (v ∷ [])))) same
     ∙ ap (nat_lt max_scopes) (with_length all v)
     ∙ scopes_limit (last_differs Exists all) (length all) k.few_scopes
 
-pub name_same : (r : Reader) (f : Front) (n : ℤ) (line : ℕ) → Keeps r f → f.vars ≡ [] → name_rules f n line ≡ name_rules_kept r.sets.marks.items (sets_of r.sets.rows.items) r.amount n line
+pub name_same : (r : Reader) (f : Front) (n : ℤ) (line : ℕ) → Keeps r f → f.vars ≡ []
+    → name_rules f n line ≡ name_rules_kept r.sets.marks.items (sets_of r.sets.rows.items) r.amount n line
 name_same r f n line k none =
-    ap (λ b. (is_no_variable n, refused 71 line) ∷ (b, refused 73 line) ∷ (nat_lt max_scopes (length (scopes_with (scopes_of f.sets) (nat_abs n ∷ []))), limit Scopes line) ∷ (nat_le max_clauses (amount f.gates), limit Clauses line) ∷ []) (sym (k.marks (nat_abs n)))
-    ∙ ap (λ b. (is_no_variable n, refused 71 line) ∷ (slice_index_or r.sets.marks.items (nat_abs n) false, refused 73 line) ∷ (b, limit Scopes line) ∷ (nat_le max_clauses (amount f.gates), limit Clauses line) ∷ []) (gates_scope_same r f (nat_abs n) k none)
-    ∙ ap (λ m. (is_no_variable n, refused 71 line) ∷ (slice_index_or r.sets.marks.items (nat_abs n) false, refused 73 line) ∷ (is_beyond Exists (sets_of r.sets.rows.items), limit Scopes line) ∷ (nat_le max_clauses m, limit Clauses line) ∷ []) (sym k.amount_is)
+    ap (λ b. (is_no_variable n, refused 71 line) ∷ (b, refused 73 line) ∷
+    (nat_lt max_scopes (length (scopes_with (scopes_of f.sets) (nat_abs n ∷ []))), limit Scopes line) ∷
+    (nat_le max_clauses (amount f.gates), limit Clauses line) ∷ []) (sym (k.marks (nat_abs n)))
+    ∙ ap (λ b. (is_no_variable n, refused 71 line) ∷ (
+      slice_index_or r.sets.marks.items (nat_abs n) false,
+      refused 73 line,
+    ) ∷ (b, limit Scopes line) ∷ (nat_le max_clauses (amount f.gates), limit Clauses line) ∷ [])
+    (gates_scope_same r f (nat_abs n) k none)
+    ∙ ap (λ m. (is_no_variable n, refused 71 line) ∷ (
+      slice_index_or r.sets.marks.items (nat_abs n) false,
+      refused 73 line,
+    ) ∷ (is_beyond Exists (sets_of r.sets.rows.items), limit Scopes line) ∷
+    (nat_le max_clauses m, limit Clauses line) ∷ []) (sym k.amount_is)
 
-pub input_same : (r : Reader) (f : Front) (n : ℤ) (line : ℕ) → Keeps r f → input_rules f n line ≡ input_rules_kept r.sets.marks.items r.amount (length r.inputs.items) n line
+pub input_same : (r : Reader) (f : Front) (n : ℤ) (line : ℕ) → Keeps r f → input_rules f n line ≡ input_rules_kept
+    r.sets.marks.items r.amount (length r.inputs.items) n line
 input_same r f n line k =
-    let many : length r.inputs.items ≡ length f.gate.inputs = ap length k.inputs ∙ length-map f.gate.inputs literal_of in
-    ap (λ b. (is_no_name n, refused 71 line) ∷ (not b, refused 74 line) ∷ (nat_le max_clauses (amount f.gates + length f.gate.inputs + 1), limit Clauses line) ∷ []) (sym (k.marks (nat_abs n)))
-    ∙ ap (λ m. (is_no_name n, refused 71 line) ∷ (not (slice_index_or r.sets.marks.items (nat_abs n) false), refused 74 line) ∷ (nat_le max_clauses (m + length f.gate.inputs + 1), limit Clauses line) ∷ []) (sym k.amount_is)
-    ∙ ap (λ m. (is_no_name n, refused 71 line) ∷ (not (slice_index_or r.sets.marks.items (nat_abs n) false), refused 74 line) ∷ (nat_le max_clauses (r.amount + m + 1), limit Clauses line) ∷ []) (sym many)
+    let many : length r.inputs.items ≡ length f.gate.inputs = ap length k.inputs
+    ∙ length-map f.gate.inputs literal_of in
+    ap (λ b. (is_no_name n, refused 71 line) ∷ (not b, refused 74 line) ∷
+    (nat_le max_clauses (amount f.gates + length f.gate.inputs + 1), limit Clauses line) ∷ [])
+    (sym (k.marks (nat_abs n)))
+    ∙ ap (λ m. (is_no_name n, refused 71 line) ∷ (
+      not (slice_index_or r.sets.marks.items (nat_abs n) false),
+      refused 74 line,
+    ) ∷ (nat_le max_clauses (m + length f.gate.inputs + 1), limit Clauses line) ∷ [])
+    (sym k.amount_is)
+    ∙ ap (λ m. (is_no_name n, refused 71 line) ∷ (
+      not (slice_index_or r.sets.marks.items (nat_abs n) false),
+      refused 74 line,
+    ) ∷ (nat_le max_clauses (r.amount + m + 1), limit Clauses line) ∷ []) (sym many)
 
 -- a quantifier
-pub quantifier_kept : (r : Reader) (f : Front) (q : Quant) → f.vars ≡ [] → Keeps r f → Keeps (record r { quant = q }) (record f { quant = q })
+pub quantifier_kept : (r : Reader) (f : Front) (q : Quant) → f.vars ≡ [] → Keeps r f → Keeps (record r { quant = q })
+    (record f { quant = q })
 quantifier_kept r f q none k = record {
   quant = refl;
-  scopes = k.scopes ∙ ap (λ vs. merged (f.sets ++ (f.quant, vs) ∷ [])) none ∙ merged_empty f.sets f.quant ∙ sym (merged_empty f.sets q) ∙ ap (λ vs. merged (f.sets ++ (q, vs) ∷ [])) (sym none);
+  scopes = k.scopes ∙ ap (λ vs. merged (f.sets ++ (f.quant, vs) ∷ [])) none ∙ merged_empty f.sets f.quant
+      ∙ sym (merged_empty f.sets q) ∙ ap (λ vs. merged (f.sets ++ (q, vs) ∷ [])) (sym none);
   few_scopes = k.few_scopes;
   marks = k.marks;
   marked = k.marked;
@@ -101,15 +142,20 @@ quantifier_kept r f q none k = record {
 }
 
 -- one more variable
-pub variable_kept : (r : Reader) (sets : Sets) (f : Front) (n : ℤ) → Keeps r f → nat_abs n ≤ 1048576 → is_beyond r.quant (sets_of r.sets.rows.items) ≡ false
-    → sets_of sets.rows.items ≡ put_last r.quant (nat_abs n) (sets_of r.sets.rows.items) → sets.marks.items ≡ set r.sets.marks.items (nat_abs n) true
+pub variable_kept : (r : Reader) (sets : Sets) (f : Front) (n : ℤ) → Keeps r f → nat_abs n ≤ 1048576 → is_beyond r.quant
+    (sets_of r.sets.rows.items) ≡ false
+    → sets_of sets.rows.items ≡ put_last r.quant (nat_abs n) (sets_of r.sets.rows.items)
+    → sets.marks.items ≡ set r.sets.marks.items (nat_abs n) true
     → Keeps (record r { sets = sets }) (with_variable f n)
 variable_kept r sets f n k low room rows marks =
     let v : ℕ = nat_abs n in record {
       quant = k.quant;
-      scopes = rows ∙ ap (λ q. put_last q v (sets_of r.sets.rows.items)) k.quant ∙ ap (put_last f.quant v) k.scopes ∙ sym (merged_put f.sets f.quant f.vars v);
-      few_scopes = subst (λ x. length x ≤ 65536) (sym rows) (scopes_low r.quant v (sets_of r.sets.rows.items) k.few_scopes room);
-      marks = λ u. ap (λ ms. slice_index_or ms u false) marks ∙ mark_more r.sets.marks.items (is_known f) v (omega (arith, k.marked, low)) k.marks u ∙ sym (known_more u);
+      scopes = rows ∙ ap (λ q. put_last q v (sets_of r.sets.rows.items)) k.quant ∙ ap (put_last f.quant v) k.scopes
+          ∙ sym (merged_put f.sets f.quant f.vars v);
+      few_scopes = subst (λ x. length x ≤ 65536) (sym rows)
+          (scopes_low r.quant v (sets_of r.sets.rows.items) k.few_scopes room);
+      marks = λ u. ap (λ ms. slice_index_or ms u false) marks ∙ mark_more r.sets.marks.items (is_known f) v
+          (omega (arith, k.marked, low)) k.marks u ∙ sym (known_more u);
       marked = ap length marks ∙ length-set r.sets.marks.items v true ∙ k.marked;
       output = k.output;
       line = k.line;
@@ -126,14 +172,16 @@ variable_kept r sets f n k low room rows marks =
 
     known_more : (u : ℕ) → is_known (with_variable f n) u ≡ (nat_abs n == u || is_known f u)
     known_more u =
-        ap (λ x. is_among u x || is_among u (gate_names_of f.gates)) (sym (append_assoc (declared f.sets) f.vars (nat_abs n ∷ [])))
+        ap (λ x. is_among u x || is_among u (gate_names_of f.gates))
+        (sym (append_assoc (declared f.sets) f.vars (nat_abs n ∷ [])))
         ∙ ap (λ b. b || is_among u (gate_names_of f.gates)) (among_more (nat_abs n) (quantified f) u)
         ∙ or_assoc (nat_abs n == u) (is_among u (quantified f)) (is_among u (gate_names_of f.gates))
 
 -- a quantifier list ends
 pub set_kept : (r : Reader) (f : Front) → Keeps r f → Keeps r (with_set f)
 set_kept r f k =
-    let same : declared (f.sets ++ (f.quant, f.vars) ∷ []) ++ [] ≡ quantified f = append-nil (declared (f.sets ++ (f.quant, f.vars) ∷ [])) ∙ declared_more f.sets f.quant f.vars in record {
+    let same : declared (f.sets ++ (f.quant, f.vars) ∷ []) ++ [] ≡ quantified f =
+    append-nil (declared (f.sets ++ (f.quant, f.vars) ∷ [])) ∙ declared_more f.sets f.quant f.vars in record {
       quant = k.quant;
       scopes = k.scopes ∙ sym (merged_empty (f.sets ++ (f.quant, f.vars) ∷ []) f.quant);
       few_scopes = k.few_scopes;
@@ -149,7 +197,8 @@ set_kept r f k =
     }
 
 -- the output
-pub output_kept : (r : Reader) (f : Front) (n : ℤ) (line : ℕ) → Keeps r f → Keeps (record r { output = n; output_line = line }) (with_output f n line)
+pub output_kept : (r : Reader) (f : Front) (n : ℤ) (line : ℕ) → Keeps r f
+    → Keeps (record r { output = n; output_line = line }) (with_output f n line)
 output_kept r f n line k = record {
   quant = k.quant;
   scopes = k.scopes;
@@ -166,7 +215,8 @@ output_kept r f n line k = record {
 }
 
 -- one more input
-pub input_kept : (r new : Reader) (f : Front) (n : ℤ) → Keeps r f → new.inputs.items ≡ r.inputs.items ++ literal_of n ∷ [] → new ≡ record r { inputs = new.inputs } → Keeps new (with_input f n)
+pub input_kept : (r new : Reader) (f : Front) (n : ℤ) → Keeps r f → new.inputs.items ≡ r.inputs.items ++ literal_of
+    n ∷ [] → new ≡ record r { inputs = new.inputs } → Keeps new (with_input f n)
 input_kept r new f n k is same = subst (λ (x : Reader). Keeps x (with_input f n)) (sym same) (record {
   quant = k.quant;
   scopes = k.scopes;
@@ -183,7 +233,8 @@ input_kept r new f n k is same = subst (λ (x : Reader). Keeps x (with_input f n
 })
 
 -- a gate begins
-pub name_kept : (r new : Reader) (f : Front) (n : ℤ) → Keeps r f → new.name ≡ nat_abs n → new.inputs.items ≡ [] → new ≡ record r { name = new.name; inputs = new.inputs } → Keeps new (with_name f n)
+pub name_kept : (r new : Reader) (f : Front) (n : ℤ) → Keeps r f → new.name ≡ nat_abs n → new.inputs.items ≡ []
+    → new ≡ record r { name = new.name; inputs = new.inputs } → Keeps new (with_name f n)
 name_kept r new f n k name none same = subst (λ (x : Reader). Keeps x (with_name f n)) (sym same) (record {
   quant = k.quant;
   scopes = k.scopes;
@@ -200,7 +251,8 @@ name_kept r new f n k name none same = subst (λ (x : Reader). Keeps x (with_nam
 })
 
 -- what it makes of its inputs
-pub kind_kept : (r : Reader) (f : Front) (kind : GateKind) → Keeps r f → Keeps (record r { kind = kind }) (with_kind f kind)
+pub kind_kept : (r : Reader) (f : Front) (kind : GateKind) → Keeps r f → Keeps (record r { kind = kind })
+    (with_kind f kind)
 kind_kept r f kind k = record {
   quant = k.quant;
   scopes = k.scopes;
@@ -219,15 +271,19 @@ kind_kept r f kind k = record {
 -- a gate ends
 pub gate_kept : (r new : Reader) (f : Front) → Keeps r f → r.name ≤ 1048576
     → new.gates.items ≡ r.gates.items ++ record { var = r.name; kind = r.kind; inputs = r.inputs.items } ∷ []
-    → new.amount ≡ r.amount + (length r.inputs.items + 1) → new.sets.marks.items ≡ set r.sets.marks.items r.name true → new.inputs.items ≡ []
-    → new.sets.rows.items ≡ r.sets.rows.items → new.quant ≡ r.quant → new.output ≡ r.output → new.output_line ≡ r.output_line → new.name ≡ r.name → new.kind ≡ r.kind
+    → new.amount ≡ r.amount + (length r.inputs.items + 1) → new.sets.marks.items ≡ set r.sets.marks.items r.name true
+    → new.inputs.items ≡ []
+    → new.sets.rows.items ≡ r.sets.rows.items → new.quant ≡ r.quant → new.output ≡ r.output
+    → new.output_line ≡ r.output_line → new.name ≡ r.name → new.kind ≡ r.kind
     → Keeps new (with_gate f)
 gate_kept r new f k low gates amount_is marks none rows quant output line name kind =
-    let many : length r.inputs.items ≡ length f.gate.inputs = ap length k.inputs ∙ length-map f.gate.inputs literal_of in record {
+    let many : length r.inputs.items ≡ length f.gate.inputs = ap length k.inputs
+    ∙ length-map f.gate.inputs literal_of in record {
       quant = quant ∙ k.quant;
       scopes = ap sets_of rows ∙ k.scopes;
       few_scopes = subst (λ x. length (sets_of x) ≤ 65536) (sym rows) k.few_scopes;
-      marks = λ u. ap (λ ms. slice_index_or ms u false) marks ∙ mark_more r.sets.marks.items (is_known f) r.name (omega (arith, k.marked, low)) k.marks u
+      marks = λ u. ap (λ ms. slice_index_or ms u false) marks ∙ mark_more r.sets.marks.items (is_known f) r.name
+          (omega (arith, k.marked, low)) k.marks u
           ∙ ap (λ v. v == u || is_known f u) k.name ∙ sym (known_more u);
       marked = ap length marks ∙ length-set r.sets.marks.items r.name true ∙ k.marked;
       output = output ∙ k.output;
@@ -236,7 +292,8 @@ gate_kept r new f k low gates amount_is marks none rows quant output line name k
       name = name ∙ k.name;
       kind = kind ∙ k.kind;
       inputs = none;
-      amount_is = amount_is ∙ (let more : amount (f.gates ++ f.gate ∷ []) ≡ amount f.gates + length f.gate.inputs + 1 = amount_more f.gates f.gate in omega (arith, k.amount_is, many, more));
+      amount_is = amount_is ∙ (let more : amount (f.gates ++ f.gate ∷ []) ≡ amount f.gates + length f.gate.inputs + 1 =
+          amount_more f.gates f.gate in omega (arith, k.amount_is, many, more));
     }
   where
     turned : (a b c : Bool) → (a || (b || c)) ≡ (b || (a || c))
@@ -247,15 +304,18 @@ gate_kept r new f k low gates amount_is marks none rows quant output line name k
 
     known_more : (u : ℕ) → is_known (with_gate f) u ≡ (f.gate.name == u || is_known f u)
     known_more u =
-        ap (λ x. is_among u (quantified f) || is_among u x) (map-append (λ (g : GateText). g.name) f.gates (f.gate ∷ []))
+        ap (λ x. is_among u (quantified f) || is_among u x)
+        (map-append (λ (g : GateText). g.name) f.gates (f.gate ∷ []))
         ∙ ap (λ b. is_among u (quantified f) || b) (among_more f.gate.name (gate_names_of f.gates) u)
         ∙ turned (is_among u (quantified f)) (f.gate.name == u) (is_among u (gate_names_of f.gates))
 
-    gates_are : r.gates.items ++ record { var = r.name; kind = r.kind; inputs = r.inputs.items } ∷ [] ≡ map gate_of (f.gates ++ f.gate ∷ [])
+    gates_are : r.gates.items ++ record { var = r.name; kind = r.kind; inputs = r.inputs.items } ∷ [] ≡ map gate_of
+        (f.gates ++ f.gate ∷ [])
     gates_are = rw (k.gates, k.name, k.kind, k.inputs) (sym (map-append gate_of f.gates (f.gate ∷ [])))
 
 -- words that are noted nowhere
-pub in_set_else : (r : Reader) (place : Place) (f : Front) (s : Sign) (line : ℕ) → ((n : ℤ) → s ≡ Number n → ⊥) → Keeps r f
+pub in_set_else : (r : Reader) (place : Place) (f : Front) (s : Sign) (line : ℕ) → ((n : ℤ) → s ≡ Number n → ⊥)
+    → Keeps r f
     → (first_of (number_rules (InSet place) f s line) ≡ None) × Keeps r (noted (InSet place) f s line)
 in_set_else r place f (Number n) line other k = absurd (other n refl)
 in_set_else r place f Closing line other k = (refl, set_kept r f k)
@@ -266,7 +326,8 @@ pub between_else : (r : Reader) (f : Front) (s : Sign) (line : ℕ) → ((q : Qu
 between_else r f (Quantifier q) line other k = absurd (other q refl)
 between_else r f s line other k = (refl, k)
 
-pub in_output_else : (r : Reader) (place : Place) (f : Front) (s : Sign) (line : ℕ) → ((n : ℤ) → s ≡ Number n → ⊥) → Keeps r f
+pub in_output_else : (r : Reader) (place : Place) (f : Front) (s : Sign) (line : ℕ) → ((n : ℤ) → s ≡ Number n → ⊥)
+    → Keeps r f
     → (first_of (number_rules (InOutput place) f s line) ≡ None) × Keeps r (noted (InOutput place) f s line)
 in_output_else r place f (Number n) line other k = absurd (other n refl)
 in_output_else r place f s line other k = (refl, k)
@@ -281,11 +342,13 @@ pub in_kind_else : (r : Reader) (f : Front) (s : Sign) (line : ℕ) → ((kind :
 in_kind_else r f (Kind kind) line other k = absurd (other kind refl)
 in_kind_else r f s line other k = (refl, k)
 
-pub in_gate_else : (r : Reader) (place : Place) (f : Front) (s : Sign) (line : ℕ) → ((n : ℤ) → s ≡ Number n → ⊥) → (s ≡ Closing → ⊥) → Keeps r f
+pub in_gate_else : (r : Reader) (place : Place) (f : Front) (s : Sign) (line : ℕ) → ((n : ℤ) → s ≡ Number n → ⊥)
+    → (s ≡ Closing → ⊥) → Keeps r f
     → (first_of (number_rules (InGate place) f s line) ≡ None) × Keeps r (noted (InGate place) f s line)
 in_gate_else r place f (Number n) line other out k = absurd (other n refl)
 in_gate_else r place f Closing line other out k = absurd (out refl)
 in_gate_else r place f s line other out k = (refl, k)
 
-pub in_name_else : (r : Reader) (f : Front) (s : Sign) (line : ℕ) → Keeps r f → (first_of (number_rules InName f s line) ≡ None) × Keeps r (noted InName f s line)
+pub in_name_else : (r : Reader) (f : Front) (s : Sign) (line : ℕ) → Keeps r f
+    → (first_of (number_rules InName f s line) ≡ None) × Keeps r (noted InName f s line)
 in_name_else r f s line k = (refl, k)

@@ -3,7 +3,7 @@ use Rattle.std.specs.Prelude.{◌≡◌, ◌≤◌, ℕ, List, length, Option, S
 use Rattle.lexer.specs.Words.{Item}
 use Rattle.lexer.specs.declared.token.LexRefusal.{LexRefusal}
 use Rattle.lexer.specs.declared.token.LexRefusal.TheVariants.{ReadFault as LexFault, TooLong, BadByte, NumberRange}
-use Rattle.qdimacs.specs.declared.refusal.Quantity.TheVariants.{Bytes}
+use Rattle.reading.specs.declared.refusal.Quantity.TheVariants.{Bytes}
 use Rattle.qcir.specs.declared.circuit.Circuit.{Circuit}
 use Rattle.qcir.specs.Truth.{gate_names}
 use Rattle.qcir.specs.Translation.{IsCircuit, clause_count, scopes_with}
@@ -11,7 +11,8 @@ use Rattle.qcir_reader.specs.declared.refusal.QcirRefusal.{QcirRefusal}
 use Rattle.qcir_reader.specs.declared.refusal.QcirRefusal.TheVariants.{Refused, Limit, ReadFault, NoMemory}
 use Rattle.qcir_reader.specs.declared.sign.Stage.{Stage}
 use Rattle.qcir_reader.specs.declared.sign.Stage.TheVariants.{Between}
-use Rattle.qcir_reader.specs.Rules.{Outcome, parsed, refused, limit, Front, max_scopes, max_clauses}
+use Rattle.qcir_reader.specs.Rules.{Outcome, parsed, refused, limit, Front}
+use Rattle.truth.specs.Limits.{max_scopes, max_clauses}
 use Rattle.qcir_reader.specs.Run.{nothing, outcome_from}
 use Rattle.qcir_reader.specs.Reads.{Reads}
 

@@ -2,11 +2,12 @@
 use Rattle.std.specs.Prelude.{◌≡◌, ℕ, ℤ, ◌+◌, nat_abs, Bool, false, not, ◌&&◌, nat_le, List, [], ◌∷◌, length, slice_index_or, Option, None, Result, Ok, Err}
 use Rattle.prefix.specs.declared.quant.Quant.{Quant}
 use Rattle.prefix.specs.declared.quant.Quant.TheVariants.{Exists}
-use Rattle.qdimacs.specs.declared.refusal.Quantity.TheVariants.{Scopes, Clauses}
+use Rattle.reading.specs.declared.refusal.Quantity.TheVariants.{Scopes, Clauses}
 use Rattle.qdimacs.specs.Formula.{QuantSet}
 use Rattle.qdimacs.specs.Kept.{last_differs}
 use Rattle.qcir_reader.specs.declared.refusal.QcirRefusal.{QcirRefusal}
-use Rattle.qcir_reader.specs.Rules.{Outcome, refused, limit, is_no_name, is_no_variable, max_scopes, max_clauses}
+use Rattle.qcir_reader.specs.Rules.{Outcome, refused, limit, is_no_name, is_no_variable}
+use Rattle.truth.specs.Limits.{max_scopes, max_clauses}
 use Rattle.qcir_reader.specs.Answers.{Is}
 
 -- whether a variable under this quantifier would begin a scope too many

@@ -14,7 +14,8 @@ use Rattle.qcir_reader.specs.declared.sign.Stage.TheVariants.{Between, InSet, In
 use Rattle.qcir_reader.specs.declared.sign.Sign.{Sign}
 use Rattle.qcir_reader.specs.declared.sign.Sign.TheVariants.{Quantifier, Output, Kind, Equals, Opening, Closing, Comma, Number}
 use Rattle.qcir_reader.specs.Grammar.{sign_of}
-use Rattle.qcir_reader.specs.Rules.{Outcome, GateText, OutputText, Front, quantified, gate_of, gate_names_of, is_known, amount, scopes_of, verdict, max_name, max_scopes, max_clauses}
+use Rattle.qcir_reader.specs.Rules.{Outcome, GateText, OutputText, Front, quantified, gate_of, gate_names_of, is_known, amount, scopes_of, verdict, max_name}
+use Rattle.truth.specs.Limits.{max_scopes, max_clauses}
 
 -- numbers with a comma between two
 abbrev pub listed_more : List ℤ → List Sign

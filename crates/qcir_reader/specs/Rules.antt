@@ -6,8 +6,8 @@ use Rattle.lexer.specs.Words.{Item, word, bad_byte, number_range, too_long, the_
 use Rattle.prefix.specs.declared.quant.Quant.{Quant}
 use Rattle.prefix.specs.Literal.{Literal}
 use Rattle.prefix.specs.Scopes.{Scope, is_among}
-use Rattle.qdimacs.specs.declared.refusal.Quantity.{Quantity}
-use Rattle.qdimacs.specs.declared.refusal.Quantity.TheVariants.{Scopes, Clauses, Bytes}
+use Rattle.reading.specs.declared.refusal.Quantity.{Quantity}
+use Rattle.reading.specs.declared.refusal.Quantity.TheVariants.{Scopes, Clauses, Bytes}
 use Rattle.qdimacs.specs.Formula.{QuantSet, merged, declared, in_order}
 use Rattle.qcir.specs.declared.circuit.Circuit.{Circuit}
 use Rattle.qcir.specs.declared.circuit.Gate.{Gate}
@@ -18,6 +18,7 @@ use Rattle.qcir_reader.specs.declared.sign.Stage.TheVariants.{InSet, InOutput, B
 use Rattle.qcir_reader.specs.declared.sign.Sign.{Sign}
 use Rattle.qcir_reader.specs.declared.sign.Sign.TheVariants.{Quantifier, Number, LeftOut}
 use Rattle.qcir_reader.specs.Grammar.{allows, sign_of}
+use Rattle.truth.specs.Limits.{max_scopes, max_clauses}
 
 -- what a text is
 pub data Outcome : Type 0 where
@@ -48,12 +49,6 @@ pub record Front : Type 0 where
 
 abbrev pub max_name : ℕ
 max_name = 1048576
-
-abbrev pub max_scopes : ℕ
-max_scopes = 65536
-
-abbrev pub max_clauses : ℕ
-max_clauses = 2 ^ 24
 
 -- of several rules the first that refuses
 abbrev pub first_of : List (Bool × Outcome) → Option Outcome

@@ -14,7 +14,7 @@ use crate::sign::Stage;
 use lexer::{Comments, LexRefusal, Lexer};
 use ports::Desk;
 use qcir::Circuit;
-use qdimacs::Quantity;
+use reading::Quantity;
 use std::alloc::Global;
 
 // What the reader answers for a refusal of the lexer.

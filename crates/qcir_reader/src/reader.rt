@@ -15,7 +15,8 @@ use crate::sign::{Place, Sign, Stage, sign_of};
 use lexer::Token;
 use prefix::{Lit, LitList, Prefix, Quant, Var};
 use qcir::{Circuit, Gate, GateKind, GateList};
-use qdimacs::{Quantity, Sets};
+use qdimacs::Sets;
+use reading::Quantity;
 use std::alloc::{AllocError, Global};
 
 // The greatest number of clauses.

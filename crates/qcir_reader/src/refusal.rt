@@ -2,7 +2,7 @@
 ghost use Rattle.std.specs.Prelude.{◌≡◌};
 ghost use Rattle.qcir_reader.specs.declared.refusal.QcirRefusal.TheVariants.{NoMemory};
 
-use qdimacs::Quantity;
+use reading::Quantity;
 use std::alloc::{AllocError, AllocFailed};
 use thiserror::Error;
 

@@ -29,7 +29,8 @@ or_left false b h = cc
 head_same : (x y : ℕ) (xs ys : List ℕ) → AllByRecursion (λ z. x < z) xs → AllByRecursion (λ z. y < z) ys
     → ((v : ℕ) → is_among v (x ∷ xs) ≡ is_among v (y ∷ ys)) → (x < y) → ⊥
 head_same x y xs ys low high same lt =
-    let none : is_among x (y ∷ ys) ≡ false = below_all x (y ∷ ys) (lt, all_from (λ z. y < z) (λ z. x < z) ys (λ z h. omega (arith, h, lt)) high) in
+    let none : is_among x (y ∷ ys) ≡ false = below_all x (y ∷ ys)
+    (lt, all_from (λ z. y < z) (λ z. x < z) ys (λ z h. omega (arith, h, lt)) high) in
     let some : is_among x (x ∷ xs) ≡ true = or_left (x == x) (is_among x xs) (eq-eqb x x refl) in
     true_is_not (sym some ∙ same x ∙ none)
 
@@ -42,14 +43,21 @@ tail_same x xs ys low high same v = by (x == v) refl
     by false e = ap (λ b. b || is_among v xs) (sym e) ∙ same v ∙ ap (λ b. b || is_among v ys) e
 
 -- ascending lists with the same elements are the same
-pub same_elements : (xs ys : List ℕ) → IsAscending xs → IsAscending ys → ((v : ℕ) → is_among v xs ≡ is_among v ys) → xs ≡ ys
+pub same_elements : (xs ys : List ℕ) → IsAscending xs → IsAscending ys → ((v : ℕ) → is_among v xs ≡ is_among v ys)
+    → xs ≡ ys
 same_elements [] [] a b same = refl
-same_elements [] (y ∷ ys) a b same = true_is_not (sym (or_left (y == y) (is_among y ys) (eq-eqb y y refl)) ∙ sym (same y))
+same_elements [] (y ∷ ys) a b same = true_is_not (sym (or_left (y == y) (is_among y ys) (eq-eqb y y refl))
+    ∙ sym (same y))
 same_elements (x ∷ xs) [] a b same = true_is_not (sym (or_left (x == x) (is_among x xs) (eq-eqb x x refl)) ∙ same x)
 same_elements (x ∷ xs) (y ∷ ys) a b same =
-    let first : x ≡ y = ⊎_elim (λ e. e) (λ n. absurd (⊎_elim (λ lt. head_same x y xs ys a.0 b.0 same lt) (λ ge. head_same y x ys xs b.0 a.0 (λ v. sym (same v)) (omega (arith, ge, n))) (cases_lt x y))) (cases_eq x y) in
+    let first : x ≡ y = ⊎_elim (λ e. e)
+    (λ n. absurd
+    (⊎_elim (λ lt. head_same x y xs ys a.0 b.0 same lt)
+    (λ ge. head_same y x ys xs b.0 a.0 (λ v. sym (same v)) (omega (arith, ge, n))) (cases_lt x y)))
+    (cases_eq x y) in
     let above : AllByRecursion (λ z. x < z) ys = rw first b.0 in
-    let same_tails : (v : ℕ) → is_among v xs ≡ is_among v ys = tail_same x xs ys a.0 above (λ v. same v ∙ ap (λ z. is_among v (z ∷ ys)) (sym first)) in
+    let same_tails : (v : ℕ) → is_among v xs ≡ is_among v ys = tail_same x xs ys a.0 above
+    (λ v. same v ∙ ap (λ z. is_among v (z ∷ ys)) (sym first)) in
     ap (λ z. z ∷ xs) first ∙ ap (λ zs. y ∷ zs) (same_elements xs ys a.1 b.1 same_tails)
 
 -- a number put in
@@ -61,7 +69,8 @@ put_above : (x n : ℕ) (ms : List ℕ) → x < n → AllByRecursion (λ z. x < 
 put_above x n [] low all = (low, tt)
 put_above x n (m ∷ ms) low all = by (nat_lt n m) (n == m) (put_above x n ms low all.1)
   where
-    by : (a b : Bool) → AllByRecursion (λ z. x < z) (put n ms) → AllByRecursion (λ z. x < z) (if a then n ∷ m ∷ ms else if b then m ∷ ms else m ∷ put n ms)
+    by : (a b : Bool) → AllByRecursion (λ z. x < z) (put n ms) → AllByRecursion (λ z. x < z)
+        (if a then n ∷ m ∷ ms else if b then m ∷ ms else m ∷ put n ms)
     by true true later = (low, all)
     by true false later = (low, all)
     by false true later = all
@@ -71,8 +80,10 @@ put_ascending : (n : ℕ) (ms : List ℕ) → IsAscending ms → IsAscending (pu
 put_ascending n [] a = (tt, tt)
 put_ascending n (m ∷ ms) a = by (nat_lt n m) (n == m) refl refl (put_ascending n ms a.1)
   where
-    by : (b c : Bool) → nat_lt n m ≡ b → (n == m) ≡ c → IsAscending (put n ms) → IsAscending (if b then n ∷ m ∷ ms else if c then m ∷ ms else m ∷ put n ms)
-    by true c e f later = let low : n < m = grind (arith, nat_tests, e) in ((low, all_from (λ z. m < z) (λ z. n < z) ms (λ z h. omega (arith, h, low)) a.0), a)
+    by : (b c : Bool) → nat_lt n m ≡ b → (n == m) ≡ c → IsAscending (put n ms)
+        → IsAscending (if b then n ∷ m ∷ ms else if c then m ∷ ms else m ∷ put n ms)
+    by true c e f later = let low : n < m = grind (arith, nat_tests, e) in
+        ((low, all_from (λ z. m < z) (λ z. n < z) ms (λ z h. omega (arith, h, low)) a.0), a)
     by false true e f later = a
     by false false e f later =
         let other : n ≡ m → ⊥ = eqb-false n m f in
@@ -89,7 +100,8 @@ ascending_among w (n ∷ ns) = put_among w n (ascending ns) ∙ ap (λ b. n == w
 
 -- the ascending list of the same elements
 pub ascending_of : (xs ns : List ℕ) → IsAscending xs → ((v : ℕ) → is_among v xs ≡ is_among v ns) → xs ≡ ascending ns
-ascending_of xs ns a same = same_elements xs (ascending ns) a (ascending_is ns) (λ v. same v ∙ sym (ascending_among v ns))
+ascending_of xs ns a same = same_elements xs (ascending ns) a (ascending_is ns)
+    (λ v. same v ∙ sym (ascending_among v ns))
 
 pub ascending_same : (xs ys : List ℕ) → ((v : ℕ) → is_among v xs ≡ is_among v ys) → ascending xs ≡ ascending ys
 ascending_same xs ys same = ascending_of (ascending xs) ys (ascending_is xs) (λ v. ascending_among v xs ∙ same v)

@@ -17,17 +17,21 @@ pub below_not : (v : ℕ) → nat_lt v v ≡ false
 below_not v = grind (arith, nat_tests)
 
 -- a free number is put
-pub free_put : (free : List ℕ) (v : ℕ) (is : ℕ → Bool) → ((u : ℕ) → is_among u free ≡ (nat_lt u v && is u)) → is v ≡ true → (u : ℕ) → is_among u (free ++ v ∷ []) ≡ (nat_lt u (v + 1) && is u)
+pub free_put : (free : List ℕ) (v : ℕ) (is : ℕ → Bool) → ((u : ℕ) → is_among u free ≡ (nat_lt u v && is u))
+    → is v ≡ true → (u : ℕ) → is_among u (free ++ v ∷ []) ≡ (nat_lt u (v + 1) && is u)
 free_put free v is all yes_free u = ⊎_elim same other (cases_eq u v)
   where
     same : u ≡ v → is_among u (free ++ v ∷ []) ≡ (nat_lt u (v + 1) && is u)
-    same e = rw e (among_more v free v ∙ ap (λ b. b || is_among v free) (eq-eqb v v refl) ∙ sym (ap (λ b. b && is v) (below_self v) ∙ yes_free))
+    same e = rw e (among_more v free v ∙ ap (λ b. b || is_among v free) (eq-eqb v v refl)
+        ∙ sym (ap (λ b. b && is v) (below_self v) ∙ yes_free))
 
     other : (u ≡ v → ⊥) → is_among u (free ++ v ∷ []) ≡ (nat_lt u (v + 1) && is u)
-    other n = among_more v free u ∙ ap (λ b. b || is_among u free) (ne_eqb v u (λ e. n (sym e))) ∙ all u ∙ ap (λ b. b && is u) (sym (below_more u v n))
+    other n = among_more v free u ∙ ap (λ b. b || is_among u free) (ne_eqb v u (λ e. n (sym e))) ∙ all u
+        ∙ ap (λ b. b && is u) (sym (below_more u v n))
 
 -- another is left
-pub free_left : (free : List ℕ) (v : ℕ) (is : ℕ → Bool) → ((u : ℕ) → is_among u free ≡ (nat_lt u v && is u)) → is v ≡ false → (u : ℕ) → is_among u free ≡ (nat_lt u (v + 1) && is u)
+pub free_left : (free : List ℕ) (v : ℕ) (is : ℕ → Bool) → ((u : ℕ) → is_among u free ≡ (nat_lt u v && is u))
+    → is v ≡ false → (u : ℕ) → is_among u free ≡ (nat_lt u (v + 1) && is u)
 free_left free v is all no_free u = ⊎_elim same other (cases_eq u v)
   where
     same : u ≡ v → is_among u free ≡ (nat_lt u (v + 1) && is u)

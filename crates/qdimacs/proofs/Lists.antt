@@ -5,7 +5,8 @@ use Rattle.std.specs.List.{AllByRecursion}
 use Rattle.std.proofs.lemmas.Bool.{eqb-false, ne_eqb}
 use Rattle.prefix.specs.Scopes.{is_among, AreDistinct}
 
-pub all_more : {X : Type 0} (P : X → Type 0) (xs : List X) (x : X) → AllByRecursion P xs → P x → AllByRecursion P (xs ++ x ∷ [])
+pub all_more : {X : Type 0} (P : X → Type 0) (xs : List X) (x : X) → AllByRecursion P xs → P x → AllByRecursion P
+    (xs ++ x ∷ [])
 all_more P [] x all h = (h, tt)
 all_more P (y ∷ ys) x all h = (all.0, all_more P ys x all.1 h)
 
@@ -13,12 +14,14 @@ none_taken : {X : Type 0} (P : X → Type 0) (n : ℕ) → AllByRecursion P (tak
 none_taken P zero = tt
 none_taken P (suc n) = tt
 
-pub on_more : {X : Type 0} (P : X → Type 0) (n : ℕ) (xs : List X) (x : X) → AllByRecursion P (take n xs) → (length xs < n → P x) → AllByRecursion P (take n (xs ++ x ∷ []))
+pub on_more : {X : Type 0} (P : X → Type 0) (n : ℕ) (xs : List X) (x : X) → AllByRecursion P (take n xs)
+    → (length xs < n → P x) → AllByRecursion P (take n (xs ++ x ∷ []))
 on_more P zero xs x all h = tt
 on_more P (suc n) [] x all h = (h (omega arith), none_taken P n)
 on_more P (suc n) (y ∷ ys) x all h = (all.0, on_more P n ys x all.1 (λ lt. h (omega arith)))
 
-pub fifth_more : {X : Type 0} (P : X → Type 0) (n : ℕ) (xs : List X) (x : X) → AllByRecursion P (take 1 (drop n xs)) → (length xs ≡ n → P x) → AllByRecursion P (take 1 (drop n (xs ++ x ∷ [])))
+pub fifth_more : {X : Type 0} (P : X → Type 0) (n : ℕ) (xs : List X) (x : X) → AllByRecursion P (take 1 (drop n xs))
+    → (length xs ≡ n → P x) → AllByRecursion P (take 1 (drop n (xs ++ x ∷ [])))
 fifth_more P zero [] x all h = (h refl, tt)
 fifth_more P zero (y ∷ ys) x all h = (all.0, tt)
 fifth_more P (suc zero) [] x all h = tt
@@ -31,7 +34,8 @@ or_false false b h = (refl, h)
 
 new_last : (u : ℕ) (us : List ℕ) (v : ℕ) → is_among u us ≡ false → (u == v) ≡ false → is_among u (us ++ v ∷ []) ≡ false
 new_last u [] v h e = ap (λ t. t || false) (ne_eqb v u (λ q. eqb-false u v e (sym q)))
-new_last u (w ∷ ws) v h e = let parts : ((w == u) ≡ false) × (is_among u ws ≡ false) = or_false (w == u) (is_among u ws) h in ap (λ t. t || is_among u (ws ++ v ∷ [])) parts.0 ∙ new_last u ws v parts.1 e
+new_last u (w ∷ ws) v h e = let parts : ((w == u) ≡ false) × (is_among u ws ≡ false) = or_false (w == u) (is_among u ws)
+    h in ap (λ t. t || is_among u (ws ++ v ∷ [])) parts.0 ∙ new_last u ws v parts.1 e
 
 pub distinct_more : (vs : List ℕ) (v : ℕ) → AreDistinct vs → is_among v vs ≡ false → AreDistinct (vs ++ v ∷ [])
 distinct_more [] v all h = (refl, tt)

@@ -24,16 +24,20 @@ join_join q (u ∷ us) (t ∷ ts) [] = ap (λ x. join_if x q (u ∷ us) q (t ∷
 join_join q (u ∷ us) (t ∷ ts) (x ∷ xs) = by (same_quant q x.0)
   where
     by : (s : Bool) → join_if s q ((u ∷ us) ++ t ∷ ts) x.0 x.1 xs ≡ join q (u ∷ us) (join_if s q (t ∷ ts) x.0 x.1 xs)
-    by true = ap (λ r. (q, u ∷ r) ∷ xs) (append_assoc us (t ∷ ts) x.1) ∙ ap (λ s. join_if s q (u ∷ us) q ((t ∷ ts) ++ x.1) xs) (sym (same_self q))
+    by true = ap (λ r. (q, u ∷ r) ∷ xs) (append_assoc us (t ∷ ts) x.1)
+        ∙ ap (λ s. join_if s q (u ∷ us) q ((t ∷ ts) ++ x.1) xs) (sym (same_self q))
     by false = ap (λ s. join_if s q (u ∷ us) q (t ∷ ts) (x ∷ xs)) (sym (same_self q))
 
-merged_join : (q : Quant) (us : List ℕ) (xs ys : List QuantSet) → merged (join q us xs ++ ys) ≡ join q us (merged (xs ++ ys))
+merged_join : (q : Quant) (us : List ℕ) (xs ys : List QuantSet) → merged (join q us xs ++ ys) ≡ join q us
+    (merged (xs ++ ys))
 merged_join q [] xs ys = refl
 merged_join q (u ∷ us) [] ys = refl
 merged_join q (u ∷ us) (x ∷ xs) ys = by (same_quant q x.0) refl
   where
-    by : (s : Bool) → same_quant q x.0 ≡ s → merged (join_if s q (u ∷ us) x.0 x.1 xs ++ ys) ≡ join q (u ∷ us) (join x.0 x.1 (merged (xs ++ ys)))
-    by true e = join_join q (u ∷ us) x.1 (merged (xs ++ ys)) ∙ ap (λ r. join q (u ∷ us) (join r x.1 (merged (xs ++ ys)))) (same_is q x.0 e)
+    by : (s : Bool) → same_quant q x.0 ≡ s → merged (join_if s q (u ∷ us) x.0 x.1 xs ++ ys) ≡ join q (u ∷ us)
+        (join x.0 x.1 (merged (xs ++ ys)))
+    by true e = join_join q (u ∷ us) x.1 (merged (xs ++ ys))
+        ∙ ap (λ r. join q (u ∷ us) (join r x.1 (merged (xs ++ ys)))) (same_is q x.0 e)
     by false e = refl
 
 -- merged scopes do for the sets that they were merged from
@@ -60,23 +64,29 @@ put_last q v [] = (q, v ∷ []) ∷ []
 put_last q v (x ∷ []) = if same_quant x.0 q then (x.0, x.1 ++ v ∷ []) ∷ [] else x ∷ (q, v ∷ []) ∷ []
 put_last q v (x ∷ y ∷ rest) = x ∷ put_last q v (y ∷ rest)
 
-join_put : (r : Quant) (us : List ℕ) (q : Quant) (v : ℕ) (xs : List QuantSet) → join r us (put_last q v xs) ≡ put_last q v (join r us xs)
+join_put : (r : Quant) (us : List ℕ) (q : Quant) (v : ℕ) (xs : List QuantSet) → join r us (put_last q v xs) ≡ put_last q
+    v (join r us xs)
 join_put r [] q v xs = refl
 join_put r (u ∷ us) q v [] = by (same_quant r q)
   where
-    by : (s : Bool) → join_if s r (u ∷ us) q (v ∷ []) [] ≡ (if s then (r, (u ∷ us) ++ v ∷ []) ∷ [] else (r, u ∷ us) ∷ (q, v ∷ []) ∷ [])
+    by : (s : Bool) → join_if s r (u ∷ us) q (v ∷ []) [] ≡
+        (if s then (r, (u ∷ us) ++ v ∷ []) ∷ [] else (r, u ∷ us) ∷ (q, v ∷ []) ∷ [])
     by true = refl
     by false = refl
 join_put r (u ∷ us) q v (x ∷ []) = by (same_quant r x.0) (same_quant x.0 q) refl refl
   where
-    by : (s t : Bool) → same_quant r x.0 ≡ s → same_quant x.0 q ≡ t → join r (u ∷ us) (if t then (x.0, x.1 ++ v ∷ []) ∷ [] else x ∷ (q, v ∷ []) ∷ []) ≡ put_last q v (join_if s r (u ∷ us) x.0 x.1 [])
+    by : (s t : Bool) → same_quant r x.0 ≡ s → same_quant x.0 q ≡ t
+        → join r (u ∷ us) (if t then (x.0, x.1 ++ v ∷ []) ∷ [] else x ∷ (q, v ∷ []) ∷ []) ≡ put_last q v
+        (join_if s r (u ∷ us) x.0 x.1 [])
     by true true e f =
         ap (λ s. join_if s r (u ∷ us) x.0 (x.1 ++ v ∷ []) []) e
         ∙ ap (λ w. (r, w) ∷ []) (sym (append_assoc (u ∷ us) x.1 (v ∷ [])))
-        ∙ ap (λ s. if s then (r, ((u ∷ us) ++ x.1) ++ v ∷ []) ∷ [] else (r, (u ∷ us) ++ x.1) ∷ (q, v ∷ []) ∷ []) (sym f ∙ ap (λ z. same_quant z q) (sym (same_is r x.0 e)))
+        ∙ ap (λ s. if s then (r, ((u ∷ us) ++ x.1) ++ v ∷ []) ∷ [] else (r, (u ∷ us) ++ x.1) ∷ (q, v ∷ []) ∷ [])
+        (sym f ∙ ap (λ z. same_quant z q) (sym (same_is r x.0 e)))
     by true false e f =
         ap (λ s. join_if s r (u ∷ us) x.0 x.1 ((q, v ∷ []) ∷ [])) e
-        ∙ ap (λ s. if s then (r, ((u ∷ us) ++ x.1) ++ v ∷ []) ∷ [] else (r, (u ∷ us) ++ x.1) ∷ (q, v ∷ []) ∷ []) (sym f ∙ ap (λ z. same_quant z q) (sym (same_is r x.0 e)))
+        ∙ ap (λ s. if s then (r, ((u ∷ us) ++ x.1) ++ v ∷ []) ∷ [] else (r, (u ∷ us) ++ x.1) ∷ (q, v ∷ []) ∷ [])
+        (sym f ∙ ap (λ z. same_quant z q) (sym (same_is r x.0 e)))
     by false true e f =
         ap (λ s. join_if s r (u ∷ us) x.0 (x.1 ++ v ∷ []) []) e
         ∙ ap (λ t. (r, u ∷ us) ∷ (if t then (x.0, x.1 ++ v ∷ []) ∷ [] else x ∷ (q, v ∷ []) ∷ [])) (sym f)
@@ -85,15 +95,19 @@ join_put r (u ∷ us) q v (x ∷ []) = by (same_quant r x.0) (same_quant x.0 q) 
         ∙ ap (λ t. (r, u ∷ us) ∷ (if t then (x.0, x.1 ++ v ∷ []) ∷ [] else x ∷ (q, v ∷ []) ∷ [])) (sym f)
 join_put r (u ∷ us) q v (x ∷ y ∷ rest) = by (same_quant r x.0)
   where
-    by : (s : Bool) → join_if s r (u ∷ us) x.0 x.1 (put_last q v (y ∷ rest)) ≡ put_last q v (join_if s r (u ∷ us) x.0 x.1 (y ∷ rest))
+    by : (s : Bool) → join_if s r (u ∷ us) x.0 x.1 (put_last q v (y ∷ rest)) ≡ put_last q v
+        (join_if s r (u ∷ us) x.0 x.1 (y ∷ rest))
     by true = refl
     by false = refl
 
 one_put : (q : Quant) (vs : List ℕ) (v : ℕ) → join q (vs ++ v ∷ []) [] ≡ put_last q v (join q vs [])
 one_put q [] v = refl
-one_put q (u ∷ us) v = ap (λ s. if s then (q, (u ∷ us) ++ v ∷ []) ∷ [] else (q, u ∷ us) ∷ (q, v ∷ []) ∷ []) (sym (same_self q))
+one_put q (u ∷ us) v = ap (λ s. if s then (q, (u ∷ us) ++ v ∷ []) ∷ [] else (q, u ∷ us) ∷ (q, v ∷ []) ∷ [])
+    (sym (same_self q))
 
 -- what a variable makes of the merged scopes
-pub merged_put : (sets : List QuantSet) (q : Quant) (vs : List ℕ) (v : ℕ) → merged (sets ++ (q, vs ++ v ∷ []) ∷ []) ≡ put_last q v (merged (sets ++ (q, vs) ∷ []))
+pub merged_put : (sets : List QuantSet) (q : Quant) (vs : List ℕ) (v : ℕ) → merged (sets ++ (q, vs ++ v ∷ []) ∷ []) ≡
+    put_last q v (merged (sets ++ (q, vs) ∷ []))
 merged_put [] q vs v = one_put q vs v
-merged_put (s ∷ sets) q vs v = ap (join s.0 s.1) (merged_put sets q vs v) ∙ join_put s.0 s.1 q v (merged (sets ++ (q, vs) ∷ []))
+merged_put (s ∷ sets) q vs v = ap (join s.0 s.1) (merged_put sets q vs v) ∙ join_put s.0 s.1 q v
+    (merged (sets ++ (q, vs) ∷ []))

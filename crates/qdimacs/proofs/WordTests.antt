@@ -3,8 +3,8 @@ use Rattle.std.proofs.Common.{◌≡◌, ℕ, pos, negsuc, Bool, true, false, no
 use Rattle.std.proofs.lemmas.Slice.Eq.{bytes_eq-Decides}
 use Rattle.lexer.specs.declared.token.Word.{Word}
 use Rattle.lexer.specs.declared.token.Word.TheVariants.{Num, Text, Other}
-use Rattle.qdimacs.specs.Rules.{Outcome, first_of, is_text, is_natural}
-use Rattle.qdimacs.specs.Run.{natural_of}
+use Rattle.qdimacs.specs.Rules.{Outcome, first_of}
+use Rattle.reading.specs.Words.{is_text, is_natural, natural_of}
 use Rattle.std.specs.Prelude.{[], ◌∷◌, ◌++◌}
 
 pub text_is : (t : List ℕ) (w : Word) → is_text t w ≡ true → w ≡ Text t
@@ -19,11 +19,13 @@ natural_is (Text bytes) h = cc
 natural_is Other h = cc
 
 -- no rule of the list refuses
-pub none_refuses : (test : Bool) (o : Outcome) (rules : List (Bool × Outcome)) → first_of ((test, o) ∷ rules) ≡ None → (test ≡ false) × (first_of rules ≡ None)
+pub none_refuses : (test : Bool) (o : Outcome) (rules : List (Bool × Outcome)) → first_of ((test, o) ∷ rules) ≡ None
+    → (test ≡ false) × (first_of rules ≡ None)
 none_refuses true o rules h = cc
 none_refuses false o rules h = (refl, h)
 
-pub passes : (test : Bool) (o : Outcome) (rules : List (Bool × Outcome)) → first_of ((not test, o) ∷ rules) ≡ None → (test ≡ true) × (first_of rules ≡ None)
+pub passes : (test : Bool) (o : Outcome) (rules : List (Bool × Outcome)) → first_of ((not test, o) ∷ rules) ≡ None
+    → (test ≡ true) × (first_of rules ≡ None)
 passes true o rules h = (refl, h)
 passes false o rules h = cc
 
@@ -36,7 +38,8 @@ both_true true b h = (refl, h)
 both_true false b h = cc
 
 -- no rule of either list refuses
-pub none_of_both : (xs ys : List (Bool × Outcome)) → first_of (xs ++ ys) ≡ None → (first_of xs ≡ None) × (first_of ys ≡ None)
+pub none_of_both : (xs ys : List (Bool × Outcome)) → first_of (xs ++ ys) ≡ None → (first_of xs ≡ None)
+    × (first_of ys ≡ None)
 none_of_both [] ys h = (refl, h)
 none_of_both ((true, o) ∷ xs) ys h = cc
 none_of_both ((false, o) ∷ xs) ys h = none_of_both xs ys h

@@ -5,11 +5,13 @@ use Rattle.prefix.specs.declared.quant.Quant.{Quant}
 use Rattle.prefix.specs.declared.quant.Quant.TheVariants.{Exists}
 use Rattle.prefix.specs.Scopes.{Scope, is_among, level_of, AreDistinct}
 use Rattle.lexer.specs.declared.token.Word.TheVariants.{Num}
-use Rattle.qdimacs.specs.declared.refusal.ReadRefusal.{ReadRefusal}
-use Rattle.qdimacs.specs.declared.refusal.Quantity.TheVariants.{Scopes, Literals}
+use Rattle.reading.specs.declared.refusal.ReadRefusal.{ReadRefusal}
+use Rattle.reading.specs.declared.refusal.Quantity.TheVariants.{Scopes, Literals}
 use Rattle.qdimacs.specs.declared.sets.Row.{Row}
 use Rattle.qdimacs.specs.Formula.{QuantSet, same_quant, is_tautology, as_row, declared}
-use Rattle.qdimacs.specs.Rules.{Outcome, refused, limit, max_scopes, max_literals, is_natural}
+use Rattle.qdimacs.specs.Rules.{Outcome, refused, limit}
+use Rattle.truth.specs.Limits.{max_scopes, max_literals}
+use Rattle.reading.specs.Words.{is_natural}
 use Rattle.qdimacs.specs.Step.{Is}
 
 -- The sets that rows stand for.

@@ -10,15 +10,13 @@ use Rattle.prefix.specs.declared.quant.Quant.{Quant}
 use Rattle.prefix.specs.declared.quant.Quant.TheVariants.{Exists, Forall}
 use Rattle.prefix.specs.Scopes.{AreDistinct}
 use Rattle.qdimacs.specs.Formula.{QuantSet, merged, declared, literals_of}
-use Rattle.qdimacs.specs.Rules.{Outcome, Header, Front, nothing, in_header, headed, between, in_set, in_clause, verdict, max_vars, max_scopes, max_clauses, max_literals}
+use Rattle.qdimacs.specs.Rules.{Outcome, Header, Front, nothing, in_header, headed, between, in_set, in_clause, verdict}
+use Rattle.truth.specs.Limits.{max_vars, max_scopes, max_clauses, max_literals}
+use Rattle.reading.specs.Words.{quant_word}
 
 -- the words that each thing is written by
 abbrev pub header_words : ℕ → ℕ → List Word
 header_words vars count = Text (codes "p") ∷ Text (codes "cnf") ∷ Num (pos vars) ∷ Num (pos count) ∷ []
-
-abbrev pub quant_word : Quant → Word
-quant_word Exists = Text (codes "e")
-quant_word Forall = Text (codes "a")
 
 abbrev pub variable_words : List ℕ → List Word
 variable_words vs = map (λ v. Num (pos v)) vs

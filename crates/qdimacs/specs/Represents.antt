@@ -10,10 +10,12 @@ use Rattle.qdimacs.specs.declared.sets.Sets.{Sets}
 use Rattle.qdimacs.specs.declared.clauses.Clauses.{Clauses}
 use Rattle.qdimacs.specs.declared.reader.Stage.{Stage}
 use Rattle.qdimacs.specs.declared.reader.Stage.TheVariants.{Nothing, Problem, Format, Vars, Headed, Between, InSet, InClause}
-use Rattle.qdimacs.specs.declared.refusal.ReadRefusal.{ReadRefusal}
+use Rattle.reading.specs.declared.refusal.ReadRefusal.{ReadRefusal}
 use Rattle.qdimacs.specs.Formula.{QuantSet, merged, declared, literals_of, matrix_of}
-use Rattle.qdimacs.specs.Rules.{Outcome, Header, Front, nothing, in_header, headed, between, in_set, in_clause, first_of, word_rules, end_rules, header_limits, literal_rules, variable_rules, unless_zero, is_zero, max_vars, max_clauses, max_literals, max_scopes}
-use Rattle.qdimacs.specs.Run.{natural_of, extended, clause_after}
+use Rattle.qdimacs.specs.Rules.{Outcome, Header, Front, nothing, in_header, headed, between, in_set, in_clause, first_of, word_rules, end_rules, header_limits, literal_rules, variable_rules, unless_zero}
+use Rattle.truth.specs.Limits.{max_vars, max_clauses, max_literals, max_scopes}
+use Rattle.reading.specs.Words.{is_zero, natural_of}
+use Rattle.qdimacs.specs.Run.{extended, clause_after}
 use Rattle.qdimacs.specs.Step.{Is, Closes}
 use Rattle.qdimacs.specs.Kept.{sets_of, AreMarks, codes_of}
 

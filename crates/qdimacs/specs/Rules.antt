@@ -10,9 +10,11 @@ use Rattle.prefix.specs.declared.quant.Quant.{Quant}
 use Rattle.truth.specs.declared.formula.Formula.{Formula}
 use Rattle.prefix.specs.declared.quant.Quant.TheVariants.{Exists, Forall}
 use Rattle.prefix.specs.Scopes.{is_among}
-use Rattle.qdimacs.specs.declared.refusal.Quantity.{Quantity}
-use Rattle.qdimacs.specs.declared.refusal.Quantity.TheVariants.{Variables, Scopes, Clauses, Literals, Bytes}
+use Rattle.reading.specs.declared.refusal.Quantity.{Quantity}
+use Rattle.reading.specs.declared.refusal.Quantity.TheVariants.{Variables, Scopes, Clauses, Literals, Bytes}
 use Rattle.qdimacs.specs.Formula.{QuantSet, formula_of, scopes_of, merged, declared, literals_of}
+use Rattle.truth.specs.Limits.{max_vars, max_scopes, max_clauses, max_literals}
+use Rattle.reading.specs.Words.{is_text, is_natural, quant_of, is_zero}
 
 -- what a text is
 pub data Outcome : Type 0 where
@@ -36,32 +38,6 @@ pub data Front : Type 0 where
   in_set : Header → List QuantSet → Quant → List ℕ → Front
   in_clause : Header → List QuantSet → List (List ℤ) → List ℤ → Front
 
-abbrev pub max_vars : ℕ
-max_vars = 1048576
-
-abbrev pub max_scopes : ℕ
-max_scopes = 65536
-
-abbrev pub max_clauses : ℕ
-max_clauses = 2 ^ 24
-
-abbrev pub max_literals : ℕ
-max_literals = 2 ^ 28
-
-abbrev pub is_text : List ℕ → Word → Bool
-is_text t (Text bytes) = bytes_eq bytes t
-is_text t (Num n) = false
-is_text t Other = false
-
-abbrev pub is_natural : Word → Bool
-is_natural (Num (pos n)) = true
-is_natural (Num (negsuc n)) = false
-is_natural (Text bytes) = false
-is_natural Other = false
-
-abbrev pub quant_of : Word → Option Quant
-quant_of w = if is_text (codes "e") w then Some Exists else if is_text (codes "a") w then Some Forall else None
-
 -- the word that stands behind `p` and this many others
 abbrev pub fits_header : ℕ → Word → Bool
 fits_header zero w = is_text (codes "cnf") w
@@ -73,9 +49,6 @@ fits_header (suc (suc (suc n))) w = false
 abbrev pub first_of : List (Bool × Outcome) → Option Outcome
 first_of [] = None
 first_of (rule ∷ rules) = if rule.0 then Some rule.1 else first_of rules
-
-abbrev pub is_zero : ℤ → Bool
-is_zero n = nat_abs n == 0
 
 abbrev pub is_empty : {A : Type 0} → List A → Bool
 is_empty [] = true

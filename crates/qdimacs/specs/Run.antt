@@ -6,12 +6,8 @@ use Rattle.lexer.specs.declared.token.Comments.TheVariants.{Dimacs}
 use Rattle.lexer.specs.Words.{Item, word, bad_byte, number_range, too_long, the_end, items}
 use Rattle.prefix.specs.declared.quant.Quant.{Quant}
 use Rattle.qdimacs.specs.Formula.{QuantSet}
-use Rattle.qdimacs.specs.Rules.{Outcome, Header, Front, nothing, in_header, headed, between, in_set, in_clause, verdict, quant_of, is_zero}
-
-abbrev pub natural_of : Word → ℕ
-natural_of (Num n) = nat_abs n
-natural_of (Text t) = 0
-natural_of Other = 0
+use Rattle.qdimacs.specs.Rules.{Outcome, Header, Front, nothing, in_header, headed, between, in_set, in_clause, verdict}
+use Rattle.reading.specs.Words.{quant_of, is_zero, natural_of}
 
 -- the header where its last word has come
 abbrev pub header_after : ℕ → List Word → Word → Front

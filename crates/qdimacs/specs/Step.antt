@@ -4,9 +4,9 @@ use Rattle.lexer.specs.Words.{Item}
 use Rattle.lexer.specs.declared.token.LexRefusal.{LexRefusal}
 use Rattle.lexer.specs.declared.token.LexRefusal.TheVariants.{ReadFault as LexFault, TooLong, BadByte, NumberRange}
 use Rattle.truth.specs.declared.formula.Formula.{Formula}
-use Rattle.qdimacs.specs.declared.refusal.Quantity.TheVariants.{Bytes}
-use Rattle.qdimacs.specs.declared.refusal.ReadRefusal.{ReadRefusal}
-use Rattle.qdimacs.specs.declared.refusal.ReadRefusal.TheVariants.{Refused, Limit, ReadFault, NoMemory}
+use Rattle.reading.specs.declared.refusal.Quantity.TheVariants.{Bytes}
+use Rattle.reading.specs.declared.refusal.ReadRefusal.{ReadRefusal}
+use Rattle.reading.specs.declared.refusal.ReadRefusal.TheVariants.{Refused, Limit, ReadFault, NoMemory}
 use Rattle.qdimacs.specs.Rules.{Outcome, parsed, refused, limit, Front, nothing}
 use Rattle.qdimacs.specs.Run.{outcome_from}
 

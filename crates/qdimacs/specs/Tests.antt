@@ -1,7 +1,7 @@
 -- Worked texts, of which the outcome is computed.
 use Rattle.std.specs.Prelude.{◌≡◌, ℕ, suc, ℤ, pos, negsuc, true, false, ◌==◌, if◌then◌else◌, List, [], ◌∷◌, ◌++◌, map, codes, refl, Option, Some}
 use Rattle.prefix.specs.declared.quant.Quant.TheVariants.{Exists, Forall}
-use Rattle.qdimacs.specs.declared.refusal.Quantity.TheVariants.{Variables, Clauses}
+use Rattle.reading.specs.declared.refusal.Quantity.TheVariants.{Variables, Clauses}
 use Rattle.prefix.specs.Literal.{Literal}
 use Rattle.prefix.specs.Scopes.{Scope}
 use Rattle.qdimacs.specs.Formula.{QuantSet}

@@ -6,8 +6,9 @@ ghost use Rattle.qdimacs.specs.Rules.{first_of};
 ghost use Rattle.qdimacs.specs.Formula.{as_row, is_tautology};
 ghost use Rattle.prefix.specs.Literal.{Literal};
 
-use crate::refusal::{Quantity, ReadRefusal, VARIABLE_RANGE, beyond, refused};
+use crate::refusal::{VARIABLE_RANGE, beyond, refused};
 use prefix::{Lit, LitList, Var};
+use reading::{Quantity, ReadRefusal};
 use std::alloc::{AllocError, Global};
 
 // The greatest number of literals.

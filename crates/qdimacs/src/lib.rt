@@ -12,5 +12,4 @@ mod sets;
 
 pub use laws::each_text_has_one_outcome;
 pub use read::read_formula;
-pub use refusal::{Quantity, ReadRefusal};
 pub use sets::{Row, Sets};

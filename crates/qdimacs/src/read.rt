@@ -6,14 +6,15 @@ ghost use Rattle.lexer.specs.State.{upcoming};
 ghost use Rattle.ports.specs.Causes.{IsCounted};
 ghost use Rattle.qdimacs.specs.Rules.{nothing};
 ghost use Rattle.qdimacs.specs.Answers.{IsAnswer};
-ghost use Rattle.qdimacs.specs.Formed.{IsFormed};
+ghost use Rattle.truth.specs.Formed.{IsFormed};
 ghost use Rattle.qdimacs.specs.Step.{refusal_for};
 ghost use Rattle.qdimacs.specs.Represents.{Represents};
 
 use crate::reader::Reader;
-use crate::refusal::{BAD_BYTE, NUMBER_RANGE, Quantity, ReadRefusal, beyond, refused};
+use crate::refusal::{BAD_BYTE, NUMBER_RANGE, beyond, refused};
 use lexer::{Comments, LexRefusal, Lexer};
 use ports::Desk;
+use reading::{Quantity, ReadRefusal};
 use std::alloc::Global;
 use truth::Formula;
 

@@ -2,20 +2,21 @@
 ghost use Rattle.std.specs.Prelude.{◌≡◌, ℕ, ◌<◌, ◌≤◌, ◌&&◌, not, false, if◌then◌else◌, length, Some, None, true, IfErr, IfOk, OnOk, slice_index_or, nat_abs};
 ghost use Rattle.lexer.specs.declared.token.Word.TheVariants.{Text};
 ghost use Rattle.prefix.specs.Scopes.{is_among, AreDistinct};
-ghost use Rattle.qdimacs.specs.Rules.{nothing, is_text as is_text_word, is_natural, quant_of as quant_of_word, first_of, inside_rules};
-ghost use Rattle.qdimacs.specs.Run.{natural_of as natural_of_word};
+ghost use Rattle.qdimacs.specs.Rules.{nothing, first_of, inside_rules};
+ghost use Rattle.reading.specs.Words.{is_text as is_text_word, is_natural, quant_of as quant_of_word, natural_of as natural_of_word};
 ghost use Rattle.qdimacs.specs.Step.{Is};
-ghost use Rattle.qdimacs.specs.Formed.{IsFormed};
+ghost use Rattle.truth.specs.Formed.{IsFormed};
 ghost use Rattle.qdimacs.specs.Represents.{Steps, Represents, Passes, Closing, TakesNumber, TakesVariable, IsMarked, Stood, IsFresh};
 
 use crate::clauses::Clauses;
 use crate::refusal::{
-    BAD_HEADER, BAD_WORD, MISSING_ZERO, NO_HEADER, Quantity, ReadRefusal, SET_AFTER_CLAUSE,
-    TOO_FEW_CLAUSES, TOO_MANY_CLAUSES, beyond, refused,
+    BAD_HEADER, BAD_WORD, MISSING_ZERO, NO_HEADER, SET_AFTER_CLAUSE, TOO_FEW_CLAUSES,
+    TOO_MANY_CLAUSES, beyond, refused,
 };
 use crate::sets::Sets;
 use lexer::{Token, Word};
 use prefix::{Prefix, Quant, Var};
+use reading::{Quantity, ReadRefusal};
 use std::alloc::{AllocError, Global};
 use truth::{ClauseList, Formula};
 

@@ -4,8 +4,9 @@ ghost use Rattle.qdimacs.specs.Kept.{sets_of, with_last, put_last, last_differs,
 ghost use Rattle.qdimacs.specs.Rules.{first_of};
 ghost use Rattle.qdimacs.specs.Formula.{in_order, same_quant};
 
-use crate::refusal::{Quantity, ReadRefusal, VARIABLE_RANGE, VARIABLE_TWICE, beyond, refused};
+use crate::refusal::{VARIABLE_RANGE, VARIABLE_TWICE, beyond, refused};
 use prefix::{Prefix, PrefixRefusal, Quant};
+use reading::{Quantity, ReadRefusal};
 use std::alloc::{AllocError, Global};
 
 /// A scope: its variables in the order of the text.

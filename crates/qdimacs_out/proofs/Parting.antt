@@ -83,5 +83,6 @@ text_rows (l ∷ ls) h =
 -- all of a text that is short enough is seen
 pub all_seen : (room : ℕ) (text : List ℕ) → length text ≤ room → seen Dimacs room text ≡ map byte text
 all_seen room text h =
-    ap₂ (λ front rest. map byte front ++ map (as_seen Dimacs) (take 1 rest)) (take_all room text h) (drop_all room text h)
+    ap₂ (λ front rest. map byte front ++ map (as_seen Dimacs) (take 1 rest)) (take_all room text h)
+    (drop_all room text h)
     ∙ append-nil (map byte text)

@@ -15,11 +15,13 @@ use Rattle.prefix.specs.declared.quant.Quant.TheVariants.{Exists, Forall}
 use Rattle.prefix.specs.Literal.{Literal, signed_number}
 use Rattle.prefix.specs.Scopes.{AreDistinct, Scope, all_variables, is_among}
 use Rattle.truth.specs.declared.formula.Formula.{Formula}
-use Rattle.qdimacs.specs.Formed.{IsClauseOver}
+use Rattle.truth.specs.Formed.{IsClauseOver}
 use Rattle.qdimacs.specs.Formula.{QuantSet, declared as declared_in, formula_of, free, in_order, join, literals_of, merged, occurring, scopes_of}
-use Rattle.qdimacs.specs.Reads.{AreAllowed, IsAllowed, Reads, Spells as SpellsFront, clause_words, header_words, line_of, quant_word, set_words, variable_words, whole_words, words_of}
-use Rattle.qdimacs.specs.Rules.{Front, Header, Outcome, between, end_rules, first_of, headed, limit, max_clauses, max_scopes, max_vars, parsed, refused, whole_rules}
-use Rattle.qdimacs.specs.declared.refusal.Quantity.TheVariants.{Clauses, Scopes, Variables}
+use Rattle.qdimacs.specs.Reads.{AreAllowed, IsAllowed, Reads, Spells as SpellsFront, clause_words, header_words, line_of, set_words, variable_words, whole_words, words_of}
+use Rattle.reading.specs.Words.{quant_word}
+use Rattle.qdimacs.specs.Rules.{Front, Header, Outcome, between, end_rules, first_of, headed, limit, parsed, refused, whole_rules}
+use Rattle.truth.specs.Limits.{max_clauses, max_scopes, max_vars}
+use Rattle.reading.specs.declared.refusal.Quantity.TheVariants.{Clauses, Scopes, Variables}
 use Rattle.qdimacs_out.specs.Texts.{clause_line, formula_lines, formula_text, header_line, literal_word, quantifier_word, scope_line}
 use Rattle.blocks.specs.Lines.{Line}
 use Rattle.qdimacs_out.specs.Theorems.{IsShort}

@@ -3,8 +3,8 @@ use Rattle.std.specs.Prelude.{◌≢◌, ◌≤◌, ⊤, List, [], ◌∷◌, le
 use Rattle.std.specs.List.{AllByRecursion}
 use Rattle.prefix.specs.Scopes.{AreDistinct, IsAscending, Scope, all_variables}
 use Rattle.truth.specs.declared.formula.Formula.{Formula}
-use Rattle.qdimacs.specs.Formed.{IsClauseOver}
-use Rattle.qdimacs.specs.Rules.{max_clauses, max_literals, max_scopes, max_vars}
+use Rattle.truth.specs.Formed.{IsClauseOver}
+use Rattle.truth.specs.Limits.{max_clauses, max_literals, max_scopes, max_vars}
 
 -- the quantifiers of the scopes take turns
 abbrev pub TakeTurns : List Scope → Type 0

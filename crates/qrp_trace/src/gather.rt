@@ -8,15 +8,15 @@ ghost use Rattle.derive.specs.State.{IsLegalFor, has_rows, is_live, open_clauses
 ghost use Rattle.qrp_trace.specs.Cores.{IsFinishAt, IsNumbered, IsProofOf, core_ids, inferences_of, line_at, lines_at, number_in, numbered_by, proof_at};
 ghost use Rattle.qrp_trace.specs.Gathering.{AreCoreIds};
 
-use crate::listing::{Core, CoreStep, Line, other_quant};
+use crate::listing::{Core, CoreStep, Line};
 use crate::marks::needed_for;
 use crate::numbers::numbers_of;
 use crate::order::ids_in_order;
 use calculus::end_rows_give_proofs;
 use derive::{Derivation, Step, StepId, steps_are_listed};
+use memory::NoMemory;
 use prefix::{Lit, LitList};
 use std::alloc::Global;
-use steps::NoMemory;
 
 /// The core of a live step: the steps that it rests on, at once or through others, and itself, the inputs first and
 /// else as they came, numbered from 1. Where it is the finish of an end row of a legal derivation, the core is a proof
@@ -43,7 +43,7 @@ pub fn core(alloc: Global, derivation: &Derivation, end: StepId) -> Result<Core,
     let lines = lines_of(alloc, derivation, end, &ids, &numbers)?;
     end_rows_give_proofs();
     steps_are_listed();
-    Ok(Core::new(other_quant(derivation.side(end)), lines))
+    Ok(Core::new(derivation.side(end).other(), lines))
 }
 
 // The steps under these ids, with the numbers that a table has for what they rest on.

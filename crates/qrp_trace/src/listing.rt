@@ -75,7 +75,7 @@ impl Core {
     pub fn loser(&self) -> Quant
         ensures { result ≡ loser_of self.now }
     {
-        other_quant(self.winner)
+        self.winner.other()
     }
 
     /// The literals of step number `i`, from 1. This takes no memory.
@@ -95,15 +95,5 @@ impl Core {
         ensures earlier { (k : ℕ) → RestsOnNumber result k → (1 ≤ k) × (k < i) }
     {
         self.lines[i - 1].step
-    }
-}
-
-// The quantifier that this one isn't.
-pub(crate) fn other_quant(quant: Quant) -> Quant
-    ensures { result ≡ opposite quant }
-{
-    match quant {
-        Quant::Exists => Quant::Forall,
-        Quant::Forall => Quant::Exists,
     }
 }

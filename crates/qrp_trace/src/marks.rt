@@ -6,8 +6,8 @@ ghost use Rattle.derive.specs.State.{is_live, side_at, why_at};
 ghost use Rattle.qrp_trace.specs.Gathering.{AreMarks, AreNeeded, is_marked};
 
 use derive::{Derivation, Step, StepId};
+use memory::NoMemory;
 use std::alloc::Global;
-use steps::NoMemory;
 
 // Which steps the end needs, by their distance from it. The table reaches to the oldest of them.
 pub(crate) fn needed_for(

@@ -3,8 +3,8 @@ ghost use Rattle.std.specs.Prelude.{◌≡◌, ℕ, ◌-◌, ◌<◌, ◌≤◌,
 ghost use Rattle.qrp_trace.specs.Cores.{number_in};
 
 use derive::StepId;
+use memory::NoMemory;
 use std::alloc::Global;
-use steps::NoMemory;
 
 // The place of each of these ids, counted from 1, by its distance from the end, in a table of that length.
 pub(crate) fn numbers_of(

@@ -5,8 +5,8 @@ ghost use Rattle.qrp_trace.specs.Cores.{core_ids};
 ghost use Rattle.qrp_trace.specs.Gathering.{AreCoreIds, AreNeeded, is_in_part, part_of_core};
 
 use derive::{Derivation, Step, StepId};
+use memory::NoMemory;
 use std::alloc::Global;
-use steps::NoMemory;
 
 // The ids of the marked steps in core order: the inputs first, then the others, ascending both.
 pub(crate) fn ids_in_order(

@@ -3,7 +3,7 @@ use Rattle.std.specs.Prelude.{◌≡◌, ◌≢◌, ℕ, ℤ, pos, Bool, true, f
 use Rattle.std.specs.List.{AllByRecursion}
 use Rattle.lexer.specs.declared.token.Word.{Word}
 use Rattle.lexer.specs.declared.token.Word.TheVariants.{Num, Text}
-use Rattle.qdimacs.specs.Reads.{quant_word}
+use Rattle.reading.specs.Words.{quant_word}
 use Rattle.versions.specs.declared.version.Version.{Version}
 use Rattle.versions.specs.declared.version.Version.TheVariants.{One, Two, Three}
 use Rattle.qscript.specs.declared.command.Command.{Command}

@@ -5,8 +5,7 @@ use Rattle.lexer.specs.declared.token.Word.{Word}
 use Rattle.lexer.specs.declared.token.Word.TheVariants.{Num, Text, Other}
 use Rattle.lexer.specs.declared.token.Comments.TheVariants.{Script as ScriptComments}
 use Rattle.lexer.specs.Words.{Item, word, bad_byte, number_range, too_long, the_end, items}
-use Rattle.qdimacs.specs.Rules.{is_text, is_natural, quant_of, is_zero}
-use Rattle.qdimacs.specs.Run.{natural_of}
+use Rattle.reading.specs.Words.{is_text, is_natural, quant_of, is_zero, natural_of}
 use Rattle.versions.specs.declared.version.Version.{Version}
 use Rattle.versions.specs.declared.version.Version.TheVariants.{One, Two, Three}
 use Rattle.qscript.specs.declared.command.Command.{Command}

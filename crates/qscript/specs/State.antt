@@ -3,9 +3,9 @@ use Rattle.std.specs.Prelude.{◌≡◌, ℕ, ◌+◌, Bool, true, false, List, 
 use Rattle.std.specs.Io.KnownBytes.{IsAtEnd}
 use Rattle.lexer.specs.State.{State as LexerState, upcoming as upcoming_words}
 use Rattle.lexer.specs.Words.{Item as LexerItem, word, bad_byte, number_range, too_long, the_end}
-use Rattle.qdimacs.specs.declared.refusal.Quantity.TheVariants.{Bytes}
-use Rattle.qdimacs.specs.declared.refusal.ReadRefusal.{ReadRefusal}
-use Rattle.qdimacs.specs.declared.refusal.ReadRefusal.TheVariants.{Refused, Limit, ReadFault, NoMemory}
+use Rattle.reading.specs.declared.refusal.Quantity.TheVariants.{Bytes}
+use Rattle.reading.specs.declared.refusal.ReadRefusal.{ReadRefusal}
+use Rattle.reading.specs.declared.refusal.ReadRefusal.TheVariants.{Refused, Limit, ReadFault, NoMemory}
 use Rattle.versions.specs.declared.version.Version.{Version}
 use Rattle.qscript.specs.declared.command.Command.{Command}
 use Rattle.qscript.specs.declared.draft.Line.{Line}

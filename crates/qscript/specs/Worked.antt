@@ -74,7 +74,8 @@ pub record WorkedScripts : Type 0 where
   pub groups : with_groups (codes "open 1/clause -1 0/close/activate 02/deactivate 0/core/")
       ≡ well (OpenGroup 1 ∷ Clause (negsuc 0 ∷ []) ∷ CloseGroup ∷ Activate 2 ∷ Deactivate 0 ∷ GroupCore ∷ [])
   pub groups_beside_others : with_groups (codes "scope e/var 1 1/push/pop/assume 1/solve/value 1/relevant/trace/cert")
-      ≡ well (Scope Exists None ∷ Var 1 1 ∷ Push ∷ Pop ∷ Assume (pos 1) ∷ Solve ∷ Value 1 ∷ Relevant ∷ Trace ∷ Cert ∷ [])
+      ≡ well (Scope Exists None ∷ Var 1 1 ∷ Push ∷ Pop ∷ Assume (pos 1) ∷ Solve ∷ Value 1 ∷ Relevant ∷ Trace ∷ Cert ∷
+      [])
   pub no_group_in_the_first : behind_header (codes "open 1/") ≡ fails 2 31
   pub no_core_in_the_second : script_of (codes "p qscript 2/solve/core/") ≡ (Solve ∷ [], refused 31 3)
   pub open_wants_a_group : with_groups (codes "open/") ≡ fails 2 32

@@ -1,7 +1,7 @@
 //! A line of a script while its words come.
 ghost use Rattle.std.specs.Prelude.{◌≡◌, List, IfOk, IfErr, OnErr, ◌⊎◌, false, if◌then◌else◌, Some, None, is_none, option_map};
 ghost use Rattle.lexer.specs.declared.token.Word.TheVariants.{Text};
-ghost use Rattle.qdimacs.specs.Rules.{is_text as is_text_word, quant_of as quant_of_word};
+ghost use Rattle.reading.specs.Words.{is_text as is_text_word, quant_of as quant_of_word};
 ghost use Rattle.qscript.specs.Lines.{has_groups as has_groups_of, is_header_line};
 ghost use Rattle.qscript.specs.Run.{begun, among, entry, keyword, singles, openings, group_singles, group_openings, after, whole, is_header, misfit_of, misfit_first, natural, version_of as version_of_word};
 
@@ -9,7 +9,7 @@ use crate::command::{Command, NumList};
 use crate::words::{BAD_ARGUMENT, BAD_COMMAND, NO_HEADER, refused};
 use lexer::Word;
 use prefix::Quant;
-use qdimacs::ReadRefusal;
+use reading::ReadRefusal;
 use std::alloc::{AllocError, Global};
 use versions::Version;
 

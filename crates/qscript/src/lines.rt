@@ -10,7 +10,7 @@ use crate::command::Command;
 use crate::draft::{Draft, Line};
 use crate::words::{Item, NO_HEADER, Words, refused};
 use ports::Desk;
-use qdimacs::ReadRefusal;
+use reading::ReadRefusal;
 use std::alloc::Global;
 use versions::Version;
 
@@ -110,7 +110,8 @@ pub(crate) fn header<D: Desk>(
     requires { IsReady words.old.ahead words.old.lexer.failed }
     ensures script { Heads result
         (reading_ahead (between None) words.old.ahead words.old.lexer (D.left desk.old))
-        (λ version. script_in (reading_ahead (between (Some version)) words.new.ahead words.new.lexer (D.left desk.new))) }
+        (λ version. script_in
+        (reading_ahead (between (Some version)) words.new.ahead words.new.lexer (D.left desk.new))) }
     ensures memory { ¬ IsErrOf result ReadRefusal.NoMemory }
     ensures ready { OnOk result (IsReady words.new.ahead words.new.lexer.failed) }
     ensures fewer { OnOk result (most_to_come words.new.ahead words.new.lexer.room

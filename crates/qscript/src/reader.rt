@@ -12,7 +12,7 @@ use crate::lines::{command, header};
 use crate::words::Words;
 use lexer::{Comments, Lexer};
 use ports::Desk;
-use qdimacs::ReadRefusal;
+use reading::ReadRefusal;
 use std::alloc::{AllocError, Global};
 use std::marker::Model;
 use versions::Version;
@@ -74,7 +74,8 @@ impl ScriptReader {
     /// It reads the words of the header's line and the first one behind it, and takes no memory.
     ///
     /// # Errors
-    /// 30 where the first line with a word is no header of version 1, 2 or 3, or no word comes; 7 a byte of a word that is
+    /// 30 where the first line with a word is no header of version 1, 2 or 3, or no word comes; 7 a byte of a word that
+    /// is
     /// none of 33 to 126, 8 a number whose magnitude is above 2^63 - 1; or the limit on bytes. `ReadFault` comes only
     /// where the desk failed in this call. After any error the reader has failed, and isn't called again.
     pub fn read_header<D: Desk>(&mut self, desk: &mut D) -> Result<Version, ReadRefusal>
@@ -116,7 +117,8 @@ impl ScriptReader {
     ///
     /// # Errors
     /// The commands of the lines before the first malformed one are answered, then its refusal: 7 a byte of a word that
-    /// is none of 33 to 126, 8 a number whose magnitude is above 2^63 - 1, 30 no header, 31 no command of the version, 32 a command
+    /// is none of 33 to 126, 8 a number whose magnitude is above 2^63 - 1, 30 no header, 31 no command of the version,
+    /// 32 a command
     /// whose words haven't its form; or the limit on bytes. `ReadFault` comes only where the desk failed in this call.
     /// After any error the reader has failed, and isn't called again.
     pub fn next_command<D: Desk>(&mut self, desk: &mut D) -> Result<Option<Command>, ReadRefusal>

@@ -3,14 +3,14 @@ ghost use Rattle.std.specs.Prelude.{◌≡◌, ◌⊎◌, ℕ, ◌<◌, ◌≤�
 ghost use Rattle.std.specs.Io.KnownBytes.{IsAtEnd};
 ghost use Rattle.lexer.specs.State.{Stays, upcoming};
 ghost use Rattle.ports.specs.Causes.{HasCause, Rose};
-ghost use Rattle.qdimacs.specs.declared.refusal.Quantity.TheVariants.{Bytes};
+ghost use Rattle.reading.specs.declared.refusal.Quantity.TheVariants.{Bytes};
 ghost use Rattle.qscript.specs.Reads.{is_on};
 ghost use Rattle.qscript.specs.Run.{Front};
 ghost use Rattle.qscript.specs.State.{item_of, in_front, reading_at, reading_ahead, is_end, is_fault, is_word, IsFault, IsReady, EndsWith, GoesOn, most_to_come};
 
 use lexer::{LexRefusal, Lexer, Token};
 use ports::Desk;
-use qdimacs::{Quantity, ReadRefusal};
+use reading::{Quantity, ReadRefusal};
 
 // The numbers of refusals.
 pub(crate) const BAD_BYTE: u8 = 7;

@@ -20,20 +20,26 @@ merge_nil : (a : Row) → merge a [] ≡ a
 merge_nil [] = refl
 merge_nil (l ∷ ls) = ap (λ r. l ∷ r) (merge_nil ls)
 
-pub turn_end : (out a b : Row) (i j x : ℕ) → (length a ≤ i) ⊎ (length b ≤ j) → (out ++ without x (drop i a)) ++ without x (drop j b) ≡ out ++ resolve (drop i a) (drop j b) x
+pub turn_end : (out a b : Row) (i j x : ℕ) → (length a ≤ i) ⊎ (length b ≤ j) → (out ++ without x (drop i a)) ++ without
+    x (drop j b) ≡ out ++ resolve (drop i a) (drop j b) x
 turn_end out a b i j x ends =
     ⊎_elim (λ e. rw (drop_all i a e) (ap (λ o. o ++ without x (drop j b)) (append-nil out)))
-    (λ e. rw (drop_all j b e) (append-nil (out ++ without x (drop i a)) ∙ ap (λ r. out ++ r) (sym (merge_nil (without x (drop i a))))))
+    (λ e. rw (drop_all j b e) (append-nil (out ++ without x (drop i a)) ∙ ap (λ r. out ++ r)
+    (sym (merge_nil (without x (drop i a))))))
     ends
 
-pub filter_ascending : (p : Literal → Bool) (row : Row) → IsAscending (variables_in row) → IsAscending (variables_in (filter p row))
+pub filter_ascending : (p : Literal → Bool) (row : Row) → IsAscending (variables_in row)
+    → IsAscending (variables_in (filter p row))
 filter_ascending p row up = pairs_to (filter p row) (AllPairs-filter Below p row (pairs_from row up))
 
-pub reduce_ascending : (pivot : Quant) (scopes : List Scope) (row : Row) → IsAscending (variables_in row) → IsAscending (variables_in (reduce pivot scopes row))
+pub reduce_ascending : (pivot : Quant) (scopes : List Scope) (row : Row) → IsAscending (variables_in row)
+    → IsAscending (variables_in (reduce pivot scopes row))
 reduce_ascending pivot scopes row up =
-    cond_both (list_any (is_pivot pivot scopes) row) (filter (stays pivot scopes row) row) row (λ r. IsAscending (variables_in r)) (λ t. filter_ascending (stays pivot scopes row) row up) (λ f. up)
+    cond_both (list_any (is_pivot pivot scopes) row) (filter (stays pivot scopes row) row) row
+    (λ r. IsAscending (variables_in r)) (λ t. filter_ascending (stays pivot scopes row) row up) (λ f. up)
 
-pub resolve_ascending : (a b : Row) (x : ℕ) → IsAscending (variables_in a) → IsAscending (variables_in b) → clashes a b x ≡ false → IsAscending (variables_in (resolve a b x))
+pub resolve_ascending : (a b : Row) (x : ℕ) → IsAscending (variables_in a) → IsAscending (variables_in b)
+    → clashes a b x ≡ false → IsAscending (variables_in (resolve a b x))
 resolve_ascending a b x up_a up_b none =
     pairs_to (resolve a b x)
     (merge_ascending (without x a) (without x b)
@@ -42,4 +48,5 @@ resolve_ascending a b x up_a up_b none =
     (λ l m i j e.
     let p = filter_at (λ (k : Literal). not (nat_eq k.variable x)) a l i in
     let q = filter_at (λ (k : Literal). not (nat_eq k.variable x)) b m j in
-    sym (no_clash a b x none l m p.0 q.0 (λ same. let f : nat_eq l.variable x ≡ true = eq-eqb l.variable x same in let g : not true ≡ true = ap not (sym f) ∙ p.1 in cc) e)))
+    sym (no_clash a b x none l m p.0 q.0 (λ same. let f : nat_eq l.variable x ≡ true = eq-eqb l.variable x same in
+    let g : not true ≡ true = ap not (sym f) ∙ p.1 in cc) e)))

@@ -5,8 +5,8 @@ ghost use Rattle.calculus.specs.Rows.{reduce as reduction, variables_in};
 ghost use Rattle.reduce.specs.Deepest.{IsDeepest, IsDeepestOther, is_before as before, keeps_all as keeps, stays_before};
 
 use super::Row;
+use memory::NoMemory;
 use prefix::{Lit, Prefix, Side};
-use steps::NoMemory;
 
 /// Makes `out` the reduction of `lits`: each literal goes that is neither pivot-type nor of a smaller depth than some
 /// pivot-type literal. A row without pivot-type literals stays as it is. An ascending row stays ascending. After want

@@ -4,8 +4,8 @@ ghost use Rattle.prefix.specs.Scopes.{IsAscending};
 ghost use Rattle.calculus.specs.Rows.{variables_in, without, clashes as clash, resolve as resolvent};
 
 use super::Row;
+use memory::NoMemory;
 use prefix::{Lit, Var};
-use steps::NoMemory;
 
 /// Whether a variable other than `pivot` stands with opposite signs in two ascending rows.
 pub fn clashes(a: &[Lit], b: &[Lit], pivot: Var) -> bool

@@ -17,7 +17,8 @@ pub is_live-given : (arena : Arena) (id : ℕ) → IsTrue (is_live arena id) →
 is_live-given arena id live = grind (arith, get_or_past)
 
 -- a write under one id changes that id alone
-pub ChangesAt-set : (arena : Arena) (id : ℕ) (row : Option StoredRow) → IsTrue (is_live arena id) → ChangesAt arena (set arena id row) id row
+pub ChangesAt-set : (arena : Arena) (id : ℕ) (row : Option StoredRow) → IsTrue (is_live arena id)
+    → ChangesAt arena (set arena id row) id row
 ChangesAt-set arena id row live =
     record {
       there = get_or-set_same arena id row None (is_live-given arena id live);
@@ -25,12 +26,14 @@ ChangesAt-set arena id row live =
     }
 
 -- a row with other link fields
-module _ (arena : Arena) (id : ℕ) (row : StoredRow) (f : StoredRow → StoredRow) (live : IsTrue (is_live arena id)) (at : row_at arena id ≡ Some row) where
+module _ (arena : Arena) (id : ℕ) (row : StoredRow) (f : StoredRow → StoredRow) (live : IsTrue (is_live arena id))
+    (at : row_at arena id ≡ Some row) where
   abbrev changed : Arena
   changed = set arena id (option_map f (row_at arena id))
 
   changed_there : row_at changed id ≡ Some (f row)
-  changed_there = get_or-set_same arena id (option_map f (row_at arena id)) None (is_live-given arena id live) ∙ ap (option_map f) at
+  changed_there = get_or-set_same arena id (option_map f (row_at arena id)) None (is_live-given arena id live)
+      ∙ ap (option_map f) at
 
   changed_elsewhere : (other : ℕ) → other ≢ id → row_at changed other ≡ row_at arena other
   changed_elsewhere other differs = get_or-set_other arena id other (option_map f (row_at arena id)) None differs
@@ -45,49 +48,71 @@ module _ (arena : Arena) (id : ℕ) (row : StoredRow) (f : StoredRow → StoredR
   changed_link : (k : ℕ) → link_at changed id k ≡ get_or (f row).links k None
   changed_link k = ap (λ r. get_or (links_of r) k None) changed_there
 
-  same_link : (k : ℕ) → get_or (f row).links k None ≡ get_or row.links k None → link_at changed id k ≡ link_at arena id k
+  same_link : (k : ℕ) → get_or (f row).links k None ≡ get_or row.links k None → link_at changed id k ≡ link_at arena id
+      k
   same_link k e = changed_link k ∙ e ∙ sym (ap (λ r. get_or (links_of r) k None) at)
 
 -- what a write of a link field changes
-pub ChangesLink-with_link : (arena : Arena) (id k : ℕ) (value : Option ℕ) (row : StoredRow) → IsTrue (is_live arena id) → row_at arena id ≡ Some row → k < length row.links → ChangesLink arena (with_link arena id k value) id k value
+pub ChangesLink-with_link : (arena : Arena) (id k : ℕ) (value : Option ℕ) (row : StoredRow) → IsTrue (is_live arena id)
+    → row_at arena id ≡ Some row → k < length row.links → ChangesLink arena (with_link arena id k value) id k value
 ChangesLink-with_link arena id k value row live at within =
     record {
       link = changed_link arena id row (set_link_of k value) live at k ∙ get_or-set_same row.links k value None within;
-      other_links = λ m differs. same_link arena id row (set_link_of k value) live at m (get_or-set_other row.links k m value None differs);
-      same_literals = ap literals_of (changed_there arena id row (set_link_of k value) live at) ∙ sym (ap literals_of at);
+      other_links = λ m differs. same_link arena id row (set_link_of k value) live at m
+          (get_or-set_other row.links k m value None differs);
+      same_literals = ap literals_of (changed_there arena id row (set_link_of k value) live at)
+          ∙ sym (ap literals_of at);
       elsewhere = changed_elsewhere arena id row (set_link_of k value) live at;
       same_live = changed_live arena id row (set_link_of k value) live at;
     }
 
 -- what a write of three link fields changes
-pub ChangesLinks-with_links : (arena : Arena) (id base : ℕ) (values : ThreeLinks) (row : StoredRow) → IsTrue (is_live arena id) → row_at arena id ≡ Some row → base + 2 < length row.links → ChangesLinks arena (with_links arena id base values) id base values
+pub ChangesLinks-with_links : (arena : Arena) (id base : ℕ) (values : ThreeLinks) (row : StoredRow)
+    → IsTrue (is_live arena id) → row_at arena id ≡ Some row → base + 2 < length row.links → ChangesLinks arena
+    (with_links arena id base values) id base values
 ChangesLinks-with_links arena id base values row live at within =
     record {
-      first = changed_link arena id row (set_links_of base values) live at base ∙ get_or-set_other (set (set row.links base values.0) (base + 1) values.1) (base + 2) base values.2 None (omega arith) ∙ get_or-set_other (set row.links base values.0) (base + 1) base values.1 None (omega arith) ∙ get_or-set_same row.links base values.0 None (omega arith);
-      second = changed_link arena id row (set_links_of base values) live at (base + 1) ∙ get_or-set_other (set (set row.links base values.0) (base + 1) values.1) (base + 2) (base + 1) values.2 None (omega arith) ∙ get_or-set_same (set row.links base values.0) (base + 1) values.1 None (let l = length-set row.links base values.0 in omega arith);
-      third = changed_link arena id row (set_links_of base values) live at (base + 2) ∙ get_or-set_same (set (set row.links base values.0) (base + 1) values.1) (base + 2) values.2 None (let l = length-set row.links base values.0 in let m = length-set (set row.links base values.0) (base + 1) values.1 in omega arith);
+      first = changed_link arena id row (set_links_of base values) live at base ∙ get_or-set_other
+          (set (set row.links base values.0) (base + 1) values.1) (base + 2) base values.2 None (omega arith)
+          ∙ get_or-set_other (set row.links base values.0) (base + 1) base values.1 None (omega arith)
+          ∙ get_or-set_same row.links base values.0 None (omega arith);
+      second = changed_link arena id row (set_links_of base values) live at (base + 1) ∙ get_or-set_other
+          (set (set row.links base values.0) (base + 1) values.1) (base + 2) (base + 1) values.2 None (omega arith)
+          ∙ get_or-set_same (set row.links base values.0) (base + 1) values.1 None
+          (let l = length-set row.links base values.0 in omega arith);
+      third = changed_link arena id row (set_links_of base values) live at (base + 2)
+          ∙ get_or-set_same (set (set row.links base values.0) (base + 1) values.1) (base + 2) values.2 None
+          (let l = length-set row.links base values.0 in let m = length-set (set row.links base values.0)
+          (base + 1) values.1 in omega arith);
       other_links =
           λ m not_base not_one not_two.
           same_link arena id row (set_links_of base values) live at m
-          (get_or-set_other (set (set row.links base values.0) (base + 1) values.1) (base + 2) m values.2 None not_two ∙ get_or-set_other (set row.links base values.0) (base + 1) m values.1 None not_one ∙ get_or-set_other row.links base m values.0 None not_base);
-      same_literals = ap literals_of (changed_there arena id row (set_links_of base values) live at) ∙ sym (ap literals_of at);
+          (get_or-set_other (set (set row.links base values.0) (base + 1) values.1) (base + 2) m values.2 None not_two
+          ∙ get_or-set_other (set row.links base values.0) (base + 1) m values.1 None not_one
+          ∙ get_or-set_other row.links base m values.0 None not_base);
+      same_literals = ap literals_of (changed_there arena id row (set_links_of base values) live at)
+          ∙ sym (ap literals_of at);
       elsewhere = changed_elsewhere arena id row (set_links_of base values) live at;
       same_live = changed_live arena id row (set_links_of base values) live at;
     }
 
 -- the row of an id
 
-pub row_at_place : (literals : List Literal) (blocks : List Block) (places : List (Option Place)) (i : ℕ) → row_at (arena_of literals blocks places) i ≡ option_map (stored literals blocks) (place_at places i)
+pub row_at_place : (literals : List Literal) (blocks : List Block) (places : List (Option Place)) (i : ℕ)
+    → row_at (arena_of literals blocks places) i ≡ option_map (stored literals blocks) (place_at places i)
 row_at_place literals blocks places i = map_at (stored literals blocks) places i
 
 is_some_map : {A B : Type 0} (f : A → B) (o : Option A) → is_some (option_map f o) ≡ is_some o
 is_some_map f None = refl
 is_some_map f (Some x) = refl
 
-pub live_place : (literals : List Literal) (blocks : List Block) (places : List (Option Place)) (i : ℕ) → is_live (arena_of literals blocks places) i ≡ is_some (place_at places i)
-live_place literals blocks places i = ap is_some (row_at_place literals blocks places i) ∙ is_some_map (stored literals blocks) (place_at places i)
+pub live_place : (literals : List Literal) (blocks : List Block) (places : List (Option Place)) (i : ℕ)
+    → is_live (arena_of literals blocks places) i ≡ is_some (place_at places i)
+live_place literals blocks places i = ap is_some (row_at_place literals blocks places i)
+    ∙ is_some_map (stored literals blocks) (place_at places i)
 
-pub block_place : (places : List (Option Place)) (i : ℕ) (p : Place) → place_at places i ≡ Some p → block_in (blocks_of places) i ≡ Some p.block
+pub block_place : (places : List (Option Place)) (i : ℕ) (p : Place) → place_at places i ≡ Some p
+    → block_in (blocks_of places) i ≡ Some p.block
 block_place places i p e = map_at (λ (q : Place). q.block) places i ∙ ap (option_map (λ (q : Place). q.block)) e
 
 -- arenas with the same rows
@@ -98,15 +123,19 @@ same_arena old new long rows = same_lists new old long (λ k d h. at k d h)
     at : (k : ℕ) (d : Option StoredRow) → k < length new → get_or new k d ≡ get_or old k d
     at k d h = get_or_at_default new k d None h ∙ rows k ∙ get_or_at_default old k None d (rw (← long) h)
       where
-        get_or_at_default : (xs : Arena) (k : ℕ) (d e : Option StoredRow) → k < length xs → get_or xs k d ≡ get_or xs k e
+        get_or_at_default : (xs : Arena) (k : ℕ) (d e : Option StoredRow) → k < length xs
+            → get_or xs k d ≡ get_or xs k e
         get_or_at_default xs k d e h = get_or_default xs k d e h
 
 -- rows whose parts are kept, with the same blocks
-pub parts_arena : (old new : List Literal) (blocks : List Block) (places new_places : List (Option Place)) → KeepsParts old places new new_places → arena_of new blocks new_places ≡ arena_of old blocks places
+pub parts_arena : (old new : List Literal) (blocks : List Block) (places new_places : List (Option Place))
+    → KeepsParts old places new new_places → arena_of new blocks new_places ≡ arena_of old blocks places
 parts_arena old new blocks places new_places kept =
     same_arena (arena_of old blocks places) (arena_of new blocks new_places)
-    (length-map new_places (option_map (stored new blocks)) ∙ same_length ∙ sym (length-map places (option_map (stored old blocks))))
-    (λ i. row_at_place new blocks new_places i ∙ same_row (place_at places i) (place_at new_places i) (kept.parts i) (block i) ∙ sym (row_at_place old blocks places i))
+    (length-map new_places (option_map (stored new blocks)) ∙ same_length
+    ∙ sym (length-map places (option_map (stored old blocks))))
+    (λ i. row_at_place new blocks new_places i ∙ same_row (place_at places i) (place_at new_places i) (kept.parts i)
+    (block i) ∙ sym (row_at_place old blocks places i))
   where
     same_length : length new_places ≡ length places
     same_length =
@@ -114,10 +143,13 @@ parts_arena old new blocks places new_places kept =
         ∙ ap length kept.blocks
         ∙ length-map places (option_map (λ (p : Place). p.block))
 
-    block : (i : ℕ) → option_map (λ (p : Place). p.block) (place_at new_places i) ≡ option_map (λ (p : Place). p.block) (place_at places i)
-    block i = sym (map_at (λ (p : Place). p.block) new_places i) ∙ ap (λ bs. block_in bs i) kept.blocks ∙ map_at (λ (p : Place). p.block) places i
+    block : (i : ℕ) → option_map (λ (p : Place). p.block) (place_at new_places i) ≡ option_map (λ (p : Place). p.block)
+        (place_at places i)
+    block i = sym (map_at (λ (p : Place). p.block) new_places i) ∙ ap (λ bs. block_in bs i) kept.blocks
+        ∙ map_at (λ (p : Place). p.block) places i
 
-    same_row : (o n : Option Place) → part_in new n ≡ part_in old o → option_map (λ (p : Place). p.block) n ≡ option_map (λ (p : Place). p.block) o → option_map (stored new blocks) n ≡ option_map (stored old blocks) o
+    same_row : (o n : Option Place) → part_in new n ≡ part_in old o → option_map (λ (p : Place). p.block) n ≡ option_map
+        (λ (p : Place). p.block) o → option_map (stored new blocks) n ≡ option_map (stored old blocks) o
     same_row None None parts b = refl
     same_row None (Some q) parts b = absurd (cc)
     same_row (Some p) None parts b = absurd (cc)
@@ -127,43 +159,63 @@ parts_arena old new blocks places new_places kept =
         ap₂ (λ l k. Some (record { literals = l; links = links_in blocks k })) parts g
 
 -- one more row
-pub arena_more : (literals row : List Literal) (blocks : List Block) (places : List (Option Place)) → AreSpread (length literals) places → arena_of (literals ++ row) blocks (places ++ Some (record { start = length literals; len = length row; block = None }) ∷ []) ≡ with_row (arena_of literals blocks places) row
+pub arena_more : (literals row : List Literal) (blocks : List Block) (places : List (Option Place))
+    → AreSpread (length literals) places → arena_of (literals ++ row) blocks
+    (places ++ Some (record { start = length literals; len = length row; block = None }) ∷ []) ≡ with_row
+    (arena_of literals blocks places) row
 arena_more literals row blocks places spread =
     map-append (option_map (stored (literals ++ row) blocks)) places (Some one ∷ [])
-    ∙ ap₂ (λ a (r : List Literal). a ++ Some (record { literals = r; links = replicate 8 None }) ∷ []) front (part_end literals row None)
+    ∙ ap₂ (λ a (r : List Literal). a ++ Some (record { literals = r; links = replicate 8 None }) ∷ []) front
+    (part_end literals row None)
   where
     one : Place
     one = record { start = length literals; len = length row; block = None }
 
     front : arena_of (literals ++ row) blocks places ≡ arena_of literals blocks places
-    front = parts_arena literals (literals ++ row) blocks places places (record { parts = λ i. same i (place_at places i) refl; blocks = refl })
+    front = parts_arena literals (literals ++ row) blocks places places
+        (record { parts = λ i. same i (place_at places i) refl; blocks = refl })
       where
         same : (i : ℕ) (o : Option Place) → place_at places i ≡ o → part_in (literals ++ row) o ≡ part_in literals o
         same i None e = refl
         same i (Some p) e = part_append literals row p (spread.within i p e)
 
 -- a row of an arena by its place
-pub stored_place : (literals : List Literal) (blocks : List Block) (places : List (Option Place)) (i : ℕ) (p : Place) → place_at places i ≡ Some p → row_at (arena_of literals blocks places) i ≡ Some (stored literals blocks p)
-stored_place literals blocks places i p e = row_at_place literals blocks places i ∙ ap (option_map (stored literals blocks)) e
+pub stored_place : (literals : List Literal) (blocks : List Block) (places : List (Option Place)) (i : ℕ) (p : Place)
+    → place_at places i ≡ Some p → row_at (arena_of literals blocks places) i ≡ Some (stored literals blocks p)
+stored_place literals blocks places i p e = row_at_place literals blocks places i
+    ∙ ap (option_map (stored literals blocks)) e
 
 -- rows that stand where they stood, with the same links
-same_stored : (literals : List Literal) (blocks new_blocks : List Block) (p q : Place) → q.start ≡ p.start → q.len ≡ p.len → links_in new_blocks q.block ≡ links_in blocks p.block → stored literals new_blocks q ≡ stored literals blocks p
-same_stored literals blocks new_blocks p q s l k = λ i. record { literals = part literals (record { start = s i; len = l i; block = q.block }); links = k i }
+same_stored : (literals : List Literal) (blocks new_blocks : List Block) (p q : Place) → q.start ≡ p.start
+    → q.len ≡ p.len → links_in new_blocks q.block ≡ links_in blocks p.block → stored literals new_blocks q ≡ stored
+    literals blocks p
+same_stored literals blocks new_blocks p q s l k =
+    λ i. record { literals = part literals (record { start = s i; len = l i; block = q.block }); links = k i }
 
 -- a row with other link fields
 abbrev pub relinked : (List (Option ℕ) → List (Option ℕ)) → StoredRow → StoredRow
 relinked f row = record { literals = row.literals; links = f row.links }
 
 -- a row whose link fields are written
-pub arena_linked : (literals : List Literal) (blocks middle new : List Block) (places new_places : List (Option Place)) (id b : ℕ) (f : List (Option ℕ) → List (Option ℕ)) → IsTrue (is_some (place_at places id)) → Reblocks places new_places
+pub arena_linked : (literals : List Literal) (blocks middle new : List Block) (places new_places : List (Option Place))
+    (id b : ℕ) (f : List (Option ℕ) → List (Option ℕ)) → IsTrue (is_some (place_at places id))
+    → Reblocks places new_places
     → block_in (blocks_of new_places) id ≡ Some (Some b)
-    → ((i : ℕ) (b c : Option ℕ) → block_in (blocks_of places) i ≡ Some b → block_in (blocks_of new_places) i ≡ Some c → links_in middle c ≡ links_in blocks b)
+    → ((i : ℕ) (b c : Option ℕ) → block_in (blocks_of places) i ≡ Some b → block_in (blocks_of new_places) i ≡ Some c
+    → links_in middle c ≡ links_in blocks b)
     → links_in new (Some b) ≡ f (links_in middle (Some b))
-    → ((i : ℕ) (o : Option ℕ) → i ≢ id → block_in (blocks_of new_places) i ≡ Some o → links_in new o ≡ links_in middle o)
-    → arena_of literals new new_places ≡ set (arena_of literals blocks places) id (option_map (relinked f) (row_at (arena_of literals blocks places) id))
+    → ((i : ℕ) (o : Option ℕ) → i ≢ id → block_in (blocks_of new_places) i ≡ Some o → links_in new o ≡ links_in middle
+    o)
+    → arena_of literals new new_places ≡ set (arena_of literals blocks places) id
+    (option_map (relinked f) (row_at (arena_of literals blocks places) id))
 arena_linked literals blocks middle new places new_places id b f live same there kept here others =
-    same_arena (set (arena_of literals blocks places) id (option_map (relinked f) (row_at (arena_of literals blocks places) id))) (arena_of literals new new_places)
-    (length-map new_places (option_map (stored literals new)) ∙ same.count ∙ sym (length-map places (option_map (stored literals blocks))) ∙ sym (length-set (arena_of literals blocks places) id (option_map (relinked f) (row_at (arena_of literals blocks places) id))))
+    same_arena
+    (set (arena_of literals blocks places) id
+    (option_map (relinked f) (row_at (arena_of literals blocks places) id))) (arena_of literals new new_places)
+    (length-map new_places (option_map (stored literals new)) ∙ same.count
+    ∙ sym (length-map places (option_map (stored literals blocks)))
+    ∙ sym (length-set (arena_of literals blocks places) id
+    (option_map (relinked f) (row_at (arena_of literals blocks places) id))))
     (λ i. row i)
   where
     arena : Arena
@@ -172,7 +224,8 @@ arena_linked literals blocks middle new places new_places id b f live same there
     was_live : IsTrue (is_live arena id)
     was_live = live_place literals blocks places id ∙ live
 
-    row : (i : ℕ) → row_at (arena_of literals new new_places) i ≡ row_at (set arena id (option_map (relinked f) (row_at arena id))) i
+    row : (i : ℕ) → row_at (arena_of literals new new_places) i ≡ row_at
+        (set arena id (option_map (relinked f) (row_at arena id))) i
     row i =
         elim (cases_eq i id) [
           | inl is ↦
@@ -180,19 +233,26 @@ arena_linked literals blocks middle new places new_places id b f live same there
               (let o = some_is (place_at places id) live in
               let n = some_is (place_at new_places id) (same.live id ∙ live) in
               let s = same.same id o.0 n.0 o.1 n.1 in
-              let nb : n.0.block ≡ Some b = (let g : Some n.0.block ≡ Some (Some b) = sym (block_place new_places id n.0 n.1) ∙ there in cc) in
+              let nb : n.0.block ≡ Some b =
+              (let g : Some n.0.block ≡ Some (Some b) = sym (block_place new_places id n.0 n.1) ∙ there in cc) in
               stored_place literals new new_places id n.0 n.1
               ∙ ap Some (λ j. record {
                 literals = part literals (record { start = s.0 j; len = s.1 j; block = n.0.block });
-                links = (ap (links_in new) nb ∙ here ∙ ap f (kept id o.0.block (Some b) (block_place places id o.0 o.1) there)) j;
+                links = (ap (links_in new) nb ∙ here
+                    ∙ ap f (kept id o.0.block (Some b) (block_place places id o.0 o.1) there)) j;
               })
-              ∙ sym (get_or-set_same arena id (option_map (relinked f) (row_at arena id)) None (is_live-given arena id was_live)
+              ∙ sym (get_or-set_same arena id (option_map (relinked f) (row_at arena id)) None
+              (is_live-given arena id was_live)
               ∙ ap (option_map (relinked f)) (stored_place literals blocks places id o.0 o.1)))
-          | inr differs ↦ other i differs (place_at places i) refl ∙ sym (get_or-set_other arena id i (option_map (relinked f) (row_at arena id)) None differs)
+          | inr differs ↦ other i differs (place_at places i) refl
+              ∙ sym (get_or-set_other arena id i (option_map (relinked f) (row_at arena id)) None differs)
         ]
       where
-        other : (i : ℕ) → i ≢ id → (o : Option Place) → place_at places i ≡ o → row_at (arena_of literals new new_places) i ≡ row_at arena i
-        other i differs None e = row_at_place literals new new_places i ∙ ap (option_map (stored literals new)) (gone (place_at new_places i) (same.live i ∙ ap is_some e)) ∙ sym (row_at_place literals blocks places i ∙ ap (option_map (stored literals blocks)) e)
+        other : (i : ℕ) → i ≢ id → (o : Option Place) → place_at places i ≡ o
+            → row_at (arena_of literals new new_places) i ≡ row_at arena i
+        other i differs None e = row_at_place literals new new_places i ∙ ap (option_map (stored literals new))
+            (gone (place_at new_places i) (same.live i ∙ ap is_some e))
+            ∙ sym (row_at_place literals blocks places i ∙ ap (option_map (stored literals blocks)) e)
           where
             gone : (n : Option Place) → is_some n ≡ false → n ≡ None
             gone None h = refl
@@ -200,16 +260,20 @@ arena_linked literals blocks middle new places new_places id b f live same there
         other i differs (Some p) e =
             let n = some_is (place_at new_places i) (same.live i ∙ ap is_some e) in
             let s = same.same i p n.0 e n.1 in
-            let l = others i n.0.block differs (block_place new_places i n.0 n.1) ∙ kept i p.block n.0.block (block_place places i p e) (block_place new_places i n.0 n.1) in
+            let l = others i n.0.block differs (block_place new_places i n.0 n.1) ∙ kept i p.block n.0.block
+            (block_place places i p e) (block_place new_places i n.0 n.1) in
             stored_place literals new new_places i n.0 n.1
             ∙ ap Some (same_stored literals blocks new p n.0 s.0 s.1 l)
             ∙ sym (stored_place literals blocks places i p e)
 
 -- a row that goes
-pub arena_less : (literals : List Literal) (blocks new : List Block) (places new_places : List (Option Place)) (id : ℕ) → Reblocks (set places id None) new_places → LosesBlock (blocks_of places) blocks (blocks_of new_places) new id → arena_of literals new new_places ≡ set (arena_of literals blocks places) id None
+pub arena_less : (literals : List Literal) (blocks new : List Block) (places new_places : List (Option Place)) (id : ℕ)
+    → Reblocks (set places id None) new_places → LosesBlock (blocks_of places) blocks (blocks_of new_places) new id
+    → arena_of literals new new_places ≡ set (arena_of literals blocks places) id None
 arena_less literals blocks new places new_places id same loses =
     same_arena (set arena id None) (arena_of literals new new_places)
-    (length-map new_places (option_map (stored literals new)) ∙ same.count ∙ length-set places id None ∙ sym (length-map places (option_map (stored literals blocks))) ∙ sym (length-set arena id None))
+    (length-map new_places (option_map (stored literals new)) ∙ same.count ∙ length-set places id None
+    ∙ sym (length-map places (option_map (stored literals blocks))) ∙ sym (length-set arena id None))
     (λ i. row i)
   where
     arena : Arena
@@ -225,7 +289,9 @@ arena_less literals blocks new places new_places id same loses =
           | inl is ↦
               rw is
               (row_at_place literals new new_places id
-              ∙ ap (option_map (stored literals new)) (none_from (place_at new_places id) (sym (map_at (λ (p : Place). p.block) new_places id) ∙ loses.gone))
+              ∙ ap (option_map (stored literals new))
+              (none_from (place_at new_places id) (sym (map_at (λ (p : Place). p.block) new_places id)
+              ∙ loses.gone))
               ∙ sym (gone_row (cases_lt id (length arena))))
           | inr differs ↦ other i differs (place_at places i) refl ∙ sym (get_or-set_other arena id i None None differs)
         ]
@@ -234,10 +300,13 @@ arena_less literals blocks new places new_places id same loses =
         gone_row (inl h) = get_or-set_same arena id None None h
         gone_row (inr h) = get_or_past (set arena id None) id None (let l = length-set arena id None in omega arith)
 
-        other : (i : ℕ) → i ≢ id → (o : Option Place) → place_at places i ≡ o → row_at (arena_of literals new new_places) i ≡ row_at arena i
+        other : (i : ℕ) → i ≢ id → (o : Option Place) → place_at places i ≡ o
+            → row_at (arena_of literals new new_places) i ≡ row_at arena i
         other i differs None e =
             row_at_place literals new new_places i
-            ∙ ap (option_map (stored literals new)) (gone (place_at new_places i) (same.live i ∙ ap is_some (get_or-set_other places id i None None differs ∙ e)))
+            ∙ ap (option_map (stored literals new))
+            (gone (place_at new_places i)
+            (same.live i ∙ ap is_some (get_or-set_other places id i None None differs ∙ e)))
             ∙ sym (row_at_place literals blocks places i ∙ ap (option_map (stored literals blocks)) e)
           where
             gone : (n : Option Place) → is_some n ≡ false → n ≡ None
@@ -247,17 +316,23 @@ arena_less literals blocks new places new_places id same loses =
             let f = get_or-set_other places id i None None differs ∙ e in
             let n = some_is (place_at new_places i) (same.live i ∙ ap is_some f) in
             let s = same.same i p n.0 f n.1 in
-            let l = loses.links i p.block n.0.block differs (block_place places i p e) (block_place new_places i n.0 n.1) in
+            let l = loses.links i p.block n.0.block differs (block_place places i p e)
+            (block_place new_places i n.0 n.1) in
             stored_place literals new new_places i n.0 n.1
             ∙ ap Some (same_stored literals blocks new p n.0 s.0 s.1 l)
             ∙ sym (stored_place literals blocks places i p e)
 
-pub arena_put : (lits row new_lits : List Literal) (blocks : List Block) (places new_places : List (Option Place)) → new_lits ≡ lits ++ row → new_places ≡ places ++ Some (record { start = length lits; len = length row; block = None }) ∷ [] → AreSpread (length lits) places → arena_of new_lits blocks new_places ≡ with_row (arena_of lits blocks places) row
+pub arena_put : (lits row new_lits : List Literal) (blocks : List Block) (places new_places : List (Option Place))
+    → new_lits ≡ lits ++ row → new_places ≡ places ++ Some
+    (record { start = length lits; len = length row; block = None }) ∷ [] → AreSpread (length lits) places
+    → arena_of new_lits blocks new_places ≡ with_row (arena_of lits blocks places) row
 arena_put lits row new_lits blocks places new_places e1 e2 spread =
-    ap₂ (λ (ls : List Literal) (ps : List (Option Place)). arena_of ls blocks ps) e1 e2 ∙ arena_more lits row blocks places spread
+    ap₂ (λ (ls : List Literal) (ps : List (Option Place)). arena_of ls blocks ps) e1 e2
+    ∙ arena_more lits row blocks places spread
 
 -- one more row changes the id that comes next alone
-pub ChangesAt-more : (arena : Arena) (row : List Literal) (id : ℕ) → id ≡ length arena → ChangesAt arena (with_row arena row) id (Some (new_row row))
+pub ChangesAt-more : (arena : Arena) (row : List Literal) (id : ℕ) → id ≡ length arena
+    → ChangesAt arena (with_row arena row) id (Some (new_row row))
 ChangesAt-more arena row id next =
     record {
       there = ap (row_at (with_row arena row)) next ∙ get_or_at arena (Some (new_row row)) [] None (length arena) refl;
@@ -266,7 +341,8 @@ ChangesAt-more arena row id next =
           elim (cases_lt other (length arena)) [
             | inl h ↦ get_or_append_left arena (Some (new_row row) ∷ []) None other h
             | inr h ↦
-                get_or_past (with_row arena row) other None (let l = length-append arena (Some (new_row row) ∷ []) in omega arith)
+                get_or_past (with_row arena row) other None (let l = length-append arena (Some (new_row row) ∷ []) in
+                omega arith)
                 ∙ sym (get_or_past arena other None h)
           ];
     }

@@ -78,13 +78,17 @@ module _ (rows : Rows) (blocks : List Block) (are : AreBlocks rows blocks) where
               | inl h ↦ are.has i b (sym (get_or_append_left rows (Some None ∷ []) None i h) ∙ e)
               | inr h ↦ absurd (not_none (block_in (rows ++ Some None ∷ []) i) b (last i h b e) e)
             ];
-        owner = λ b h. let e = are.owner b h in get_or_append_left rows (Some None ∷ []) None (block_at blocks b).owner (row_given rows (block_at blocks b).owner (Some b) e) ∙ e;
-        counted = (let p = sum_by_push has_bit rows (Some None) in let z : has_bit (Some None) ≡ 0 = refl in let c = are.counted in omega arith);
+        owner = λ b h. let e = are.owner b h in get_or_append_left rows (Some None ∷ []) None (block_at blocks b).owner
+            (row_given rows (block_at blocks b).owner (Some b) e) ∙ e;
+        counted = (let p = sum_by_push has_bit rows (Some None) in let z : has_bit (Some None) ≡ 0 = refl in let c =
+            are.counted in omega arith);
       }
     where
-      last : (i : ℕ) → length rows ≤ i → (b : ℕ) → block_in (rows ++ Some None ∷ []) i ≡ Some (Some b) → block_in (rows ++ Some None ∷ []) i ≡ Some None
+      last : (i : ℕ) → length rows ≤ i → (b : ℕ) → block_in (rows ++ Some None ∷ []) i ≡ Some (Some b)
+          → block_in (rows ++ Some None ∷ []) i ≡ Some None
       last i h b e =
-          let is : i ≡ length rows = let g = row_given (rows ++ Some None ∷ []) i (Some b) e in let l = length-append rows (Some None ∷ []) in omega arith in
+          let is : i ≡ length rows = let g = row_given (rows ++ Some None ∷ []) i (Some b) e in let l =
+          length-append rows (Some None ∷ []) in omega arith in
           ap (block_in (rows ++ Some None ∷ [])) is ∙ get_or_at rows (Some None) [] None (length rows) refl
 
 pub live_more : (rows : Rows) → count_by is_some (rows ++ Some None ∷ []) ≡ count_by is_some rows + 1
@@ -92,7 +96,8 @@ live_more rows = let p = sum_by_push live_bit rows (Some None) in let z : live_b
 
 -- a row that gets a block
 
-module _ (rows : Rows) (blocks : List Block) (are : AreBlocks rows blocks) (id : ℕ) (there : block_in rows id ≡ Some None) where
+module _ (rows : Rows) (blocks : List Block) (are : AreBlocks rows blocks) (id : ℕ)
+    (there : block_in rows id ≡ Some None) where
   abbrev more_blocks : List Block
   more_blocks = blocks ++ (record { owner = id; links = replicate 8 None }) ∷ []
 
@@ -120,9 +125,13 @@ module _ (rows : Rows) (blocks : List Block) (are : AreBlocks rows blocks) (id :
         has = λ i b e.
             elim (cases_eq i id) [
               | inl same ↦
-                  let is : b ≡ length blocks = one_block (block_in with_block id) b (length blocks) (ap (block_in with_block) (sym same) ∙ e) given_here in
-                  let l = length_push blocks (record { owner = id; links = replicate 8 None }) in
-                  (omega arith, ap (λ n. (block_at more_blocks n).owner) is ∙ ap (λ (k : Block). k.owner) new_block ∙ sym same)
+                  let is : b ≡ length blocks = one_block (block_in with_block id) b (length blocks)
+                  (ap (block_in with_block) (sym same) ∙ e) given_here in
+                  let l = length_push blocks (record { owner = id; links = replicate 8 None }) in (
+                    omega arith,
+                    ap (λ n. (block_at more_blocks n).owner) is ∙ ap (λ (k : Block). k.owner) new_block
+                        ∙ sym same,
+                  )
               | inr differs ↦
                   let p = are.has i b (sym (given_other i differs) ∙ e) in
                   let h : b < length blocks = p.0 in
@@ -133,14 +142,17 @@ module _ (rows : Rows) (blocks : List Block) (are : AreBlocks rows blocks) (id :
             elim (cases_lt b (length blocks)) [
               | inl low ↦
                   let e = are.owner b low in
-                  let o : (block_at more_blocks b).owner ≡ (block_at blocks b).owner = ap (λ (k : Block). k.owner) (old_block b low) in
+                  let o : (block_at more_blocks b).owner ≡ (block_at blocks b).owner = ap (λ (k : Block). k.owner)
+                  (old_block b low) in
                   ap (block_in with_block) o
-                  ∙ given_other (block_at blocks b).owner (λ same. not_none (block_in rows id) b there (ap (block_in rows) (sym same) ∙ e))
+                  ∙ given_other (block_at blocks b).owner
+                  (λ same. not_none (block_in rows id) b there (ap (block_in rows) (sym same) ∙ e))
                   ∙ e
               | inr high ↦
                   let l = length_push blocks (record { owner = id; links = replicate 8 None }) in
                   let is : b ≡ length blocks = omega arith in
-                  ap (block_in with_block) (ap (λ n. (block_at more_blocks n).owner) is ∙ ap (λ (k : Block). k.owner) new_block)
+                  ap (block_in with_block) (ap (λ n. (block_at more_blocks n).owner) is
+                  ∙ ap (λ (k : Block). k.owner) new_block)
                   ∙ given_here ∙ ap (λ n. Some (Some n)) (sym is)
             ];
         counted = (
@@ -163,12 +175,14 @@ module _ (rows : Rows) (blocks : List Block) (are : AreBlocks rows blocks) (id :
   kept_links i None differs e = refl
   kept_links i (Some b) differs e = ap (λ (k : Block). k.links) (old_block b (are.has i b e).0)
 
-  pub links_given : (i : ℕ) (b c : Option ℕ) → block_in rows i ≡ Some b → block_in with_block i ≡ Some c → links_in more_blocks c ≡ links_in blocks b
+  pub links_given : (i : ℕ) (b c : Option ℕ) → block_in rows i ≡ Some b → block_in with_block i ≡ Some c
+      → links_in more_blocks c ≡ links_in blocks b
   links_given i b c e f =
       elim (cases_eq i id) [
         | inl same ↦
             let had : b ≡ None = no_other (block_in rows id) b None (ap (block_in rows) (sym same) ∙ e) there in
-            let has : c ≡ Some (length blocks) = no_other (block_in with_block id) c (Some (length blocks)) (ap (block_in with_block) (sym same) ∙ f) given_here in
+            let has : c ≡ Some (length blocks) = no_other (block_in with_block id) c (Some (length blocks))
+            (ap (block_in with_block) (sym same) ∙ f) given_here in
             ap (links_in more_blocks) has ∙ ap (λ (k : Block). k.links) new_block ∙ ap (links_in blocks) (sym had)
         | inr differs ↦
             let is : c ≡ b = no_other (block_in rows i) c b (sym (given_other i differs) ∙ f) e in
@@ -177,7 +191,8 @@ module _ (rows : Rows) (blocks : List Block) (are : AreBlocks rows blocks) (id :
 
 -- a block whose links are written
 
-module _ (rows : Rows) (blocks : List Block) (are : AreBlocks rows blocks) (b : ℕ) (links : List (Option ℕ)) (within : b < length blocks) where
+module _ (rows : Rows) (blocks : List Block) (are : AreBlocks rows blocks) (b : ℕ) (links : List (Option ℕ))
+    (within : b < length blocks) where
   abbrev written : List Block
   written = set blocks b (record { owner = (block_at blocks b).owner; links = links })
 
@@ -186,23 +201,30 @@ module _ (rows : Rows) (blocks : List Block) (are : AreBlocks rows blocks) (b : 
       elim (cases_eq c b) [
         | inl same ↦
             ap (λ n. (block_at written n).owner) same
-            ∙ ap (λ (k : Block). k.owner) (get_or-set_same blocks b (record { owner = (block_at blocks b).owner; links = links }) no_block within)
+            ∙ ap (λ (k : Block). k.owner)
+            (get_or-set_same blocks b (record { owner = (block_at blocks b).owner; links = links }) no_block within)
             ∙ ap (λ n. (block_at blocks n).owner) (sym same)
-        | inr differs ↦ ap (λ (k : Block). k.owner) (get_or-set_other blocks b c (record { owner = (block_at blocks b).owner; links = links }) no_block differs)
+        | inr differs ↦ ap (λ (k : Block). k.owner)
+            (get_or-set_other blocks b c (record { owner = (block_at blocks b).owner; links = links }) no_block differs)
       ]
 
   pub blocks_written : AreBlocks rows written
   blocks_written =
       record {
-        has = λ i c e. let p = are.has i c e in let h : c < length blocks = p.0 in let l = length-set blocks b (record { owner = (block_at blocks b).owner; links = links }) in (omega arith, same_owner c ∙ p.1);
-        owner = λ c h. let low : c < length blocks = let l = length-set blocks b (record { owner = (block_at blocks b).owner; links = links }) in omega arith in ap (block_in rows) (same_owner c) ∙ are.owner c low;
+        has = λ i c e. let p = are.has i c e in let h : c < length blocks = p.0 in let l = length-set blocks b
+            (record { owner = (block_at blocks b).owner; links = links }) in (omega arith, same_owner c ∙ p.1);
+        owner = λ c h. let low : c < length blocks = let l = length-set blocks b
+            (record { owner = (block_at blocks b).owner; links = links }) in omega arith in ap (block_in rows)
+            (same_owner c) ∙ are.owner c low;
         counted = are.counted ∙ sym (length-set blocks b (record { owner = (block_at blocks b).owner; links = links }));
       }
 
   pub written_here : links_in written (Some b) ≡ links
-  written_here = ap (λ (k : Block). k.links) (get_or-set_same blocks b (record { owner = (block_at blocks b).owner; links = links }) no_block within)
+  written_here = ap (λ (k : Block). k.links)
+      (get_or-set_same blocks b (record { owner = (block_at blocks b).owner; links = links }) no_block within)
 
-  pub written_other : (i id : ℕ) (o : Option ℕ) → i ≢ id → block_in rows id ≡ Some (Some b) → block_in rows i ≡ Some o → links_in written o ≡ links_in blocks o
+  pub written_other : (i id : ℕ) (o : Option ℕ) → i ≢ id → block_in rows id ≡ Some (Some b) → block_in rows i ≡ Some o
+      → links_in written o ≡ links_in blocks o
   written_other i id None differs here e = refl
   written_other i id (Some c) differs here e =
       ap (λ (k : Block). k.links)
@@ -211,7 +233,10 @@ module _ (rows : Rows) (blocks : List Block) (are : AreBlocks rows blocks) (b : 
 
 -- a row that goes with its block: the last block comes into its place
 
-module _ (rows : Rows) (blocks : List Block) (are : AreBlocks rows blocks) (id b : ℕ) (there : block_in rows id ≡ Some (Some b)) (new : List Block) (length_is : length new + 1 ≡ length blocks) (moved : b + 1 < length blocks → block_at new b ≡ block_at blocks (length blocks - 1)) (others : (k : ℕ) → k ≢ b → k + 1 < length blocks → block_at new k ≡ block_at blocks k) where
+module _ (rows : Rows) (blocks : List Block) (are : AreBlocks rows blocks) (id b : ℕ)
+    (there : block_in rows id ≡ Some (Some b)) (new : List Block) (length_is : length new + 1 ≡ length blocks)
+    (moved : b + 1 < length blocks → block_at new b ≡ block_at blocks (length blocks - 1))
+    (others : (k : ℕ) → k ≢ b → k + 1 < length blocks → block_at new k ≡ block_at blocks k) where
   gone_within : id < length rows
   gone_within = row_given rows id (Some b) there
 
@@ -237,7 +262,8 @@ module _ (rows : Rows) (blocks : List Block) (are : AreBlocks rows blocks) (id b
     stays i c differs e =
         let p = are.has i c e in
         let h : c < length blocks = p.0 in
-        let apart : c ≢ b = λ same. differs (sym p.1 ∙ ap (λ n. (block_at blocks n).owner) same ∙ (are.has id b there).1) in
+        let apart : c ≢ b = λ same. differs (sym p.1 ∙ ap (λ n. (block_at blocks n).owner) same
+        ∙ (are.has id b there).1) in
         let w = b_within in
         omega arith
 
@@ -250,7 +276,8 @@ module _ (rows : Rows) (blocks : List Block) (are : AreBlocks rows blocks) (id b
           blocks = record {
             has = λ i c e.
                 elim (cases_eq i id) [
-                  | inl same ↦ absurd (none_some (block_in less id) (Some c) less_here (ap (block_in less) (sym same) ∙ e))
+                  | inl same ↦
+                      absurd (none_some (block_in less id) (Some c) less_here (ap (block_in less) (sym same) ∙ e))
                   | inr differs ↦
                       let f = sym (less_other i differs) ∙ e in
                       let h = stays i c differs f in
@@ -259,10 +286,12 @@ module _ (rows : Rows) (blocks : List Block) (are : AreBlocks rows blocks) (id b
             owner = λ c h.
                 let low : c < length blocks = omega arith in
                 let e = are.owner c low in
-                let o : (block_at new c).owner ≡ (block_at blocks c).owner = ap (λ (k : Block). k.owner) (same_block c h) in
+                let o : (block_at new c).owner ≡ (block_at blocks c).owner = ap (λ (k : Block). k.owner)
+                (same_block c h) in
                 let apart : c ≢ b = omega arith in
                 ap (block_in less) o
-                ∙ less_other (block_at blocks c).owner (λ same. apart (one_block (block_in rows id) c b (ap (block_in rows) (sym same) ∙ e) there))
+                ∙ less_other (block_at blocks c).owner
+                (λ same. apart (one_block (block_in rows id) c b (ap (block_in rows) (sym same) ∙ e) there))
                 ∙ e;
             counted = (
                 let s = sum_by-set has_bit rows id None None gone_within in
@@ -303,16 +332,19 @@ module _ (rows : Rows) (blocks : List Block) (are : AreBlocks rows blocks) (id b
     swapped_owner = get_or-set_same (set rows id None) owner (Some (Some b)) None owner_within
 
     swapped_here : block_in swapped id ≡ None
-    swapped_here = get_or-set_other (set rows id None) owner id (Some (Some b)) None (λ e. owner_differs (sym e)) ∙ get_or-set_same rows id None None gone_within
+    swapped_here = get_or-set_other (set rows id None) owner id (Some (Some b)) None (λ e. owner_differs (sym e))
+        ∙ get_or-set_same rows id None None gone_within
 
     swapped_other : (i : ℕ) → i ≢ id → i ≢ owner → block_in swapped i ≡ block_in rows i
-    swapped_other i not_id not_owner = get_or-set_other (set rows id None) owner i (Some (Some b)) None not_owner ∙ get_or-set_other rows id i None None not_id
+    swapped_other i not_id not_owner = get_or-set_other (set rows id None) owner i (Some (Some b)) None not_owner
+        ∙ get_or-set_other rows id i None None not_id
 
     other_block : (i c : ℕ) → i ≢ id → i ≢ owner → block_in rows i ≡ Some (Some c) → (c ≢ b) × (c + 1 < length blocks)
     other_block i c not_id not_owner e =
         let p = are.has i c e in
         let h : c < length blocks = p.0 in
-        let not_last : c ≢ last = λ same. not_owner (sym p.1 ∙ ap (λ n. (block_at blocks n).owner) same ∙ sym owner_is) in
+        let not_last : c ≢ last = λ same. not_owner (sym p.1 ∙ ap (λ n. (block_at blocks n).owner) same ∙ sym owner_is)
+        in
         ((λ same. not_id (sym p.1 ∙ ap (λ n. (block_at blocks n).owner) same ∙ (are.has id b there).1)), omega arith)
 
     pub loses_swapped : LosesBlock rows blocks swapped new id
@@ -321,12 +353,18 @@ module _ (rows : Rows) (blocks : List Block) (are : AreBlocks rows blocks) (id b
           blocks = record {
             has = λ i c e.
                 elim (cases_eq i id) [
-                  | inl same ↦ absurd (none_some (block_in swapped id) (Some c) swapped_here (ap (block_in swapped) (sym same) ∙ e))
+                  | inl same ↦
+                      absurd (none_some (block_in swapped id) (Some c) swapped_here
+                      (ap (block_in swapped) (sym same) ∙ e))
                   | inr not_id ↦
                       elim (cases_eq i owner) [
                         | inl same ↦
-                            let is : c ≡ b = one_block (block_in swapped owner) c b (ap (block_in swapped) (sym same) ∙ e) swapped_owner in
-                            (omega arith, ap (λ n. (block_at new n).owner) is ∙ ap (λ (k : Block). k.owner) (moved more) ∙ sym owner_is ∙ sym same)
+                            let is : c ≡ b = one_block (block_in swapped owner) c b
+                            (ap (block_in swapped) (sym same) ∙ e) swapped_owner in (
+                              omega arith,
+                              ap (λ n. (block_at new n).owner) is ∙ ap (λ (k : Block). k.owner) (moved more)
+                                  ∙ sym owner_is ∙ sym same,
+                            )
                         | inr not_owner ↦
                             let f = sym (swapped_other i not_id not_owner) ∙ e in
                             let p = other_block i c not_id not_owner f in
@@ -337,17 +375,20 @@ module _ (rows : Rows) (blocks : List Block) (are : AreBlocks rows blocks) (id b
             owner = λ c h.
                 elim (cases_eq c b) [
                   | inl same ↦
-                      let o : (block_at new c).owner ≡ owner = ap (λ n. (block_at new n).owner) same ∙ ap (λ (k : Block). k.owner) (moved more) ∙ sym owner_is in
+                      let o : (block_at new c).owner ≡ owner = ap (λ n. (block_at new n).owner) same
+                      ∙ ap (λ (k : Block). k.owner) (moved more) ∙ sym owner_is in
                       ap (block_in swapped) o ∙ swapped_owner ∙ ap (λ n. Some (Some n)) (sym same)
                   | inr differs ↦
                       let low : c < length blocks = omega arith in
                       let e = are.owner c low in
-                      let o : (block_at new c).owner ≡ (block_at blocks c).owner = ap (λ (k : Block). k.owner) (others c differs (omega arith)) in
+                      let o : (block_at new c).owner ≡ (block_at blocks c).owner = ap (λ (k : Block). k.owner)
+                      (others c differs (omega arith)) in
                       let not_last : c ≢ last = omega arith in
                       ap (block_in swapped) o
                       ∙ swapped_other (block_at blocks c).owner
                       (λ same. differs (one_block (block_in rows id) c b (ap (block_in rows) (sym same) ∙ e) there))
-                      (λ same. not_last (one_block (block_in rows owner) c last (ap (block_in rows) (sym same) ∙ e) owner_row))
+                      (λ same. not_last (one_block (block_in rows owner) c last (ap (block_in rows) (sym same) ∙ e)
+                      owner_row))
                       ∙ e
                 ];
             counted = (
@@ -355,7 +396,8 @@ module _ (rows : Rows) (blocks : List Block) (are : AreBlocks rows blocks) (id b
                 let z : has_bit (get_or rows id None) ≡ 1 = ap has_bit there in
                 let o : has_bit None ≡ 0 = refl in
                 let t = sum_by-set has_bit (set rows id None) owner (Some (Some b)) None owner_within in
-                let y : has_bit (get_or (set rows id None) owner None) ≡ 1 = ap has_bit (get_or-set_other rows id owner None None owner_differs ∙ owner_row) in
+                let y : has_bit (get_or (set rows id None) owner None) ≡ 1 =
+                ap has_bit (get_or-set_other rows id owner None None owner_differs ∙ owner_row) in
                 let x : has_bit (Some (Some b)) ≡ 1 = refl in
                 let c = are.counted in
                 omega arith);
@@ -363,14 +405,17 @@ module _ (rows : Rows) (blocks : List Block) (are : AreBlocks rows blocks) (id b
           gone = swapped_here;
           live = λ i differs.
               elim (cases_eq i owner) [
-                | inl same ↦ ap (λ n. is_some (block_in swapped n)) same ∙ ap is_some swapped_owner ∙ sym (ap is_some owner_row) ∙ ap (λ n. is_some (block_in rows n)) (sym same)
+                | inl same ↦ ap (λ n. is_some (block_in swapped n)) same ∙ ap is_some swapped_owner
+                    ∙ sym (ap is_some owner_row) ∙ ap (λ n. is_some (block_in rows n)) (sym same)
                 | inr not_owner ↦ ap is_some (swapped_other i differs not_owner)
               ];
           links = λ i o p differs e f.
               elim (cases_eq i owner) [
                 | inl same ↦
-                    let was : o ≡ Some last = no_other (block_in rows owner) o (Some last) (ap (block_in rows) (sym same) ∙ e) owner_row in
-                    let is : p ≡ Some b = no_other (block_in swapped owner) p (Some b) (ap (block_in swapped) (sym same) ∙ f) swapped_owner in
+                    let was : o ≡ Some last = no_other (block_in rows owner) o (Some last)
+                    (ap (block_in rows) (sym same) ∙ e) owner_row in
+                    let is : p ≡ Some b = no_other (block_in swapped owner) p (Some b)
+                    (ap (block_in swapped) (sym same) ∙ f) swapped_owner in
                     ap (links_in new) is ∙ ap (λ (k : Block). k.links) (moved more) ∙ ap (links_in blocks) (sym was)
                 | inr not_owner ↦
                     let is : p ≡ o = no_other (block_in rows i) p o (sym (swapped_other i differs not_owner) ∙ f) e in
@@ -378,30 +423,37 @@ module _ (rows : Rows) (blocks : List Block) (are : AreBlocks rows blocks) (id b
               ];
         }
       where
-        kept : (i : ℕ) (o : Option ℕ) → i ≢ id → i ≢ owner → block_in rows i ≡ Some o → links_in new o ≡ links_in blocks o
+        kept : (i : ℕ) (o : Option ℕ) → i ≢ id → i ≢ owner → block_in rows i ≡ Some o → links_in new o ≡ links_in blocks
+            o
         kept i None differs not_owner e = refl
-        kept i (Some c) differs not_owner e = let p = other_block i c differs not_owner e in ap (λ (k : Block). k.links) (others c p.0 p.1)
+        kept i (Some c) differs not_owner e = let p = other_block i c differs not_owner e in ap (λ (k : Block). k.links)
+            (others c p.0 p.1)
 
     pub live_swapped : count_by is_some swapped ≡ count_by is_some (set rows id None)
     live_swapped =
         let t = sum_by-set live_bit (set rows id None) owner (Some (Some b)) None owner_within in
-        let y : live_bit (get_or (set rows id None) owner None) ≡ 1 = ap live_bit (get_or-set_other rows id owner None None owner_differs ∙ owner_row) in
+        let y : live_bit (get_or (set rows id None) owner None) ≡ 1 =
+        ap live_bit (get_or-set_other rows id owner None None owner_differs ∙ owner_row) in
         let x : live_bit (Some (Some b)) ≡ 1 = refl in
         omega arith
 
 -- a row that goes and has no block
-pub loses_none : (rows : Rows) (blocks : List Block) (id : ℕ) → AreBlocks rows blocks → block_in rows id ≡ Some None → LosesBlock rows blocks (set rows id None) blocks id
+pub loses_none : (rows : Rows) (blocks : List Block) (id : ℕ) → AreBlocks rows blocks → block_in rows id ≡ Some None
+    → LosesBlock rows blocks (set rows id None) blocks id
 loses_none rows blocks id are there =
     record {
       blocks = record {
         has = λ i c e.
             elim (cases_eq i id) [
-              | inl same ↦ absurd (none_some (block_in (set rows id None) id) (Some c) here (ap (block_in (set rows id None)) (sym same) ∙ e))
+              | inl same ↦
+                  absurd (none_some (block_in (set rows id None) id) (Some c) here
+                  (ap (block_in (set rows id None)) (sym same) ∙ e))
               | inr differs ↦ are.has i c (sym (other i differs) ∙ e)
             ];
         owner = λ c h.
             let e = are.owner c h in
-            other (block_at blocks c).owner (λ same. not_none (block_in rows id) c there (ap (block_in rows) (sym same) ∙ e)) ∙ e;
+            other (block_at blocks c).owner
+            (λ same. not_none (block_in rows id) c there (ap (block_in rows) (sym same) ∙ e)) ∙ e;
         counted = (
             let s = sum_by-set has_bit rows id None None within in
             let z : has_bit (get_or rows id None) ≡ 0 = ap has_bit there in
@@ -424,7 +476,8 @@ loses_none rows blocks id are there =
     other i differs = get_or-set_other rows id i None None differs
 
 -- a live row less
-pub live_less : (rows : Rows) (id : ℕ) (o : Option ℕ) → block_in rows id ≡ Some o → count_by is_some (set rows id None) + 1 ≡ count_by is_some rows
+pub live_less : (rows : Rows) (id : ℕ) (o : Option ℕ) → block_in rows id ≡ Some o → count_by is_some
+    (set rows id None) + 1 ≡ count_by is_some rows
 live_less rows id o there =
     let s = sum_by-set live_bit rows id None None (row_given rows id o there) in
     let z : live_bit (get_or rows id None) ≡ 1 = ap live_bit there in
@@ -432,12 +485,14 @@ live_less rows id o there =
     omega arith
 
 -- a row with a block, or without one, is live
-pub live_block : (places : List (Option Place)) (i : ℕ) (o : Option ℕ) → block_in (blocks_of places) i ≡ Some o → is_some (place_at places i) ≡ true
+pub live_block : (places : List (Option Place)) (i : ℕ) (o : Option ℕ) → block_in (blocks_of places) i ≡ Some o
+    → is_some (place_at places i) ≡ true
 live_block places i o e = by (place_at places i) (sym (map_at (λ (p : Place). p.block) places i) ∙ e)
   where
     by : (q : Option Place) → option_map (λ (p : Place). p.block) q ≡ Some o → is_some q ≡ true
     by None h = absurd (let g : None ≡ Some o = h in cc)
     by (Some p) h = refl
 
-pub block_there : (places : List (Option Place)) (i : ℕ) (p : Place) → place_at places i ≡ Some p → block_in (blocks_of places) i ≡ Some p.block
+pub block_there : (places : List (Option Place)) (i : ℕ) (p : Place) → place_at places i ≡ Some p
+    → block_in (blocks_of places) i ≡ Some p.block
 block_there places i p e = map_at (λ (q : Place). q.block) places i ∙ ap (option_map (λ (q : Place). q.block)) e

@@ -14,31 +14,45 @@ use Rattle.rows.proofs.Parts.{spread_more, spread_reblocked, spread_without}
 use Rattle.rows.proofs.Blocking.{blocks_more, blocks_written, count_le, live_more}
 
 -- there are no more blocks than live rows, and no more of these than ids
-pub blocks_few : (size : ℕ) (places : List (Option Place)) (blocks : List Block) (live room : ℕ) → AreStored size places blocks live room → length blocks ≤ live
+pub blocks_few : (size : ℕ) (places : List (Option Place)) (blocks : List Block) (live room : ℕ)
+    → AreStored size places blocks live room → length blocks ≤ live
 blocks_few size places blocks live room s =
     let c = count_le (blocks_of places) in
     let h = s.blocked.counted in
     let l = s.counted in
     omega arith
 
-pub live_few : (size : ℕ) (places : List (Option Place)) (blocks : List Block) (live room : ℕ) → AreStored size places blocks live room → live ≤ length places
+pub live_few : (size : ℕ) (places : List (Option Place)) (blocks : List Block) (live room : ℕ)
+    → AreStored size places blocks live room → live ≤ length places
 live_few size places blocks live room s =
     let c = count_by-le-length is_some (blocks_of places) in
     let l = s.counted in
     let n = length-map places (option_map (λ (p : Place). p.block)) in
     omega arith
 
-pub stored_more : (size more : ℕ) (places : List (Option Place)) (blocks : List Block) (live room now : ℕ) → AreStored size places blocks live room → live + 1 ≤ now → live + 1 ≤ most_blocks → AreStored (size + more) (places ++ Some (record { start = size; len = more; block = None }) ∷ []) blocks (live + 1) now
+pub stored_more : (size more : ℕ) (places : List (Option Place)) (blocks : List Block) (live room now : ℕ)
+    → AreStored size places blocks live room → live + 1 ≤ now → live + 1 ≤ most_blocks → AreStored (size + more)
+    (places ++ Some (record { start = size; len = more; block = None }) ∷ []) blocks (live + 1) now
 stored_more size more places blocks live room now s fits few =
     record {
       spread = spread_more size more places None s.spread;
-      blocked = rw (map-append (option_map (λ (p : Place). p.block)) places (Some (record { start = size; len = more; block = None }) ∷ [])) (blocks_more (blocks_of places) blocks s.blocked);
-      counted = ap (count_by is_some) (map-append (option_map (λ (p : Place). p.block)) places (Some (record { start = size; len = more; block = None }) ∷ [])) ∙ live_more (blocks_of places) ∙ ap (λ n. n + 1) s.counted;
+      blocked =
+          rw (map-append (option_map (λ (p : Place). p.block)) places
+          (Some (record { start = size; len = more; block = None }) ∷ []))
+          (blocks_more (blocks_of places) blocks s.blocked);
+      counted = ap (count_by is_some)
+          (map-append (option_map (λ (p : Place). p.block)) places
+          (Some (record { start = size; len = more; block = None }) ∷ [])) ∙ live_more (blocks_of places)
+          ∙ ap (λ n. n + 1) s.counted;
       room = fits;
       few = few;
     }
 
-pub stored_less : (size : ℕ) (places new_places : List (Option Place)) (blocks new_blocks : List Block) (live room now id : ℕ) → AreStored size places blocks live room → Reblocks (set places id None) new_places → LosesBlock (blocks_of places) blocks (blocks_of new_places) new_blocks id → count_by is_some (blocks_of new_places) + 1 ≡ count_by is_some (blocks_of places) → now ≡ room → AreStored size new_places new_blocks (live - 1) now
+pub stored_less : (size : ℕ) (places new_places : List (Option Place)) (blocks new_blocks : List Block)
+    (live room now id : ℕ) → AreStored size places blocks live room → Reblocks (set places id None) new_places
+    → LosesBlock (blocks_of places) blocks (blocks_of new_places) new_blocks id → count_by is_some
+    (blocks_of new_places) + 1 ≡ count_by is_some (blocks_of places) → now ≡ room → AreStored size new_places new_blocks
+    (live - 1) now
 stored_less size places new_places blocks new_blocks live room now id s same loses count is =
     record {
       spread = spread_reblocked size (set places id None) new_places same (spread_without size places id s.spread);
@@ -48,7 +62,11 @@ stored_less size places new_places blocks new_blocks live room now id s same los
       few = (let f = s.few in omega arith);
     }
 
-pub stored_linked : (size : ℕ) (places new_places : List (Option Place)) (blocks middle : List Block) (live room now b : ℕ) (links : List (Option ℕ)) → AreStored size places blocks live room → Reblocks places new_places → AreBlocks (blocks_of new_places) middle → count_by is_some (blocks_of new_places) ≡ count_by is_some (blocks_of places) → b < length middle → room ≤ now → AreStored size new_places (set middle b (record { owner = (block_at middle b).owner; links = links })) live now
+pub stored_linked : (size : ℕ) (places new_places : List (Option Place)) (blocks middle : List Block)
+    (live room now b : ℕ) (links : List (Option ℕ)) → AreStored size places blocks live room
+    → Reblocks places new_places → AreBlocks (blocks_of new_places) middle → count_by is_some (blocks_of new_places) ≡
+    count_by is_some (blocks_of places) → b < length middle → room ≤ now → AreStored size new_places
+    (set middle b (record { owner = (block_at middle b).owner; links = links })) live now
 stored_linked size places new_places blocks middle live room now b links s same are count within more =
     record {
       spread = spread_reblocked size places new_places same s.spread;
@@ -58,7 +76,9 @@ stored_linked size places new_places blocks middle live room now b links s same 
       few = (let f = s.few in omega arith);
     }
 
-pub stored_slid : (size new_size : ℕ) (old new : List Literal) (places new_places : List (Option Place)) (blocks : List Block) (live room : ℕ) → AreStored size places blocks live room → AreSpread new_size new_places → KeepsParts old places new new_places → AreStored new_size new_places blocks live room
+pub stored_slid : (size new_size : ℕ) (old new : List Literal) (places new_places : List (Option Place))
+    (blocks : List Block) (live room : ℕ) → AreStored size places blocks live room → AreSpread new_size new_places
+    → KeepsParts old places new new_places → AreStored new_size new_places blocks live room
 stored_slid size new_size old new places new_places blocks live room s spread kept =
     record {
       spread = spread;
@@ -68,12 +88,17 @@ stored_slid size new_size old new places new_places blocks live room s spread ke
       few = s.few;
     }
 
-pub stored_put : (lits row new_lits : List Literal) (places new_places : List (Option Place)) (blocks : List Block) (live room now : ℕ) → new_lits ≡ lits ++ row → new_places ≡ places ++ Some (record { start = length lits; len = length row; block = None }) ∷ [] → AreStored (length lits) places blocks live room → live + 1 ≤ now → live + 1 ≤ most_blocks → AreStored (length new_lits) new_places blocks (live + 1) now
+pub stored_put : (lits row new_lits : List Literal) (places new_places : List (Option Place)) (blocks : List Block)
+    (live room now : ℕ) → new_lits ≡ lits ++ row → new_places ≡ places ++ Some
+    (record { start = length lits; len = length row; block = None }) ∷ [] → AreStored (length lits) places blocks live
+    room → live + 1 ≤ now → live + 1 ≤ most_blocks → AreStored (length new_lits) new_places blocks (live + 1) now
 stored_put lits row new_lits places new_places blocks live room now e1 e2 s fits few =
-    let size : length new_lits ≡ length lits + length row = ap (λ (ls : List Literal). length ls) e1 ∙ length-append lits row in
+    let size : length new_lits ≡ length lits + length row = ap (λ (ls : List Literal). length ls) e1
+    ∙ length-append lits row in
     let P : ℕ → Type 0 = λ n. AreStored n new_places blocks (live + 1) now in
     let Q : List (Option Place) → Type 0 = λ ps. AreStored (length lits + length row) ps blocks (live + 1) now in
-    subst P (sym size) (subst Q (sym e2) (stored_more (length lits) (length row) places blocks live room now s fits few))
+    subst P (sym size)
+    (subst Q (sym e2) (stored_more (length lits) (length row) places blocks live room now s fits few))
 
 -- as many rows are live as have a place
 module _ {A : Type 0} (f : Place → A) where
@@ -84,7 +109,8 @@ module _ {A : Type 0} (f : Place → A) where
   same_one None = refl
   same_one (Some p) = refl
 
-  pub count_mapped : (places : List (Option Place)) → count_by is_some (map (option_map f) places) ≡ count_by is_some places
+  pub count_mapped : (places : List (Option Place)) → count_by is_some (map (option_map f) places) ≡ count_by is_some
+      places
   count_mapped [] = refl
   count_mapped (o ∷ places) =
       let l : count_by is_some (option_map f o ∷ map (option_map f) places) ≡ one_of (option_map f o)

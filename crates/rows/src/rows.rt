@@ -6,10 +6,10 @@ use super::blocks::{Block, block_for, forget, read, read_three, write, write_thr
 use super::links::ThreeLinks;
 use super::places::{place_of, put, slide};
 use super::slots::{Slot, short, within};
+use memory::NoMemory;
 use prefix::Lit;
 use std::alloc::Global;
 use std::marker::Model;
-use steps::NoMemory;
 
 /// The id of a row, from 0. It is never given twice, unless it was taken back.
 pub type RowId = usize;

@@ -4,8 +4,8 @@ ghost use Rattle.std.specs.Option.{option_map};
 ghost use Rattle.rows.specs.Places.{block_numbered, moved_to, most_blocks, with_block};
 
 use super::places::Place;
+use memory::NoMemory;
 use std::marker::Model;
-use steps::NoMemory;
 
 // What stands in place of a block's number for a row that has no block.
 const NO_BLOCK: u32 = u32::MAX - 1;

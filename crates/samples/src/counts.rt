@@ -9,10 +9,10 @@ ghost use Rattle.samples.specs.Samples.{LeavesText, counted_line, counts_lines, 
 use crate::sending::{ending, send_text};
 use blocks::LineText;
 use generate::{made_formulas_are_formed, make};
+use memory::NoMemory;
 use ports::Sink;
 use session::{Answer, Ending, decide_formula};
 use std::alloc::Global;
-use steps::NoMemory;
 
 // How many formulas are true, and how many false.
 #[derive(Clone, Copy)]

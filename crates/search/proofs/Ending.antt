@@ -76,7 +76,8 @@ due_first scopes old new assumptions before assigned same (searching at is claus
 
 -- the budget is spent
 pub is_spent : (restarts : ℕ) (scopes : List Scope) (first : State) (assumptions : List Literal) (before now : Counter)
-    (t : TrailState) (stopped : Account) → t.restarts ≤ restarts → IsTrailFor scopes t → now.spent ≡ now.budget → now.budget ≡ before.budget
+    (t : TrailState) (stopped : Account) → t.restarts ≤ restarts → IsTrailFor scopes t → now.spent ≡ now.budget
+    → now.budget ≡ before.budget
     → WasSpentWhenDue scopes first assumptions before t.assigned → IsBounded (size_of scopes) before.spent t now
     → stopped ≡ account_of scopes t now.budget → IsSpent restarts scopes first assumptions before now stopped
 is_spent restarts scopes first assumptions before now t stopped most trail spent budget due bounded is =

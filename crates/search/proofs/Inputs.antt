@@ -207,7 +207,8 @@ module _ (laws : GrowthLaws) (scopes : List Scope) (s : SearchState) (new : Stat
           let step = (h.sides side id at).step in
           kept_same s.derivation new id same.note (ap literals_of same.row)
           (λ a why. ap is_input (is.others a (antecedent_live scopes s.derivation id a intact.legal step why)
-          (antecedent_live scopes new id a legal (ap may_be_antecedent same.note ∙ step) (ap why_in same.note ∙ why))).note)
+          (antecedent_live scopes new id a legal (ap may_be_antecedent same.note ∙ step)
+          (ap why_in same.note ∙ why))).note)
           (ap mark_of_row same.row))
           (λ free.
           ⊎_elim

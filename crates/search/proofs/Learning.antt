@@ -164,15 +164,16 @@ pub resting_gained : (scopes : List Scope) (s new : SearchState) → HoldingLaws
     → GainsSteps s.derivation new.derivation → IsLegalFor scopes new.derivation → new.watched ≡ s.watched
     → new.clauses ≡ s.clauses → new.cubes ≡ s.cubes → new.signs ≡ s.signs → new.trail ≡ s.trail
     → new.joined ≡ s.joined → new.long ≡ s.long → IsResting scopes new
-resting_gained scopes s new holding agreeing resting gains legal watched clauses cubes signs trail joined long = record {
-  rest = rw trail resting.rest;
-  intact = intact_gained scopes s new gains watched holding agreeing resting.intact legal clauses cubes signs
-      (ap (λ (t : TrailState). t.room) trail) (rw trail resting.intact.trail)
-      (ap (λ (t : TrailState). literals_on t.placed) trail);
-  attached = λ now. attached_gained scopes s new gains watched resting.intact.watched
-      (resting.attached (sym joined ∙ now));
-  tallied = tallied_gained scopes s new gains resting.intact long resting.tallied;
-}
+resting_gained scopes s new holding agreeing resting gains legal watched clauses cubes signs trail joined long =
+    record {
+      rest = rw trail resting.rest;
+      intact = intact_gained scopes s new gains watched holding agreeing resting.intact legal clauses cubes signs
+          (ap (λ (t : TrailState). t.room) trail) (rw trail resting.intact.trail)
+          (ap (λ (t : TrailState). literals_on t.placed) trail);
+      attached = λ now. attached_gained scopes s new gains watched resting.intact.watched
+          (resting.attached (sym joined ∙ now));
+      tallied = tallied_gained scopes s new gains resting.intact long resting.tallied;
+    }
 
 -- reasons that are made clean keep assumptions and levels
 

@@ -14,8 +14,8 @@ use crate::forgetting::is_long;
 use crate::search::Search;
 use crate::watching::{attach_to, detach_from, has_row};
 use derive::{Derivation, StepId};
+use memory::NoMemory;
 use prefix::{Prefix, Quant};
-use steps::NoMemory;
 use watch::holding_laws;
 
 impl Search {

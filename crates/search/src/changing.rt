@@ -23,8 +23,8 @@ use decide::Decider;
 use derive::{
     Derivation, StepId, clauses_are_listed, growth_laws, prefixes_may_change, prefixes_may_grow,
 };
+use memory::NoMemory;
 use prefix::{Lit, LitList, Prefix, Var};
-use steps::NoMemory;
 use watch::{agreeing_laws, holding_laws};
 
 impl Search {
@@ -205,7 +205,8 @@ impl Search {
     /// on either. Every other step stays, with its row. The prefix is the one of before without the frame's variables,
     /// and the search rests under it then.
     ///
-    /// No step with an id below `from` names a variable outside the prefix, as where that was the next id when the first
+    /// No step with an id below `from` names a variable outside the prefix, as where that was the next id when the
+    /// first
     /// of these variables came. This goes over the literals of the steps from that id on, and takes no memory.
     pub fn pop_frame(&mut self, prefix: &Prefix, frame: usize, from: StepId)
         requires resting { (old : List Scope) × Extends prefix.now old × IsResting old self.old }

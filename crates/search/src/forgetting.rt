@@ -13,9 +13,9 @@ ghost use Rattle.search.specs.State.{IsIntact, IsResting, IsSearching, IsTallied
 
 use crate::search::Search;
 use derive::{Derivation, Step, StepId, clauses_are_listed};
+use memory::NoMemory;
 use prefix::{Prefix, Var};
 use rows::Rows;
-use steps::NoMemory;
 use trail::{Trail, Why};
 use watch::{agreeing_laws, holding_laws};
 

@@ -26,8 +26,9 @@ use analyse::{Lesson, analyse};
 use clean::reason_laws;
 use decide::Decider;
 use derive::{Derivation, Step, StepId};
+use memory::NoMemory;
 use prefix::{Clauses, Cubes, Lit, Prefix, Quant};
-use steps::{NoMemory, Spent, Steps, Stop};
+use steps::{Spent, Steps, Stop};
 use trail::{Trail, Why};
 use watch::{agreeing_laws, holding_laws, looking_laws};
 

@@ -3,9 +3,9 @@ ghost use Rattle.std.specs.Prelude.{◌≡◌};
 ghost use Rattle.search.specs.declared.outcome.SolveStop.TheVariants.{NoMemory as no_memory};
 
 use derive::StepId;
+use memory::NoMemory;
 use prefix::{Lit, Quant};
 use std::alloc::AllocError;
-use steps::NoMemory;
 use thiserror::Error;
 use trail::Stopped;
 

@@ -27,9 +27,10 @@ use crate::search::{LESSONS, Search};
 use calculus::{end_rows_give_proofs, proofs_decide};
 use derive::{StepId, same_clauses_serve, steps_are_listed};
 use matrix::Matrix;
+use memory::NoMemory;
 use prefix::{Lit, Prefix};
 use qrp_trace::finishes_end_proofs;
-use steps::{NoMemory, Spent, Steps, Stop};
+use steps::{Spent, Steps, Stop};
 use trail::Stopped;
 use watch::{agreeing_laws, holding_laws, looking_laws};
 

@@ -312,7 +312,8 @@ module _ {S : Type 0} (written flushed : S → Option (List ℕ)) (faults : S �
   accepts P (Ok u) old new result ok refusal only err answer = by (refusal_of before.formula change) refl refusal
     where
       by : (o : Option FrameRefusal) → refusal_of before.formula change ≡ o
-          → MatchOption o P (λ (x : FrameRefusal). ◌≡◌ {A = Result (Unit {0}) FrameRefusal} (Ok u) (Err x)) → Goal old new result
+          → MatchOption o P (λ (x : FrameRefusal). ◌≡◌ {A = Result (Unit {0}) FrameRefusal} (Ok u) (Err x))
+          → Goal old new result
       by None none m = silent old new result none ok answer.0 answer.1
       by (Some x) some m = absurd (let both : ◌≡◌ {A = Result (Unit {0}) FrameRefusal} (Ok u) (Err x) = m in cc)
   accepts P (Err x) old new result ok refusal only err answer = by (refusal_of before.formula change) refl refusal
@@ -327,7 +328,8 @@ module _ {S : Type 0} (written flushed : S → Option (List ℕ)) (faults : S �
       at (Some n) numbers there some = refused old new result x n some numbers err answer
 
       by : (o : Option FrameRefusal) → refusal_of before.formula change ≡ o
-          → MatchOption o P (λ (y : FrameRefusal). ◌≡◌ {A = Result (Unit {0}) FrameRefusal} (Err x) (Err y)) → Goal old new result
+          → MatchOption o P (λ (y : FrameRefusal). ◌≡◌ {A = Result (Unit {0}) FrameRefusal} (Err x) (Err y))
+          → Goal old new result
       by None none m = memory none (only m x refl)
       by (Some y) some m =
           let same : x ≡ y = let both : ◌≡◌ {A = Result (Unit {0}) FrameRefusal} (Err x) (Err y) = m in cc in

@@ -21,8 +21,8 @@ use Rattle.search.specs.Counting.{size_of}
 use Rattle.engine.specs.Refusals.{winner_of}
 use Rattle.engine.specs.State.{EngineState}
 use Rattle.engine.specs.Verdicts.{loser_of}
-use Rattle.qdimacs.specs.declared.refusal.Quantity.{Quantity}
-use Rattle.qdimacs.specs.Formed.{IsClauseOver, IsFormed}
+use Rattle.reading.specs.declared.refusal.Quantity.{Quantity}
+use Rattle.truth.specs.Formed.{IsClauseOver, IsFormed}
 use Rattle.qdimacs.specs.Reads.{Reads}
 use Rattle.qdimacs.specs.Rules.{parsed}
 use Rattle.aig.specs.declared.strategy.Strategy.{Strategy}
@@ -90,7 +90,8 @@ pub has_circuit : (terms : Terms) (f : Formula) (value : Bool) (e : EngineState)
     (λ given. Certifies s.script.formula given s.witness.values (gates_after n s.script) circuit))
     → HasCircuit terms f value circuit
 has_circuit terms f value e circuit decided strategy certifies =
-    circuit_at terms f decided.standing circuit strategy (certifies terms decided.standing decided.holds) value decided.is
+    circuit_at terms f decided.standing circuit strategy (certifies terms decided.standing decided.holds) value
+    decided.is
     decided.right
 
 -- it is a circuit for the formula
@@ -174,7 +175,8 @@ module _ (terms : Terms) (f : Formula) (value : Bool) (circuit : Strategy) (has 
 
 -- the answer to a check formula
 
-pub found_by : (plain : (scopes : List Scope) (clauses : List Row) → truth_under [] scopes clauses ≡ truth scopes clauses)
+pub found_by : (plain : (scopes : List Scope) (clauses : List Row) → truth_under [] scopes clauses ≡ truth scopes
+    clauses)
     (terms : Terms) (f : Formula) (e : EngineState) {E : Type 0} (r : Result Reply E)
     → IfOk r (λ reply. IsDecided terms (built f) reply e) → IfOk r (IsFound terms f)
 found_by plain terms f e (Ok reply) is =
@@ -212,7 +214,8 @@ module _ {S : Type 0} (written flushed : S → Option (List ℕ)) (faults : S �
   abbrev pub Sending : (Outcome → Text → Type 0) → S → S → List Account × List Account → Result Outcome Ending → Type 0
   Sending P old new stops r = SendsOutcome written flushed faults has_room P old new stops r
 
-  pub outcome_map : (P Q : Outcome → Text → Type 0) → ((outcome : Outcome) (text : Text) → P outcome text → Q outcome text)
+  pub outcome_map : (P Q : Outcome → Text → Type 0)
+      → ((outcome : Outcome) (text : Text) → P outcome text → Q outcome text)
       → (old new : S) (stops : List Account × List Account) (r : Result Outcome Ending) → Writing P old new stops r
       → Writing Q old new stops r
   outcome_map P Q by old new stops (Ok outcome) w = (w.0, by outcome w.0 w.1, w.2)

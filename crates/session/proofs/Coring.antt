@@ -28,7 +28,8 @@ pub core_asked : {T : Type 0} (e : EngineState) (r : Result T CoreRefusal) (P : 
     → (v : VerdictState) × (e.verdict ≡ Some v) × (v.truth ≡ false) × P v
 core_asked e r P some lost told = by e.verdict refl told
   where
-    by : (o : Option VerdictState) → e.verdict ≡ o → MatchOption (refused_by o) (IfSome o P) (λ refusal. r ≡ Err refusal)
+    by : (o : Option VerdictState) → e.verdict ≡ o → MatchOption (refused_by o) (IfSome o P)
+        (λ refusal. r ≡ Err refusal)
         → (v : VerdictState) × (e.verdict ≡ Some v) × (v.truth ≡ false) × P v
     by None is wrong = absurd (some wrong)
     by (Some v) is goes = at v.truth refl goes
@@ -53,7 +54,9 @@ module _ (terms : Terms) (e : EngineState) (s : Standing) (holds : Holds terms e
   tells_core lost core is has =
       subst (IsAnswer terms GroupCore s (core_text core)) (sym (unrefused_core lost)) (
         inl (record {
-          told = subst (λ o. IfSome o (λ (g : Given). (says (core_text core) ≡ says (core_text (core_of s.script.formula g.assumptions)))
+          told = subst
+              (λ o. IfSome o
+              (λ (g : Given). (says (core_text core) ≡ says (core_text (core_of s.script.formula g.assumptions)))
               × HasCore s.script.formula g.assumptions)) (sym given)
               (subst (λ (f : OpenFormula). (says (core_text core) ≡ says (core_text (core_of f v.assumptions)))
               × HasCore f v.assumptions) (sym holds.formula) (ap (λ c. says (core_text c)) is, has));

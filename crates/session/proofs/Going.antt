@@ -2,8 +2,8 @@
 use Rattle.std.proofs.Common.{◌≡◌, ℕ, true, false, List, [], ◌∷◌, ◌++◌, Option, Some, None, Result, Ok, Err, refl, sym, ap, ap₂, subst, ◌∙◌, append_assoc, append-nil}
 use Rattle.std.specs.Prelude.{IfSome}
 use Rattle.trail.specs.State.{Account}
-use Rattle.qdimacs.specs.declared.refusal.ReadRefusal.{ReadRefusal}
-use Rattle.qdimacs.specs.declared.refusal.ReadRefusal.TheVariants.{Refused as Malformed, Limit as Beyond, ReadFault as Unreadable, NoMemory as NoRoom}
+use Rattle.reading.specs.declared.refusal.ReadRefusal.{ReadRefusal}
+use Rattle.reading.specs.declared.refusal.ReadRefusal.TheVariants.{Refused as Malformed, Limit as Beyond, ReadFault as Unreadable, NoMemory as NoRoom}
 use Rattle.ports.specs.Writing.{Wrote}
 use Rattle.ports.proofs.Pieces.{nothing, part_then, whole_then}
 use Rattle.engine.specs.State.{EngineState}

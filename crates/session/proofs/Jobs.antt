@@ -429,8 +429,18 @@ module _ {S : Type 0} (written flushed : S → Option (List ℕ)) (faults : S �
   pub counted_known : (r : Result Answer Ending) → Came r
       → IsCounted (IsErrOf r WriteFault) (IsOk r) (faults old) (faults new)
   counted_known (Ok a) came =
-      record { later = let same = came.2.no_fault in omega arith; rose = λ is. absurd (cc); kept = λ ok. came.2.no_fault }
-  counted_known (Err WriteFault) came = record { later = came.3.later; rose = λ is. came.3.rose; kept = λ ok. absurd (cc) }
+      record {
+        later = let same = came.2.no_fault in omega arith;
+        rose = λ is. absurd (cc);
+        kept =
+            λ ok. came.2.no_fault;
+      }
+  counted_known (Err WriteFault) came = record {
+    later = came.3.later;
+    rose = λ is. came.3.rose;
+    kept = λ ok. absurd
+        (cc);
+  }
   counted_known (Err NoMemory) came = record {
     later = let same = came.0.no_fault in omega arith;
     rose = λ is. absurd (cc);

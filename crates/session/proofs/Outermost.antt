@@ -48,10 +48,12 @@ there (s ∷ ss) q e = omega arith
 -- a variable of the first scope is outermost
 outermost : (scopes : List Scope) (x : ℕ) → is_among x (variables_at scopes 1) ≡ true → is_outermost scopes x ≡ true
 outermost [] x e = absurd (let f : false ≡ true = e in cc)
-outermost (s ∷ ss) x e = ap (λ b. unwrap_or (if b then Some 1 else option_map (λ (n : ℕ). n + 1) (level_of ss x)) 0 == 1) e
+outermost (s ∷ ss) x e = ap (λ b. unwrap_or (if b then Some 1 else option_map (λ (n : ℕ). n + 1) (level_of ss x)) 0 ==
+    1) e
 
 no_test : (a b : Bool) → a ≡ true → b ≡ true
-    → (if◌then◌else◌ {A = Option AskRefusal} (not a) (Some NotOutermost) (if not b then Some NotWinner else None)) ≡ None
+    → (if◌then◌else◌ {A = Option AskRefusal} (not a) (Some NotOutermost) (if not b then Some NotWinner else None)) ≡
+    None
 no_test true true first second = refl
 no_test true false first second = absurd (let f : false ≡ true = second in cc)
 no_test false b first second = absurd (let f : false ≡ true = first in cc)

@@ -146,7 +146,8 @@ module _ (terms : Terms) (text : List ℕ) (stops : List Account) (ending : Endi
       let all = replied.all read in
       let is : text ≡ replied.out.text = replied.whole sound in
       let two = two_replies terms replied.out replied.after
-      (subst (λ cs. Leads terms start cs replied.out replied.after) (all_ones replied.version replied.commands all.0 all.1)
+      (subst (λ cs. Leads terms start cs replied.out replied.after)
+      (all_ones replied.version replied.commands all.0 all.1)
       leads) in
       ap (λ (t : List ℕ). length t) is ∙ ap (λ (o : Output). length o.text) two
 

@@ -11,8 +11,8 @@ use Rattle.ports.specs.Writing.{Wrote}
 use Rattle.versions.specs.declared.version.Version.{Version}
 use Rattle.qscript.specs.declared.command.Command.{Command}
 use Rattle.qscript.specs.Reads.{Ending as ScriptEnding, ReadsScript, done, limit, refused}
-use Rattle.qdimacs.specs.declared.refusal.ReadRefusal.{ReadRefusal}
-use Rattle.qdimacs.specs.declared.refusal.ReadRefusal.TheVariants.{Refused as Malformed, Limit as Beyond, ReadFault as Unreadable, NoMemory as NoRoom}
+use Rattle.reading.specs.declared.refusal.ReadRefusal.{ReadRefusal}
+use Rattle.reading.specs.declared.refusal.ReadRefusal.TheVariants.{Refused as Malformed, Limit as Beyond, ReadFault as Unreadable, NoMemory as NoRoom}
 use Rattle.qscript.specs.Run.{Reading, Script, ends, stopped}
 use Rattle.qscript.specs.State.{EndsReading, Heads}
 use Rattle.session.specs.declared.ending.Ending.{Ending}
@@ -176,7 +176,8 @@ first_only : (known : Option (List ℕ)) (version : Option Version) (commands : 
 first_only None version commands P is = tt
 first_only (Some text) version commands P is = (is.0.0, is.0.1, is.1)
 
-all_read : (known : Option (List ℕ)) (version : Option Version) (commands : List Command) (P : Script → Type 0) (e : ScriptEnding)
+all_read : (known : Option (List ℕ)) (version : Option Version) (commands : List Command) (P : Script → Type 0)
+    (e : ScriptEnding)
     → ((r : Script) → P r → r ≡ stopped e)
     → IfSome known (λ text. (rest : Script) × ReadsScript text version (commands ++ rest.0) rest.1 × P rest)
     → IfSome known (λ text. ReadsScript text version commands e)
@@ -290,7 +291,8 @@ module _ {S : Type 0} (written flushed : S → Option (List ℕ)) (faults : S �
           → IfSome known (λ text. (rest : Script) × ReadsScript text version (replied.commands ++ rest.0) rest.1
           × IsLeftAt r rest) → IsReadOut (ending_of r)
           → IfSome known (λ text. (e : ScriptEnding) × ReadsScript text version replied.commands e)
-      by (Ok u) h read = all_with known version replied.commands done (all_read known version replied.commands _ done (λ r same. same) h)
+      by (Ok u) h read = all_with known version replied.commands done
+          (all_read known version replied.commands _ done (λ r same. same) h)
       by (Err (Done status)) h read = some_map known _ _ (λ text r. absurd r.2) h
       by (Err (Refused number line)) h read = all_with known version replied.commands (refused number line)
           (all_read known version replied.commands _ (refused number line) (λ r same. same) h)
@@ -340,7 +342,8 @@ module _ {S : Type 0} (written flushed : S → Option (List ℕ)) (faults : S �
 
   -- where there is room for what may be replied
   has : RoomForReplies terms known (has_room old) → has_room old (length replied.out.text)
-  has room = room version replied.commands replied.out replied.after replied.leads (first_only known version replied.commands _ left)
+  has room = room version replied.commands replied.out replied.after replied.leads
+      (first_only known version replied.commands _ left)
 
   pub room_is : RoomForReplies terms known (has_room old) → IsErrOf result WriteFault → ⊥
   room_is room = by result replied.sent
@@ -405,11 +408,13 @@ module _ {S : Type 0} (written flushed : S → Option (List ℕ)) (faults : S �
     (kept : Keeps (written middle) (written new)) where
   pub flushed_answered : AreAnswered terms known (written old, written new) (before, after) (Done 0)
   flushed_answered = answered_kept terms known (written old) (written middle) (written new) (before, after) (Done 0)
-      (answered_is written flushed faults has_room terms known version script of (Ok tt) old middle before after replied) kept
+      (answered_is written flushed faults has_room terms known version script of (Ok tt) old middle before after
+      replied) kept
 
   pub fault_answered : AreAnswered terms known (written old, written new) (before, after) WriteFault
   fault_answered = answered_fault terms known (written old) (written middle) (written new) (before, after) (Done 0)
-      (answered_is written flushed faults has_room terms known version script of (Ok tt) old middle before after replied) kept
+      (answered_is written flushed faults has_room terms known version script of (Ok tt) old middle before after
+      replied) kept
 
   pub all_flushed : AllFlushed (written new) (flushed middle) (flushed new)
       → AllFlushed (written new) (flushed old) (flushed new)
@@ -431,5 +436,6 @@ module _ {S : Type 0} (written flushed : S → Option (List ℕ)) (faults : S �
   room_left room = (
     length replied.out.text - length replied.out.text,
     replied.sent.room (length replied.out.text) (omega arith)
-        (has written flushed faults has_room terms known version script of (Ok tt) old middle before after replied room),
+        (has written flushed faults has_room terms known version script of (Ok tt) old middle before after replied
+        room),
   )

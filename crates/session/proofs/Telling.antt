@@ -48,7 +48,8 @@ IsAnswer terms command s text number =
     IsReplyWith number terms s command (says text) s × IsReplyFor number s command Written
 
 module _ {S : Type 0} (written flushed : S → Option (List ℕ)) (faults : S → ℕ) (has_room : S → ℕ → Type 0) where
-  pub sent : (reply : Reply) (text : Text) (old new : S) (r : Result (Unit {0}) Failed) (result : Result Reply SessionStop)
+  pub sent : (reply : Reply) (text : Text) (old new : S) (r : Result (Unit {0}) Failed)
+      (result : Result Reply SessionStop)
       → Writes written flushed faults has_room old new text r → IsSent reply r result
       → Sends written flushed faults has_room reply text old new result
   sent reply text old new (Ok u) result wrote is =

@@ -9,7 +9,7 @@ use Rattle.truth.specs.Truth.{truth}
 use Rattle.trail.specs.State.{Account}
 use Rattle.search.specs.Counting.{size_of}
 use Rattle.engine.specs.State.{EngineState}
-use Rattle.qdimacs.specs.declared.refusal.Quantity.{Quantity}
+use Rattle.reading.specs.declared.refusal.Quantity.{Quantity}
 use Rattle.qdimacs.specs.Reads.{Reads}
 use Rattle.qdimacs.specs.Rules.{parsed}
 use Rattle.qdimacs_out.specs.Texts.{formula_text}

@@ -1,7 +1,7 @@
 -- Endings without an answer.
 use Rattle.std.specs.Prelude.{Result, Ok, Err}
-use Rattle.qdimacs.specs.declared.refusal.ReadRefusal.{ReadRefusal}
-use Rattle.qdimacs.specs.declared.refusal.ReadRefusal.TheVariants.{Refused as Rejected, Limit as Beyond, ReadFault as Unreadable, NoMemory as NoRoom}
+use Rattle.reading.specs.declared.refusal.ReadRefusal.{ReadRefusal}
+use Rattle.reading.specs.declared.refusal.ReadRefusal.TheVariants.{Refused as Rejected, Limit as Beyond, ReadFault as Unreadable, NoMemory as NoRoom}
 use Rattle.qcir_reader.specs.declared.refusal.QcirRefusal.{QcirRefusal}
 use Rattle.qcir_reader.specs.declared.refusal.QcirRefusal.TheVariants.{Refused as NoCircuit, Limit as GreatCircuit, ReadFault as UnreadableCircuit, NoMemory as NoRoomForCircuit}
 use Rattle.session.specs.declared.answer.Answer.{Answer}

@@ -186,7 +186,8 @@ pub record IsAllButLong (old new : SessionState) : Type 0 where
   pub rest : new ≡ record old { engine = record old.engine { kept_long = new.engine.kept_long } }
   pub fewer : new.engine.kept_long ≤ old.engine.kept_long
 
--- What a command leaves of a session where there is no memory for it: all, but that `clause` and `activate` may have let
+-- What a command leaves of a session where there is no memory for it: all, but that `clause` and `activate` may have
+-- let
 -- go of long learned rows. What a solve leaves, `left_by` says.
 abbrev pub LeavesAtWant : Command → SessionState → SessionState → Type 0
 LeavesAtWant (ScopeCommand quant at) old new = new ≡ old

@@ -11,7 +11,7 @@ use Rattle.calculus.specs.Worked.{existential, minus, plus, universal}
 use Rattle.frames.specs.Commands.{AddClause, AddScope, AddVariable, Assume as AssumeLiteral, Solve as Decide, Verdict}
 use Rattle.frames.specs.Fold.{new_script, state_after, state_of}
 use Rattle.frames.specs.State.{OpenFormula}
-use Rattle.qdimacs.specs.declared.refusal.Quantity.TheVariants.{Variables}
+use Rattle.reading.specs.declared.refusal.Quantity.TheVariants.{Variables}
 use Rattle.qscript.specs.declared.command.Command.TheVariants.{Assume, Clause, Pop, Solve, Trace, Value}
 use Rattle.session.specs.declared.answer.Answer.TheVariants.{Sat, Unsat, Unknown}
 use Rattle.session.specs.declared.ending.Ending.TheVariants.{CheckLimit, Done, NoMemory, Refused}

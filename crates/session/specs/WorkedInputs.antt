@@ -4,7 +4,7 @@ use Rattle.prefix.specs.declared.quant.Quant.{Quant}
 use Rattle.prefix.specs.declared.quant.Quant.TheVariants.{Exists, Forall}
 use Rattle.truth.specs.declared.formula.Formula.{Formula}
 use Rattle.calculus.specs.Worked.{minus, plus}
-use Rattle.qdimacs.specs.declared.refusal.Quantity.{Quantity}
+use Rattle.reading.specs.declared.refusal.Quantity.{Quantity}
 use Rattle.qdimacs.specs.Rules.{limit, parsed, refused}
 use Rattle.session.specs.declared.answer.Answer.TheVariants.{Sat, Unknown, Unsat}
 use Rattle.session.specs.declared.ending.Ending.TheVariants.{CheckLimit, Done, Limit, Refused}

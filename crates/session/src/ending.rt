@@ -4,11 +4,11 @@ ghost use Rattle.session.specs.declared.ending.Ending.TheVariants.{Refused, Limi
 ghost use Rattle.session.specs.Endings.{circuit_ending_for, ending_at, ending_for};
 
 use crate::reply::SessionStop;
+use memory::NoMemory;
 use ports::Failed;
 use qcir_reader::QcirRefusal;
-use qdimacs::{Quantity, ReadRefusal};
+use reading::{Quantity, ReadRefusal};
 use std::alloc::AllocError;
-use steps::NoMemory;
 
 /// What is asked of a file with a formula.
 #[derive(Clone, Copy, Debug, PartialEq, Eq)]

@@ -3,7 +3,7 @@ ghost use Rattle.std.specs.Prelude.{◌≡◌, ◌∷◌, ◌++◌, ◌<◌, ◌
 ghost use Rattle.std.specs.List.{AllByRecursion};
 ghost use Rattle.prefix.specs.Literal.{signed_number};
 ghost use Rattle.prefix.specs.Scopes.{IsAscending, IsPrefix};
-ghost use Rattle.qdimacs.specs.Formed.{IsClauseOver, IsFormed};
+ghost use Rattle.truth.specs.Formed.{IsClauseOver, IsFormed};
 ghost use Rattle.qdimacs.specs.Kept.{AreNew};
 ghost use Rattle.frames.specs.State.{literals_in};
 ghost use Rattle.session.specs.Feeding.{HoldsFormula};

@@ -1,7 +1,7 @@
 //! The formula of the chosen input.
 ghost use Rattle.std.specs.Prelude.{◌≡◌, List, ℕ, IfOk, IfErr, IfSome, IsErrOf, IsOk, OnOk, [], Some};
 ghost use Rattle.ports.specs.Causes.{IsCounted};
-ghost use Rattle.qdimacs.specs.Formed.{IsFormed};
+ghost use Rattle.truth.specs.Formed.{IsFormed};
 ghost use Rattle.qdimacs.specs.Rules.{parsed};
 ghost use Rattle.session.specs.Endings.{IsUnread};
 ghost use Rattle.session.specs.Inputs.{IsTranslated, Says, format_of};

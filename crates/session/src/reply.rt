@@ -4,7 +4,7 @@ ghost use Rattle.session.specs.declared.reply.SessionStop.TheVariants.{NoMemory}
 ghost use Rattle.session.specs.Steps.{answered, listed, told_by};
 
 use crate::answer::Answer;
-use steps::NoMemory as NoRoom;
+use memory::NoMemory as NoRoom;
 use trail::Stopped;
 
 /// The reply to a command.

@@ -15,10 +15,10 @@ ghost use Rattle.session.specs.Terms.{terms_of};
 use crate::ending::Ending;
 use crate::reply::{Reply, SessionStop};
 use crate::session::Session;
+use memory::NoMemory;
 use ports::{Desk, Sink};
 use qscript::{Command, ScriptReader, each_script_has_one_reading};
 use std::alloc::Global;
-use steps::NoMemory;
 use trail::Stopped;
 use versions::Version;
 

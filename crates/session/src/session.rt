@@ -16,11 +16,12 @@ use crate::lines::{
 use crate::reply::{Reply, SessionStop};
 use engine::{CoreRefusal, Engine, SolveStop, Verdict};
 use frames::FrameRefusal;
+use memory::NoMemory;
 use ports::{Failed, Sink};
 use qscript::Command;
 use std::alloc::Global;
 use std::marker::Model;
-use steps::{NoMemory, Steps};
+use steps::Steps;
 use versions::Version;
 
 /// An engine that takes the commands of a script and writes their replies. Contracts see the terms of each solve and

@@ -1,6 +1,6 @@
 //! Tests of `qrp_trace`.
 use derive::StepId;
-use fixtures::{Workshop, literal, other, prefix_of};
+use fixtures::{Workshop, literal, prefix_of};
 use ports::{Failed, MemorySink};
 use prefix::{Prefix, Quant};
 use qrp_trace::{Core, core, write_trace};
@@ -25,7 +25,7 @@ fn has_text(alloc: Global, core: &Core, prefix: &Prefix, want: &str) -> Result<b
 
 // Whether a core's winner is this one, and the other side loses.
 fn is_won_by(core: &Core, winner: Quant) -> bool {
-    core.winner() == winner && core.loser() == other(winner)
+    core.winner() == winner && core.loser() == winner.other()
 }
 
 // Whether a fault of the sink leaves so many bytes of the front of the refutation.

@@ -5,7 +5,7 @@ ghost use Rattle.derive.specs.State.{has_rows};
 
 use super::rows_tests::{has_link, has_lits};
 use derive::{Derivation, Step, StepId};
-use fixtures::{Workshop, by_turns, other, row, rows, variable};
+use fixtures::{Workshop, by_turns, row, rows, variable};
 use prefix::{Prefix, Quant};
 use rows::Rows;
 use std::alloc::Global;
@@ -419,7 +419,7 @@ fn reduce_both(
         Turn::HasRow(id, want),
     ];
     play(alloc, outer, &clause)?;
-    play(alloc, other(outer), &cube)
+    play(alloc, outer.other(), &cube)
 }
 
 // What nothing blocks goes, and else the step itself is the answer.

@@ -1,5 +1,5 @@
 //! Tests of `reduce`.
-use fixtures::{ascends, literal, other, prefix_of, rows, variable};
+use fixtures::{ascends, literal, prefix_of, rows, variable};
 use prefix::{Clauses, Cubes, Lit, LitList, Prefix, Side, Var};
 use reduce::{Row, clashes, is_reduced, reduce, resolve};
 use std::alloc::Global;
@@ -8,9 +8,9 @@ use std::test::Fail;
 // Variable 2 in the first scope and 1 in the second; the first is of the side's pivot quantifier, or the second.
 fn two_then_one<S: Side>(alloc: Global, pivot_first: bool) -> Result<Prefix, Fail> {
     if pivot_first {
-        prefix_of(alloc, &[S::PIVOT, other(S::PIVOT)], &[2, 1])
+        prefix_of(alloc, &[S::PIVOT, S::PIVOT.other()], &[2, 1])
     } else {
-        prefix_of(alloc, &[other(S::PIVOT), S::PIVOT], &[2, 1])
+        prefix_of(alloc, &[S::PIVOT.other(), S::PIVOT], &[2, 1])
     }
 }
 

@@ -14,13 +14,14 @@ mod conflicts;
 use analyse::{Lesson, analyse};
 use clean::{clean, clean_reason, resolve_away, resolve_by_reason};
 use derive::{Derivation, Step, StepId};
-use fixtures::{by_turns, holds, is_row, literal, other, row, variable};
+use fixtures::{by_turns, holds, is_row, literal, row, variable};
+use memory::NoMemory;
 use prefix::{Clauses, Cubes, Lit, Prefix, Quant, Side, Var};
 use reduce::{Row, reduce};
 use std::alloc::Global;
 use std::marker::{Model, PhantomData};
 use std::test::Fail;
-use steps::{NoMemory, Steps, Stop};
+use steps::{Steps, Stop};
 use trail::{Trail, Why};
 
 // The side's pivot quantifier, or the other one.
@@ -28,7 +29,7 @@ fn first_of<S: Side>(pivot_first: bool) -> Quant {
     if pivot_first {
         S::PIVOT
     } else {
-        other(S::PIVOT)
+        S::PIVOT.other()
     }
 }
 

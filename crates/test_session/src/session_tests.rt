@@ -2,8 +2,8 @@
 use crate::build::{desk_with, sink_with};
 use ports::MemorySink;
 use prefix::Quant;
-use qdimacs::Quantity;
 use qscript::Command;
+use reading::Quantity;
 use session::{Answer, Ending, Job, Reply, Session, run_file, run_script};
 use std::test::Fail;
 

@@ -2,10 +2,10 @@
 ghost use Rattle.std.specs.Prelude.{◌≤◌};
 
 use generate::make;
+use memory::NoMemory;
 use prefix::{Lit, LitList, Prefix, Quant};
 use std::alloc::{AllocError, Global};
 use std::test::Fail;
-use steps::NoMemory;
 
 // Puts the numbers of literals, and 0, behind others.
 fn push_row(numbers: &mut Vec<i32>, row: &LitList) -> Result<(), AllocError> {

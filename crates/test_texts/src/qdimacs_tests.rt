@@ -1,7 +1,8 @@
 //! Texts and what is read of them.
 use crate::build::desk_with;
 use prefix::{Prefix, Quant};
-use qdimacs::{Quantity, ReadRefusal, read_formula};
+use qdimacs::read_formula;
+use reading::{Quantity, ReadRefusal};
 use std::alloc::Global;
 use std::test::Fail;
 use truth::Formula;

@@ -1,6 +1,7 @@
 //! As many sets as a formula may have, and what is beyond.
 use crate::build::desk_with;
-use qdimacs::{Quantity, ReadRefusal, read_formula};
+use qdimacs::read_formula;
+use reading::{Quantity, ReadRefusal};
 use std::alloc::Global;
 use std::test::Fail;
 

@@ -1,6 +1,7 @@
 //! A counter, and why a counted call stops.
+use memory::NoMemory;
 use std::test::Fail;
-use steps::{NoMemory, Spent, Steps, Stop};
+use steps::{Spent, Steps, Stop};
 
 #[test]
 fn counts_up_to_its_budget_and_no_further(rt: HostRuntime) -> Result<(), Fail> {

@@ -30,7 +30,8 @@ room_more scopes room row k x before below is known low = record {
       let all : take (k + 1) row ≡ take k row ++ x ∷ [] = take_more row k x below
       ∙ ap (λ y. take k row ++ y ∷ []) (sym is) in
       ⊎_elim (λ early. before.known l early)
-      (λ last. ⊎_elim (λ (e : x ≡ l). rw (← e) (known, low)) (λ n. absurd (contains_nil l n)) (contains_cons x [] l last))
+      (λ last. ⊎_elim (λ (e : x ≡ l). rw (← e) (known, low)) (λ n. absurd (contains_nil l n))
+      (contains_cons x [] l last))
       (Contains-append_cases (take k row) (x ∷ []) l (rw all at i));
 }
 
@@ -46,8 +47,12 @@ cut_by t level = with_front (cut_trail level t.placed) (length (cut_trail level 
 allowed_undone : (t : TrailState) (level : ℕ) → t.allowed ≢ Nothing → (cut_to level t).allowed ≢ Nothing
 allowed_undone t level before e =
     ⊎_elim
-    (λ s. before (sym (ap (λ (u : TrailState). u.allowed) (cond-true (nat_le (last_level t.placed) level) t (cut_by t level) s)) ∙ e))
-    (λ f. let h : NoDecision ≡ Nothing = sym (ap (λ (u : TrailState). u.allowed) (cond-false (nat_le (last_level t.placed) level) t (cut_by t level) f)) ∙ e in cc)
+    (λ s. before
+    (sym (ap (λ (u : TrailState). u.allowed) (cond-true (nat_le (last_level t.placed) level) t (cut_by t level) s))
+    ∙ e))
+    (λ f. let h : NoDecision ≡ Nothing =
+    sym (ap (λ (u : TrailState). u.allowed) (cond-false (nat_le (last_level t.placed) level) t (cut_by t level) f))
+    ∙ e in cc)
     (cases_Bool (nat_le (last_level t.placed) level))
 
 module _ (pivot : Quant) (scopes : List Scope) (arena : Arena) (t : TrailState) (w : WatchState)
@@ -120,7 +125,8 @@ module _ (pivot : Quant) (scopes : List Scope) (arena : Arena) (t : TrailState) 
   cleared_ready now later is told order = record {
     holds = subst (λ (v : WatchState). Holds pivot scopes v arena) (sym told) ready.holds;
     front = subst (λ (v : WatchState). IsFront (looked v) (literals_on now.placed)) (sym told)
-        (subst (λ (u : TrailState). IsFront (looked (undone_to 0 w)) (literals_on u.placed)) (sym is) (front_cleared w));
+        (subst (λ (u : TrailState). IsFront (looked (undone_to 0 w)) (literals_on u.placed)) (sym is)
+        (front_cleared w));
     order = order;
     allowed = λ e. let h : Anything ≡ Nothing = sym (ap (λ (u : TrailState). u.allowed) is) ∙ e in cc;
   }

@@ -5,7 +5,7 @@ mod plain;
 
 use desk::Desk;
 use drawn::are_right;
-use fixtures::{by_turns, literal, other, row, variable};
+use fixtures::{by_turns, literal, row, variable};
 use prefix::{Clauses, Cubes, Lit, Quant, Side};
 use rows::RowId;
 use std::alloc::Global;
@@ -155,7 +155,7 @@ fn earlier_scope<S: Side>(alloc: Global) -> Result<(), Fail> {
         Move::Please(1),
         Move::Quiet,
     ];
-    play::<S>(alloc, other(S::PIVOT), &[1, 1], 4, &script)
+    play::<S>(alloc, S::PIVOT.other(), &[1, 1], 4, &script)
 }
 
 // A literal of a later scope that isn't pivot-type doesn't.
@@ -243,7 +243,7 @@ fn small_rows<S: Side>(alloc: Global) -> Result<(), Fail> {
         Move::Clear,
         Move::Bad(0),
     ];
-    play::<S>(alloc, other(S::PIVOT), &[1, 1], 4, &script)
+    play::<S>(alloc, S::PIVOT.other(), &[1, 1], 4, &script)
 }
 
 fn all<S: Side>(alloc: Global) -> Result<(), Fail> {

@@ -9,7 +9,8 @@ use Rattle.trail.specs.State.{TrailState, undone_to, with_front, without_last}
 
 -- levels don't fall
 pub after_least : (before : ℕ) (p : Placed) → before ≤ level_after before p
-after_least before p = cond_both (is_decision p.cause) (suc before) before (λ n. before ≤ n) (λ t. omega arith) (λ f. omega arith)
+after_least before p = cond_both (is_decision p.cause) (suc before) before (λ n. before ≤ n) (λ t. omega arith)
+    (λ f. omega arith)
 
 pub level_least : (before : ℕ) (trail : Trail) → before ≤ last_level_from before trail
 level_least before [] = omega arith
@@ -22,10 +23,12 @@ level_least before (p ∷ trail) =
 module _ (before b : ℕ) (p : Placed) (trail : Trail) where
   -- the first literal stays, or all go
   cut_here : level_after before p ≤ b → cut_from before b (p ∷ trail) ≡ p ∷ cut_from (level_after before p) b trail
-  cut_here low = cond-true (nat_le (level_after before p) b) (p ∷ cut_from (level_after before p) b trail) [] (le-leb (level_after before p) b low)
+  cut_here low = cond-true (nat_le (level_after before p) b) (p ∷ cut_from (level_after before p) b trail) []
+      (le-leb (level_after before p) b low)
 
   cut_none : b < level_after before p → cut_from before b (p ∷ trail) ≡ []
-  cut_none high = cond-false (nat_le (level_after before p) b) (p ∷ cut_from (level_after before p) b trail) [] (lt-leb (level_after before p) b high)
+  cut_none high = cond-false (nat_le (level_after before p) b) (p ∷ cut_from (level_after before p) b trail) []
+      (lt-leb (level_after before p) b high)
 
 -- a cut at no lower level changes nothing
 pub cut_all : (before b : ℕ) (trail : Trail) → last_level_from before trail ≤ b → cut_from before b trail ≡ trail
@@ -37,13 +40,15 @@ cut_all before b (p ∷ trail) low =
     cut_here before b p trail (omega arith) ∙ ap (λ t. p ∷ t) (cut_all now b trail rest)
 
 -- a last literal above the level goes
-pub cut_more : (before b : ℕ) (trail : Trail) (p : Placed) → b < last_level_from before (trail ++ p ∷ []) → cut_from before b (trail ++ p ∷ []) ≡ cut_from before b trail
+pub cut_more : (before b : ℕ) (trail : Trail) (p : Placed) → b < last_level_from before (trail ++ p ∷ [])
+    → cut_from before b (trail ++ p ∷ []) ≡ cut_from before b trail
 cut_more before b [] p high = cut_none before b p [] high
 cut_more before b (q ∷ trail) p high =
     let now = level_after before q in
     ⊎_elim
     (λ (above : b < now). cut_none before b q (trail ++ p ∷ []) above ∙ sym (cut_none before b q trail above))
-    (λ (low : now ≤ b). cut_here before b q (trail ++ p ∷ []) low ∙ (ap (λ t. q ∷ t) (cut_more now b trail p high) ∙ sym (cut_here before b q trail low)))
+    (λ (low : now ≤ b). cut_here before b q (trail ++ p ∷ []) low
+    ∙ (ap (λ t. q ∷ t) (cut_more now b trail p high) ∙ sym (cut_here before b q trail low)))
     (cases_lt b now)
 
 -- a cut that takes literals off takes a decision off first
@@ -53,7 +58,8 @@ pub record IsCutAt (b : ℕ) (front : Trail) (trail : Trail) : Type 0 where
   pub is_decision : is_decision decision.cause ≡ true
   pub parts : trail ≡ front ++ decision ∷ back
 
-pub cut_at : (before b : ℕ) (trail : Trail) → before ≤ b → b < last_level_from before trail → IsCutAt b (cut_from before b trail) trail
+pub cut_at : (before b : ℕ) (trail : Trail) → before ≤ b → b < last_level_from before trail
+    → IsCutAt b (cut_from before b trail) trail
 cut_at before b [] least high = absurd (let h : b < before = high in omega arith)
 cut_at before b (p ∷ trail) least high =
     let now = level_after before p in
@@ -61,7 +67,9 @@ cut_at before b (p ∷ trail) least high =
     (λ (above : b < now). record {
       decision = p;
       back = trail;
-      is_decision = ⊎_elim (λ t. t) (λ f. absurd (let same : now ≡ before = cond-false (is_decision p.cause) (suc before) before f in omega arith)) (cases_Bool (is_decision p.cause));
+      is_decision = ⊎_elim (λ t. t)
+          (λ f. absurd (let same : now ≡ before = cond-false (is_decision p.cause) (suc before) before f in
+          omega arith)) (cases_Bool (is_decision p.cause));
       parts = ap (λ t. t ++ p ∷ trail) (sym (cut_none before b p trail above));
     })
     (λ (low : now ≤ b).
@@ -70,7 +78,8 @@ cut_at before b (p ∷ trail) least high =
       decision = later.decision;
       back = later.back;
       is_decision = later.is_decision;
-      parts = ap (λ t. p ∷ t) later.parts ∙ ap (λ t. t ++ later.decision ∷ later.back) (sym (cut_here before b p trail low));
+      parts = ap (λ t. p ∷ t) later.parts ∙ ap (λ t. t ++ later.decision ∷ later.back)
+          (sym (cut_here before b p trail low));
     })
     (cases_lt b now)
 
@@ -95,8 +104,10 @@ cut_state b t = with_front (cut_trail b t.placed) (length (cut_trail b t.placed)
 pub undone_low : (b : ℕ) (t : TrailState) → last_level t.placed ≤ b → undone_to b t ≡ t
 undone_low b t low = cond-true (nat_le (last_level t.placed) b) t (cut_state b t) (le-leb (last_level t.placed) b low)
 
-pub undone_high : (b : ℕ) (t : TrailState) → b < last_level t.placed → undone_to b t ≡ with_front (cut_trail b t.placed) (length (cut_trail b t.placed)) t
-undone_high b t high = cond-false (nat_le (last_level t.placed) b) t (cut_state b t) (lt-leb (last_level t.placed) b high)
+pub undone_high : (b : ℕ) (t : TrailState) → b < last_level t.placed → undone_to b t ≡ with_front (cut_trail b t.placed)
+    (length (cut_trail b t.placed)) t
+undone_high b t high = cond-false (nat_le (last_level t.placed) b) t (cut_state b t)
+    (lt-leb (last_level t.placed) b high)
 
 -- a front of a front
 pub take_take : {X : Type 0} (m n : ℕ) (xs : List X) → m ≤ n → take m (take n xs) ≡ take m xs
@@ -110,7 +121,8 @@ cut_short before b [] = omega arith
 cut_short before b (p ∷ trail) =
     let now = level_after before p in
     let later : length (cut_from now b trail) ≤ length trail = cut_short now b trail in
-    cond_both (nat_le now b) (p ∷ cut_from now b trail) [] (λ t. length t ≤ length (p ∷ trail)) (λ t. omega arith) (λ f. omega arith)
+    cond_both (nat_le now b) (p ∷ cut_from now b trail) [] (λ t. length t ≤ length (p ∷ trail)) (λ t. omega arith)
+    (λ f. omega arith)
 
 -- what goes with a cut, in two parts
 dropped_parts : {X : Type 0} (m n : ℕ) (xs : List X) → m ≤ n → drop m xs ≡ drop m (take n xs) ++ drop n xs
@@ -121,13 +133,16 @@ dropped_parts (suc m) zero xs h = absurd (omega arith)
 dropped_parts (suc m) (suc n) [] h = refl
 dropped_parts (suc m) (suc n) (x ∷ xs) h = dropped_parts m n xs (omega arith)
 
-pub without_parts : (depths more : List ℕ) (finished : List Bool) → finished_without (depths ++ more) finished ≡ finished_without depths (finished_without more finished)
+pub without_parts : (depths more : List ℕ) (finished : List Bool) → finished_without (depths ++ more)
+    finished ≡ finished_without depths (finished_without more finished)
 without_parts [] more finished = refl
 without_parts (d ∷ depths) more finished = ap (λ fs. set fs (d - 1) false) (without_parts depths more finished)
 
-finished_less : (m n : ℕ) (depths : List ℕ) (finished : List Bool) → m ≤ n → finished_without (drop m (take n depths)) (finished_without (drop n depths) finished) ≡ finished_without (drop m depths) finished
+finished_less : (m n : ℕ) (depths : List ℕ) (finished : List Bool) → m ≤ n → finished_without (drop m (take n depths))
+    (finished_without (drop n depths) finished) ≡ finished_without (drop m depths) finished
 finished_less m n depths finished h =
-    sym (without_parts (drop m (take n depths)) (drop n depths) finished) ∙ ap (λ ds. finished_without ds finished) (sym (dropped_parts m n depths h))
+    sym (without_parts (drop m (take n depths)) (drop n depths) finished) ∙ ap (λ ds. finished_without ds finished)
+    (sym (dropped_parts m n depths h))
 
 -- to cut may begin with the last literal
 pub undone_less : (b : ℕ) (t : TrailState) → b < last_level t.placed → undone_to b (without_last t) ≡ undone_to b t
@@ -145,15 +160,26 @@ undone_less b t high =
     ∙ (ap (λ trail. with_front trail (length trail) t) (sym same) ∙ sym (undone_high b t high))))
     (λ (low : last_level front ≤ b).
     let all : cut_trail b t.placed ≡ front = same ∙ cut_all 0 b front low in
-    let number : length t.placed - 1 ≡ length (cut_trail b t.placed) = (let h : length (cut_trail b t.placed) ≡ length front = ap length all in omega arith) in
+    let number : length t.placed - 1 ≡ length (cut_trail b t.placed) =
+    (let h : length (cut_trail b t.placed) ≡ length front = ap length all in omega arith) in
     undone_low b (without_last t) low
     ∙ (ap (λ n. with_front front n t) number
     ∙ (ap (λ trail. with_front trail (length (cut_trail b t.placed)) t) (sym all) ∙ sym (undone_high b t high))))
     (cases_lt b (last_level front))
   where
-    twice : (front : Trail) (m n : ℕ) (middle : Trail) (t : TrailState) → m ≤ n → with_front front m (with_front middle n t) ≡ with_front front m t
+    twice : (front : Trail) (m n : ℕ) (middle : Trail) (t : TrailState) → m ≤ n → with_front front m
+        (with_front middle n t) ≡ with_front front m t
     twice front m n middle t h =
         let depths = take_take m n t.depths h in
         let marks = take_take m n t.marks h in
         let finished = finished_less m n t.depths t.finished h in
-        λ i. record { placed = front; depths = depths i; marks = marks i; finished = finished i; assigned = t.assigned; restarts = t.restarts; room = t.room; allowed = NoDecision }
+        λ i. record {
+          placed = front;
+          depths = depths i;
+          marks = marks i;
+          finished = finished i;
+          assigned = t.assigned;
+          restarts = t.restarts;
+          room = t.room;
+          allowed = NoDecision;
+        }

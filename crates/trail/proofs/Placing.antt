@@ -13,7 +13,8 @@ use Rattle.trail.specs.Table.{spot_on}
 
 -- reading a list with one more element
 
-pub slice_get_before : {X : Type 0} (xs : List X) (x : X) (k : ℕ) → k < length xs → slice_get (xs ++ x ∷ []) k ≡ slice_get xs k
+pub slice_get_before : {X : Type 0} (xs : List X) (x : X) (k : ℕ) → k < length xs
+    → slice_get (xs ++ x ∷ []) k ≡ slice_get xs k
 slice_get_before [] x k h = absurd (omega arith)
 slice_get_before (y ∷ xs) x zero h = refl
 slice_get_before (y ∷ xs) x (suc k) h = slice_get_before xs x k (omega arith)
@@ -28,17 +29,21 @@ cases_option None = inl refl
 cases_option (Some b) = inr refl
 
 -- a variable that isn't the last one's stands as before
-pub value_other : (trail : Trail) (p : Placed) (y : ℕ) → (p.literal.variable ≡ y → ⊥) → value_on (trail ++ p ∷ []) y ≡ value_on trail y
+pub value_other : (trail : Trail) (p : Placed) (y : ℕ) → (p.literal.variable ≡ y → ⊥)
+    → value_on (trail ++ p ∷ []) y ≡ value_on trail y
 value_other [] p y differs = value_past p [] y (ne_eqb p.literal.variable y differs)
 value_other (q ∷ trail) p y differs =
     ⊎_elim (λ t. value_here q (trail ++ p ∷ []) y t ∙ sym (value_here q trail y t))
     (λ f. value_past q (trail ++ p ∷ []) y f ∙ (value_other trail p y differs ∙ sym (value_past q trail y f)))
     (cases_Bool (nat_eq q.literal.variable y))
 
-spot_from : (trail more : Trail) (y : ℕ) → value_on more y ≡ value_on trail y → (is_some (value_on trail y) ≡ true → place_on more y ≡ place_on trail y) → spot_on more y ≡ spot_on trail y
+spot_from : (trail more : Trail) (y : ℕ) → value_on more y ≡ value_on trail y
+    → (is_some (value_on trail y) ≡ true → place_on more y ≡ place_on trail y) → spot_on more y ≡ spot_on trail y
 spot_from trail more y same places = by_value (value_on trail y) (value_on more y) same places
   where
-    by_value : (o n : Option Bool) → n ≡ o → (is_some o ≡ true → place_on more y ≡ place_on trail y) → option_map {U = Spot} (λ b. record { value = b; place = place_on more y }) n ≡ option_map {U = Spot} (λ b. record { value = b; place = place_on trail y }) o
+    by_value : (o n : Option Bool) → n ≡ o → (is_some o ≡ true → place_on more y ≡ place_on trail y)
+        → option_map {U = Spot} (λ b. record { value = b; place = place_on more y }) n ≡ option_map {U = Spot}
+        (λ b. record { value = b; place = place_on trail y }) o
     by_value None None e h = refl
     by_value None (Some b) e h = absurd (cc)
     by_value (Some b) None e h = absurd (cc)
@@ -47,16 +52,20 @@ spot_from trail more y same places = by_value (value_on trail y) (value_on more 
         let value : c ≡ b = cc in
         λ i. Some (record { value = value i; place = place i })
 
-pub spot_other : (trail : Trail) (p : Placed) (y : ℕ) → (p.literal.variable ≡ y → ⊥) → spot_on (trail ++ p ∷ []) y ≡ spot_on trail y
-spot_other trail p y differs = spot_from trail (trail ++ p ∷ []) y (value_other trail p y differs) (λ a. (place_front trail (p ∷ []) y a).0)
+pub spot_other : (trail : Trail) (p : Placed) (y : ℕ) → (p.literal.variable ≡ y → ⊥)
+    → spot_on (trail ++ p ∷ []) y ≡ spot_on trail y
+spot_other trail p y differs = spot_from trail (trail ++ p ∷ []) y (value_other trail p y differs)
+    (λ a. (place_front trail (p ∷ []) y a).0)
 
 -- the last one stands at the end
-pub spot_last : (trail : Trail) (p : Placed) → value_on trail p.literal.variable ≡ None → spot_on (trail ++ p ∷ []) p.literal.variable ≡ Some (record { value = p.literal.positive; place = length trail })
+pub spot_last : (trail : Trail) (p : Placed) → value_on trail p.literal.variable ≡ None
+    → spot_on (trail ++ p ∷ []) p.literal.variable ≡ Some (record { value = p.literal.positive; place = length trail })
 spot_last trail p fresh =
     let new = value_new trail p fresh in
     let value : value_on (trail ++ p ∷ []) p.literal.variable ≡ Some p.literal.positive = new.0 in
     let place : place_on (trail ++ p ∷ []) p.literal.variable ≡ length trail = new.1 in
-    ap (λ o. option_map {U = Spot} (λ b. record { value = b; place = place_on (trail ++ p ∷ []) p.literal.variable }) o) value
+    ap (λ o. option_map {U = Spot} (λ b. record { value = b; place = place_on (trail ++ p ∷ []) p.literal.variable }) o)
+    value
     ∙ ap (λ n. Some (record { value = p.literal.positive; place = n })) place
 
 pub spot_none : (trail : Trail) (x : ℕ) → value_on trail x ≡ None → spot_on trail x ≡ None
@@ -70,7 +79,8 @@ IsOnce trail = (i : ℕ) (p : Placed) → slice_get trail i ≡ Some p → place
 pub placed_known : (trail : Trail) (x : ℕ) → place_on trail x < length trail → is_some (value_on trail x) ≡ true
 placed_known trail x below = front_has trail [] x (rw append-nil below)
 
-pub once_more : (trail : Trail) (p : Placed) → value_on trail p.literal.variable ≡ None → IsOnce trail → IsOnce (trail ++ p ∷ [])
+pub once_more : (trail : Trail) (p : Placed) → value_on trail p.literal.variable ≡ None → IsOnce trail
+    → IsOnce (trail ++ p ∷ [])
 once_more trail p fresh once i q at =
     ⊎_elim
     (λ (below : i < length trail).
@@ -84,7 +94,8 @@ once_more trail p fresh once i q at =
     let last : i ≡ length trail = omega arith in
     let is : Some p ≡ Some q = sym (slice_get_last trail p) ∙ (ap (slice_get (trail ++ p ∷ [])) (sym last) ∙ at) in
     let same : p ≡ q = cc in
-    ap (λ (r : Placed). place_on (trail ++ p ∷ []) r.literal.variable) (sym same) ∙ ((value_new trail p fresh).1 ∙ sym last))
+    ap (λ (r : Placed). place_on (trail ++ p ∷ []) r.literal.variable) (sym same)
+    ∙ ((value_new trail p fresh).1 ∙ sym last))
     (cases_lt i (length trail))
 
 -- the last one stood nowhere before
@@ -92,7 +103,8 @@ pub last_new : (trail : Trail) (p : Placed) → IsOnce (trail ++ p ∷ []) → v
 last_new trail p once =
     ⊎_elim (λ e. e)
     (λ known.
-    let last : place_on (trail ++ p ∷ []) p.literal.variable ≡ length trail = once (length trail) p (slice_get_last trail p) in
+    let last : place_on (trail ++ p ∷ []) p.literal.variable ≡ length trail = once (length trail) p
+    (slice_get_last trail p) in
     let front = place_front trail (p ∷ []) p.literal.variable known in
     let same = front.0 in
     let below = front.1 in
@@ -110,7 +122,8 @@ once_less trail p once i q at =
 pub spot_place : (trail : Trail) (x : ℕ) (s : Spot) → Some s ≡ spot_on trail x → s.place < length trail
 spot_place trail x s e = by_value (value_on trail x) refl e
   where
-    by_value : (o : Option Bool) → value_on trail x ≡ o → Some s ≡ option_map {U = Spot} (λ b. record { value = b; place = place_on trail x }) o → s.place < length trail
+    by_value : (o : Option Bool) → value_on trail x ≡ o → Some s ≡ option_map {U = Spot}
+        (λ b. record { value = b; place = place_on trail x }) o → s.place < length trail
     by_value None is h = absurd (cc)
     by_value (Some b) is h =
         let known : is_some (value_on trail x) ≡ true = ap is_some is in
@@ -120,11 +133,14 @@ spot_place trail x s e = by_value (value_on trail x) refl e
         omega arith
 
 -- the value of the variable that stands at its place
-pub value_at : (trail : Trail) (i : ℕ) (p : Placed) → slice_get trail i ≡ Some p → place_on trail p.literal.variable ≡ i → value_on trail p.literal.variable ≡ Some p.literal.positive
+pub value_at : (trail : Trail) (i : ℕ) (p : Placed) → slice_get trail i ≡ Some p → place_on trail p.literal.variable ≡ i
+    → value_on trail p.literal.variable ≡ Some p.literal.positive
 value_at [] i p at place = absurd (let g : None ≡ Some p = at in cc)
 value_at (q ∷ trail) zero p at place =
     let same : q ≡ p = (let g : Some q ≡ Some p = at in cc) in
-    value_here q trail p.literal.variable (eq-eqb q.literal.variable p.literal.variable (ap (λ (r : Placed). r.literal.variable) same)) ∙ ap (λ (r : Placed). Some r.literal.positive) same
+    value_here q trail p.literal.variable
+    (eq-eqb q.literal.variable p.literal.variable (ap (λ (r : Placed). r.literal.variable) same))
+    ∙ ap (λ (r : Placed). Some r.literal.positive) same
 value_at (q ∷ trail) (suc i) p at place =
     ⊎_elim
     (λ t. absurd (let here = place_here q trail p.literal.variable t in omega arith))

@@ -69,7 +69,8 @@ spots_front (v ∷ values) (p ∷ places) [] e h = absurd (let n : [] ≡ p ∷ 
 spots_front (v ∷ values) (p ∷ places) (q ∷ more) e h =
     let first : q ≡ p = cc in
     let rest : take (length places) more ≡ places = cc in
-    ap₂ (λ (n : ℕ) (xs : List (Option Spot)). spot_of (v, n) ∷ xs) first (spots_front values places more (omega arith) rest)
+    ap₂ (λ (n : ℕ) (xs : List (Option Spot)). spot_of (v, n) ∷ xs) first
+    (spots_front values places more (omega arith) rest)
 
 none_stand : (more : ℕ) (places : List ℕ) → more ≤ length places
     → spots_of (replicate more None) places ≡ replicate more None

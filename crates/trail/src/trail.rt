@@ -21,11 +21,12 @@ use super::finished::Finished;
 use super::spots::Spots;
 use super::tally::{count_down, count_up, widen};
 use super::{Stopped, Why};
+use memory::NoMemory;
 use prefix::{Lit, Prefix, Var};
 use std::alloc::Global;
 use std::collections::BTreeSet;
 use std::marker::Model;
-use steps::{NoMemory, Spent, Steps};
+use steps::{Spent, Steps};
 
 /// An assignment trail: the assigned literals, oldest first, each with its cause. Contracts see it as that list, with
 /// the number of assignments, the room, and what may be assigned next.

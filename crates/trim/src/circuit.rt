@@ -6,8 +6,8 @@ ghost use Rattle.trim.specs.Trimmed.{IsReached, IsTrimmed, KeepsReached};
 use crate::gates::{moved_outputs, put_gates};
 use crate::marks::marks_of;
 use aig::{Aig, OutputList, Strategy, VarList};
+use memory::NoMemory;
 use std::alloc::Global;
-use steps::NoMemory;
 
 /// A strategy whose circuit has exactly the gates that an output is reached from, in their order. Winner, inputs,
 /// outputs' variables and their order stay, and each output has the values that it had, so it plays as before.

@@ -6,8 +6,8 @@ ghost use Rattle.trim.specs.Marks.{AreMarks, Rebuilds, output_through};
 
 use crate::edges::moved;
 use aig::{Aig, Edge, Output, Strategy};
+use memory::NoMemory;
 use std::alloc::Global;
-use steps::NoMemory;
 
 // Puts the marked gates into a new circuit in their order, and the edge of each gate into a table.
 pub(crate) fn put_gates(

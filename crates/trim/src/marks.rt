@@ -7,8 +7,8 @@ ghost use Rattle.trim.specs.Marks.{AreMarks, is_from, is_marked, is_over};
 
 use crate::edges::gate_place;
 use aig::{Aig, Edge, Strategy};
+use memory::NoMemory;
 use std::alloc::Global;
-use steps::NoMemory;
 
 // The marks of the gates that are reached.
 pub(crate) fn marks_of(alloc: Global, s: &Strategy) -> Result<Vec<bool>, NoMemory>

@@ -35,24 +35,28 @@ path_ended : (next : ℕ → Option ℕ) (xs : List ℕ) (at : Option ℕ) (i : 
 path_ended next [] at i p e m = m
 path_ended next (x ∷ xs) at i p e m = some_none x (sym p.0 ∙ e)
 
-path_on : (next : ℕ → Option ℕ) (xs : List ℕ) (at : Option ℕ) (j i : ℕ) → Path next xs at → In xs j → next j ≡ Some i → In xs i
+path_on : (next : ℕ → Option ℕ) (xs : List ℕ) (at : Option ℕ) (j i : ℕ) → Path next xs at → In xs j → next j ≡ Some i
+    → In xs i
 path_on next [] at j i p m e = absurd m
 path_on next (x ∷ xs) at j i p m e =
     ⊎_elim (λ same. inr (path_first next xs (next x) i p.1 (ap next (sym same) ∙ e)))
     (λ later. inr (path_on next xs (next x) j i p.1 later e))
     m
 
-path_same : (next next' : ℕ → Option ℕ) (xs : List ℕ) (at : Option ℕ) → ((i : ℕ) → In xs i → next' i ≡ next i) → Path next xs at → Path next' xs at
+path_same : (next next' : ℕ → Option ℕ) (xs : List ℕ) (at : Option ℕ) → ((i : ℕ) → In xs i → next' i ≡ next i)
+    → Path next xs at → Path next' xs at
 path_same next next' [] at same p = p
 path_same next next' (x ∷ xs) at same p =
     let rest = path_same next next' xs (next x) (λ i m. same i (inr m)) p.1 in
     (p.0, rw (same x (inl refl)) rest)
 
-path_steps : (next : ℕ → Option ℕ) (xs : List ℕ) (at : Option ℕ) (n : ℕ) → Path next xs at → length xs ≤ n → steps next n at ≡ length xs
+path_steps : (next : ℕ → Option ℕ) (xs : List ℕ) (at : Option ℕ) (n : ℕ) → Path next xs at → length xs ≤ n
+    → steps next n at ≡ length xs
 path_steps next [] at zero p low = refl
 path_steps next [] at (suc n) p low = ap (steps next (suc n)) p
 path_steps next (x ∷ xs) at zero p low = absurd (omega arith)
-path_steps next (x ∷ xs) at (suc n) p low = ap (steps next (suc n)) p.0 ∙ ap suc (path_steps next xs (next x) n p.1 (omega arith))
+path_steps next (x ∷ xs) at (suc n) p low = ap (steps next (suc n)) p.0
+    ∙ ap suc (path_steps next xs (next x) n p.1 (omega arith))
 
 -- what is behind the first row of a path
 record IsTail (next : ℕ → Option ℕ) (xs : List ℕ) (x : ℕ) : Type 0 where
@@ -77,7 +81,8 @@ tail_of next (y ∷ ys) x p =
 -- paths of a list
 module _ (head own prev next : ℕ → Option ℕ) (linked : Linked head own prev next) (name : ℕ) where
   -- ranks fall along them
-  pub path_falls : (xs : List ℕ) (x i : ℕ) → own x ≡ Some name → Path next xs (next x) → In xs i → (own i ≡ Some name) × (linked.rank i < linked.rank x)
+  pub path_falls : (xs : List ℕ) (x i : ℕ) → own x ≡ Some name → Path next xs (next x) → In xs i → (own i ≡ Some name)
+      × (linked.rank i < linked.rank x)
   path_falls [] x i o p m = absurd m
   path_falls (y ∷ ys) x i o p m =
       let f = linked.forth x y name o p.0 in
@@ -92,7 +97,8 @@ module _ (head own prev next : ℕ → Option ℕ) (linked : Linked head own pre
       m
 
   -- all of its rows are in the list
-  pub path_owned : (xs : List ℕ) (x : ℕ) → own x ≡ Some name → Path next xs (Some x) → (i : ℕ) → In xs i → own i ≡ Some name
+  pub path_owned : (xs : List ℕ) (x : ℕ) → own x ≡ Some name → Path next xs (Some x) → (i : ℕ) → In xs i
+      → own i ≡ Some name
   path_owned [] x o p i m = absurd m
   path_owned (y ∷ ys) x o p i m =
       let here : own y ≡ Some name = ap own (sym (same_some x y p.0)) ∙ o in
@@ -112,7 +118,8 @@ module _ (head own prev next : ℕ → Option ℕ) (linked : Linked head own pre
       (option_parts (next x))
 
   -- the path from the head has the whole list
-  path_whole : (xs : List ℕ) → Path next xs (head name) → (gap i : ℕ) → own i ≡ Some name → linked.bound ≤ linked.rank i + gap → In xs i
+  path_whole : (xs : List ℕ) → Path next xs (head name) → (gap i : ℕ) → own i ≡ Some name
+      → linked.bound ≤ linked.rank i + gap → In xs i
   path_whole xs p zero i o far = absurd (let r : linked.rank i < linked.bound = linked.ranked i name o in omega arith)
   path_whole xs p (suc gap) i o far =
       ⊎_elim
@@ -124,7 +131,9 @@ module _ (head own prev next : ℕ → Option ℕ) (linked : Linked head own pre
       (option_parts (prev i))
 
   -- a path has at most as many rows as pass a test that all of them pass
-  path_count : (xs : List ℕ) (at : Option ℕ) (test : ℕ → Bool) (n : ℕ) → Path next xs at → ((i : ℕ) → In xs i → own i ≡ Some name) → ((i : ℕ) → In xs i → (test i ≡ true) × (i < n)) → length xs ≤ count_below test n
+  path_count : (xs : List ℕ) (at : Option ℕ) (test : ℕ → Bool) (n : ℕ) → Path next xs at
+      → ((i : ℕ) → In xs i → own i ≡ Some name) → ((i : ℕ) → In xs i → (test i ≡ true) × (i < n))
+      → length xs ≤ count_below test n
   path_count [] at test n p owned passes = omega arith
   path_count (x ∷ xs) at test n p owned passes =
       let other : ℕ → Bool = λ i. test i && not (nat_eq i x) in
@@ -156,27 +165,32 @@ abbrev pub behind : Arena → ℕ → ℕ → Option ℕ
 behind arena base i = link_at arena i (base + 2)
 
 -- while a list is walked along: what was passed watches a good literal by its other list
-pub record IsSifting (pivot : Quant) (values : Values) (base other name : ℕ) (at : Option ℕ) (arena : Arena) : Type 0 where
+pub record IsSifting (pivot : Quant) (values : Values) (base other name : ℕ) (at : Option ℕ) (arena : Arena) :
+    Type 0 where
   pub rows : List ℕ
   pub path : Path (behind arena base) rows at
   pub listed : (i : ℕ) → In rows i → owner pivot arena base i ≡ Some name
-  pub passed : (i : ℕ) → owner pivot arena base i ≡ Some name → In rows i ⊎ IsGoodWatch pivot values (owner pivot arena other i)
+  pub passed : (i : ℕ) → owner pivot arena base i ≡ Some name → In rows i ⊎ IsGoodWatch pivot values
+      (owner pivot arena other i)
 
 module _ (pivot : Quant) (values : Values) (base other name : ℕ) where
-  pub sifting_begins : (heads : List (Option ℕ)) (at : Option ℕ) (arena : Arena) → IsLinked pivot heads arena base → at ≡ first_of heads name → IsSifting pivot values base other name at arena
+  pub sifting_begins : (heads : List (Option ℕ)) (at : Option ℕ) (arena : Arena) → IsLinked pivot heads arena base
+      → at ≡ first_of heads name → IsSifting pivot values base other name at arena
   sifting_begins heads at arena linked is =
       let own : ℕ → Option ℕ = owner pivot arena base in
       let prev : ℕ → Option ℕ = λ i. link_at arena i (base + 1) in
       ⊎_elim
       (λ x.
       let o = (linked.top x.0 name x.1).0 in
-      let p = path_from (first_of heads) own prev (behind arena base) linked name (suc (linked.rank x.0)) x.0 (omega arith) o in
+      let p = path_from (first_of heads) own prev (behind arena base) linked name (suc (linked.rank x.0)) x.0
+      (omega arith) o in
       let q : Path (behind arena base) p.0 (first_of heads name) = rw x.1 p.1 in
       record {
         rows = p.0;
         path = rw is q;
         listed = path_owned (first_of heads) own prev (behind arena base) linked name p.0 x.0 o p.1;
-        passed = λ i o. inl (path_whole (first_of heads) own prev (behind arena base) linked name p.0 q linked.bound i o (omega arith));
+        passed = λ i o. inl (path_whole (first_of heads) own prev (behind arena base) linked name p.0 q linked.bound i o
+            (omega arith));
       })
       (λ none. record {
         rows = [];
@@ -186,39 +200,54 @@ module _ (pivot : Quant) (values : Values) (base other name : ℕ) where
       })
       (option_parts (first_of heads name))
 
-  pub sifting_ends : (at : Option ℕ) (arena : Arena) → at ≡ None → IsSifting pivot values base other name at arena → IsSifted pivot values arena base other name
-  sifting_ends at arena none s i o = ⊎_elim (λ m. absurd (path_ended (behind arena base) s.rows at i s.path none m)) (λ good. good) (s.passed i o)
+  pub sifting_ends : (at : Option ℕ) (arena : Arena) → at ≡ None → IsSifting pivot values base other name at arena
+      → IsSifted pivot values arena base other name
+  sifting_ends at arena none s i o = ⊎_elim (λ m. absurd (path_ended (behind arena base) s.rows at i s.path none m))
+      (λ good. good) (s.passed i o)
 
-  pub sifting_here : (at : Option ℕ) (arena : Arena) (id : ℕ) → at ≡ Some id → IsSifting pivot values base other name at arena → owner pivot arena base id ≡ Some name
+  pub sifting_here : (at : Option ℕ) (arena : Arena) (id : ℕ) → at ≡ Some id → IsSifting pivot values base other name at
+      arena → owner pivot arena base id ≡ Some name
   sifting_here at arena id is s = s.listed id (path_first (behind arena base) s.rows at id s.path is)
 
-  pub sifting_attached : (at : Option ℕ) (arena : Arena) (id : ℕ) → at ≡ Some id → IsSifting pivot values base other name at arena → is_attached pivot arena id ≡ true
+  pub sifting_attached : (at : Option ℕ) (arena : Arena) (id : ℕ) → at ≡ Some id → IsSifting pivot values base other
+      name at arena → is_attached pivot arena id ≡ true
   sifting_attached at arena id is s = owner_attached pivot arena base id name (sifting_here at arena id is s)
 
-  pub sifting_live : (at : Option ℕ) (arena : Arena) (id : ℕ) → at ≡ Some id → IsSifting pivot values base other name at arena → is_live arena id ≡ true
+  pub sifting_live : (at : Option ℕ) (arena : Arena) (id : ℕ) → at ≡ Some id → IsSifting pivot values base other name at
+      arena → is_live arena id ≡ true
   sifting_live at arena id is s = owner_live pivot arena base id name (sifting_here at arena id is s)
 
   -- how many rows are left
-  sifting_steps : (heads : List (Option ℕ)) (at : Option ℕ) (arena : Arena) → IsLinked pivot heads arena base → (s : IsSifting pivot values base other name at arena) → steps (behind arena base) (members pivot arena base name) at ≡ length s.rows
+  sifting_steps : (heads : List (Option ℕ)) (at : Option ℕ) (arena : Arena) → IsLinked pivot heads arena base
+      → (s : IsSifting pivot values base other name at arena) → steps (behind arena base)
+      (members pivot arena base name) at ≡ length s.rows
   sifting_steps heads at arena linked s =
       path_steps (behind arena base) s.rows at (members pivot arena base name) s.path
-      (path_count (first_of heads) (owner pivot arena base) (λ i. link_at arena i (base + 1)) (behind arena base) linked name s.rows at (λ i. is_at (owner pivot arena base i) name) (next_id arena) s.path s.listed
+      (path_count (first_of heads) (owner pivot arena base) (λ i. link_at arena i (base + 1)) (behind arena base) linked
+      name s.rows at (λ i. is_at (owner pivot arena base i) name) (next_id arena) s.path s.listed
       (λ i m.
       let o = s.listed i m in
       (some_at (owner pivot arena base i) name o, is_live-given arena i (owner_live pivot arena base i name o))))
 
-  pub sifting_falls : (heads heads' : List (Option ℕ)) (at at' : Option ℕ) (old new : Arena) → IsLinked pivot heads old base → IsLinked pivot heads' new base → (s : IsSifting pivot values base other name at old) (t : IsSifting pivot values base other name at' new) → length s.rows ≡ suc (length t.rows) → steps (behind new base) (members pivot new base name) at' < steps (behind old base) (members pivot old base name) at
+  pub sifting_falls : (heads heads' : List (Option ℕ)) (at at' : Option ℕ) (old new : Arena)
+      → IsLinked pivot heads old base → IsLinked pivot heads' new base
+      → (s : IsSifting pivot values base other name at old) (t : IsSifting pivot values base other name at' new)
+      → length s.rows ≡ suc (length t.rows) → steps (behind new base) (members pivot new base name) at' < steps
+      (behind old base) (members pivot old base name) at
   sifting_falls heads heads' at at' old new linked linked' s t count =
       let before = sifting_steps heads at old linked s in
       let after = sifting_steps heads' at' new linked' t in
       omega arith
 
   module _ (at : Option ℕ) (id : ℕ) (is : at ≡ Some id) where
-    here_path : (arena : Arena) (s : IsSifting pivot values base other name at arena) → Path (behind arena base) s.rows (Some id)
+    here_path : (arena : Arena) (s : IsSifting pivot values base other name at arena) → Path (behind arena base) s.rows
+        (Some id)
     here_path arena s = let p : Path (behind arena base) s.rows at = s.path in rw is at p
 
     -- the row stays
-    pub sifting_stays : (arena : Arena) (at' : Option ℕ) → at' ≡ link_at arena id (base + 2) → IsGoodWatch pivot values (link_at arena id other) → (s : IsSifting pivot values base other name at arena) → (t : IsSifting pivot values base other name at' arena) × (length s.rows ≡ suc (length t.rows))
+    pub sifting_stays : (arena : Arena) (at' : Option ℕ) → at' ≡ link_at arena id (base + 2) → IsGoodWatch pivot values
+        (link_at arena id other) → (s : IsSifting pivot values base other name at arena)
+        → (t : IsSifting pivot values base other name at' arena) × (length s.rows ≡ suc (length t.rows))
     sifting_stays arena at' is' good s =
         let P : Option ℕ → Type 0 = IsGoodWatch pivot values in
         let tail = tail_of (behind arena base) s.rows id (here_path arena s) in (
@@ -228,7 +257,10 @@ module _ (pivot : Quant) (values : Values) (base other name : ℕ) where
             listed = λ i m. s.listed i (tail.into i m);
             passed = λ i o.
                 ⊎_elim
-                (λ m. ⊎_elim (λ same. inr (subst P (sym (ap (owner pivot arena other) same ∙ owner_link pivot arena other id (sifting_attached at arena id is s))) good)) (λ later. inl later) (tail.from i m))
+                (λ m. ⊎_elim
+                (λ same. inr
+                (subst P (sym (ap (owner pivot arena other) same ∙ owner_link pivot arena other id
+                (sifting_attached at arena id is s))) good)) (λ later. inl later) (tail.from i m))
                 (λ passed. inr passed)
                 (s.passed i o);
           },
@@ -236,12 +268,18 @@ module _ (pivot : Quant) (values : Values) (base other name : ℕ) where
         )
 
     -- the row leaves
-    pub sifting_leaves : (heads : List (Option ℕ)) (old new : Arena) (at' one two : Option ℕ) → IsLinked pivot heads old base → at' ≡ link_at old id (base + 2) → Moves pivot base old new id one → Moves pivot other old new id two → LeadsOnElsewhere base old new id → (one ≡ Some name → ⊥) → (s : IsSifting pivot values base other name at old) → (t : IsSifting pivot values base other name at' new) × (length s.rows ≡ suc (length t.rows))
+    pub sifting_leaves : (heads : List (Option ℕ)) (old new : Arena) (at' one two : Option ℕ)
+        → IsLinked pivot heads old base → at' ≡ link_at old id (base + 2) → Moves pivot base old new id one
+        → Moves pivot other old new id two → LeadsOnElsewhere base old new id → (one ≡ Some name → ⊥)
+        → (s : IsSifting pivot values base other name at old) → (t : IsSifting pivot values base other name at' new)
+        × (length s.rows ≡ suc (length t.rows))
     sifting_leaves heads old new at' one two linked is' ones twos elsewhere left s =
         let tail = tail_of (behind old base) s.rows id (here_path old s) in
         let own = sifting_here at old id is s in
-        let falls : (i : ℕ) → In tail.rest i → (owner pivot old base i ≡ Some name) × (linked.rank i < linked.rank id) = λ i m.
-        path_falls (first_of heads) (owner pivot old base) (λ i. link_at old i (base + 1)) (behind old base) linked name tail.rest id i own tail.path m
+        let falls : (i : ℕ) → In tail.rest i → (owner pivot old base i ≡ Some name) × (linked.rank i < linked.rank id) =
+        λ i m.
+        path_falls (first_of heads) (owner pivot old base) (λ i. link_at old i (base + 1)) (behind old base) linked name
+        tail.rest id i own tail.path m
         in
         let apart : (i : ℕ) → In tail.rest i → i ≢ id = λ i m same.
         let low : linked.rank i < linked.rank id = (falls i m).1 in
@@ -255,11 +293,14 @@ module _ (pivot : Quant) (values : Values) (base other name : ℕ) where
         in (
           record {
             rows = tail.rest;
-            path = rw is' (path_same (behind old base) (behind new base) tail.rest (behind old base id) (λ i m. elsewhere i (apart i m) (after i m)) tail.path);
+            path = rw is' (path_same (behind old base) (behind new base) tail.rest (behind old base id)
+                (λ i m. elsewhere i (apart i m) (after i m)) tail.path);
             listed = λ i m. moved_other pivot base old new id one ones i (apart i m) ∙ (falls i m).0;
             passed = λ i o.
-                let differs : i ≢ id = λ same. left (sym (moved_here pivot base old new id one ones) ∙ (ap (owner pivot new base) (sym same) ∙ o)) in
-                let was : owner pivot old base i ≡ Some name = sym (moved_other pivot base old new id one ones i differs) ∙ o in
+                let differs : i ≢ id = λ same. left (sym (moved_here pivot base old new id one ones)
+                ∙ (ap (owner pivot new base) (sym same) ∙ o)) in
+                let was : owner pivot old base i ≡ Some name =
+                sym (moved_other pivot base old new id one ones i differs) ∙ o in
                 ⊎_elim
                 (λ m. ⊎_elim (λ same. absurd (differs same)) (λ later. inl later) (tail.from i m))
                 (λ passed. inr (rw (moved_other pivot other old new id two twos i differs) passed))

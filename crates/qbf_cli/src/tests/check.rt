@@ -2,7 +2,7 @@
 use super::{DIFFERS, desk, report, run, words};
 use crate::ending::RunEnding;
 use ports::MemorySink;
-use qdimacs::Quantity;
+use reading::Quantity;
 use session::Ending;
 use std::alloc::Global;
 use std::test::Fail;

@@ -5,7 +5,6 @@ use super::play::{assume, put, put_scope, truth_within};
 use super::{Job, holds};
 use aig::Strategy;
 use engine::{AskRefusal, Engine};
-use fixtures::other;
 use prefix::{Lit, Quant, Var};
 use std::alloc::Global;
 use std::test::Fail;
@@ -39,7 +38,7 @@ fn winner(truth: bool) -> Quant {
 // Puts the formula into a new engine, with its assumptions.
 fn put_case(engine: &mut Engine, alloc: Global, case: &Case) -> Result<(), Fail> {
     put_scope(engine, case.first, 1, 2)?;
-    put_scope(engine, other(case.first), 3, 3)?;
+    put_scope(engine, case.first.other(), 3, 3)?;
     put(alloc, engine, case.clauses)?;
     assume(engine, case.assumed)
 }

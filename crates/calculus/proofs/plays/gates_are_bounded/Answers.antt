@@ -7,4 +7,5 @@ use Rattle.calculus.proofs.plays.gates_are_bounded.Goals as goal
 pub returns : goal.returns
 returns c pivot scopes clauses assumptions steps accepted solves budget restarts n proof within few =
     let s = sound pivot scopes clauses assumptions steps proof in
-    bounded_weight _ _ _ _ _ (gate_weight_most pivot scopes clauses assumptions [] (λ r i. absurd (contains_nil r i)) steps s.last_step) within few
+    bounded_weight _ _ _ _ _ (gate_weight_most pivot scopes clauses assumptions [] (λ r i. absurd (contains_nil r i))
+    steps s.last_step) within few

@@ -15,5 +15,6 @@ returns c pivot scopes trail row reason e may clean last =
       no_clash = turn_no_clash pivot scopes trail None opens row reason e may.row_is may.reason_is pending is_reason;
       is_row = result_row pivot scopes trail None opens row reason e may.row_is may.reason_is pending is_reason;
       clean = analysed_clean pivot scopes trail row reason e may.row_is may.reason_is clean is_reason;
-      earlier = analysed_before pivot scopes trail row reason e may.row_is may.reason_is clean is_reason assigned last.last;
+      earlier = analysed_before pivot scopes trail row reason e may.row_is may.reason_is clean is_reason assigned
+          last.last;
     }

@@ -7,7 +7,8 @@ pub returns : goal.returns
 returns c = record {
   front = λ trail b. cut_front 0 b trail;
   taken = cut_taken;
-  decision = λ trail b high. let at = cut_at 0 b trail (omega arith) high in (at.decision, at.back, at.is_decision, at.parts);
+  decision = λ trail b high. let at = cut_at 0 b trail (omega arith) high in
+      (at.decision, at.back, at.is_decision, at.parts);
   shorter = cut_shorter;
   reached = λ trail b high. cut_reached 0 b trail (omega arith) high;
   whole = λ trail b low. cut_all 0 b trail low;

@@ -23,7 +23,13 @@ not_assumed x e = ⊎_elim
     (cases_Bool (nat_eq 1 x))
 
 ordered : IsOrderedTrail scopes (one ∷ [])
-ordered = (contains_head 1 [], refl, (λ y i below. absurd (let least : 1 ≤ depth_of scopes y = depth_at_least scopes y in let here : depth_of scopes 1 ≡ 1 = refl in omega arith)), tt)
+ordered = (
+  contains_head 1 [],
+  refl,
+  (λ y i below. absurd (let least : 1 ≤ depth_of scopes y = depth_at_least scopes y in let here :
+      depth_of scopes 1 ≡ 1 = refl in omega arith)),
+  tt,
+)
 
 has : HasAssumptions (one ∷ []) (plus 1 ∷ [])
 has = record { entries = λ x e. absurd (not_assumed x e); values = λ x b e. e }

@@ -6,5 +6,6 @@ pub returns : goal.returns
 returns c = record {
   placed = opposes;
   on_trail = on_trail;
-  give_reasons = λ scopes steps trail ordered clauses cubes. units_after scopes steps trail clauses cubes [] trail refl ordered;
+  give_reasons = λ scopes steps trail ordered clauses cubes. units_after scopes steps trail clauses cubes [] trail refl
+      ordered;
 }

@@ -10,7 +10,11 @@ returns c = record {
   value_literal = value_literal;
   has_cause = has_cause;
   push_new = λ trail p fresh. let r = value_new trail p fresh in (r.0, cause_new trail p [] fresh, r.1);
-  front_stays = λ front back x known. (value_front front back x known, cause_front front back x known, (place_front front back x known).0);
+  front_stays = λ front back x known. (
+    value_front front back x known,
+    cause_front front back x known,
+    (place_front front back x known).0,
+  );
   cut_value = λ trail b x. cut_value_from 0 b trail x;
   cut_cause = cut_cause;
   cut_order = λ scopes trail b ordered. cut_ordered scopes [] 0 b trail ordered;

@@ -6,4 +6,5 @@ pub returns : goal.returns
 returns c pivot scopes clauses assumptions steps values distinct outer proof winners follows =
     let s = sound pivot scopes clauses assumptions steps proof in
     first_values_truth pivot scopes clauses assumptions steps values distinct outer s winners
-    (following_first pivot scopes clauses assumptions steps values outer s.last_step (λ x i. (outermost_order scopes x i, winners x i)) follows)
+    (following_first pivot scopes clauses assumptions steps values outer s.last_step
+    (λ x i. (outermost_order scopes x i, winners x i)) follows)

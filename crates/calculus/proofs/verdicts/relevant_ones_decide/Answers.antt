@@ -4,4 +4,5 @@ use Rattle.calculus.proofs.verdicts.relevant_ones_decide.Goals as goal
 
 pub returns : goal.returns
 unfolding sound
-returns c pivot scopes clauses assumptions steps distinct outer proof = relevant_truth pivot scopes clauses assumptions steps distinct outer (sound pivot scopes clauses assumptions steps proof)
+returns c pivot scopes clauses assumptions steps distinct outer proof = relevant_truth pivot scopes clauses assumptions
+    steps distinct outer (sound pivot scopes clauses assumptions steps proof)

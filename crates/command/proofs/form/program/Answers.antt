@@ -24,4 +24,5 @@ returns c =
     let generator_is = c.in_ok-subcommand-6.ensures.shape c.in_ok-generator.ensures.local
     ∙ ap₂ with_subcommand script_is (ap (λ (a : App). a.top) c.in_ok-generator.ensures.app) in
     IfOk-weaker c.subcommand-7.result _ _ (λ r h. h.shape c.in_ok-demonstration.ensures.local
-    ∙ ap₂ with_subcommand generator_is (ap (λ (a : App). a.top) c.in_ok-demonstration.ensures.app)) c.subcommand-7.ensures
+    ∙ ap₂ with_subcommand generator_is (ap (λ (a : App). a.top) c.in_ok-demonstration.ensures.app))
+    c.subcommand-7.ensures

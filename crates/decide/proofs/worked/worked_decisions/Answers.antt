@@ -31,7 +31,8 @@ both_before =
 
 not_there : Contains {X = ℕ} (1 ∷ 2 ∷ 3 ∷ []) 4 → ⊥
 not_there i =
-    let differs : 4 ≡ 4 → ⊥ = each (λ x. x ≡ 4 → ⊥) (λ e. omega (arith, e)) (λ e. omega (arith, e)) (λ e. omega (arith, e)) 4 i in
+    let differs : 4 ≡ 4 → ⊥ = each (λ x. x ≡ 4 → ⊥) (λ e. omega (arith, e)) (λ e. omega (arith, e))
+    (λ e. omega (arith, e)) 4 i in
     differs refl
 
 one_there : Contains {X = ℕ} (1 ∷ 2 ∷ 3 ∷ []) 2

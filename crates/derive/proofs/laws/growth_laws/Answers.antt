@@ -8,6 +8,7 @@ returns c = record {
   follows = grows_twice;
   adds = grows_by_step;
   removes = grows_by_removal;
-  restores = λ before after cut grows cuts. restored before after cut grows.longer grows.others grows.given cuts.drops cuts.front;
+  restores = λ before after cut grows cuts. restored before after cut grows.longer grows.others grows.given cuts.drops
+      cuts.front;
   cuts = grows_cut;
 }

@@ -9,7 +9,8 @@ loop-id-preserved c =
     let found = c.in-Some.ensures.some in (
       (λ keep m.
           marked_more keep notes c.loop-id.marks c.mark_under.new.marks id (id + 1) c.requires.supported (omega arith)
-          (marked_skip keep notes c.loop-id.marks c.loop-id.above (id + 1) (λ i high low. found.between i (omega arith) low)
+          (marked_skip keep notes c.loop-id.marks c.loop-id.above (id + 1)
+          (λ i high low. found.between i (omega arith) low)
           (c.loop-id.invariant.0 keep m))
           (under_from notes id c.loop-id.marks c.mark_under.new.marks c.mark_under.ensures.value)),
       c.mark_under.ensures.count ∙ c.loop-id.invariant.1,

@@ -13,13 +13,15 @@ solve-found-requires-clause-matrix c =
 pub returns-in_err-outcome-clause-stop : goal.returns-in_err-outcome-clause-stop
 returns-in_err-outcome-clause-stop c =
     let h = err_from_is_err_and c.from_residual.result c.from_residual.ensures.1 in
-    rw (h.1, h.2) (stops c.args.restarts c.args.frames.now.formula c.args.search.now c.args.steps.now c.solve-found.new.steps
+    rw (h.1, h.2) (stops c.args.restarts c.args.frames.now.formula c.args.search.now c.args.steps.now
+    c.solve-found.new.steps
     c.in_err-outcome.field-0.0 c.requires.tied
     (rw (← c.prefix.ensures.value, ← c.requires.assumed) c.in_err-outcome.ensures.stop))
 
 pub returns-clause-found : goal.returns-clause-found
 returns-clause-found c =
-    finds c.args.frames.now.formula c.solve-found.new.self.derivation c.in_ok-outcome.outcome c.assumptions-assumptions.ensures.outer
+    finds c.args.frames.now.formula c.solve-found.new.self.derivation c.in_ok-outcome.outcome
+    c.assumptions-assumptions.ensures.outer
     c.assumptions-assumptions.ensures.ascending
     (rw (← c.prefix.ensures.value, ← c.requires.assumed, ← c.requires.matrix)
     c.in_ok-outcome.ensures.outcome)

@@ -54,7 +54,9 @@ returns c =
           let same = the_one (verdict_with false [] refutation (plus 1 ∷ [])) h.state h.there in
           let steps : refutation ≡ h.state.proof = ap (λ (v : VerdictState). v.proof) same in
           let row : plus 1 ∷ [] ≡ h.state.row = ap (λ (v : VerdictState). v.row) same in
-          not_nothing (plus 1) (row ∙ sym h.last_row ∙ sym (ap last_of (steps ∙ h.proof.parts) ∙ last_append h.proof.front h.proof.last));
+          not_nothing (plus 1)
+          (row ∙ sym h.last_row
+          ∙ sym (ap last_of (steps ∙ h.proof.parts) ∙ last_append h.proof.front h.proof.last));
       without_proof = λ h.
           none_there h.proof.front h.proof.last
           (ap (λ (v : VerdictState). v.proof) (the_one (verdict_with false [] [] []) h.state h.there) ∙ h.proof.parts);

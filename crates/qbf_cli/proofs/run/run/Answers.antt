@@ -59,7 +59,8 @@ returns-clause-read_fault g c =
     record {
       later = counted.later;
       rose = λ is. counted.rose (by.is_read_fault (map string_bytes c.args.words.now) (g.D.Desk.content c.args.desk.now)
-          (g.D.Desk.left c.ending_of-ending.new.desk) (g.O.Sink.written c.args.out.now, g.O.Sink.written c.ending_of-ending.new.out)
+          (g.D.Desk.left c.ending_of-ending.new.desk)
+          (g.O.Sink.written c.args.out.now, g.O.Sink.written c.ending_of-ending.new.out)
           (c.args.stops.now.items, c.ending_of-ending.new.stops.items) e c.ending_of-ending.ensures.carried
           (sym c.report.ensures.status ∙ is));
       kept = λ h. counted.kept (by.answered e (subst HasAnswer c.report.ensures.status h));
@@ -71,8 +72,10 @@ returns-clause-write_fault g c =
     let e = c.ending_of-ending.result in
     record {
       later = counted.later;
-      rose = λ is. counted.rose (by.is_write_fault (map string_bytes c.args.words.now) (g.D.Desk.content c.args.desk.now)
-          (g.D.Desk.left c.ending_of-ending.new.desk) (g.O.Sink.written c.args.out.now, g.O.Sink.written c.ending_of-ending.new.out)
+      rose = λ is. counted.rose
+          (by.is_write_fault (map string_bytes c.args.words.now) (g.D.Desk.content c.args.desk.now)
+          (g.D.Desk.left c.ending_of-ending.new.desk)
+          (g.O.Sink.written c.args.out.now, g.O.Sink.written c.ending_of-ending.new.out)
           (c.args.stops.now.items, c.ending_of-ending.new.stops.items) e c.ending_of-ending.ensures.carried
           (sym c.report.ensures.status ∙ is));
       kept = λ h. counted.kept (by.answered e (subst HasAnswer c.report.ensures.status h));
@@ -81,15 +84,19 @@ returns-clause-write_fault g c =
 pub returns-clause-steady : goal.returns-clause-steady
 returns-clause-steady g c steady is = c.ending_of-ending.ensures.steady steady
     (by.is_read_fault (map string_bytes c.args.words.now) (g.D.Desk.content c.args.desk.now)
-    (g.D.Desk.left c.ending_of-ending.new.desk) (g.O.Sink.written c.args.out.now, g.O.Sink.written c.ending_of-ending.new.out)
-    (c.args.stops.now.items, c.ending_of-ending.new.stops.items) c.ending_of-ending.result c.ending_of-ending.ensures.carried
+    (g.D.Desk.left c.ending_of-ending.new.desk)
+    (g.O.Sink.written c.args.out.now, g.O.Sink.written c.ending_of-ending.new.out)
+    (c.args.stops.now.items, c.ending_of-ending.new.stops.items) c.ending_of-ending.result
+    c.ending_of-ending.ensures.carried
     (sym c.report.ensures.status ∙ is))
 
 pub returns-clause-room : goal.returns-clause-room
 returns-clause-room g c room is = c.ending_of-ending.ensures.room room
     (by.is_write_fault (map string_bytes c.args.words.now) (g.D.Desk.content c.args.desk.now)
-    (g.D.Desk.left c.ending_of-ending.new.desk) (g.O.Sink.written c.args.out.now, g.O.Sink.written c.ending_of-ending.new.out)
-    (c.args.stops.now.items, c.ending_of-ending.new.stops.items) c.ending_of-ending.result c.ending_of-ending.ensures.carried
+    (g.D.Desk.left c.ending_of-ending.new.desk)
+    (g.O.Sink.written c.args.out.now, g.O.Sink.written c.ending_of-ending.new.out)
+    (c.args.stops.now.items, c.ending_of-ending.new.stops.items) c.ending_of-ending.result
+    c.ending_of-ending.ensures.carried
     (sym c.report.ensures.status ∙ is))
 
 pub returns-clause-flushed : goal.returns-clause-flushed

@@ -2,7 +2,7 @@ use Rattle.std.proofs.Common.{◌≡◌, sym, subst}
 use Rattle.std.proofs.lemmas.Result.{IfOk-weaker}
 use Rattle.truth.specs.declared.formula.Formula.{Formula}
 use Rattle.truth.specs.Truth.{truth}
-use Rattle.qdimacs.specs.Formed.{IsFormed}
+use Rattle.truth.specs.Formed.{IsFormed}
 use Rattle.qcir.specs.Truth.{circuit_truth}
 use Rattle.qcir.specs.Translation.{translated}
 use Rattle.qcir.proofs.Formed.{translated_formed}

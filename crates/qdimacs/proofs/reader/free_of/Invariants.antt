@@ -7,5 +7,6 @@ use Rattle.qdimacs.proofs.reader.free_of.Given as goal
 abbrev pub invariant-loop-v : goal.invariant-loop-v
 invariant-loop-v l = record {
   distinct : AreDistinct l.free.items;
-  those : (v : ℕ) → is_among v l.free.items ≡ (nat_lt v l.v && (slice_index_or l.occur v false && not (slice_index_or l.declared v false)));
+  those : (v : ℕ) → is_among v l.free.items ≡
+      (nat_lt v l.v && (slice_index_or l.occur v false && not (slice_index_or l.declared v false)));
 }

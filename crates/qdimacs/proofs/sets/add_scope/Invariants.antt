@@ -6,6 +6,7 @@ use Rattle.qdimacs.proofs.sets.add_scope.Given as goal
 -- the variables so far stand in the last scope
 abbrev pub invariant-loop-v : goal.invariant-loop-v
 invariant-loop-v l = record {
-  built : l.prefix ≡ l.fn.prefix ++ record { quantifier = l.fn.quant; variables = inserted (take l.v-index l.vars) [] } ∷ [];
+  built : l.prefix ≡ l.fn.prefix ++ record { quantifier = l.fn.quant; variables = inserted (take l.v-index l.vars) [] }
+      ∷ [];
   ascending : IsAscending (inserted (take l.v-index l.vars) []);
 }

@@ -37,7 +37,7 @@ returns-clause-proof c scopes assumptions legal finish =
     let proof = core_proves d end c.deref.result.now
     (rw c.deref.ensures.value c.in_ok-marks.ensures) fits c.requires.live scopes assumptions legal finish
     c.end_rows_give_proofs.ensures c.steps_are_listed.ensures in
-    let winner : opposite c.other_quant.result ≡ side_at d end = ap opposite c.other_quant.ensures
+    let winner : opposite c.other.result ≡ side_at d end = ap opposite c.other.ensures
     ∙ other_twice c.side.result ∙ c.side.ensures in
     rw (c.new.ensures, winner, lines) proof
 

@@ -9,7 +9,9 @@ abbrev pub invariant-loop-draft : goal.invariant-loop-draft
 invariant-loop-draft g l =
     let desk = g.D.Desk in
     record {
-      script : Stays (reading_ahead (within l.fn.named l.fn.line l.fn.draft) l.fn.words.ahead l.fn.words.lexer (g.D.Desk.left l.fn.desk)) (reading_ahead (within l.fn.named l.line l.draft) l.words.ahead l.words.lexer (g.D.Desk.left l.desk));
+      script : Stays (reading_ahead (within l.fn.named l.fn.line l.fn.draft) l.fn.words.ahead l.fn.words.lexer
+          (g.D.Desk.left l.fn.desk)) (reading_ahead (within l.fn.named l.line l.draft) l.words.ahead l.words.lexer
+          (g.D.Desk.left l.desk));
       ahead : l.words.ahead ≡ None;
       ready : l.words.lexer.failed ≡ false;
       header : is_header l.draft ≡ is_header l.fn.draft;

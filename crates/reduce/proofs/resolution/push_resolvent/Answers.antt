@@ -7,9 +7,20 @@ use Rattle.reduce.proofs.resolution.push_resolvent.Goals.{then-loop-i-test+else-
 
 pub returns : goal.returns
 returns c =
-    let ends : (length c.args.a.now ≤ c.loop-i.i) ⊎ (length c.args.b.now ≤ c.loop-i.j) = elim c.loop-i-test.branch [ then-loop-i-test+else-j-b w ↦ inr (omega (arith, w.if-j-b.false)) | else-loop-i-test w ↦ inl (omega (arith, w.loop-i-test.false)) ] in
-    let first : c.push_without.new.out.items ≡ c.loop-i.out.items ++ without c.args.pivot (take (length c.args.a.now - c.loop-i.i) (drop c.loop-i.i c.args.a.now)) = c.in_ok-push_without.ensures in
-    let all : c.push_without.new.out.items ++ without c.args.pivot (take (length c.args.b.now - c.loop-i.j) (drop c.loop-i.j c.args.b.now)) ≡ c.args.out.now.items ++ resolve c.args.a.now c.args.b.now c.args.pivot =
-    ap₂ (λ (o r : Row). o ++ without c.args.pivot r) (first ∙ ap (λ (r : Row). c.loop-i.out.items ++ without c.args.pivot r) (take_rest c.args.a.now c.loop-i.i)) (take_rest c.args.b.now c.loop-i.j)
-    ∙ (turn_end c.loop-i.out.items c.args.a.now c.args.b.now c.loop-i.i c.loop-i.j c.args.pivot ends ∙ c.loop-i.invariant.told) in
+    let ends : (length c.args.a.now ≤ c.loop-i.i) ⊎ (length c.args.b.now ≤ c.loop-i.j) =
+    elim c.loop-i-test.branch [
+      | then-loop-i-test+else-j-b w ↦ inr (omega (arith, w.if-j-b.false))
+      | else-loop-i-test
+          w ↦ inl (omega (arith, w.loop-i-test.false))
+    ] in
+    let first : c.push_without.new.out.items ≡ c.loop-i.out.items ++ without c.args.pivot
+    (take (length c.args.a.now - c.loop-i.i) (drop c.loop-i.i c.args.a.now)) = c.in_ok-push_without.ensures in
+    let all : c.push_without.new.out.items ++ without c.args.pivot
+    (take (length c.args.b.now - c.loop-i.j) (drop c.loop-i.j c.args.b.now)) ≡ c.args.out.now.items ++ resolve
+    c.args.a.now c.args.b.now c.args.pivot =
+    ap₂ (λ (o r : Row). o ++ without c.args.pivot r)
+    (first ∙ ap (λ (r : Row). c.loop-i.out.items ++ without c.args.pivot r) (take_rest c.args.a.now c.loop-i.i))
+    (take_rest c.args.b.now c.loop-i.j)
+    ∙ (turn_end c.loop-i.out.items c.args.a.now c.args.b.now c.loop-i.i c.loop-i.j c.args.pivot ends
+    ∙ c.loop-i.invariant.told) in
     rw all at c.push_without-2.ensures

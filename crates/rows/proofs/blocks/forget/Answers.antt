@@ -12,29 +12,36 @@ use Rattle.rows.proofs.blocks.forget.Goals as goal
 abbrev Rows : Type 0
 Rows = List (Option (Option ℕ))
 
-gone : (places : List (Option Place)) (id : ℕ) (o : Option Place) → o ≡ None → blocks_of (set places id o) ≡ set (blocks_of places) id None
-gone places id o e = map-set (option_map (λ (p : Place). p.block)) places id o ∙ ap (λ (q : Option Place). set (blocks_of places) id (option_map (λ (p : Place). p.block) q)) e
+gone : (places : List (Option Place)) (id : ℕ) (o : Option Place) → o ≡ None → blocks_of (set places id o) ≡ set
+    (blocks_of places) id None
+gone places id o e = map-set (option_map (λ (p : Place). p.block)) places id o
+    ∙ ap (λ (q : Option Place). set (blocks_of places) id (option_map (λ (p : Place). p.block) q)) e
 
 pub returns-in_default-clause-loses : goal.returns-in_default-clause-loses
 returns-in_default-clause-loses c =
     let places = c.args.places.now.items in
     let blocks = c.args.blocks.now.items in
     let none : c.place_of-place.result.block ≡ None = c.in_default.is in
-    let there : block_in (blocks_of places) c.args.id ≡ Some None = block_there places c.args.id c.place_of-place.result c.place_of-place.ensures ∙ ap Some none in
+    let there : block_in (blocks_of places) c.args.id ≡ Some None = block_there places c.args.id c.place_of-place.result
+    c.place_of-place.ensures ∙ ap Some none in
     let P : Rows → Type 0 = λ rows. LosesBlock (blocks_of places) blocks rows blocks c.args.id in
-    subst P (sym (gone places c.args.id c.clear.new.self c.clear.ensures)) (loses_none (blocks_of places) blocks c.args.id c.requires.blocks there)
+    subst P (sym (gone places c.args.id c.clear.new.self c.clear.ensures))
+    (loses_none (blocks_of places) blocks c.args.id c.requires.blocks there)
 
 pub returns-in_default-clause-live : goal.returns-in_default-clause-live
 returns-in_default-clause-live c =
     let places = c.args.places.now.items in
     let none : c.place_of-place.result.block ≡ None = c.in_default.is in
-    let there : block_in (blocks_of places) c.args.id ≡ Some None = block_there places c.args.id c.place_of-place.result c.place_of-place.ensures ∙ ap Some none in
-    ap (λ (rows : Rows). count_by is_some rows + 1) (gone places c.args.id c.clear.new.self c.clear.ensures) ∙ live_less (blocks_of places) c.args.id None there
+    let there : block_in (blocks_of places) c.args.id ≡ Some None = block_there places c.args.id c.place_of-place.result
+    c.place_of-place.ensures ∙ ap Some none in
+    ap (λ (rows : Rows). count_by is_some rows + 1) (gone places c.args.id c.clear.new.self c.clear.ensures)
+    ∙ live_less (blocks_of places) c.args.id None there
 
 pub swap_remove-requires : goal.swap_remove-requires
 swap_remove-requires c =
     let places = c.args.places.now.items in
-    let there : block_in (blocks_of places) c.args.id ≡ Some (Some c.in-Some.block) = block_there places c.args.id c.place_of-place.result c.place_of-place.ensures ∙ ap Some c.in-Some.is in
+    let there : block_in (blocks_of places) c.args.id ≡ Some (Some c.in-Some.block) = block_there places c.args.id
+    c.place_of-place.result c.place_of-place.ensures ∙ ap Some c.in-Some.is in
     let within = (c.requires.blocks.has c.args.id c.in-Some.block there).0 in
     let ok = c.args.blocks.now.ok.0 in
     omega arith
@@ -50,21 +57,30 @@ set_block-requires c =
     let len = c.swap_remove.ensures.len in
     let test = c.if-block-len.true in
     let is = c.len.ensures in
-    let there : block_in (blocks_of places) c.args.id ≡ Some (Some b) = block_there places c.args.id c.place_of-place.result c.place_of-place.ensures ∙ ap Some c.in-Some.is in
+    let there : block_in (blocks_of places) c.args.id ≡ Some (Some b) = block_there places c.args.id
+    c.place_of-place.result c.place_of-place.ensures ∙ ap Some c.in-Some.is in
     let short : length new + 1 ≡ length blocks = omega arith in
     let more : b + 1 < length blocks = omega arith in
     let low : b < length new = omega arith in
-    let moved : b + 1 < length blocks → block_at new b ≡ block_at blocks (length blocks - 1) = λ h. subst (λ n. block_at new b ≡ block_at blocks (n - 1)) ok (c.swap_remove.ensures.by_index.0 no_block (omega arith)) in
-    let others : (k : ℕ) → k ≢ b → k + 1 < length blocks → block_at new k ≡ block_at blocks k = λ k differs h. c.swap_remove.ensures.by_index.1 k no_block differs (omega arith) in
-    let at : c.index.result.now ≡ block_at new b = c.index.ensures ∙ get_or_default new b c.index.result.now no_block low in
-    let owner_is : c.index.result.now.owner ≡ (block_at blocks (length blocks - 1)).owner = ap (λ (k : Block). k.owner) (at ∙ moved more) in
-    let row = owner_row (blocks_of places) blocks c.requires.blocks c.args.id b there new short moved others more c.index.result.now.owner owner_is in
-    let apart = owner_differs (blocks_of places) blocks c.requires.blocks c.args.id b there new short moved others more c.index.result.now.owner owner_is in
+    let moved : b + 1 < length blocks → block_at new b ≡ block_at blocks (length blocks - 1) =
+    λ h. subst (λ n. block_at new b ≡ block_at blocks (n - 1)) ok
+    (c.swap_remove.ensures.by_index.0 no_block (omega arith)) in
+    let others : (k : ℕ) → k ≢ b → k + 1 < length blocks → block_at new k ≡ block_at blocks k =
+    λ k differs h. c.swap_remove.ensures.by_index.1 k no_block differs (omega arith) in
+    let at : c.index.result.now ≡ block_at new b = c.index.ensures ∙ get_or_default new b c.index.result.now no_block
+    low in
+    let owner_is : c.index.result.now.owner ≡ (block_at blocks (length blocks - 1)).owner = ap (λ (k : Block). k.owner)
+    (at ∙ moved more) in
+    let row = owner_row (blocks_of places) blocks c.requires.blocks c.args.id b there new short moved others more
+    c.index.result.now.owner owner_is in
+    let apart = owner_differs (blocks_of places) blocks c.requires.blocks c.args.id b there new short moved others more
+    c.index.result.now.owner owner_is in
     let count = c.requires.blocks.counted in
     let le = count_le (blocks_of places) in
     let few = c.requires.few in
     record {
-      live = ap is_some (get_or-set_other places c.args.id c.index.result.now.owner c.clear.new.self None apart) ∙ live_block places c.index.result.now.owner (Some (length blocks - 1)) row;
+      live = ap is_some (get_or-set_other places c.args.id c.index.result.now.owner c.clear.new.self None apart)
+          ∙ live_block places c.index.result.now.owner (Some (length blocks - 1)) row;
       fits = omega arith;
     }
 
@@ -79,17 +95,27 @@ returns-then-block-len-clause-loses c =
     let len = c.swap_remove.ensures.len in
     let test = c.if-block-len.true in
     let is = c.len.ensures in
-    let there : block_in (blocks_of places) c.args.id ≡ Some (Some b) = block_there places c.args.id c.place_of-place.result c.place_of-place.ensures ∙ ap Some c.in-Some.is in
+    let there : block_in (blocks_of places) c.args.id ≡ Some (Some b) = block_there places c.args.id
+    c.place_of-place.result c.place_of-place.ensures ∙ ap Some c.in-Some.is in
     let short : length new + 1 ≡ length blocks = omega arith in
     let more : b + 1 < length blocks = omega arith in
     let low : b < length new = omega arith in
-    let moved : b + 1 < length blocks → block_at new b ≡ block_at blocks (length blocks - 1) = λ h. subst (λ n. block_at new b ≡ block_at blocks (n - 1)) ok (c.swap_remove.ensures.by_index.0 no_block (omega arith)) in
-    let others : (k : ℕ) → k ≢ b → k + 1 < length blocks → block_at new k ≡ block_at blocks k = λ k differs h. c.swap_remove.ensures.by_index.1 k no_block differs (omega arith) in
-    let at : c.index.result.now ≡ block_at new b = c.index.ensures ∙ get_or_default new b c.index.result.now no_block low in
-    let owner_is : c.index.result.now.owner ≡ (block_at blocks (length blocks - 1)).owner = ap (λ (k : Block). k.owner) (at ∙ moved more) in
-    let rows_are : blocks_of c.set_block.new.places.items ≡ set (set (blocks_of places) c.args.id None) c.index.result.now.owner (Some (Some b)) = c.set_block.ensures.blocks ∙ ap (λ (rows : Rows). set rows c.index.result.now.owner (Some (Some b))) (gone places c.args.id c.clear.new.self c.clear.ensures) in
+    let moved : b + 1 < length blocks → block_at new b ≡ block_at blocks (length blocks - 1) =
+    λ h. subst (λ n. block_at new b ≡ block_at blocks (n - 1)) ok
+    (c.swap_remove.ensures.by_index.0 no_block (omega arith)) in
+    let others : (k : ℕ) → k ≢ b → k + 1 < length blocks → block_at new k ≡ block_at blocks k =
+    λ k differs h. c.swap_remove.ensures.by_index.1 k no_block differs (omega arith) in
+    let at : c.index.result.now ≡ block_at new b = c.index.ensures ∙ get_or_default new b c.index.result.now no_block
+    low in
+    let owner_is : c.index.result.now.owner ≡ (block_at blocks (length blocks - 1)).owner = ap (λ (k : Block). k.owner)
+    (at ∙ moved more) in
+    let rows_are : blocks_of c.set_block.new.places.items ≡ set (set (blocks_of places) c.args.id None)
+    c.index.result.now.owner (Some (Some b)) = c.set_block.ensures.blocks
+    ∙ ap (λ (rows : Rows). set rows c.index.result.now.owner (Some (Some b)))
+    (gone places c.args.id c.clear.new.self c.clear.ensures) in
     let P : Rows → Type 0 = λ rows. LosesBlock (blocks_of places) blocks rows new c.args.id in
-    subst P (sym rows_are) (loses_swapped (blocks_of places) blocks c.requires.blocks c.args.id b there new short moved others more c.index.result.now.owner owner_is)
+    subst P (sym rows_are) (loses_swapped (blocks_of places) blocks c.requires.blocks c.args.id b there new short moved
+    others more c.index.result.now.owner owner_is)
 
 pub returns-then-block-len-clause-live : goal.returns-then-block-len-clause-live
 returns-then-block-len-clause-live c =
@@ -102,17 +128,27 @@ returns-then-block-len-clause-live c =
     let len = c.swap_remove.ensures.len in
     let test = c.if-block-len.true in
     let is = c.len.ensures in
-    let there : block_in (blocks_of places) c.args.id ≡ Some (Some b) = block_there places c.args.id c.place_of-place.result c.place_of-place.ensures ∙ ap Some c.in-Some.is in
+    let there : block_in (blocks_of places) c.args.id ≡ Some (Some b) = block_there places c.args.id
+    c.place_of-place.result c.place_of-place.ensures ∙ ap Some c.in-Some.is in
     let short : length new + 1 ≡ length blocks = omega arith in
     let more : b + 1 < length blocks = omega arith in
     let low : b < length new = omega arith in
-    let moved : b + 1 < length blocks → block_at new b ≡ block_at blocks (length blocks - 1) = λ h. subst (λ n. block_at new b ≡ block_at blocks (n - 1)) ok (c.swap_remove.ensures.by_index.0 no_block (omega arith)) in
-    let others : (k : ℕ) → k ≢ b → k + 1 < length blocks → block_at new k ≡ block_at blocks k = λ k differs h. c.swap_remove.ensures.by_index.1 k no_block differs (omega arith) in
-    let at : c.index.result.now ≡ block_at new b = c.index.ensures ∙ get_or_default new b c.index.result.now no_block low in
-    let owner_is : c.index.result.now.owner ≡ (block_at blocks (length blocks - 1)).owner = ap (λ (k : Block). k.owner) (at ∙ moved more) in
-    let rows_are : blocks_of c.set_block.new.places.items ≡ set (set (blocks_of places) c.args.id None) c.index.result.now.owner (Some (Some b)) = c.set_block.ensures.blocks ∙ ap (λ (rows : Rows). set rows c.index.result.now.owner (Some (Some b))) (gone places c.args.id c.clear.new.self c.clear.ensures) in
+    let moved : b + 1 < length blocks → block_at new b ≡ block_at blocks (length blocks - 1) =
+    λ h. subst (λ n. block_at new b ≡ block_at blocks (n - 1)) ok
+    (c.swap_remove.ensures.by_index.0 no_block (omega arith)) in
+    let others : (k : ℕ) → k ≢ b → k + 1 < length blocks → block_at new k ≡ block_at blocks k =
+    λ k differs h. c.swap_remove.ensures.by_index.1 k no_block differs (omega arith) in
+    let at : c.index.result.now ≡ block_at new b = c.index.ensures ∙ get_or_default new b c.index.result.now no_block
+    low in
+    let owner_is : c.index.result.now.owner ≡ (block_at blocks (length blocks - 1)).owner = ap (λ (k : Block). k.owner)
+    (at ∙ moved more) in
+    let rows_are : blocks_of c.set_block.new.places.items ≡ set (set (blocks_of places) c.args.id None)
+    c.index.result.now.owner (Some (Some b)) = c.set_block.ensures.blocks
+    ∙ ap (λ (rows : Rows). set rows c.index.result.now.owner (Some (Some b)))
+    (gone places c.args.id c.clear.new.self c.clear.ensures) in
     ap (λ (rows : Rows). count_by is_some rows + 1) rows_are
-    ∙ ap (λ n. n + 1) (live_swapped (blocks_of places) blocks c.requires.blocks c.args.id b there new short moved others more c.index.result.now.owner owner_is)
+    ∙ ap (λ n. n + 1) (live_swapped (blocks_of places) blocks c.requires.blocks c.args.id b there new short moved others
+    more c.index.result.now.owner owner_is)
     ∙ live_less (blocks_of places) c.args.id (Some b) there
 
 pub returns-else-block-len-clause-loses : goal.returns-else-block-len-clause-loses
@@ -126,16 +162,22 @@ returns-else-block-len-clause-loses c =
     let len = c.swap_remove.ensures.len in
     let test = c.if-block-len.false in
     let is = c.len.ensures in
-    let there : block_in (blocks_of places) c.args.id ≡ Some (Some b) = block_there places c.args.id c.place_of-place.result c.place_of-place.ensures ∙ ap Some c.in-Some.is in
+    let there : block_in (blocks_of places) c.args.id ≡ Some (Some b) = block_there places c.args.id
+    c.place_of-place.result c.place_of-place.ensures ∙ ap Some c.in-Some.is in
     let short : length new + 1 ≡ length blocks = omega arith in
     let last : length blocks ≤ b + 1 = omega arith in
-    let moved : b + 1 < length blocks → block_at new b ≡ block_at blocks (length blocks - 1) = λ h. absurd (omega arith) in
-    let others : (k : ℕ) → k ≢ b → k + 1 < length blocks → block_at new k ≡ block_at blocks k = λ k differs h. c.swap_remove.ensures.by_index.1 k no_block differs (omega arith) in
+    let moved : b + 1 < length blocks → block_at new b ≡ block_at blocks (length blocks - 1) =
+    λ h. absurd (omega arith) in
+    let others : (k : ℕ) → k ≢ b → k + 1 < length blocks → block_at new k ≡ block_at blocks k =
+    λ k differs h. c.swap_remove.ensures.by_index.1 k no_block differs (omega arith) in
     let P : Rows → Type 0 = λ rows. LosesBlock (blocks_of places) blocks rows new c.args.id in
-    subst P (sym (gone places c.args.id c.clear.new.self c.clear.ensures)) (loses_last (blocks_of places) blocks c.requires.blocks c.args.id b there new short moved others last)
+    subst P (sym (gone places c.args.id c.clear.new.self c.clear.ensures))
+    (loses_last (blocks_of places) blocks c.requires.blocks c.args.id b there new short moved others last)
 
 pub returns-else-block-len-clause-live : goal.returns-else-block-len-clause-live
 returns-else-block-len-clause-live c =
     let places = c.args.places.now.items in
-    let there : block_in (blocks_of places) c.args.id ≡ Some (Some c.in-Some.block) = block_there places c.args.id c.place_of-place.result c.place_of-place.ensures ∙ ap Some c.in-Some.is in
-    ap (λ (rows : Rows). count_by is_some rows + 1) (gone places c.args.id c.clear.new.self c.clear.ensures) ∙ live_less (blocks_of places) c.args.id (Some c.in-Some.block) there
+    let there : block_in (blocks_of places) c.args.id ≡ Some (Some c.in-Some.block) = block_there places c.args.id
+    c.place_of-place.result c.place_of-place.ensures ∙ ap Some c.in-Some.is in
+    ap (λ (rows : Rows). count_by is_some rows + 1) (gone places c.args.id c.clear.new.self c.clear.ensures)
+    ∙ live_less (blocks_of places) c.args.id (Some c.in-Some.block) there

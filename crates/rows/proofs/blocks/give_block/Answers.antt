@@ -13,7 +13,8 @@ returns-clause-blocks c =
     let room = c.requires.room in
     let len = c.args.blocks.now.ok.0 in
     let has : vec_len c.args.blocks.now < vec_capacity c.args.blocks.now = omega arith in
-    let with_links : List (Option ℕ) → List Block = λ links. c.args.blocks.now.items ++ record { owner = c.args.id; links = links } ∷ [] in
+    let with_links : List (Option ℕ) → List Block = λ links. c.args.blocks.now.items ++ record
+    { owner = c.args.id; links = links } ∷ [] in
     c.push.ensures.items ∙ cond-true _ _ _ (c.push.ensures.succeeds has) ∙ ap with_links c.new.ensures
 
 pub set_block-requires-clause-fits : goal.set_block-requires-clause-fits

@@ -13,24 +13,41 @@ returns-clause-moving c =
     let xs = c.args.lits.now.items in
     let places = c.args.places.now.items in
     let place = c.args.place in
-    let e : c.copy_within.new.self.items ≡ paste xs c.args.to (drop place.start xs) place.len = moved_is xs c.copy_within.new.self.items c.args.to place.start place.len c.copy_within.ensures.items in
+    let e : c.copy_within.new.self.items ≡ paste xs c.args.to (drop place.start xs) place.len =
+    moved_is xs c.copy_within.new.self.items c.args.to place.start place.len c.copy_within.ensures.items in
     let down : c.args.to ≤ place.start = c.requires.moving.above c.args.id place (omega arith) c.requires.place in
-    let within : place.start + place.len ≤ length xs = c.requires.moving.spread.within c.args.id place c.requires.place in
-    let l : length c.copy_within.new.self.items ≡ length xs = ap (λ (ls : List Literal). length ls) e ∙ moved_length xs c.args.to place.start place.len down within in
-    let P : ℕ → Type 0 = λ n. AreMoving n (set places c.args.id (Some (record { start = c.args.to; len = place.len; block = place.block }))) (c.args.id + 1) (c.args.to + place.len) in
-    let at : c.index_mut.result.now ≡ Some place = c.index_mut.ensures.value ∙ (get_or_default places c.args.id c.index_mut.result.now None (place_given places c.args.id place c.requires.place) ∙ c.requires.place) in
-    let is : c.set_start.new.self ≡ Some (moved_to c.args.to place) = c.set_start.ensures ∙ ap (option_map (moved_to c.args.to)) at in
-    let Q : Option Place → Type 0 = λ o. AreMoving (length c.copy_within.new.self.items) (set places c.args.id o) (c.args.id + 1) (c.args.to + place.len) in
-    subst Q (sym is) (subst P (sym l) (moving_down (length xs) places c.args.id c.args.to c.requires.moving place c.requires.place))
+    let within : place.start + place.len ≤ length xs = c.requires.moving.spread.within c.args.id place
+    c.requires.place in
+    let l : length c.copy_within.new.self.items ≡ length xs = ap (λ (ls : List Literal). length ls) e
+    ∙ moved_length xs c.args.to place.start place.len down within in
+    let P : ℕ → Type 0 = λ n. AreMoving n
+    (set places c.args.id (Some (record { start = c.args.to; len = place.len; block = place.block })))
+    (c.args.id + 1) (c.args.to + place.len) in
+    let at : c.index_mut.result.now ≡ Some place = c.index_mut.ensures.value
+    ∙ (get_or_default places c.args.id c.index_mut.result.now None
+    (place_given places c.args.id place c.requires.place) ∙ c.requires.place) in
+    let is : c.set_start.new.self ≡ Some (moved_to c.args.to place) = c.set_start.ensures
+    ∙ ap (option_map (moved_to c.args.to)) at in
+    let Q : Option Place → Type 0 = λ o. AreMoving (length c.copy_within.new.self.items) (set places c.args.id o)
+    (c.args.id + 1) (c.args.to + place.len) in
+    subst Q (sym is)
+    (subst P (sym l) (moving_down (length xs) places c.args.id c.args.to c.requires.moving place c.requires.place))
 
 pub returns-clause-kept : goal.returns-clause-kept
 returns-clause-kept c =
     let xs = c.args.lits.now.items in
     let places = c.args.places.now.items in
     let place = c.args.place in
-    let e : c.copy_within.new.self.items ≡ paste xs c.args.to (drop place.start xs) place.len = moved_is xs c.copy_within.new.self.items c.args.to place.start place.len c.copy_within.ensures.items in
-    let P : List Literal → Type 0 = λ ls. KeepsParts xs places ls (set places c.args.id (Some (record { start = c.args.to; len = place.len; block = place.block }))) in
-    let at : c.index_mut.result.now ≡ Some place = c.index_mut.ensures.value ∙ (get_or_default places c.args.id c.index_mut.result.now None (place_given places c.args.id place c.requires.place) ∙ c.requires.place) in
-    let is : c.set_start.new.self ≡ Some (moved_to c.args.to place) = c.set_start.ensures ∙ ap (option_map (moved_to c.args.to)) at in
+    let e : c.copy_within.new.self.items ≡ paste xs c.args.to (drop place.start xs) place.len =
+    moved_is xs c.copy_within.new.self.items c.args.to place.start place.len c.copy_within.ensures.items in
+    let P : List Literal → Type 0 = λ ls. KeepsParts xs places ls
+    (set places c.args.id (Some (record { start = c.args.to; len = place.len; block = place.block }))) in
+    let at : c.index_mut.result.now ≡ Some place = c.index_mut.ensures.value
+    ∙ (get_or_default places c.args.id c.index_mut.result.now None
+    (place_given places c.args.id place c.requires.place) ∙ c.requires.place) in
+    let is : c.set_start.new.self ≡ Some (moved_to c.args.to place) = c.set_start.ensures
+    ∙ ap (option_map (moved_to c.args.to)) at in
     let Q : Option Place → Type 0 = λ o. KeepsParts xs places c.copy_within.new.self.items (set places c.args.id o) in
-    subst Q (sym is) (subst P (sym e) (parts_down (length xs) places c.args.id c.args.to c.requires.moving place c.requires.place xs refl))
+    subst Q (sym is)
+    (subst P (sym e) (parts_down (length xs) places c.args.id c.args.to c.requires.moving place c.requires.place xs
+    refl))

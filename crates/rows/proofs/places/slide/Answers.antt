@@ -19,5 +19,7 @@ returns-clause-kept c =
     let test = c.loop-id-test.false in
     let all : length places ≤ c.loop-id.id = omega arith in
     let P : List Literal → Type 0 = λ ls. KeepsParts c.loop-id.lits.items places ls places in
-    parts_then c.args.lits.now.items c.loop-id.lits.items c.truncate.new.self.items old places places c.loop-id.invariant.1
-    (subst P (sym c.truncate.ensures.items) (parts_front c.loop-id.lits.items places c.loop-id.id c.loop-id.to c.loop-id.invariant.0 all))
+    parts_then c.args.lits.now.items c.loop-id.lits.items c.truncate.new.self.items old places places
+    c.loop-id.invariant.1
+    (subst P (sym c.truncate.ensures.items)
+    (parts_front c.loop-id.lits.items places c.loop-id.id c.loop-id.to c.loop-id.invariant.0 all))

@@ -34,7 +34,8 @@ returns-in-Ok g c =
     made.certifies in
     let stops : List Account × List Account = (c.args.stops.now.items, c.write_checked.new.stops.items) in
     outcome_map g.S.Sink.written g.S.Sink.flushed g.S.Sink.faults g.S.Sink.has_room
-    (IsCheckReply c.args.request.decide terms c.in-Ok.g c.args.value stops) (IsCheck c.args.request.decide terms f stops)
+    (IsCheckReply c.args.request.decide terms c.in-Ok.g c.args.value stops)
+    (IsCheck c.args.request.decide terms f stops)
     (of_reply terms f c.args.value circuit has c.in-Ok.g c.in-Ok.ensures.answer.0 c.in-Ok.ensures.answer.1
     (is_false terms f c.args.value circuit has c.in-Ok.g c.in-Ok.ensures.decides) c.args.request.decide stops)
     c.args.sink.now c.write_checked.new.sink stops c.write_checked.result c.write_checked.ensures

@@ -24,7 +24,8 @@ returns-in_err-write_reply g c f holds header =
     ∙ ap (λ l. c.args.stops.now.items ++ l) c.into_stopped.ensures in
     subst (RepliesTo g.S.Sink.written g.S.Sink.flushed g.S.Sink.faults g.S.Sink.has_room c.args.job
     (terms_of c.args.budget c.args.restarts) f
-    c.args.sink.now c.write_reply.new.sink (c.args.stops.now.items, c.put_told.new.stops.items)) (sym (p.1 ∙ ap Err p.2))
+    c.args.sink.now c.write_reply.new.sink (c.args.stops.now.items, c.put_told.new.stops.items))
+    (sym (p.1 ∙ ap Err p.2))
     (reply_failed g.S.Sink.written g.S.Sink.flushed g.S.Sink.faults g.S.Sink.has_room c.args.job
     (terms_of c.args.budget c.args.restarts) f
     c.answer-answer.result (told_by reply) is.after found c.args.sink.now c.args.stops.now.items

@@ -8,7 +8,8 @@ use Rattle.session.proofs.file.write_verdict.Goals as goal
 
 pub returns-in_err-_trace-in-Trace : goal.returns-in_err-_trace-in-Trace
 returns-in_err-_trace-in-Trace g c terms f s holds header is =
-    let p = err_from_is_err_and c.from_residual-in_err-_trace-in-Trace.result c.from_residual-in_err-_trace-in-Trace.ensures.1 in
+    let p = err_from_is_err_and c.from_residual-in_err-_trace-in-Trace.result
+    c.from_residual-in_err-_trace-in-Trace.ensures.1 in
     let there = is_verdict c.args.answer c.requires in
     subst (λ j. WritesJob g.S.Sink.written g.S.Sink.flushed g.S.Sink.faults g.S.Sink.has_room j terms f c.args.answer
     c.args.sink.now c.tell_trace.new.sink c.from_residual-in_err-_trace-in-Trace.result) (sym c.in-Trace.is)

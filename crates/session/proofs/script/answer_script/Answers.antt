@@ -128,7 +128,8 @@ returns-in_err-session-clause-answered g c =
 
 pub returns-in_err-answer_commands-clause-ending : goal.returns-in_err-answer_commands-clause-ending
 returns-in_err-answer_commands-clause-ending g c =
-    let p = err_from_is_err_and c.from_residual-in_err-answer_commands.result c.from_residual-in_err-answer_commands.ensures.1 in
+    let p = err_from_is_err_and c.from_residual-in_err-answer_commands.result
+    c.from_residual-in_err-answer_commands.ensures.1 in
     let written = g.S.Sink.written in
     let flushed = g.S.Sink.flushed in
     let faults = g.S.Sink.faults in
@@ -149,7 +150,8 @@ returns-in_err-answer_commands-clause-ending g c =
 
 pub returns-in_err-answer_commands-clause-err : goal.returns-in_err-answer_commands-clause-err
 returns-in_err-answer_commands-clause-err g c =
-    let p = err_from_is_err_and c.from_residual-in_err-answer_commands.result c.from_residual-in_err-answer_commands.ensures.1 in
+    let p = err_from_is_err_and c.from_residual-in_err-answer_commands.result
+    c.from_residual-in_err-answer_commands.ensures.1 in
     let written = g.S.Sink.written in
     let flushed = g.S.Sink.flushed in
     let faults = g.S.Sink.faults in
@@ -170,7 +172,8 @@ returns-in_err-answer_commands-clause-err g c =
 
 pub returns-in_err-answer_commands-clause-write_fault : goal.returns-in_err-answer_commands-clause-write_fault
 returns-in_err-answer_commands-clause-write_fault g c =
-    let p = err_from_is_err_and c.from_residual-in_err-answer_commands.result c.from_residual-in_err-answer_commands.ensures.1 in
+    let p = err_from_is_err_and c.from_residual-in_err-answer_commands.result
+    c.from_residual-in_err-answer_commands.ensures.1 in
     let written = g.S.Sink.written in
     let flushed = g.S.Sink.flushed in
     let faults = g.S.Sink.faults in
@@ -191,7 +194,8 @@ returns-in_err-answer_commands-clause-write_fault g c =
 
 pub returns-in_err-answer_commands-clause-room : goal.returns-in_err-answer_commands-clause-room
 returns-in_err-answer_commands-clause-room g c =
-    let p = err_from_is_err_and c.from_residual-in_err-answer_commands.result c.from_residual-in_err-answer_commands.ensures.1 in
+    let p = err_from_is_err_and c.from_residual-in_err-answer_commands.result
+    c.from_residual-in_err-answer_commands.ensures.1 in
     let written = g.S.Sink.written in
     let flushed = g.S.Sink.flushed in
     let faults = g.S.Sink.faults in
@@ -213,7 +217,8 @@ returns-in_err-answer_commands-clause-room g c =
 
 pub returns-in_err-answer_commands-clause-answered : goal.returns-in_err-answer_commands-clause-answered
 returns-in_err-answer_commands-clause-answered g c =
-    let p = err_from_is_err_and c.from_residual-in_err-answer_commands.result c.from_residual-in_err-answer_commands.ensures.1 in
+    let p = err_from_is_err_and c.from_residual-in_err-answer_commands.result
+    c.from_residual-in_err-answer_commands.ensures.1 in
     let written = g.S.Sink.written in
     let flushed = g.S.Sink.flushed in
     let faults = g.S.Sink.faults in

@@ -6,4 +6,5 @@ use Rattle.calculus.specs.Search.{value_on}
 use Rattle.test_search.proofs.cover_tests.are_true.Given as goal
 
 abbrev pub invariant-loop-clause : goal.invariant-loop-clause
-invariant-loop-clause l = (clause : Row) → Contains (take l.clause-index l.matrix) clause → IsTrue (clause_true (value_on l.trail.placed) clause)
+invariant-loop-clause l = (clause : Row) → Contains (take l.clause-index l.matrix) clause
+    → IsTrue (clause_true (value_on l.trail.placed) clause)

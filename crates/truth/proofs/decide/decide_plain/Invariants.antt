@@ -15,11 +15,13 @@ invariant-loop-answer l =
     record {
       order_is : l.search.order ≡ prefix_order l.f.prefix;
       answer_is : (outcome l.search l.f.clauses l.answer).answer ≡ truth l.f.prefix l.f.clauses;
-      ticks_are : l.steps.spent + (outcome l.search l.f.clauses l.answer).ticks ≡ l.initial.steps.spent + plain_steps l.f.prefix l.f.clauses;
+      ticks_are : l.steps.spent + (outcome l.search l.f.clauses l.answer).ticks ≡ l.initial.steps.spent + plain_steps
+          l.f.prefix l.f.clauses;
       later : l.initial.steps.spent ≤ l.steps.spent;
       room : l.steps.spent - l.initial.steps.spent ≤ left l.initial.steps;
       budget_is : l.steps.budget ≡ l.initial.steps.budget;
     }
 
 abbrev pub decreases-loop-answer : goal.decreases-loop-answer
-decreases-loop-answer l = 2 * (outcome l.search l.f.clauses l.answer).ticks + length l.search.values + still_open l.answer
+decreases-loop-answer l = 2 * (outcome l.search l.f.clauses l.answer).ticks + length l.search.values + still_open
+    l.answer

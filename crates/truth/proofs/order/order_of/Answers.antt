@@ -13,9 +13,11 @@ pub loop-s-preserved : goal.loop-s-preserved
 loop-s-preserved c =
     let ss = c.args.prefix.now in
     let within : c.loop-s.s < length ss = omega arith in
-    c.in_ok-push_scope.ensures ∙ ap (λ xs. xs ++ map (bound_by c.unwrap-quant.result) c.vars_of.result.now.keys) c.loop-s.invariant
+    c.in_ok-push_scope.ensures ∙ ap (λ xs. xs ++ map (bound_by c.unwrap-quant.result) c.vars_of.result.now.keys)
+    c.loop-s.invariant
     ∙ ap (λ vs. prefix_order (take c.loop-s.s ss) ++ map (bound_by c.unwrap-quant.result) vs) c.vars_of.ensures
-    ∙ sym (prefix_order_more ss c.loop-s.s c.unwrap-quant.result within (sym c.scope_quant.ensures.value ∙ c.unwrap-quant.ensures))
+    ∙ sym (prefix_order_more ss c.loop-s.s c.unwrap-quant.result within
+    (sym c.scope_quant.ensures.value ∙ c.unwrap-quant.ensures))
 
 pub returns-clause-distinct : goal.returns-clause-distinct
 returns-clause-distinct c =

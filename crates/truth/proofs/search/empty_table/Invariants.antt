@@ -11,5 +11,6 @@ abbrev pub invariant-loop-bound : goal.invariant-loop-bound
 invariant-loop-bound l =
     record {
       empty : (v : ℕ) → values_of l.table.items v ≡ no_values v;
-      covers : AllByRecursion (λ (x : BoundVariable). x.variable < length l.table.items) (bounds_of (take l.bound-index l.order));
+      covers : AllByRecursion (λ (x : BoundVariable). x.variable < length l.table.items)
+          (bounds_of (take l.bound-index l.order));
     }

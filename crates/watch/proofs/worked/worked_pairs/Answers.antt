@@ -7,13 +7,19 @@ use Rattle.watch.proofs.worked.worked_pairs.Goals as goal
 
 pub returns : goal.returns
 returns c = record {
-  two_pivots = record { different = λ e. true≢false (ap (λ (l : Literal). l.positive) e); first = refl; second = inl refl };
+  two_pivots = record {
+    different = λ e. true≢false (ap (λ (l : Literal). l.positive) e);
+    first = refl;
+    second =
+        inl refl;
+  };
   earlier_joins = record {
     different = λ e. absurd (let h : 2 ≡ 1 = ap (λ (l : Literal). l.variable) e in omega arith);
     first = refl;
     second = inr (omega arith);
   };
-  later_joins_not = λ t. ⊎_elim (λ s. false≢true s) (λ (h : depth_of three_scopes 4 < depth_of three_scopes 2). absurd (let k : 3 < 2 = h in omega arith)) t.second;
+  later_joins_not = λ t. ⊎_elim (λ s. false≢true s) (λ (h : depth_of three_scopes 4 < depth_of three_scopes 2). absurd
+      (let k : 3 < 2 = h in omega arith)) t.second;
   pivot_comes_first = λ t. false≢true t.first;
   different = λ t. t.different refl;
   pivot_of_cubes = record {

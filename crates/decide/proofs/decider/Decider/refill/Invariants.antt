@@ -4,4 +4,5 @@ use Rattle.decide.proofs.Choosing.{HasOne}
 use Rattle.decide.proofs.decider.Decider.refill.Given as goal
 
 abbrev pub invariant-loop-v : goal.invariant-loop-v
-invariant-loop-v l = HasOne l.prefix l.trail.placed l.scope (variables_at l.prefix l.scope) l.v-iterator l.one × (l.self ≡ l.fn.self)
+invariant-loop-v l = HasOne l.prefix l.trail.placed l.scope (variables_at l.prefix l.scope) l.v-iterator l.one
+    × (l.self ≡ l.fn.self)

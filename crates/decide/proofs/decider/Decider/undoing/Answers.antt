@@ -8,4 +8,5 @@ pub loop-place-preserved : goal.loop-place-preserved
 loop-place-preserved c =
     let literals = literals_on c.args.trail.now.placed in
     ap (saved (drop (c.loop-place.place + 1) literals)) c.put_back.ensures
-    ∙ (sym (saved_next literals c.loop-place.place c.at.result c.loop-place.self c.at.ensures.literal) ∙ c.loop-place.invariant)
+    ∙ (sym (saved_next literals c.loop-place.place c.at.result c.loop-place.self c.at.ensures.literal)
+    ∙ c.loop-place.invariant)

@@ -6,7 +6,8 @@ pub returns-clause-legal : goal.returns-clause-legal
 returns-clause-legal c = legal_drops _ _ _ c.drop_all.ensures.drops
 
 pub returns-clause-clauses : goal.returns-clause-clauses
-returns-clause-clauses c = clauses_filtered _ _ _ c.drop_all.ensures.drops _ (λ (clause : OpenClause). not_from clause.id c.args.first)
+returns-clause-clauses c = clauses_filtered _ _ _ c.drop_all.ensures.drops _
+    (λ (clause : OpenClause). not_from clause.id c.args.first)
 
 pub returns-clause-front : goal.returns-clause-front
 returns-clause-front c = front_stays _ _ _ c.drop_all.ensures.supported c.drop_all.ensures.drops

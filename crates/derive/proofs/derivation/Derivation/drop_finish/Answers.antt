@@ -12,7 +12,8 @@ pub returns-clause-clauses : goal.returns-clause-clauses
 returns-clause-clauses c = ap clauses_of c.self.view_is ∙ clauses_same _ _ _ c.drop_all-2.ensures.drops (λ clause. refl)
 
 pub returns-clause-steps : goal.returns-clause-steps
-returns-clause-steps c = ap steps_of c.self.view_is ∙ steps_same _ _ c.drop_all-2.ensures.supported c.drop_all-2.ensures.drops
+returns-clause-steps c = ap steps_of c.self.view_is ∙ steps_same _ _ c.drop_all-2.ensures.supported
+    c.drop_all-2.ensures.drops
 
 pub invariant_of-self : goal.invariant_of-self
 invariant_of-self c = (
@@ -22,4 +23,5 @@ invariant_of-self c = (
 )
 
 pub returns-clause-exactly : goal.returns-clause-exactly
-returns-clause-exactly c id = ap (λ (d : State). note_at d id) c.self.view_is ∙ finishes_go _ _ c.drop_all-2.ensures.supported c.drop_all-2.ensures.drops id
+returns-clause-exactly c id = ap (λ (d : State). note_at d id) c.self.view_is
+    ∙ finishes_go _ _ c.drop_all-2.ensures.supported c.drop_all-2.ensures.drops id

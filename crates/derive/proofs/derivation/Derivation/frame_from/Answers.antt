@@ -15,7 +15,8 @@ none_earlier c id note there low =
     let frame = c.args.frame in
     let notes = c.self.inside.notes in
     let same : note.tag ≡ frame = eqb-true note.tag frame is in
-    let place : c.unwrap_or.result ≡ slice_index_or c.self.inside.frames_from.items frame (length notes) = search rules in
+    let place : c.unwrap_or.result ≡ slice_index_or c.self.inside.frames_from.items frame (length notes) =
+    search rules in
     let above = subst (λ f. slice_index_or c.self.inside.frames_from.items f (length notes) ≤ id) same
     (c.self.invariant.0.frames id note there) in
     absurd (omega (arith, low, place, above)))
@@ -32,7 +33,8 @@ returns-clause-falls c = λ id falls.
     let frame = c.args.frame in
     let notes = c.self.inside.notes in
     let kept = c.self.invariant.0 in
-    subst (λ (s : State). (id : ℕ) → Falls (has_tag frame) s.notes id → (c.unwrap_or.result ≤ id) × (frame ≤ tag_at s id))
+    subst (λ (s : State). (id : ℕ) → Falls (has_tag frame) s.notes id → (c.unwrap_or.result ≤ id)
+    × (frame ≤ tag_at s id))
     c.self.view_is
     (λ i goes. (
       ⊎_elim

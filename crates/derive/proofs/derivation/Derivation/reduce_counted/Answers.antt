@@ -6,11 +6,14 @@ use Rattle.derive.proofs.Legality.{legal_reduction}
 use Rattle.derive.proofs.Removals.{reduced_whole}
 use Rattle.derive.proofs.derivation.Derivation.reduce_counted.Goals as goal
 
-reduced : (c : goal.After-as_slice) → c.as_slice.result.now ≡ reduce (side_at c.args.self.now c.args.a) c.args.prefix.now (row_of c.args.self.now c.args.a)
-reduced c = c.as_slice.ensures ∙ c.in_ok-reduce_of.ensures ∙ ap₂ (λ side (row : Row). reduce side c.args.prefix.now row) c.side.ensures c.lits.ensures
+reduced : (c : goal.After-as_slice) → c.as_slice.result.now ≡ reduce (side_at c.args.self.now c.args.a)
+    c.args.prefix.now (row_of c.args.self.now c.args.a)
+reduced c = c.as_slice.ensures ∙ c.in_ok-reduce_of.ensures ∙ ap₂ (λ side (row : Row). reduce side c.args.prefix.now row)
+    c.side.ensures c.lits.ensures
 
 pub add_removal-requires-clause-part : goal.add_removal-requires-clause-part
-add_removal-requires-clause-part c e = reduced_whole (side_at c.args.self.now c.args.a) c.args.prefix.now (row_of c.args.self.now c.args.a) _ (reduced c) e
+add_removal-requires-clause-part c e = reduced_whole (side_at c.args.self.now c.args.a) c.args.prefix.now
+    (row_of c.args.self.now c.args.a) _ (reduced c) e
 
 step_live : (o : Option Note) → may_be_antecedent o ≡ true → is_some o ≡ true
 step_live None h = h
@@ -38,5 +41,7 @@ pub returns-clause-legal : goal.returns-clause-legal
 returns-clause-legal c = λ legal.
     let s = c.args.self.now in
     let is : c.as_slice.result.now ≡ reduce (side_at s c.args.a) c.args.prefix.now (row_of s c.args.a) =
-    c.as_slice.ensures ∙ c.in_ok-reduce_of.ensures ∙ ap₂ (λ side (row : Row). reduce side c.args.prefix.now row) c.side.ensures c.lits.ensures in
-    legal_reduction c.args.prefix.now _ _ c.in_ok-add_removal.field-0 c.args.a c.requires.step (rw is at c.in_ok-add_removal.ensures.ok) legal
+    c.as_slice.ensures ∙ c.in_ok-reduce_of.ensures ∙ ap₂ (λ side (row : Row). reduce side c.args.prefix.now row)
+    c.side.ensures c.lits.ensures in
+    legal_reduction c.args.prefix.now _ _ c.in_ok-add_removal.field-0 c.args.a c.requires.step
+    (rw is at c.in_ok-add_removal.ensures.ok) legal

@@ -4,7 +4,8 @@ use Rattle.engine.proofs.engine.Engine.close_group.Goals as goal
 
 pub forget_outcome-requires : goal.forget_outcome-requires
 forget_outcome-requires c =
-    rw c.in_ok-close_group.ensures.ok (group_closed c.self.inside.frames.formula c.self.inside.search c.self.invariant.tied)
+    rw c.in_ok-close_group.ensures.ok
+    (group_closed c.self.inside.frames.formula c.self.inside.search c.self.invariant.tied)
 
 pub invariant_of-self-2 : goal.invariant_of-self-2
 invariant_of-self-2 c = record {

@@ -22,7 +22,8 @@ use Rattle.engine.proofs.engine.Engine.solve.Goals as goal
 pub returns-in_err-assumed-clause-stop : goal.returns-in_err-assumed-clause-stop
 returns-in_err-assumed-clause-stop c =
     let h = err_from_is_err_and c.from_residual.result c.from_residual.ensures.1 in
-    rw (h.1, h.2, ← c.self.view_is) (stops c.self.inside.restarts c.self.inside.frames.formula c.forget_outcome.new.search c.args.steps.now
+    rw (h.1, h.2, ← c.self.view_is)
+    (stops c.self.inside.restarts c.self.inside.frames.formula c.forget_outcome.new.search c.args.steps.now
     c.args.steps.now _ c.forget_outcome.ensures.tied tt)
 
 pub returns-in_err-verdict-clause-quick : goal.returns-in_err-verdict-clause-quick
@@ -37,7 +38,8 @@ returns-in_err-verdict-clause-quick c none refuted =
 pub returns-in_err-relevant-clause-stop : goal.returns-in_err-relevant-clause-stop
 returns-in_err-relevant-clause-stop c =
     let h = err_from_is_err_and c.from_residual-in_err-relevant.result c.from_residual-in_err-relevant.ensures.1 in
-    rw (h.1, h.2, ← c.self.view_is) (stops c.self.inside.restarts c.self.inside.frames.formula c.forget_outcome.new.search c.args.steps.now
+    rw (h.1, h.2, ← c.self.view_is)
+    (stops c.self.inside.restarts c.self.inside.frames.formula c.forget_outcome.new.search c.args.steps.now
     c.args.steps.now _ c.forget_outcome.ensures.tied tt)
 
 pub keep_mentioned-requires : goal.keep_mentioned-requires
@@ -48,7 +50,8 @@ keep_mentioned-requires c =
     let tied = c.decide.ensures.tied in
     subst (λ (row : Row). IsAscending (variables_in row))
     (sym (c.lits.ensures ∙ ap (λ (s : State). row_of s v.end) c.derivation.ensures))
-    (end_ascends f d f.assumptions v c.prefix-valid.ensures.valid.distinct (tied_legal f c.decide.new.search tied) c.in_ok-verdict.ensures.found c.end_rows_give_proofs.ensures c.proofs_decide.ensures
+    (end_ascends f d f.assumptions v c.prefix-valid.ensures.valid.distinct (tied_legal f c.decide.new.search tied)
+    c.in_ok-verdict.ensures.found c.end_rows_give_proofs.ensures c.proofs_decide.ensures
     c.steps_are_listed.ensures)
 
 pub returns-clause-proof : goal.returns-clause-proof
@@ -61,7 +64,9 @@ returns-clause-proof c =
     ∙ c.assumptions.ensures.value in
     let found = subst (λ (a : List Literal). IsFound f d a v) (sym assumed) c.in_ok-verdict.ensures.found in
     let held : Held = record { verdict = v; assumed = c.from_vec.result; relevant = c.from_vec-2.result } in
-    rw (← c.self.view_is) (has_proof f d held c.prefix-valid.ensures.valid.distinct (tied_legal f c.decide.new.search tied) found assumed c.end_rows_give_proofs.ensures c.proofs_decide.ensures
+    rw (← c.self.view_is)
+    (has_proof f d held c.prefix-valid.ensures.valid.distinct (tied_legal f c.decide.new.search tied) found assumed
+    c.end_rows_give_proofs.ensures c.proofs_decide.ensures
     c.steps_are_listed.ensures)
 
 pub invariant_of-self-2 : goal.invariant_of-self-2
@@ -86,14 +91,17 @@ invariant_of-self-2 c =
       };
       finishes = e.finishes;
       cubes = λ none. absurd (some_solves c.self.inside.counts none);
-      reductions = solve_counted c.self.inside.counts c.args.steps.now c.decide.new.steps c.self.inside.restarts (size_of f.scopes)
+      reductions = solve_counted c.self.inside.counts c.args.steps.now c.decide.new.steps c.self.inside.restarts
+          (size_of f.scopes)
           (reductions_in c.self.inside.search.derivation) (reductions_in c.forget_outcome.new.search.derivation)
           (reductions_in d) c.forget_outcome.ensures.reductions e.reductions e.fit e.few e.within e.budget
           c.self.invariant.reductions;
       variables = omega arith;
       long = e.long;
-      marked = older_marked c.self.inside.frames.formula c.self.inside.marks.items c.forget_outcome.new.search.derivation
-          c.decide.new.search.derivation c.decide.ensures.older (older_marked c.self.inside.frames.formula c.self.inside.marks.items c.self.inside.search.derivation
+      marked = older_marked c.self.inside.frames.formula c.self.inside.marks.items
+          c.forget_outcome.new.search.derivation
+          c.decide.new.search.derivation c.decide.ensures.older
+          (older_marked c.self.inside.frames.formula c.self.inside.marks.items c.self.inside.search.derivation
           c.forget_outcome.new.search.derivation c.forget_outcome.ensures.older c.self.invariant.marked);
     })
 
@@ -106,7 +114,8 @@ invariant_of-self c =
     c.self.inside.counts c.self.inside.marks.items c.budget.result c.self.inside.restarts c.len.result e.tied e.finishes
     (unsolved_counted c.self.inside.counts c.budget.result c.self.inside.restarts c.len.result
     (reductions_in c.self.inside.search.derivation) (reductions_in c.forget_outcome.new.search.derivation)
-    e.reductions e.fit c.self.invariant.reductions) (older_marked c.self.inside.frames.formula c.self.inside.marks.items c.self.inside.search.derivation
+    e.reductions e.fit c.self.invariant.reductions)
+    (older_marked c.self.inside.frames.formula c.self.inside.marks.items c.self.inside.search.derivation
     c.forget_outcome.new.search.derivation c.forget_outcome.ensures.older c.self.invariant.marked))
 
 pub invariant_of-self-in_err-relevant : goal.invariant_of-self-in_err-relevant
@@ -116,7 +125,8 @@ invariant_of-self-in_err-relevant c =
     c.self.inside.counts c.self.inside.marks.items c.budget.result c.self.inside.restarts c.len.result e.tied e.finishes
     (unsolved_counted c.self.inside.counts c.budget.result c.self.inside.restarts c.len.result
     (reductions_in c.self.inside.search.derivation) (reductions_in c.forget_outcome.new.search.derivation)
-    e.reductions e.fit c.self.invariant.reductions) (older_marked c.self.inside.frames.formula c.self.inside.marks.items c.self.inside.search.derivation
+    e.reductions e.fit c.self.invariant.reductions)
+    (older_marked c.self.inside.frames.formula c.self.inside.marks.items c.self.inside.search.derivation
     c.forget_outcome.new.search.derivation c.forget_outcome.ensures.older c.self.invariant.marked))
 
 pub invariant_of-self-in_err-verdict : goal.invariant_of-self-in_err-verdict
@@ -132,8 +142,10 @@ invariant_of-self-in_err-verdict c =
     (solve_counted c.self.inside.counts c.args.steps.now c.decide.new.steps c.self.inside.restarts (size_of f.scopes)
     (reductions_in c.self.inside.search.derivation) (reductions_in c.forget_outcome.new.search.derivation)
     (reductions_in d) c.forget_outcome.ensures.reductions e.reductions e.fit e.few e.within e.budget
-    c.self.invariant.reductions) (older_marked c.self.inside.frames.formula c.self.inside.marks.items c.forget_outcome.new.search.derivation
-    c.decide.new.search.derivation c.decide.ensures.older (older_marked c.self.inside.frames.formula c.self.inside.marks.items c.self.inside.search.derivation
+    c.self.invariant.reductions)
+    (older_marked c.self.inside.frames.formula c.self.inside.marks.items c.forget_outcome.new.search.derivation
+    c.decide.new.search.derivation c.decide.ensures.older
+    (older_marked c.self.inside.frames.formula c.self.inside.marks.items c.self.inside.search.derivation
     c.forget_outcome.new.search.derivation c.forget_outcome.ensures.older c.self.invariant.marked)))
 
 pub invariant_of-self-in_err-matrix : goal.invariant_of-self-in_err-matrix

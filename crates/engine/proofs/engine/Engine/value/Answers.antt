@@ -23,7 +23,8 @@ first_value-requires-clause-row c =
     let is = subst (λ (v : Option Held). IfSome v (IsHeld f d)) c.in-Some.is c.self.invariant.held in
     let distinct = c.prefix-prefix.ensures.valid.distinct in
     subst (λ (s : State). IsAscending (variables_in (end_row_of s held.verdict.end))) (sym c.derivation.ensures)
-    (before_ascends f d held.assumed held.verdict distinct (tied_legal f c.self.inside.search tied) is.found c.end_rows_give_proofs.ensures c.proofs_decide.ensures
+    (before_ascends f d held.assumed held.verdict distinct (tied_legal f c.self.inside.search tied) is.found
+    c.end_rows_give_proofs.ensures c.proofs_decide.ensures
     c.steps_are_listed.ensures)
 
 abbrev literal : ℕ → Bool → Literal
@@ -43,7 +44,8 @@ returns-else-not-is_won-clause-value c =
     (level_is (level_of c.prefix-prefix.result.now x) over.0) in
     let won = same_true (quantifier_at c.prefix-prefix.result.now 1) (winner_of held.verdict.truth)
     (sym c.is_won.ensures ∙ c.if-not-is_won.false) in
-    let told = value_told f d held c.prefix-prefix.ensures.valid.distinct (tied_legal f c.self.inside.search tied) is.found c.end_rows_give_proofs.ensures c.proofs_decide.ensures
+    let told = value_told f d held c.prefix-prefix.ensures.valid.distinct (tied_legal f c.self.inside.search tied)
+    is.found c.end_rows_give_proofs.ensures c.proofs_decide.ensures
     c.steps_are_listed.ensures c.steps_have_cores.ensures c.plays_exist.ensures c.last_steps_decide.ensures x first
     (subst (λ (ss : List Scope). quantifier_at ss 1 ≡ Some (winner_of held.verdict.truth)) scopes won) in
     let value : c.first_value.result ≡ values_of f (tell d held) x = c.first_value.ensures

@@ -21,5 +21,7 @@ returns-in-Some-clause-first c =
     let tied = c.self.invariant.tied in
     let distinct = c.prefix-valid.ensures.valid.distinct in
     rw (← c.self.view_is) (verdict_plays f (option_map (told d) held) distinct c.plays_exist.ensures
-    c.first_values_decide.ensures (told_holds f d held distinct (tied_legal f c.self.inside.search tied) c.self.invariant.held c.end_rows_give_proofs.ensures c.proofs_decide.ensures
+    c.first_values_decide.ensures
+    (told_holds f d held distinct (tied_legal f c.self.inside.search tied) c.self.invariant.held
+    c.end_rows_give_proofs.ensures c.proofs_decide.ensures
     c.steps_are_listed.ensures))

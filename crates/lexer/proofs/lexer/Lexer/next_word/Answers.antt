@@ -37,12 +37,14 @@ loop-b-preserved-then-opens_comment g c =
     let after : Option (List Item) = upcoming c.skip_blanks.new.self (left c.skip_blanks.new.desk) in
     let word_comes : Stays before after = stays_on before turn after c.loop-b.invariant.items c.in_ok-b.ensures.items in
     record {
-      items = stays_on before after (upcoming c.skip_hash.new.self (left c.skip_hash.new.desk)) word_comes c.in_ok-skip_hash.ensures.items;
+      items = stays_on before after (upcoming c.skip_hash.new.self (left c.skip_hash.new.desk)) word_comes
+          c.in_ok-skip_hash.ensures.items;
       kept = c.in_ok-skip_hash.ensures.cause.kept refl ∙ c.in_ok-b.ensures.cause.kept refl ∙ c.loop-b.invariant.kept;
       flows = λ h. (c.skip_hash.ensures.flows (c.skip_blanks.ensures.flows (c.loop-b.invariant.flows h)).1).1;
       content = λ n. c.skip_hash.ensures.content n ∙ c.skip_blanks.ensures.content n ∙ c.loop-b.invariant.content n;
       stays = λ n h. c.skip_hash.ensures.stays n (c.skip_blanks.ensures.stays n (c.loop-b.invariant.stays n h));
-      room = (let one : c.skip_hash.new.self.room < c.skip_blanks.new.self.room = c.in_ok-skip_hash.ensures.room in let two : c.skip_blanks.new.self.room ≤ c.loop-b.self.room = c.in_ok-b.ensures.room in omega arith);
+      room = (let one : c.skip_hash.new.self.room < c.skip_blanks.new.self.room = c.in_ok-skip_hash.ensures.room in
+          let two : c.skip_blanks.new.self.room ≤ c.loop-b.self.room = c.in_ok-b.ensures.room in omega arith);
       failed = c.in_ok-skip_hash.ensures.failed ∙ c.in_ok-b.ensures.failed ∙ c.loop-b.invariant.failed;
     }
 
@@ -63,18 +65,30 @@ loop-b-preserved g c =
     let turn : Option (List Item) = upcoming c.loop-b.self (left c.loop-b.desk) in
     let after : Option (List Item) = upcoming c.skip_blanks.new.self (left c.skip_blanks.new.desk) in
     let word_comes : Stays before after = stays_on before turn after c.loop-b.invariant.items c.in_ok-b.ensures.items in
-    let behind : Option (List Item) = upcoming_behind_word c.take_word.new.self c.in_ok-scan.scan (left c.take_word.new.desk) in
+    let behind : Option (List Item) = upcoming_behind_word c.take_word.new.self c.in_ok-scan.scan
+    (left c.take_word.new.desk) in
     let word_goes : Stays before behind = stays_on before after behind word_comes c.in_ok-scan.ensures.items in
     let in_comment : Option (List Item) = upcoming_in_comment c.take_word.new.self (left c.take_word.new.desk) in
-    let comment_comes : Stays before in_comment = stays_on before behind in_comment word_goes (comment_behind c.take_word.new.self c.in_ok-scan.scan (left c.take_word.new.desk) (sym c.if-is_comment.ensures)) in
+    let comment_comes : Stays before in_comment = stays_on before behind in_comment word_goes
+    (comment_behind c.take_word.new.self c.in_ok-scan.scan (left c.take_word.new.desk)
+    (sym c.if-is_comment.ensures)) in
     record {
-      items = stays_on before in_comment (upcoming c.skip_line.new.self (left c.skip_line.new.desk)) comment_comes c.in_ok-skip_line.ensures.items;
-      kept = c.in_ok-skip_line.ensures.cause.kept refl ∙ c.in_ok-scan.ensures.cause.kept refl ∙ c.in_ok-b.ensures.cause.kept refl ∙ c.loop-b.invariant.kept;
-      flows = λ h. (c.skip_line.ensures.flows (c.take_word.ensures.flows (c.skip_blanks.ensures.flows (c.loop-b.invariant.flows h)).1).1).1;
-      content = λ n. c.skip_line.ensures.content n ∙ c.take_word.ensures.content n ∙ c.skip_blanks.ensures.content n ∙ c.loop-b.invariant.content n;
-      stays = λ n h. c.skip_line.ensures.stays n (c.take_word.ensures.stays n (c.skip_blanks.ensures.stays n (c.loop-b.invariant.stays n h)));
-      room = (let one : c.skip_line.new.self.room ≤ c.take_word.new.self.room = c.in_ok-skip_line.ensures.room in let two : c.take_word.new.self.room < c.skip_blanks.new.self.room = c.in_ok-scan.ensures.room in let three : c.skip_blanks.new.self.room ≤ c.loop-b.self.room = c.in_ok-b.ensures.room in omega arith);
-      failed = c.in_ok-skip_line.ensures.failed ∙ c.in_ok-scan.ensures.failed ∙ c.in_ok-b.ensures.failed ∙ c.loop-b.invariant.failed;
+      items = stays_on before in_comment (upcoming c.skip_line.new.self (left c.skip_line.new.desk)) comment_comes
+          c.in_ok-skip_line.ensures.items;
+      kept = c.in_ok-skip_line.ensures.cause.kept refl ∙ c.in_ok-scan.ensures.cause.kept refl
+          ∙ c.in_ok-b.ensures.cause.kept refl ∙ c.loop-b.invariant.kept;
+      flows = λ h.
+          (c.skip_line.ensures.flows
+          (c.take_word.ensures.flows (c.skip_blanks.ensures.flows (c.loop-b.invariant.flows h)).1).1).1;
+      content = λ n. c.skip_line.ensures.content n ∙ c.take_word.ensures.content n ∙ c.skip_blanks.ensures.content n
+          ∙ c.loop-b.invariant.content n;
+      stays = λ n h. c.skip_line.ensures.stays n
+          (c.take_word.ensures.stays n (c.skip_blanks.ensures.stays n (c.loop-b.invariant.stays n h)));
+      room = (let one : c.skip_line.new.self.room ≤ c.take_word.new.self.room = c.in_ok-skip_line.ensures.room in
+          let two : c.take_word.new.self.room < c.skip_blanks.new.self.room = c.in_ok-scan.ensures.room in let three :
+          c.skip_blanks.new.self.room ≤ c.loop-b.self.room = c.in_ok-b.ensures.room in omega arith);
+      failed = c.in_ok-skip_line.ensures.failed ∙ c.in_ok-scan.ensures.failed ∙ c.in_ok-b.ensures.failed
+          ∙ c.loop-b.invariant.failed;
     }
 
 pub returns-in_err-skip_line-clause-items : goal.returns-in_err-skip_line-clause-items
@@ -84,12 +98,16 @@ returns-in_err-skip_line-clause-items g c =
     let turn : Option (List Item) = upcoming c.loop-b.self (left c.loop-b.desk) in
     let after : Option (List Item) = upcoming c.skip_blanks.new.self (left c.skip_blanks.new.desk) in
     let word_comes : Stays before after = stays_on before turn after c.loop-b.invariant.items c.in_ok-b.ensures.items in
-    let behind : Option (List Item) = upcoming_behind_word c.take_word.new.self c.in_ok-scan.scan (left c.take_word.new.desk) in
+    let behind : Option (List Item) = upcoming_behind_word c.take_word.new.self c.in_ok-scan.scan
+    (left c.take_word.new.desk) in
     let word_goes : Stays before behind = stays_on before after behind word_comes c.in_ok-scan.ensures.items in
     let in_comment : Option (List Item) = upcoming_in_comment c.take_word.new.self (left c.take_word.new.desk) in
-    let comment_comes : Stays before in_comment = stays_on before behind in_comment word_goes (comment_behind c.take_word.new.self c.in_ok-scan.scan (left c.take_word.new.desk) (sym c.if-is_comment.ensures)) in
+    let comment_comes : Stays before in_comment = stays_on before behind in_comment word_goes
+    (comment_behind c.take_word.new.self c.in_ok-scan.scan (left c.take_word.new.desk)
+    (sym c.if-is_comment.ensures)) in
     let p = err_from_is_err_and c.from_residual-in_err-skip_line.result c.from_residual-in_err-skip_line.ensures.1 in
-    rw (p.1, p.2) (refuses_on before in_comment c.in_err-skip_line.field-0.0 comment_comes c.in_err-skip_line.ensures.refusal)
+    rw (p.1, p.2) (refuses_on before in_comment c.in_err-skip_line.field-0.0 comment_comes
+    c.in_err-skip_line.ensures.refusal)
 
 pub returns-in_err-token-clause-items : goal.returns-in_err-token-clause-items
 returns-in_err-token-clause-items g c =
@@ -98,12 +116,15 @@ returns-in_err-token-clause-items g c =
     let turn : Option (List Item) = upcoming c.loop-b.self (left c.loop-b.desk) in
     let after : Option (List Item) = upcoming c.skip_blanks.new.self (left c.skip_blanks.new.desk) in
     let word_comes : Stays before after = stays_on before turn after c.loop-b.invariant.items c.in_ok-b.ensures.items in
-    let behind : Option (List Item) = upcoming_behind_word c.take_word.new.self c.in_ok-scan.scan (left c.take_word.new.desk) in
+    let behind : Option (List Item) = upcoming_behind_word c.take_word.new.self c.in_ok-scan.scan
+    (left c.take_word.new.desk) in
     let word_goes : Stays before behind = stays_on before after behind word_comes c.in_ok-scan.ensures.items in
     let line : c.line-line.result ≡ c.take_word.new.self.line = c.line-line.ensures ∙ sym c.in_ok-scan.ensures.line in
     let p = err_from_is_err_and c.from_residual-in_err-token.result c.from_residual-in_err-token.ensures.1 in
-    rw (p.1, p.2) (refused_behind before c.take_word.new.self c.in_ok-scan.scan (left c.take_word.new.desk) c.in_err-token.field-0.0 (sym c.if-is_comment.ensures)
-    (subst (λ n. IsScanned (Err c.in_err-token.field-0.0) (scanned n c.in_ok-scan.scan)) line c.in_err-token.ensures) word_goes)
+    rw (p.1, p.2) (refused_behind before c.take_word.new.self c.in_ok-scan.scan (left c.take_word.new.desk)
+    c.in_err-token.field-0.0 (sym c.if-is_comment.ensures)
+    (subst (λ n. IsScanned (Err c.in_err-token.field-0.0) (scanned n c.in_ok-scan.scan)) line c.in_err-token.ensures)
+    word_goes)
 
 pub returns-else-is_comment-clause-items : goal.returns-else-is_comment-clause-items
 returns-else-is_comment-clause-items g c =
@@ -112,8 +133,10 @@ returns-else-is_comment-clause-items g c =
     let turn : Option (List Item) = upcoming c.loop-b.self (left c.loop-b.desk) in
     let after : Option (List Item) = upcoming c.skip_blanks.new.self (left c.skip_blanks.new.desk) in
     let word_comes : Stays before after = stays_on before turn after c.loop-b.invariant.items c.in_ok-b.ensures.items in
-    let behind : Option (List Item) = upcoming_behind_word c.take_word.new.self c.in_ok-scan.scan (left c.take_word.new.desk) in
+    let behind : Option (List Item) = upcoming_behind_word c.take_word.new.self c.in_ok-scan.scan
+    (left c.take_word.new.desk) in
     let word_goes : Stays before behind = stays_on before after behind word_comes c.in_ok-scan.ensures.items in
     let line : c.line-line.result ≡ c.take_word.new.self.line = c.line-line.ensures ∙ sym c.in_ok-scan.ensures.line in
-    rw c.set_word.ensures (item_behind before c.take_word.new.self c.in_ok-scan.scan (left c.take_word.new.desk) c.in_ok-token.token (sym c.if-is_comment.ensures)
+    rw c.set_word.ensures (item_behind before c.take_word.new.self c.in_ok-scan.scan (left c.take_word.new.desk)
+    c.in_ok-token.token (sym c.if-is_comment.ensures)
     (ap (λ n. scanned n c.in_ok-scan.scan) (sym line) ∙ c.in_ok-token.ensures) word_goes)

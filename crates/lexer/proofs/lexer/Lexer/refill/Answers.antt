@@ -4,11 +4,20 @@ use Rattle.lexer.proofs.lexer.Lexer.refill.Goals as goal
 
 pub returns-clause-bytes : goal.returns-clause-bytes
 returns-clause-bytes g c =
-    let same : take c.self.inside.buffer.len (c.read.new.buf ++ drop (length c.read.new.buf) c.self.inside.buffer.items) ≡ c.read.new.buf = written _ c.read.new.buf c.self.inside.buffer.items (c.read.auto.buf ∙ ap length c.as_mut_slice.ensures.value ∙ sym c.self.inside.buffer.ok.0) (sym c.self.inside.buffer.ok.0) in
-    rw same (read_stays c.args.self.now.ahead (take c.in_ok-self-inside.field-0 c.read.new.buf) _ _ c.requires c.in_ok-self-inside.ensures.bytes.0)
+    let same : take c.self.inside.buffer.len (c.read.new.buf ++ drop (length c.read.new.buf) c.self.inside.buffer.items)
+    ≡ c.read.new.buf = written _ c.read.new.buf c.self.inside.buffer.items
+    (c.read.auto.buf ∙ ap length c.as_mut_slice.ensures.value ∙ sym c.self.inside.buffer.ok.0)
+    (sym c.self.inside.buffer.ok.0) in
+    rw same (read_stays c.args.self.now.ahead (take c.in_ok-self-inside.field-0 c.read.new.buf) _ _ c.requires
+    c.in_ok-self-inside.ensures.bytes.0)
 
 pub returns-clause-end : goal.returns-clause-end
 returns-clause-end g c = λ h.
-    let same : take c.self.inside.buffer.len (c.read.new.buf ++ drop (length c.read.new.buf) c.self.inside.buffer.items) ≡ c.read.new.buf = written _ c.read.new.buf c.self.inside.buffer.items (c.read.auto.buf ∙ ap length c.as_mut_slice.ensures.value ∙ sym c.self.inside.buffer.ok.0) (sym c.self.inside.buffer.ok.0) in
-    let size : length c.read.new.buf ≡ 4096 = c.read.auto.buf ∙ ap length c.as_mut_slice.ensures.value ∙ c.self.invariant.2 in
-    ended c.in_ok-self-inside.field-0 c.read.new.buf _ c.in_ok-self-inside.ensures.bound.0 (omega arith) c.in_ok-self-inside.ensures.bytes.1 (rw same at h)
+    let same : take c.self.inside.buffer.len (c.read.new.buf ++ drop (length c.read.new.buf) c.self.inside.buffer.items)
+    ≡ c.read.new.buf = written _ c.read.new.buf c.self.inside.buffer.items
+    (c.read.auto.buf ∙ ap length c.as_mut_slice.ensures.value ∙ sym c.self.inside.buffer.ok.0)
+    (sym c.self.inside.buffer.ok.0) in
+    let size : length c.read.new.buf ≡ 4096 = c.read.auto.buf ∙ ap length c.as_mut_slice.ensures.value
+    ∙ c.self.invariant.2 in
+    ended c.in_ok-self-inside.field-0 c.read.new.buf _ c.in_ok-self-inside.ensures.bound.0 (omega arith)
+    c.in_ok-self-inside.ensures.bytes.1 (rw same at h)

@@ -12,8 +12,10 @@ returns-then-room-eq0-clause-refusal g c =
     let after : Option (List Item) = upcoming c.peek.new.self (left c.peek.new.desk) in
     let first : slice_get c.peek.new.self.ahead 0 ≡ Some c.in-Some.b = sym c.in_ok-b.ensures.next ∙ c.in-Some.is in
     rw c.line.ensures (begins_on before after (too_long c.peek.new.self.line)
-    (stays_on before turn after c.loop-b.invariant.items (peeked c.loop-b.self c.peek.new.self _ _ c.peek.ensures.same c.peek.ensures.bytes))
-    (blank_beyond c.peek.new.self c.in-Some.b (left c.peek.new.desk) first (sym c.room.ensures ∙ c.if-room-eq0.true) (sym c.if-not-is_blank.ensures)))
+    (stays_on before turn after c.loop-b.invariant.items
+    (peeked c.loop-b.self c.peek.new.self _ _ c.peek.ensures.same c.peek.ensures.bytes))
+    (blank_beyond c.peek.new.self c.in-Some.b (left c.peek.new.desk) first (sym c.room.ensures ∙ c.if-room-eq0.true)
+    (sym c.if-not-is_blank.ensures)))
 
 pub loop-b-preserved : goal.loop-b-preserved
 loop-b-preserved g c =
@@ -26,13 +28,17 @@ loop-b-preserved g c =
     let less : c.advance.new.self.room ≡ c.peek.new.self.room - 1 = ap (λ (s : State). s.room) c.advance.ensures in
     record {
       items = stays_on before after (upcoming c.advance.new.self (left c.peek.new.desk))
-          (stays_on before turn after c.loop-b.invariant.items (peeked c.loop-b.self c.peek.new.self _ _ c.peek.ensures.same c.peek.ensures.bytes))
-          (rw c.advance.ensures (past_blank c.peek.new.self c.in-Some.b (left c.peek.new.desk) first (omega arith) (sym c.if-not-is_blank.ensures)));
+          (stays_on before turn after c.loop-b.invariant.items
+          (peeked c.loop-b.self c.peek.new.self _ _ c.peek.ensures.same c.peek.ensures.bytes))
+          (rw c.advance.ensures (past_blank c.peek.new.self c.in-Some.b (left c.peek.new.desk) first (omega arith)
+          (sym c.if-not-is_blank.ensures)));
       kept = c.in_ok-b.ensures.cause.kept ∙ c.loop-b.invariant.kept;
       flows = λ h. (c.peek.ensures.flows (c.loop-b.invariant.flows h)).1;
       content = λ n. c.peek.ensures.content n ∙ c.loop-b.invariant.content n;
       stays = λ n h. c.peek.ensures.stays n (c.loop-b.invariant.stays n h);
       room = omega arith;
-      comments = ap (λ (s : State). s.comments) c.advance.ensures ∙ ap (λ (s : State). s.comments) c.peek.ensures.same ∙ c.loop-b.invariant.comments;
-      failed = ap (λ (s : State). s.failed) c.advance.ensures ∙ ap (λ (s : State). s.failed) c.peek.ensures.same ∙ c.loop-b.invariant.failed;
+      comments = ap (λ (s : State). s.comments) c.advance.ensures ∙ ap (λ (s : State). s.comments) c.peek.ensures.same
+          ∙ c.loop-b.invariant.comments;
+      failed = ap (λ (s : State). s.failed) c.advance.ensures ∙ ap (λ (s : State). s.failed) c.peek.ensures.same
+          ∙ c.loop-b.invariant.failed;
     }

@@ -8,7 +8,8 @@ abbrev pub invariant-loop-b : goal.invariant-loop-b
 invariant-loop-b g l =
     let left = g.D.Desk.left in
     record {
-      items : Stays (upcoming_in_word l.fn.self no_scan (left l.fn.desk)) (upcoming_in_word l.self l.scan (left l.desk));
+      items : Stays (upcoming_in_word l.fn.self no_scan (left l.fn.desk))
+          (upcoming_in_word l.self l.scan (left l.desk));
       kept : g.D.Desk.faults l.desk ≡ g.D.Desk.faults l.fn.desk;
       flows : g.D.Desk.flows l.fn.desk → g.D.Desk.flows l.desk;
       content : (n : List ℕ) → g.D.Desk.content l.desk n ≡ g.D.Desk.content l.fn.desk n;

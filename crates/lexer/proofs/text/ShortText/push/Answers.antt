@@ -8,4 +8,5 @@ full : (n : ℕ) (xs : List ℕ) (b : ℕ) → length xs ≡ n → xs ≡ take n
 full n xs b h = sym (take-append-le n xs (b ∷ []) (omega arith) ∙ ap (λ k. take k xs) (sym h) ∙ take-length xs)
 
 pub returns-else-self-lt16 : goal.returns-else-self-lt16
-returns-else-self-lt16 c = full 16 c.args.self.now c.args.b (omega (arith, ap length c.self.view_is, length-take {A = ℕ}))
+returns-else-self-lt16 c = full 16 c.args.self.now c.args.b
+    (omega (arith, ap length c.self.view_is, length-take {A = ℕ}))

@@ -20,7 +20,10 @@ remove-requires c =
 
 pub returns-clause-scopes : goal.returns-clause-scopes
 returns-clause-scopes c =
-    let count : length c.args.self.now.scopes ≡ length c.self.inside.order.items = ap (λ (o : Ordered). length o.scopes) (sym c.self.view_is) ∙ length-map c.self.inside.order.items _ in
+    let count : length c.args.self.now.scopes ≡ length c.self.inside.order.items = ap (λ (o : Ordered). length o.scopes)
+    (sym c.self.view_is) ∙ length-map c.self.inside.order.items _ in
     let within : c.args.place < length c.self.inside.order.items = omega (arith, count, c.requires.place) in
     let named = get_or_read c.self.inside.order.items c.args.place c.index-id.result.now within c.index-id.ensures 0 in
-    rw (← c.self.view_is) (scopes_taken c.self.inside.blocks.items c.self.inside.order.items c.args.place c.index-id.result.now c.index_mut.result.now c.self.invariant within named c.index_mut.ensures.value _ c.args.v refl c.remove.ensures)
+    rw (← c.self.view_is) (scopes_taken c.self.inside.blocks.items c.self.inside.order.items c.args.place
+    c.index-id.result.now c.index_mut.result.now c.self.invariant within named c.index_mut.ensures.value _ c.args.v
+    refl c.remove.ensures)

@@ -10,7 +10,8 @@ returns-in_err-get-clause-value c =
     c.deref.ensures.value None (get_or_past _ _ c.in_err-get.ensures.lookup.3))
 
 pub returns-in_err-get-clause-found : goal.returns-in_err-get-clause-found
-returns-in_err-get-clause-found c = ap is_some (returns-in_err-get-clause-value c) ∙ level_found c.args.self.now c.args.v
+returns-in_err-get-clause-found c = ap is_some (returns-in_err-get-clause-value c)
+    ∙ level_found c.args.self.now c.args.v
 
 pub returns-in_err-home-clause-value : goal.returns-in_err-home-clause-value
 returns-in_err-home-clause-value c =
@@ -18,7 +19,8 @@ returns-in_err-home-clause-value c =
     c.index.ensures.place c.deref.ensures.value None (sym c.in_err-home.was ∙ c.in_ok-get.ensures.lookup.3.1 None))
 
 pub returns-in_err-home-clause-found : goal.returns-in_err-home-clause-found
-returns-in_err-home-clause-found c = ap is_some (returns-in_err-home-clause-value c) ∙ level_found c.args.self.now c.args.v
+returns-in_err-home-clause-found c = ap is_some (returns-in_err-home-clause-value c)
+    ∙ level_found c.args.self.now c.args.v
 
 pub index-requires-2 : goal.index-requires-2
 index-requires-2 c =

@@ -9,14 +9,19 @@ returns-in_default-clause-value c = without_absent c.args.v c.args.self.now (sym
 
 pub index_mut-requires : goal.index_mut-requires
 index_mut-requires c =
-    let level : level_of c.self.inside.blocks.scopes c.args.v ≡ Some c.in-Some.scope = ap (λ ss. level_of ss c.args.v) c.self.view_is ∙ sym c.in-Some.ensures.value in
-    rw c.self.inside.homes.ok.0 (index_within c.self.inside.blocks.scopes c.self.inside.blocks.ids c.self.inside.numbers.items c.self.inside.homes.items c.self.inside.count
+    let level : level_of c.self.inside.blocks.scopes c.args.v ≡ Some c.in-Some.scope = ap (λ ss. level_of ss c.args.v)
+    c.self.view_is ∙ sym c.in-Some.ensures.value in
+    rw c.self.inside.homes.ok.0
+    (index_within c.self.inside.blocks.scopes c.self.inside.blocks.ids c.self.inside.numbers.items
+    c.self.inside.homes.items c.self.inside.count
     c.index.result c.args.v c.in-Some.scope c.index.ensures.place c.self.invariant.0 level)
 
 pub invariant_of-self : goal.invariant_of-self
 invariant_of-self c =
-    let level : level_of c.self.inside.blocks.scopes c.args.v ≡ Some c.in-Some.scope = ap (λ ss. level_of ss c.args.v) c.self.view_is ∙ sym c.in-Some.ensures.value in
-    let among : is_among c.args.v (all_variables c.self.inside.blocks.scopes) ≡ true = ap (λ ss. is_among c.args.v (all_variables ss)) c.self.view_is ∙ sym c.in-Some.ensures.found in
+    let level : level_of c.self.inside.blocks.scopes c.args.v ≡ Some c.in-Some.scope = ap (λ ss. level_of ss c.args.v)
+    c.self.view_is ∙ sym c.in-Some.ensures.value in
+    let among : is_among c.args.v (all_variables c.self.inside.blocks.scopes) ≡ true =
+    ap (λ ss. is_among c.args.v (all_variables ss)) c.self.view_is ∙ sym c.in-Some.ensures.found in
     let table =
     table_taken c.self.inside.blocks.scopes c.self.inside.blocks.ids c.self.inside.numbers.items
     c.self.inside.homes.items c.self.inside.count c.index.result c.args.v c.in-Some.scope c.index.ensures.place
@@ -47,13 +52,15 @@ index_mut-requires-2 c =
 
 pub returns-clause-value : goal.returns-clause-value
 returns-clause-value c =
-    let level : level_of c.self.inside.blocks.scopes c.args.v ≡ Some c.in-Some.scope = ap (λ ss. level_of ss c.args.v) c.self.view_is ∙ sym c.in-Some.ensures.value in
+    let level : level_of c.self.inside.blocks.scopes c.args.v ≡ Some c.in-Some.scope = ap (λ ss. level_of ss c.args.v)
+    c.self.view_is ∙ sym c.in-Some.ensures.value in
     without_is c.self.inside.blocks.scopes c.take_out.new.self.scopes c.in-Some.scope c.args.v
     c.self.invariant.0.distinct level c.in-Some.ensures.within.0 c.take_out.ensures.scopes
     ∙ ap (without_variable c.args.v) c.self.view_is
 
 pub returns-clause-levels : goal.returns-clause-levels
-returns-clause-levels c = λ w. ap (λ ss. level_of ss w) (returns-clause-value c) ∙ level-without c.args.self.now c.args.v w
+returns-clause-levels c = λ w. ap (λ ss. level_of ss w) (returns-clause-value c) ∙ level-without c.args.self.now
+    c.args.v w
 
 pub returns-clause-kept : goal.returns-clause-kept
 returns-clause-kept c = rw (returns-clause-value c) (removal_keeps_order c.args.self.now c.args.v)

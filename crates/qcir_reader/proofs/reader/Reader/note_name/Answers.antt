@@ -14,7 +14,9 @@ returns-in_err-v-clause-notes c = λ f rep.
     let r = c.args.self.now in
     let z = to_z-of_z {w = w64} {z = c.args.n} c.ranges.n in
     let a = allowed_body r f c.requires.stage rep in
-    let same = ap (λ m. first_of (name_rules_kept r.sets.marks.items (sets_of r.sets.rows.items) r.amount m c.args.line)) z ∙ sym (ap first_of (name_same r f c.args.n c.args.line rep.keeps a.stands.vars)) in
+    let same =
+    ap (λ m. first_of (name_rules_kept r.sets.marks.items (sets_of r.sets.rows.items) r.amount m c.args.line)) z
+    ∙ sym (ap first_of (name_same r f c.args.n c.args.line rep.keeps a.stands.vars)) in
     let p = err_from_is_err_and c.from_residual.result c.from_residual.ensures.1 in
     rw (p.1, p.2) (subst (Is c.in_err-v.field-0.0) same c.in_err-v.ensures)
 
@@ -23,7 +25,11 @@ returns-clause-notes c = λ f rep.
     let r = c.args.self.now in
     let z = to_z-of_z {w = w64} {z = c.args.n} c.ranges.n in
     let a = allowed_body r f c.requires.stage rep in
-    let kept : first_of (name_rules_kept r.sets.marks.items (sets_of r.sets.rows.items) r.amount c.args.n c.args.line) ≡ None = ap (λ m. first_of (name_rules_kept r.sets.marks.items (sets_of r.sets.rows.items) r.amount m c.args.line)) (sym z) ∙ c.in_ok-v.ensures.0 in (
+    let kept : first_of (name_rules_kept r.sets.marks.items (sets_of r.sets.rows.items) r.amount c.args.n c.args.line) ≡
+    None = ap
+    (λ m. first_of (name_rules_kept r.sets.marks.items (sets_of r.sets.rows.items) r.amount m c.args.line)) (sym z)
+    ∙ c.in_ok-v.ensures.0 in (
       ap first_of (name_same r f c.args.n c.args.line rep.keeps a.stands.vars) ∙ kept,
-      name_kept r (record r { name = c.in_ok-v.v; inputs = c.clear.new.self }) f c.args.n rep.keeps (c.in_ok-v.ensures.1 ∙ ap nat_abs z) c.clear.ensures.items refl,
+      name_kept r (record r { name = c.in_ok-v.v; inputs = c.clear.new.self }) f c.args.n rep.keeps
+          (c.in_ok-v.ensures.1 ∙ ap nat_abs z) c.clear.ensures.items refl,
     )

@@ -9,7 +9,8 @@ returns-then-self-k c =
     let k = c.args.k in
     let h : k < length present = let l = c.self.invariant.0 in let f = c.requires in omega arith in
     let g : k < length numbers = let l = c.self.invariant.1 in let f = c.requires in omega arith in
-    sym (field_number (get_or present k false) (get_or numbers k 0) c.if-self-k.true) ∙ sym (field_at present numbers k h g) ∙ ap (λ fields. get_or fields k None) c.self.view_is
+    sym (field_number (get_or present k false) (get_or numbers k 0) c.if-self-k.true)
+    ∙ sym (field_at present numbers k h g) ∙ ap (λ fields. get_or fields k None) c.self.view_is
 
 pub returns-else-self-k : goal.returns-else-self-k
 returns-else-self-k c =
@@ -18,4 +19,5 @@ returns-else-self-k c =
     let k = c.args.k in
     let h : k < length present = let l = c.self.invariant.0 in let f = c.requires in omega arith in
     let g : k < length numbers = let l = c.self.invariant.1 in let f = c.requires in omega arith in
-    sym (field_none (get_or present k false) (get_or numbers k 0) c.if-self-k.false) ∙ sym (field_at present numbers k h g) ∙ ap (λ fields. get_or fields k None) c.self.view_is
+    sym (field_none (get_or present k false) (get_or numbers k 0) c.if-self-k.false)
+    ∙ sym (field_at present numbers k h g) ∙ ap (λ fields. get_or fields k None) c.self.view_is

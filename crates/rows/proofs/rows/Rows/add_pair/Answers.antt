@@ -12,7 +12,8 @@ use Rattle.rows.proofs.rows.Rows.add_pair.Goals as goal
 
 pub overflow_sub-self-inside : goal.overflow_sub-self-inside
 overflow_sub-self-inside c =
-    let few = blocks_few (length c.self.inside.lits.items) c.self.inside.places.items c.self.inside.blocks.items c.self.inside.live (vec_capacity c.self.inside.blocks) c.self.invariant in
+    let few = blocks_few (length c.self.inside.lits.items) c.self.inside.places.items c.self.inside.blocks.items
+    c.self.inside.live (vec_capacity c.self.inside.blocks) c.self.invariant in
     let is = c.len.ensures in
     let ok = c.self.inside.blocks.ok.0 in
     omega arith
@@ -23,9 +24,15 @@ invariant_of-self-2 c =
     let places = c.self.inside.places.items in
     let first = c.args.first.now in
     let second = c.args.second.now in
-    let e1 : c.put.new.all.items ≡ lits ++ first = c.put.ensures.lits ∙ ap (λ (ls : List Literal). ls ++ first) c.reserve-3.ensures.items in
-    let e2 : c.put.new.places.items ≡ places ++ Some (record { start = length lits; len = length first; block = None }) ∷ [] = c.put.ensures.places ∙ ap₂ (λ (ps : List (Option Place)) (ls : List Literal). ps ++ Some (record { start = length ls; len = length first; block = None }) ∷ []) c.reserve.ensures.items c.reserve-3.ensures.items in
-    let few = blocks_few (length lits) places c.self.inside.blocks.items c.self.inside.live (vec_capacity c.self.inside.blocks) c.self.invariant in
+    let e1 : c.put.new.all.items ≡ lits ++ first = c.put.ensures.lits ∙ ap (λ (ls : List Literal). ls ++ first)
+    c.reserve-3.ensures.items in
+    let e2 : c.put.new.places.items ≡ places ++ Some (record { start = length lits; len = length first; block = None })
+    ∷ [] = c.put.ensures.places
+    ∙ ap₂ (λ (ps : List (Option Place)) (ls : List Literal). ps ++ Some
+    (record { start = length ls; len = length first; block = None }) ∷ []) c.reserve.ensures.items
+    c.reserve-3.ensures.items in
+    let few = blocks_few (length lits) places c.self.inside.blocks.items c.self.inside.live
+    (vec_capacity c.self.inside.blocks) c.self.invariant in
     let is = c.len.ensures in
     let ok = c.self.inside.blocks.ok.0 in
     let same = c.reserve-2.ensures.len in
@@ -36,10 +43,16 @@ invariant_of-self-2 c =
     let few_two : (c.self.inside.live + 1) + 1 ≤ most_blocks = omega arith in
     let fits_one : c.self.inside.live + 1 ≤ vec_capacity c.reserve-2.new.self = omega arith in
     let two : (c.self.inside.live + 1) + 1 ≡ c.self.inside.live + 2 = omega arith in
-    let one = stored_put lits first c.put.new.all.items places c.put.new.places.items c.self.inside.blocks.items c.self.inside.live (vec_capacity c.self.inside.blocks) (vec_capacity c.reserve-2.new.self) e1 e2 c.self.invariant fits_one few_one in
-    let both = stored_put c.put.new.all.items second c.put-2.new.all.items c.put.new.places.items c.put-2.new.places.items c.self.inside.blocks.items (c.self.inside.live + 1) (vec_capacity c.reserve-2.new.self) (vec_capacity c.reserve-2.new.self) c.put-2.ensures.lits c.put-2.ensures.places one fits few_two in
-    let P : List Block → Type 0 = λ bs. AreStored (length c.put-2.new.all.items) c.put-2.new.places.items bs ((c.self.inside.live + 1) + 1) (vec_capacity c.reserve-2.new.self) in
-    let Q : ℕ → Type 0 = λ n. AreStored (length c.put-2.new.all.items) c.put-2.new.places.items c.reserve-2.new.self.items n (vec_capacity c.reserve-2.new.self) in
+    let one = stored_put lits first c.put.new.all.items places c.put.new.places.items c.self.inside.blocks.items
+    c.self.inside.live (vec_capacity c.self.inside.blocks) (vec_capacity c.reserve-2.new.self) e1 e2
+    c.self.invariant fits_one few_one in
+    let both = stored_put c.put.new.all.items second c.put-2.new.all.items c.put.new.places.items
+    c.put-2.new.places.items c.self.inside.blocks.items (c.self.inside.live + 1) (vec_capacity c.reserve-2.new.self)
+    (vec_capacity c.reserve-2.new.self) c.put-2.ensures.lits c.put-2.ensures.places one fits few_two in
+    let P : List Block → Type 0 = λ bs. AreStored (length c.put-2.new.all.items) c.put-2.new.places.items bs
+    ((c.self.inside.live + 1) + 1) (vec_capacity c.reserve-2.new.self) in
+    let Q : ℕ → Type 0 = λ n. AreStored (length c.put-2.new.all.items) c.put-2.new.places.items
+    c.reserve-2.new.self.items n (vec_capacity c.reserve-2.new.self) in
     subst Q two (subst P (sym c.reserve-2.ensures.items) both)
 
 pub returns-clause-arena : goal.returns-clause-arena
@@ -49,9 +62,15 @@ returns-clause-arena c =
     let blocks = c.self.inside.blocks.items in
     let first = c.args.first.now in
     let second = c.args.second.now in
-    let e1 : c.put.new.all.items ≡ lits ++ first = c.put.ensures.lits ∙ ap (λ (ls : List Literal). ls ++ first) c.reserve-3.ensures.items in
-    let e2 : c.put.new.places.items ≡ places ++ Some (record { start = length lits; len = length first; block = None }) ∷ [] = c.put.ensures.places ∙ ap₂ (λ (ps : List (Option Place)) (ls : List Literal). ps ++ Some (record { start = length ls; len = length first; block = None }) ∷ []) c.reserve.ensures.items c.reserve-3.ensures.items in
-    let few = blocks_few (length lits) places blocks c.self.inside.live (vec_capacity c.self.inside.blocks) c.self.invariant in
+    let e1 : c.put.new.all.items ≡ lits ++ first = c.put.ensures.lits ∙ ap (λ (ls : List Literal). ls ++ first)
+    c.reserve-3.ensures.items in
+    let e2 : c.put.new.places.items ≡ places ++ Some (record { start = length lits; len = length first; block = None })
+    ∷ [] = c.put.ensures.places
+    ∙ ap₂ (λ (ps : List (Option Place)) (ls : List Literal). ps ++ Some
+    (record { start = length ls; len = length first; block = None }) ∷ []) c.reserve.ensures.items
+    c.reserve-3.ensures.items in
+    let few = blocks_few (length lits) places blocks c.self.inside.live (vec_capacity c.self.inside.blocks)
+    c.self.invariant in
     let is = c.len.ensures in
     let ok = c.self.inside.blocks.ok.0 in
     let same = c.reserve-2.ensures.len in
@@ -60,7 +79,12 @@ returns-clause-arena c =
     let few_one : c.self.inside.live + 1 ≤ most_blocks = omega arith in
     let few_two : (c.self.inside.live + 1) + 1 ≤ most_blocks = omega arith in
     let fits_one : c.self.inside.live + 1 ≤ vec_capacity c.reserve-2.new.self = omega arith in
-    let one = stored_put lits first c.put.new.all.items places c.put.new.places.items blocks c.self.inside.live (vec_capacity c.self.inside.blocks) (vec_capacity c.reserve-2.new.self) e1 e2 c.self.invariant fits_one few_one in
+    let one = stored_put lits first c.put.new.all.items places c.put.new.places.items blocks c.self.inside.live
+    (vec_capacity c.self.inside.blocks) (vec_capacity c.reserve-2.new.self) e1 e2 c.self.invariant fits_one
+    few_one in
     ap (λ (bs : List Block). arena_of c.put-2.new.all.items bs c.put-2.new.places.items) c.reserve-2.ensures.items
-    ∙ arena_put c.put.new.all.items second c.put-2.new.all.items blocks c.put.new.places.items c.put-2.new.places.items c.put-2.ensures.lits c.put-2.ensures.places one.spread
-    ∙ ap (λ (a : Arena). with_row a second) (arena_put lits first c.put.new.all.items blocks places c.put.new.places.items e1 e2 c.self.invariant.spread ∙ ap (λ (a : Arena). with_row a first) c.self.view_is)
+    ∙ arena_put c.put.new.all.items second c.put-2.new.all.items blocks c.put.new.places.items c.put-2.new.places.items
+    c.put-2.ensures.lits c.put-2.ensures.places one.spread
+    ∙ ap (λ (a : Arena). with_row a second)
+    (arena_put lits first c.put.new.all.items blocks places c.put.new.places.items e1 e2 c.self.invariant.spread
+    ∙ ap (λ (a : Arena). with_row a first) c.self.view_is)

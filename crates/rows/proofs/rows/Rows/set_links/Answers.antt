@@ -12,18 +12,25 @@ use Rattle.rows.proofs.Storing.{stored_linked}
 use Rattle.rows.proofs.rows.Rows.set_links.Goals as goal
 
 pub write_three-requires-clause-block : goal.write_three-requires-clause-block
-write_three-requires-clause-block c = (c.block_for-block.ensures.blocks.has c.args.id c.block_for-block.result c.block_for-block.ensures.block).0
+write_three-requires-clause-block c =
+    (c.block_for-block.ensures.blocks.has c.args.id c.block_for-block.result c.block_for-block.ensures.block).0
 
 pub invariant_of-self : goal.invariant_of-self
 invariant_of-self c =
     let middle = c.block_for-block.new.blocks.items in
     let b = c.block_for-block.result in
     let links = set_three c.args.base c.args.values (block_at middle b).links in
-    let within : b < length middle = (c.block_for-block.ensures.blocks.has c.args.id b c.block_for-block.ensures.block).0 in
-    let more : vec_capacity c.self.inside.blocks ≤ vec_capacity c.write_three.new.blocks = (let r = c.block_for-block.ensures.room in let w = c.write_three.ensures.room in omega arith) in
-    let P : List Block → Type 0 = λ bs. AreStored (length c.self.inside.lits.items) c.block_for-block.new.places.items bs c.self.inside.live (vec_capacity c.write_three.new.blocks) in
+    let within : b < length middle =
+    (c.block_for-block.ensures.blocks.has c.args.id b c.block_for-block.ensures.block).0 in
+    let more : vec_capacity c.self.inside.blocks ≤ vec_capacity c.write_three.new.blocks =
+    (let r = c.block_for-block.ensures.room in let w = c.write_three.ensures.room in omega arith) in
+    let P : List Block → Type 0 = λ bs. AreStored (length c.self.inside.lits.items) c.block_for-block.new.places.items
+    bs c.self.inside.live (vec_capacity c.write_three.new.blocks) in
     subst P (sym c.write_three.ensures.items)
-    (stored_linked (length c.self.inside.lits.items) c.self.inside.places.items c.block_for-block.new.places.items c.self.inside.blocks.items middle c.self.inside.live (vec_capacity c.self.inside.blocks) (vec_capacity c.write_three.new.blocks) b links c.self.invariant c.block_for-block.ensures.same c.block_for-block.ensures.blocks c.block_for-block.ensures.live within more)
+    (stored_linked (length c.self.inside.lits.items) c.self.inside.places.items c.block_for-block.new.places.items
+    c.self.inside.blocks.items middle c.self.inside.live (vec_capacity c.self.inside.blocks)
+    (vec_capacity c.write_three.new.blocks) b links c.self.invariant c.block_for-block.ensures.same
+    c.block_for-block.ensures.blocks c.block_for-block.ensures.live within more)
 
 pub returns-clause-arena : goal.returns-clause-arena
 returns-clause-arena c =
@@ -37,10 +44,14 @@ returns-clause-arena c =
     let are = c.block_for-block.ensures.blocks in
     let there = c.block_for-block.ensures.block in
     let within : b < length middle = (are.has c.args.id b there).0 in
-    let live : is_some (place_at places c.args.id) ≡ true = sym (live_place lits blocks places c.args.id) ∙ ap (λ (a : Arena). is_live a c.args.id) c.self.view_is ∙ c.requires.live in
-    arena_linked lits blocks middle c.write_three.new.blocks.items places new_places c.args.id b (set_three c.args.base c.args.values) live c.block_for-block.ensures.same there c.block_for-block.ensures.links
-    (ap (λ (bs : List Block). links_in bs (Some b)) c.write_three.ensures.items ∙ written_here (blocks_of new_places) middle are b links within)
-    (λ i o differs e. ap (λ (bs : List Block). links_in bs o) c.write_three.ensures.items ∙ written_other (blocks_of new_places) middle are b links within i c.args.id o differs there e)
+    let live : is_some (place_at places c.args.id) ≡ true = sym (live_place lits blocks places c.args.id)
+    ∙ ap (λ (a : Arena). is_live a c.args.id) c.self.view_is ∙ c.requires.live in
+    arena_linked lits blocks middle c.write_three.new.blocks.items places new_places c.args.id b
+    (set_three c.args.base c.args.values) live c.block_for-block.ensures.same there c.block_for-block.ensures.links
+    (ap (λ (bs : List Block). links_in bs (Some b)) c.write_three.ensures.items ∙ written_here (blocks_of new_places)
+    middle are b links within)
+    (λ i o differs e. ap (λ (bs : List Block). links_in bs o) c.write_three.ensures.items
+    ∙ written_other (blocks_of new_places) middle are b links within i c.args.id o differs there e)
     ∙ ap (λ (a : Arena). with_links a c.args.id c.args.base c.args.values) c.self.view_is
 
 pub returns-clause-rest : goal.returns-clause-rest
@@ -49,12 +60,17 @@ returns-clause-rest c =
     let blocks = c.self.inside.blocks.items in
     let lits = c.self.inside.lits.items in
     let b = c.block_for-block.result in
-    let live : is_some (place_at places c.args.id) ≡ true = sym (live_place lits blocks places c.args.id) ∙ ap (λ (a : Arena). is_live a c.args.id) c.self.view_is ∙ c.requires.live in
+    let live : is_some (place_at places c.args.id) ≡ true = sym (live_place lits blocks places c.args.id)
+    ∙ ap (λ (a : Arena). is_live a c.args.id) c.self.view_is ∙ c.requires.live in
     let p = some_is (place_at places c.args.id) live in
-    let same = c.block_for-block.ensures.links c.args.id p.0.block (Some b) (block_there places c.args.id p.0 p.1) c.block_for-block.ensures.block in
-    let eight : length (links_in blocks p.0.block) ≡ 8 = ap (λ (ls : List (Option ℕ)). length ls) (sym same) ∙ c.write_three.ensures.eight in
+    let same = c.block_for-block.ensures.links c.args.id p.0.block (Some b) (block_there places c.args.id p.0 p.1)
+    c.block_for-block.ensures.block in
+    let eight : length (links_in blocks p.0.block) ≡ 8 = ap (λ (ls : List (Option ℕ)). length ls) (sym same)
+    ∙ c.write_three.ensures.eight in
     let field = c.requires.fields in
     let within : c.args.base + 2 < length (links_in blocks p.0.block) = omega arith in
-    let at : row_at c.args.self.now c.args.id ≡ Some (stored lits blocks p.0) = ap (λ (a : Arena). row_at a c.args.id) (sym c.self.view_is) ∙ stored_place lits blocks places c.args.id p.0 p.1 in
+    let at : row_at c.args.self.now c.args.id ≡ Some (stored lits blocks p.0) = ap (λ (a : Arena). row_at a c.args.id)
+    (sym c.self.view_is) ∙ stored_place lits blocks places c.args.id p.0 p.1 in
     let P : Arena → Type 0 = λ a. ChangesLinks c.args.self.now a c.args.id c.args.base c.args.values in
-    subst P (sym (returns-clause-arena c)) (ChangesLinks-with_links c.args.self.now c.args.id c.args.base c.args.values (stored lits blocks p.0) c.requires.live at within)
+    subst P (sym (returns-clause-arena c)) (ChangesLinks-with_links c.args.self.now c.args.id c.args.base c.args.values
+    (stored lits blocks p.0) c.requires.live at within)

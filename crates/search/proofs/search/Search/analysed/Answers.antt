@@ -51,7 +51,8 @@ searching_new : (c : goal.After-budget-budget) (made : ℕ) → MarksMore (old c
 searching_new c made marks =
     let e = c.lesson_of-lesson.ensures in
     searching_analysed c.args.prefix.now (old c) (new c) made c.holding_laws.ensures c.agreeing_laws.ensures
-    (searching_old c) e.gains e.legal refl refl refl (c.bump_resolved.ensures ∙ (c.decay.ensures ∙ c.bump.ensures)) refl e.trail marks e.reasons
+    (searching_old c) e.gains e.legal refl refl refl (c.bump_resolved.ensures ∙ (c.decay.ensures ∙ c.bump.ensures)) refl
+    e.trail marks e.reasons
 
 pub returns-clause-ok : goal.returns-clause-ok
 returns-clause-ok c =

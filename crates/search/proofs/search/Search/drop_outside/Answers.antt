@@ -24,7 +24,8 @@ drop_outside-requires-clause-below c =
     c.args.prefix.now c.args.from c.requires.below)
 
 sheds : (c : goal.After-drop_outside)
-    → Sheds (λ id. mentions (is_outside c.args.prefix.now) (row_of c.args.self.now.derivation id) ≡ true) c.args.self.now
+    → Sheds (λ id. mentions (is_outside c.args.prefix.now) (row_of c.args.self.now.derivation id) ≡ true)
+    c.args.self.now
     (the_view c.self.inside)
 sheds c =
     subst (Sheds (λ id. mentions (is_outside c.args.prefix.now) (row_of c.args.self.now.derivation id) ≡ true)
@@ -40,7 +41,8 @@ pub returns-clause-loses : goal.returns-clause-loses
 returns-clause-loses c =
     let old = c.args.self.now.derivation in
     let now = c.self.inside.derivation in
-    loses_shed (names (is_outside c.args.prefix.now) (arena_of old)) (names (is_outside c.args.prefix.now) (arena_of now))
+    loses_shed (names (is_outside c.args.prefix.now) (arena_of old))
+    (names (is_outside c.args.prefix.now) (arena_of now))
     old now c.drop_outside.new.self (sheds c).steps (names_alike old now (sheds c).steps (is_outside c.args.prefix.now))
     c.drop_outside.ensures.drops
 

@@ -7,7 +7,8 @@ use Rattle.search.proofs.search.Search.part_from.Goals as goal
 
 pub loop-id-init : goal.loop-id-init
 loop-id-init c =
-    shed_none (Goes c.args.leaving.now c.args.self.now.derivation) (Reaches c.args.leaving.now c.args.self.now.derivation)
+    shed_none (Goes c.args.leaving.now c.args.self.now.derivation)
+    (Reaches c.args.leaving.now c.args.self.now.derivation)
     c.args.self.now c.args.from c.args.from (omega arith) c.requires.intact.1.has_rows c.requires.tallied
 
 pub loop-id-preserved : goal.loop-id-preserved

@@ -43,7 +43,8 @@ turns-preserved c =
       assumed = adv.assumed c.args.assumptions.now i.assumed;
       counted = (adv.counted c.args.steps.now.spent i.counted).0;
       clauses = adv.clauses ∙ i.clauses;
-      older = older_then c.args.self.now.derivation c.turns.self.derivation c.turn.new.self.derivation i.older adv.older;
+      older = older_then c.args.self.now.derivation c.turns.self.derivation c.turn.new.self.derivation i.older
+          adv.older;
       budget = adv.budget ∙ i.budget;
       rises = omega arith;
       forced = λ none refuted. c.in_ok-end.ensures.forced c.args.steps.now.spent (i.forced none refuted)

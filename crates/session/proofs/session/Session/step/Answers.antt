@@ -130,8 +130,10 @@ returns-in-Cert-clause-steps g c = rw (← c.self.view_is, c.in-Cert.is) (λ s h
 pub returns-in-OpenGroup-clause-steps : goal.returns-in-OpenGroup-clause-steps
 returns-in-OpenGroup-clause-steps g c = rw (← c.self.view_is, c.in-OpenGroup.is) (λ s holds.
     accepts g.S.Sink.written g.S.Sink.flushed g.S.Sink.faults g.S.Sink.has_room _
-    (command.OpenGroup c.in-OpenGroup.group) (OpenGroup c.in-OpenGroup.group) s c.self.inside.engine c.open_group.new.self holds refl
-    (λ out after h. h) refl refl refl refl refl refl (λ f. three_numbered (not (may_number c.in-OpenGroup.group)) (is_some f.current)
+    (command.OpenGroup c.in-OpenGroup.group) (OpenGroup c.in-OpenGroup.group) s c.self.inside.engine
+    c.open_group.new.self holds refl
+    (λ out after h. h) refl refl refl refl refl refl (λ f. three_numbered (not (may_number c.in-OpenGroup.group))
+    (is_some f.current)
     (not (depth f.frames == 0)) GroupRange GroupOpen GroupFrame refl refl refl) _
     c.open_group.result c.args.sink.now c.accept-in-OpenGroup.new.sink c.accept-in-OpenGroup.result
     (on_ok_weaker c.open_group.result
@@ -157,8 +159,11 @@ returns-in-CloseGroup-clause-steps g c = rw (← c.self.view_is, c.in-CloseGroup
 pub returns-in-Activate-clause-steps : goal.returns-in-Activate-clause-steps
 returns-in-Activate-clause-steps g c = rw (← c.self.view_is, c.in-Activate.is) (λ s holds.
     accepts g.S.Sink.written g.S.Sink.flushed g.S.Sink.faults g.S.Sink.has_room _
-    (command.Activate c.in-Activate.group) (Activate c.in-Activate.group) s c.self.inside.engine c.activate.new.self holds refl
-    (λ out after h. h) refl refl refl refl refl refl (λ f. three_numbered (not (may_number c.in-Activate.group)) (not (is_group f.groups c.in-Activate.group)) (is_some f.current)
+    (command.Activate c.in-Activate.group) (Activate c.in-Activate.group) s c.self.inside.engine c.activate.new.self
+    holds refl
+    (λ out after h. h) refl refl refl refl refl refl
+    (λ f. three_numbered (not (may_number c.in-Activate.group)) (not (is_group f.groups c.in-Activate.group))
+    (is_some f.current)
     GroupRange NoGroup GroupOpen refl refl refl) _
     c.activate.result c.args.sink.now c.accept-in-Activate.new.sink c.accept-in-Activate.result
     (on_ok_weaker c.activate.result
@@ -171,8 +176,10 @@ returns-in-Activate-clause-steps g c = rw (← c.self.view_is, c.in-Activate.is)
 pub returns-in-Deactivate-clause-steps : goal.returns-in-Deactivate-clause-steps
 returns-in-Deactivate-clause-steps g c = rw (← c.self.view_is, c.in-Deactivate.is) (λ s holds.
     accepts g.S.Sink.written g.S.Sink.flushed g.S.Sink.faults g.S.Sink.has_room _
-    (command.Deactivate c.in-Deactivate.group) (Deactivate c.in-Deactivate.group) s c.self.inside.engine c.deactivate.new.self holds refl
-    (λ out after h. h) refl refl refl refl refl refl (λ f. three_numbered (not (may_number c.in-Deactivate.group)) (not (is_group f.groups c.in-Deactivate.group)) (is_some f.current)
+    (command.Deactivate c.in-Deactivate.group) (Deactivate c.in-Deactivate.group) s c.self.inside.engine
+    c.deactivate.new.self holds refl
+    (λ out after h. h) refl refl refl refl refl refl (λ f. three_numbered (not (may_number c.in-Deactivate.group))
+    (not (is_group f.groups c.in-Deactivate.group)) (is_some f.current)
     GroupRange NoGroup GroupOpen refl refl refl) _
     c.deactivate.result c.args.sink.now c.accept-in-Deactivate.new.sink c.accept-in-Deactivate.result
     (on_ok_weaker c.deactivate.result

@@ -19,8 +19,14 @@ returns-clause-passed c =
     let near : AreIn blocks (place / 64) next = rw c.deref-2.ensures.value at c.first_unmarked-next.ensures.passed in
     let wide : AreIn regions (next / 64) far = rw c.deref-3.ensures.value at c.first_unmarked-far.ensures.passed in
     let then : AreIn blocks block last = rw c.deref-4.ensures.value at c.first_unmarked-last.ensures.passed in
-    let end : AreIn places start c.first_unmarked.result = rw c.deref-5.ensures.value at c.first_unmarked.ensures.passed in
-    let over : AreIn blocks (place / 64) block = rw c.max-block.ensures (in_both blocks (place / 64) next (next / 64 * 64) (far * 64) near (in_blocks blocks regions (next / 64) far c.self.invariant.1 wide) (omega arith)) in
-    let whole : AreIn blocks (place / 64) last = in_joined blocks (place / 64) block block last over then (omega arith) in
-    let passed : AreIn places from start = rw c.max-place.ensures (in_both places from place (place / 64 * 64) (last * 64) first (in_blocks places blocks (place / 64) last c.self.invariant.0 whole) (omega arith)) in
+    let end : AreIn places start c.first_unmarked.result = rw c.deref-5.ensures.value at c.first_unmarked.ensures.passed
+    in
+    let over : AreIn blocks (place / 64) block = rw c.max-block.ensures
+    (in_both blocks (place / 64) next (next / 64 * 64) (far * 64) near
+    (in_blocks blocks regions (next / 64) far c.self.invariant.1 wide) (omega arith)) in
+    let whole : AreIn blocks (place / 64) last = in_joined blocks (place / 64) block block last over then
+    (omega arith) in
+    let passed : AreIn places from start = rw c.max-place.ensures
+    (in_both places from place (place / 64 * 64) (last * 64) first
+    (in_blocks places blocks (place / 64) last c.self.invariant.0 whole) (omega arith)) in
     rw (← c.self.view_is) (in_joined places from start start c.first_unmarked.result passed end (omega arith))

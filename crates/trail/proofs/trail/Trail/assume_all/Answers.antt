@@ -13,7 +13,9 @@ returns-then-is_err-clause-err c =
     let is = c.self.view_is in
     let undone = c.undo_all.ensures in
     on_err_both c.assume_each-assumed.result c.assume_each-assumed.ensures.err c.assume_each-assumed.ensures.fewer
-    (given_up_is c.args.prefix.now c.args.self.now now c.args.lits.now (left c.args.steps.now) (trail_of items) (depths_of items) (marks_of items) c.self.inside.finished c.self.inside.assigned c.self.inside.restarts (length c.self.inside.spots)
+    (given_up_is c.args.prefix.now c.args.self.now now c.args.lits.now (left c.args.steps.now) (trail_of items)
+    (depths_of items) (marks_of items) c.self.inside.finished c.self.inside.assigned c.self.inside.restarts
+    (length c.self.inside.spots)
     (ap (λ (t : TrailState). t.placed) is ∙ undone.placed)
     (ap (λ (t : TrailState). t.depths) is ∙ undone.depths)
     (ap (λ (t : TrailState). t.marks) is ∙ undone.marks)
@@ -27,7 +29,9 @@ returns-then-is_err-clause-kept c =
     let items = c.self.inside.entries.items in
     let is = c.self.view_is in
     let undone = c.undo_all.ensures in
-    kept_given_up c.args.prefix.now c.assume_each-assumed.new.self (trail_of items) (depths_of items) (marks_of items) c.self.inside.finished c.self.inside.assigned c.self.inside.restarts (length c.self.inside.spots) c.assume_each-assumed.ensures.kept
+    kept_given_up c.args.prefix.now c.assume_each-assumed.new.self (trail_of items) (depths_of items) (marks_of items)
+    c.self.inside.finished c.self.inside.assigned c.self.inside.restarts (length c.self.inside.spots)
+    c.assume_each-assumed.ensures.kept
     (ap (λ (t : TrailState). t.placed) is ∙ undone.placed)
     (ap (λ (t : TrailState). t.depths) is ∙ undone.depths)
     (ap (λ (t : TrailState). t.marks) is ∙ undone.marks)

@@ -15,12 +15,15 @@ within : (c : goal.After-result-1) → c.args.place < length c.self.inside.entri
 within c = rw (← length-map c.self.inside.entries.items placed_of) (rw (← c.self.view_is) at c.requires)
 
 pub returns-clause-literal : goal.returns-clause-literal
-returns-clause-literal c = ap (λ (t : Trail). slice_get (literals_on t) c.args.place) (sym (same c)) ∙ literal_at c.self.inside.entries.items c.args.place c.index.result.now (within c) c.index.ensures
+returns-clause-literal c = ap (λ (t : Trail). slice_get (literals_on t) c.args.place) (sym (same c))
+    ∙ literal_at c.self.inside.entries.items c.args.place c.index.result.now (within c) c.index.ensures
 
-read : (c : goal.After-result-1) → slice_get (trail_of c.self.inside.entries.items) c.args.place ≡ Some (placed_of c.index.result.now)
+read : (c : goal.After-result-1) → slice_get (trail_of c.self.inside.entries.items) c.args.place ≡ Some
+    (placed_of c.index.result.now)
 read c = placed_at c.self.inside.entries.items c.args.place c.index.result.now (within c) c.index.ensures
 
-place : (c : goal.After-result-1) → place_on (trail_of c.self.inside.entries.items) c.index.result.now.lit.variable ≡ c.args.place
+place : (c : goal.After-result-1) → place_on (trail_of c.self.inside.entries.items) c.index.result.now.lit.variable ≡
+    c.args.place
 place c = c.self.invariant.0.once c.args.place (placed_of c.index.result.now) (read c)
 
 pub returns-clause-place : goal.returns-clause-place

@@ -17,6 +17,8 @@ returns-clause-earlier c =
     λ scopes kept.
     let items = c.self.inside.entries.items in
     let same : trail_of items ≡ c.args.self.now.placed = ap (λ (t : TrailState). t.placed) c.self.view_is in
-    let inside = kept_inside scopes items c.args.self.now same (ap (λ (t : TrailState). t.depths) c.self.view_is) kept in
-    let earlier : AreAssignedBefore scopes c.args.self.now.placed (floor_from 1 items) = rw (← same) (floor_earlier scopes items inside.0 inside.1) in
+    let inside = kept_inside scopes items c.args.self.now same (ap (λ (t : TrailState). t.depths) c.self.view_is)
+    kept in
+    let earlier : AreAssignedBefore scopes c.args.self.now.placed (floor_from 1 items) =
+    rw (← same) (floor_earlier scopes items inside.0 inside.1) in
     rw (is c) earlier

@@ -11,8 +11,10 @@ pub returns-in-None : goal.returns-in-None
 returns-in-None c =
     let t = c.args.self.now in
     let same : trail_of c.self.inside.entries.items ≡ t.placed = ap (λ (t : TrailState). t.placed) c.self.view_is in
-    let none : value_on t.placed c.args.v ≡ None = none_map (value_on t.placed c.args.v) (place_on t.placed c.args.v) (sym c.in-None.is ∙ c.place.ensures.value) in
-    sym (mark_none c.self.inside.entries.items c.args.v (ap (λ (t : Trail). value_on t c.args.v) same ∙ none)) ∙ ap (λ (t : TrailState). is_marked t c.args.v) c.self.view_is
+    let none : value_on t.placed c.args.v ≡ None = none_map (value_on t.placed c.args.v) (place_on t.placed c.args.v)
+    (sym c.in-None.is ∙ c.place.ensures.value) in
+    sym (mark_none c.self.inside.entries.items c.args.v (ap (λ (t : Trail). value_on t c.args.v) same ∙ none))
+    ∙ ap (λ (t : TrailState). is_marked t c.args.v) c.self.view_is
 
 pub returns-in-Some : goal.returns-in-Some
 returns-in-Some c =
@@ -20,7 +22,11 @@ returns-in-Some c =
     let t = c.args.self.now in
     let same : trail_of items ≡ t.placed = ap (λ (t : TrailState). t.placed) c.self.view_is in
     let d = c.index.result.now in
-    let found = map_some (value_on t.placed c.args.v) c.in-Some.place (place_on t.placed c.args.v) (sym c.in-Some.is ∙ c.place.ensures.value) in
+    let found = map_some (value_on t.placed c.args.v) c.in-Some.place (place_on t.placed c.args.v)
+    (sym c.in-Some.is ∙ c.place.ensures.value) in
     let place = found.0 ∙ ap (λ (t : Trail). place_on t c.args.v) (sym same) in
-    let read : d ≡ get_or items (place_on (trail_of items) c.args.v) d = c.index.ensures ∙ ap (λ n. get_or items n d) place in
-    ap (λ (e : Entry). e.clean) read ∙ (mark_read items c.args.v d (ap (λ (t : Trail). is_some (value_on t c.args.v)) same ∙ found.1) ∙ ap (λ (t : TrailState). is_marked t c.args.v) c.self.view_is)
+    let read : d ≡ get_or items (place_on (trail_of items) c.args.v) d = c.index.ensures
+    ∙ ap (λ n. get_or items n d) place in
+    ap (λ (e : Entry). e.clean) read
+    ∙ (mark_read items c.args.v d (ap (λ (t : Trail). is_some (value_on t c.args.v)) same ∙ found.1)
+    ∙ ap (λ (t : TrailState). is_marked t c.args.v) c.self.view_is)

@@ -13,13 +13,15 @@ pub loop-len-preserved : goal.loop-len-preserved
 loop-len-preserved c =
     let some = c.loop-len-test.true in
     let next : c.loop-len.len ≡ suc (c.loop-len.len - 1) = omega arith in
-    cut_length_less c.args.level c.self.inside.entries.items c.loop-len.len (c.loop-len.len - 1) c.index.result.now c.loop-len.invariant c.self.invariant.0.leveled next c.index.ensures c.if-index-level.true
+    cut_length_less c.args.level c.self.inside.entries.items c.loop-len.len (c.loop-len.len - 1) c.index.result.now
+    c.loop-len.invariant c.self.invariant.0.leveled next c.index.ensures c.if-index-level.true
 
 pub returns-else-index-level : goal.returns-else-index-level
 returns-else-index-level c =
     let some = c.loop-len-test.true in
     let next : c.loop-len.len ≡ suc (c.loop-len.len - 1) = omega arith in
-    cut_length_found c.args.level c.self.inside.entries.items c.loop-len.len (c.loop-len.len - 1) c.index.result.now c.loop-len.invariant c.self.invariant.0.leveled next c.index.ensures c.if-index-level.false
+    cut_length_found c.args.level c.self.inside.entries.items c.loop-len.len (c.loop-len.len - 1) c.index.result.now
+    c.loop-len.invariant c.self.invariant.0.leveled next c.index.ensures c.if-index-level.false
     ∙ ap (λ (t : TrailState). length (cut_trail c.args.level t.placed)) c.self.view_is
 
 pub returns-after-loop-len : goal.returns-after-loop-len

@@ -16,7 +16,8 @@ pub level_after-requires : goal.level_after-requires
 level_after-requires c =
     let items = c.self.inside.entries.items in
     let few : last_level (trail_of items) ≤ 0 + length (trail_of items) = level_few 0 (trail_of items) in
-    let is : c.level.result ≡ last_level (trail_of items) = c.level.ensures ∙ ap (λ (t : TrailState). last_level t.placed) (sym c.self.view_is) in
+    let is : c.level.result ≡ last_level (trail_of items) = c.level.ensures
+    ∙ ap (λ (t : TrailState). last_level t.placed) (sym c.self.view_is) in
     let long : length (trail_of items) ≡ length items = length-map items placed_of in
     let fits = c.self.inside.entries.ok in
     let small = c.self.inside.entries.small in
@@ -27,7 +28,8 @@ last_floor-requires c = rw c.deref.ensures.value c.self.invariant.1.floored
 
 pub count_up-requires : goal.count_up-requires
 count_up-requires c =
-    let few = count_few c.self.inside.entries.items c.self.inside.tallies.items c.args.scope c.self.invariant.1.tallied in
+    let few = count_few c.self.inside.entries.items c.self.inside.tallies.items c.args.scope
+    c.self.invariant.1.tallied in
     let fits = c.self.inside.entries.ok in
     let small = c.self.inside.entries.small in
     omega arith

@@ -20,13 +20,15 @@ returns-clause-value c =
     }
 
 pub returns-clause-placed : goal.returns-clause-placed
-returns-clause-placed c = ap (λ (t : TrailState). t.placed) (c.self.view_is ∙ c.undo_to.ensures.cut) ∙ undone_placed c.args.self.now
+returns-clause-placed c = ap (λ (t : TrailState). t.placed) (c.self.view_is ∙ c.undo_to.ensures.cut)
+    ∙ undone_placed c.args.self.now
 
 pub returns-clause-kept : goal.returns-clause-kept
 returns-clause-kept c = λ scopes kept.
     let old = c.args.self.now in
     let small : old.assigned < 2 ^ 64 = rw (← c.assigned-assigned.ensures.value) c.assigned-assigned.type_inv in
-    let same : (undone_to 0 old).assigned ≡ old.assigned = ap (λ (t : TrailState). t.assigned) (sym c.undo_to.ensures.cut)
+    let same : (undone_to 0 old).assigned ≡ old.assigned = ap (λ (t : TrailState). t.assigned)
+    (sym c.undo_to.ensures.cut)
     ∙ c.undo_to.ensures.assigned in
     subst (IsTrailFor scopes) (sym (returns-clause-value c))
     (kept_anew scopes (undone_to 0 old) (rw same small) (kept_cut scopes 0 old kept))

@@ -6,6 +6,7 @@ use Rattle.trail.proofs.trail.Trail.room.Goals as goal
 
 pub returns-clause-reserved : goal.returns-clause-reserved
 returns-clause-reserved c =
-    let room = table_room c.self.inside.entries.items c.self.inside.spots (vec_capacity c.self.inside.entries) c.self.invariant.0 in
+    let room = table_room c.self.inside.entries.items c.self.inside.spots (vec_capacity c.self.inside.entries)
+    c.self.invariant.0 in
     let P : TrailState → Type 0 = HasRoom in
     subst P c.self.view_is (record { count = room.0; variables = room.1 })

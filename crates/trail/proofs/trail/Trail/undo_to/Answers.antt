@@ -19,4 +19,5 @@ pub returns-clause-kept : goal.returns-clause-kept
 returns-clause-kept c = λ scopes kept. rw (cut c) (kept_cut scopes c.args.level c.args.self.now kept)
 
 pub returns-clause-raised : goal.returns-clause-raised
-returns-clause-raised c = λ high n fits. rw (cut c ∙ undone_high c.args.level c.args.self.now high) (raised_cut n c.args.level c.args.self.now.placed fits high)
+returns-clause-raised c = λ high n fits. rw (cut c ∙ undone_high c.args.level c.args.self.now high)
+    (raised_cut n c.args.level c.args.self.now.placed fits high)

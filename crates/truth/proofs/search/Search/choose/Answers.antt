@@ -16,8 +16,10 @@ index_mut-requires c =
     let inside : length tried < length order = rw length-map at within in
     let at : c.len.result ≡ length tried = c.len.ensures ∙ c.self.inside.tried.ok.0 in
     let number : c.number-number.result ≡ (get_or (bounds_of order) (length tried) (bound_of x)).variable =
-    c.number-number.ensures.value ∙ ap (λ (b : BoundVariable). b.variable) (sym (bound_at order (length tried) x inside (rw at at c.index.ensures))) in
-    rw (number, table.ok.0) (covers_at (λ (b : BoundVariable). b.variable < length table.items) (bounds_of order) (length tried) (bound_of x) within c.self.invariant.covers)
+    c.number-number.ensures.value ∙ ap (λ (b : BoundVariable). b.variable)
+    (sym (bound_at order (length tried) x inside (rw at at c.index.ensures))) in
+    rw (number, table.ok.0) (covers_at (λ (b : BoundVariable). b.variable < length table.items) (bounds_of order)
+    (length tried) (bound_of x) within c.self.invariant.covers)
 
 pub invariant_of-self-2 : goal.invariant_of-self-2
 invariant_of-self-2 c =
@@ -28,5 +30,6 @@ invariant_of-self-2 c =
     let inside : length tried < length order = rw length-map at within in
     let at : c.len.result ≡ length tried = c.len.ensures ∙ c.self.inside.tried.ok.0 in
     let number : c.number-number.result ≡ (get_or (bounds_of order) (length tried) (bound_of x)).variable =
-    c.number-number.ensures.value ∙ ap (λ (b : BoundVariable). b.variable) (sym (bound_at order (length tried) x inside (rw at at c.index.ensures))) in
+    c.number-number.ensures.value ∙ ap (λ (b : BoundVariable). b.variable)
+    (sym (bound_at order (length tried) x inside (rw at at c.index.ensures))) in
     rw (c.in_ok-push.ensures.items, number) (search_chosen _ _ _ (bound_of x) within c.self.invariant c.args.value)

@@ -18,8 +18,10 @@ index_mut-requires c =
     let inside : length tried < length order = rw length-map at within in
     let at : c.len.result ≡ length tried = c.len.ensures ∙ c.pop.new.self.ok.0 in
     let number : c.number.result ≡ (get_or (bounds_of order) (length tried) (bound_of x)).variable =
-    c.number.ensures.value ∙ ap (λ (b : BoundVariable). b.variable) (sym (bound_at order (length tried) x inside (rw at at c.index-bound.ensures))) in
-    rw (number, table.ok.0) (covers_at (λ (b : BoundVariable). b.variable < length table.items) (bounds_of order) (length tried) (bound_of x) within c.self.invariant.covers)
+    c.number.ensures.value ∙ ap (λ (b : BoundVariable). b.variable)
+    (sym (bound_at order (length tried) x inside (rw at at c.index-bound.ensures))) in
+    rw (number, table.ok.0) (covers_at (λ (b : BoundVariable). b.variable < length table.items) (bounds_of order)
+    (length tried) (bound_of x) within c.self.invariant.covers)
 
 pub returns-clause-quantifier : goal.returns-clause-quantifier
 returns-clause-quantifier c =
@@ -30,7 +32,9 @@ returns-clause-quantifier c =
     let within : length tried < length (bounds_of order) = omega (arith, pushed, c.self.invariant.depth) in
     let inside : length tried < length order = rw length-map at within in
     let at : c.len.result ≡ length tried = c.len.ensures ∙ c.pop.new.self.ok.0 in
-    ap (option_map (λ (b : BoundVariable). b.quantifier)) (slice_get_in (bounds_of order) (length tried) (bound_of x) within ∙ ap Some (bound_at order (length tried) x inside (rw at at c.index-bound.ensures)))
+    ap (option_map (λ (b : BoundVariable). b.quantifier))
+    (slice_get_in (bounds_of order) (length tried) (bound_of x) within
+    ∙ ap Some (bound_at order (length tried) x inside (rw at at c.index-bound.ensures)))
 
 pub invariant_of-self-2 : goal.invariant_of-self-2
 invariant_of-self-2 c =
@@ -42,5 +46,7 @@ invariant_of-self-2 c =
     let inside : length tried < length order = rw length-map at within in
     let at : c.len.result ≡ length tried = c.len.ensures ∙ c.pop.new.self.ok.0 in
     let number : c.number.result ≡ (get_or (bounds_of order) (length tried) (bound_of x)).variable =
-    c.number.ensures.value ∙ ap (λ (b : BoundVariable). b.variable) (sym (bound_at order (length tried) x inside (rw at at c.index-bound.ensures))) in
-    rw number (search_taken_back _ _ _ (bound_of x) within c.in_ok-value.value (rw c.in_ok-value.ensures.items at c.self.invariant))
+    c.number.ensures.value ∙ ap (λ (b : BoundVariable). b.variable)
+    (sym (bound_at order (length tried) x inside (rw at at c.index-bound.ensures))) in
+    rw number (search_taken_back _ _ _ (bound_of x) within c.in_ok-value.value
+    (rw c.in_ok-value.ensures.items at c.self.invariant))

@@ -1,10 +1,10 @@
--- What is true of every formula that was read, whatever its text.
+-- Formulas that are within the limits, with their clauses in order.
 use Rattle.std.specs.Prelude.{◌≡◌, ◌≤◌, true, List, length, map, flat_map}
 use Rattle.std.specs.List.{AllByRecursion}
 use Rattle.prefix.specs.Literal.{Literal}
 use Rattle.prefix.specs.Scopes.{Scope, all_variables, is_among, IsAscending}
 use Rattle.truth.specs.declared.formula.Formula.{Formula}
-use Rattle.qdimacs.specs.Rules.{max_clauses, max_literals}
+use Rattle.truth.specs.Limits.{max_clauses, max_literals}
 
 -- a clause ascends strictly by variable, and is over variables of the scopes
 abbrev pub IsClauseOver : List Scope → List Literal → Type 0
