@@ -1,13 +1,13 @@
 //! The matrix while the clauses come.
-ghost use Rattle.std.specs.Prelude.{◌≡◌, ◌<◌, ◌≤◌, ◌+◌, ◌^◌, [], ◌∷◌, ◌++◌, set, length, true, OnOk, IfOk, nat_abs, List, ℤ, map, All};
-ghost use Rattle.qdimacs.specs.Kept.{code_of as code_of_literal, codes_of, with_clause, literal_rules_kept, Checks, has_pair, literal_of};
+ghost use Rattle.std.specs.Prelude.{◌≡◌, ◌<◌, ◌≤◌, ◌+◌, ◌^◌, [], ◌∷◌, ◌++◌, set, length, true, OnOk, nat_abs, List, ℤ, All};
+ghost use Rattle.qdimacs.specs.Kept.{with_clause, literal_rules_kept, Checks};
+ghost use Rattle.clauses.specs.Codes.{code_of as code_of_literal, codes_of};
 ghost use Rattle.std.specs.List.{AllByRecursion};
 ghost use Rattle.qdimacs.specs.Rules.{first_of};
-ghost use Rattle.qdimacs.specs.Formula.{as_row, is_tautology};
-ghost use Rattle.prefix.specs.Literal.{Literal};
 
 use crate::refusal::{VARIABLE_RANGE, beyond, refused};
-use prefix::{Lit, LitList, Var};
+use clauses::{code_of, row_of_codes};
+use prefix::LitList;
 use reading::{Quantity, ReadRefusal};
 use std::alloc::{AllocError, Global};
 
@@ -84,49 +84,12 @@ impl Clauses {
         ensures amount { self.new.amount ≡ self.old.amount }
         ensures marks { self.new.marks.items ≡ self.old.marks.items }
     {
-        self.begun.sort_unstable();
-        self.begun.dedup();
-        if !has_both_signs(&self.begun) {
-            let row = row_of(*self.rows.allocator(), &self.begun)?;
+        let row = row_of_codes(*self.rows.allocator(), &mut self.begun)?;
+        if let Some(row) = row {
             self.rows.push(row)?;
         }
         self.begun.clear();
         self.ended += 1;
         Ok(())
     }
-}
-
-// The code of a literal.
-fn code_of(n: i64) -> u32
-    requires { nat_abs n ≤ 1048576 }
-    ensures { result ≡ code_of_literal n }
-{
-    let v = n.unsigned_abs() as u32;
-    if n >= 0 { 2 * v + 1 } else { 2 * v }
-}
-
-// Whether the codes of both literals of a variable stand side by side.
-fn has_both_signs(codes: &[u32]) -> bool
-    ensures { result ≡ has_pair codes.now }
-{
-    for i in 1..codes.len() {
-        if codes[i - 1] / 2 == codes[i] / 2 {
-            return true;
-        }
-    }
-    false
-}
-
-// The literals of codes.
-fn row_of(alloc: Global, codes: &[u32]) -> Result<LitList, AllocError>
-    requires { All (λ c. (2 ≤ c) × (c < 2097154)) codes.now }
-    ensures { IfOk result (λ row. row ≡ map literal_of codes.now) }
-{
-    let mut lits = Vec::new(alloc);
-    for code in codes {
-        if let Some(v) = Var::new(*code / 2) {
-            lits.push(Lit::new(v, *code % 2 == 1))?;
-        }
-    }
-    Ok(LitList::from_vec(lits))
 }
