@@ -20,7 +20,7 @@ use Rattle.frames.specs.Commands.{Activate as ActivateGroup, AddClause, AddScope
 use Rattle.frames.specs.Fold.{Given, ScriptState, state_after}
 use Rattle.frames.specs.Refusal.{number_of}
 use Rattle.frames.specs.State.{OpenFormula, open_clauses}
-use Rattle.qrp_trace.specs.Cores.{IsNumbered, Trace as TraceCore, inferences_of}
+use Rattle.step_core.specs.Cores.{IsNumbered, Trace as TraceCore, inferences_of}
 use Rattle.qrp_trace.specs.Texts.{literal_word, number_word, qrp_text}
 use Rattle.aig.specs.declared.edge.Node.TheVariants.{Constant}
 use Rattle.aig.specs.declared.strategy.Strategy.{Strategy}

@@ -19,7 +19,8 @@ use aiger_out::{circuits_have_one_form_of_bytes, circuits_have_one_text, write_a
 use blocks::{Block, LineText};
 use ports::{Failed, Sink, write_all};
 use prefix::{Lit, Prefix};
-use qrp_trace::{Core, put_literals, write_trace};
+use qrp_trace::{put_literals, write_trace};
+use step_core::Core;
 
 // Writes that a command is refused.
 pub(crate) fn write_refused<S: Sink>(number: u8, sink: &mut S) -> Result<(), Failed>
