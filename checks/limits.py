@@ -35,7 +35,7 @@ MOST_SECONDS, MOST_MEMORY = 300, 6 * 2**30
 # Many clauses, and the seconds within which they are taken: a pass over all of them for each one would take minutes.
 MANY, FEW_SECONDS = 400_000, 20
 # Bytes: what 350,000 more commands may leave that drop what they made, and what numbers of variables may take.
-DROPPED, NUMBERS = 8 * MIB, 80 * MIB
+DROPPED, NUMBERS = 2 * MIB, 80_000_000
 
 
 def lines(*some):
@@ -234,7 +234,7 @@ def rounds(commands):
 
 
 def check_dropped(program):
-    """A script that comes back to no clause again and again keeps nothing of what it dropped but a place for each id."""
+    """A script that comes back to no clause again and again keeps nothing of what it dropped but a byte for each id."""
     few, many = (peak(program, ["script"], rounds(commands)) for commands in (50_000, 400_000))
     require(many - few <= DROPPED, f"{many} bytes for 400,000 commands, {few} for 50,000")
 

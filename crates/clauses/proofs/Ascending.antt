@@ -1,8 +1,10 @@
 -- Ascending lists.
 use Rattle.std.proofs.Common.{◌≡◌, ℕ, ◌<◌, ◌≤◌, Bool, true, false, ◌||◌, List, [], ◌∷◌, refl, sym, ap, ◌∙◌, ⊎_elim, arith}
 use Rattle.std.specs.Prelude.{◌==◌, nat_lt, if◌then◌else◌}
-use Rattle.std.specs.List.{AllByRecursion}
-use Rattle.std.proofs.lemmas.Bool.{ne_eqb, eqb-true, eqb-false, eq-eqb, cases_eq, cases_lt, ltb-false}
+use Rattle.std.specs.List.{AllByRecursion, list_any}
+use Rattle.std.specs.List.Sorted.{IsPermutation}
+use Rattle.std.proofs.lemmas.List.Sorted.{list_any-IsPermutation}
+use Rattle.std.proofs.lemmas.Bool.{ne_eqb, eqb-true, eqb-false, eq-eqb, cases_eq, cases_lt, ltb-false, or_left}
 use Rattle.std.proofs.lemmas.Bool.Decides.{nat_tests}
 use Rattle.prefix.specs.Scopes.{is_among, IsAscending}
 use Rattle.clauses.specs.Clause.{put, ascending}
@@ -21,10 +23,6 @@ below_all v (x ∷ xs) all =
 
 pub true_is_not : {A : Type 0} → true ≡ false → A
 true_is_not e = absurd (let f : true ≡ false = e in cc)
-
-pub or_left : (a b : Bool) → a ≡ true → (a || b) ≡ true
-or_left true b h = refl
-or_left false b h = cc
 
 head_same : (x y : ℕ) (xs ys : List ℕ) → AllByRecursion (λ z. x < z) xs → AllByRecursion (λ z. y < z) ys
     → ((v : ℕ) → is_among v (x ∷ xs) ≡ is_among v (y ∷ ys)) → (x < y) → ⊥
@@ -105,3 +103,11 @@ ascending_of xs ns a same = same_elements xs (ascending ns) a (ascending_is ns)
 
 pub ascending_same : (xs ys : List ℕ) → ((v : ℕ) → is_among v xs ≡ is_among v ys) → ascending xs ≡ ascending ys
 ascending_same xs ys same = ascending_of (ascending xs) ys (ascending_is xs) (λ v. ascending_among v xs ∙ same v)
+
+-- a list in another order has the same elements
+among_any : (v : ℕ) (xs : List ℕ) → is_among v xs ≡ list_any (λ x. x == v) xs
+among_any v [] = refl
+among_any v (x ∷ xs) = ap (λ b. x == v || b) (among_any v xs)
+
+pub permuted_among : (v : ℕ) (xs ys : List ℕ) → IsPermutation xs ys → is_among v xs ≡ is_among v ys
+permuted_among v xs ys p = among_any v xs ∙ list_any-IsPermutation (λ x. x == v) xs ys p ∙ sym (among_any v ys)

@@ -4,26 +4,13 @@ use Rattle.std.specs.Prelude.{◌==◌, neg_ℤ, Some, None, if◌then◌else◌
 use Rattle.std.specs.Ordering.{int_eq, nat_cmp}
 use Rattle.std.specs.List.{AllByRecursion, list_any, dedup, dedup_from}
 use Rattle.std.specs.List.Sorted.{IsPermutation, IsSorted, IsStrictlySortedBy}
-use Rattle.std.proofs.lemmas.List.Sorted.{list_any-IsPermutation}
-use Rattle.std.proofs.lemmas.Bool.{eqb-true, eqb-false, eq-eqb, ne_eqb}
+use Rattle.std.proofs.lemmas.Bool.{eqb-true, eqb-false, eq-eqb, ne_eqb, false_from_ne_true, or_left, or_parts, or_right}
 use Rattle.std.proofs.lemmas.Bool.Decides.{nat_tests}
 use Rattle.prefix.specs.Scopes.{is_among, IsAscending}
 use Rattle.clauses.specs.Clause.{has_literal, is_tautology, as_row, row_unless_tautology}
-use Rattle.clauses.proofs.Codes.{are_positive}
-use Rattle.clauses.specs.Codes.{IsInRange, code_of, codes_of, has_pair, literal_of}
-use Rattle.clauses.proofs.Ascending.{ascending_of, all_from, below_all, true_is_not, or_left}
+use Rattle.clauses.specs.Codes.{code_of, codes_of, has_pair, literal_of}
+use Rattle.clauses.proofs.Ascending.{ascending_of, all_from, below_all, permuted_among, true_is_not}
 use Rattle.std.proofs.lemmas.Map.Keys.{IsStrictlyIncreasing-dedup, sorted_from_strictly_increasing, below_from_sorted}
-
-or_false : (a b : Bool) → (a || b) ≡ false → (a ≡ false) × (b ≡ false)
-or_false true b h = cc
-or_false false b h = (refl, h)
-
-among_any : (v : ℕ) (xs : List ℕ) → is_among v xs ≡ list_any (λ x. x == v) xs
-among_any v [] = refl
-among_any v (x ∷ xs) = ap (λ b. x == v || b) (among_any v xs)
-
-permuted_among : (v : ℕ) (xs ys : List ℕ) → IsPermutation xs ys → is_among v xs ≡ is_among v ys
-permuted_among v xs ys p = among_any v xs ∙ list_any-IsPermutation (λ x. x == v) xs ys p ∙ sym (among_any v ys)
 
 -- membership in halves
 half_is : (x v : ℕ) → (x / 2 == v) ≡ ((x == 2 * v) || (x == 2 * v + 1))
@@ -56,7 +43,7 @@ pub halves_ascend : (xs : List ℕ) → IsAscending xs → has_pair xs ≡ false
 halves_ascend [] a e = tt
 halves_ascend (x ∷ []) a e = (tt, tt)
 halves_ascend (x ∷ y ∷ xs) a e =
-    let parts : ((x / 2 == y / 2) ≡ false) × (has_pair (y ∷ xs) ≡ false) = or_false (x / 2 == y / 2) (has_pair (y ∷ xs))
+    let parts : ((x / 2 == y / 2) ≡ false) × (has_pair (y ∷ xs) ≡ false) = or_parts (x / 2 == y / 2) (has_pair (y ∷ xs))
     e in
     let rest : IsAscending (map (λ c. c / 2) (y ∷ xs)) = halves_ascend (y ∷ xs) a.1 parts.1 in
     let other : x / 2 ≡ y / 2 → ⊥ = eqb-false (x / 2) (y / 2) parts.0 in
@@ -106,10 +93,6 @@ pub dedup_among : (w : ℕ) (xs : List ℕ) → is_among w (dedup (λ a b. a == 
 dedup_among w [] = refl
 dedup_among w (x ∷ xs) = dedup_from_among w x xs
 
-pub or_right : (a b : Bool) → b ≡ true → (a || b) ≡ true
-or_right true b h = refl
-or_right false b h = h
-
 -- both signs of a variable stand side by side, or not both
 pub pair_witness : (xs : List ℕ) → IsAscending xs → has_pair xs ≡ true → (v : ℕ) × (is_among (2 * v) xs ≡ true)
     × (is_among (2 * v + 1) xs ≡ true)
@@ -154,16 +137,12 @@ apart (x ∷ xs) a v e = by (x == 2 * v) (x == 2 * v + 1) refl refl e (apart xs 
     by true false f g e h =
         let i : x ≡ 2 * v = eqb-true x (2 * v) f in
         let k : x / 2 ≡ v = omega (arith, i) in
-        (or_false (is_among (2 * v) xs) (is_among (2 * v + 1) xs) (rest_none k)).1
+        (or_parts (is_among (2 * v) xs) (is_among (2 * v + 1) xs) (rest_none k)).1
     by false true f g e h =
         let i : x ≡ 2 * v + 1 = eqb-true x (2 * v + 1) g in
         let k : x / 2 ≡ v = omega (arith, i) in
-        true_is_not (sym e ∙ (or_false (is_among (2 * v) xs) (is_among (2 * v + 1) xs) (rest_none k)).0)
+        true_is_not (sym e ∙ (or_parts (is_among (2 * v) xs) (is_among (2 * v + 1) xs) (rest_none k)).0)
     by false false f g e h = h e
-
-never : (b : Bool) → (b ≡ true → ⊥) → b ≡ false
-never true h = absurd (h refl)
-never false h = refl
 
 none_neg : (full xs : List ℤ) → AllByRecursion (λ n. 0 < nat_abs n) xs
     → ((v : ℕ) → is_among (2 * v) (codes_of xs) ≡ true → has_literal (pos v) full ≡ false)
@@ -227,7 +206,7 @@ module _ (clause : List ℤ) (done : List ℕ) (all : AllByRecursion (λ n. 0 < 
       let up : IsAscending (map (λ c. c / 2) done) = halves_ascend done rising e in
       none_neg clause clause all (λ v f. positive_among v clause ∙ sym (same (2 * v + 1))
       ∙ apart done up v (same (2 * v) ∙ f))
-      (λ m f. never (has_literal (neg_ℤ (pos (suc m))) clause)
+      (λ m f. false_from_ne_true (has_literal (neg_ℤ (pos (suc m))) clause)
       (λ g. true_is_not {A = ⊥}
       (sym (same (2 * suc m + 1) ∙ f) ∙ apart done up (suc m) (same (2 * suc m) ∙ sym (negative_among m clause)
       ∙ g))))
@@ -282,17 +261,15 @@ codes_left clause begun sorted done is moved order left = (
 )
 
 -- the row from a clause's codes
-module _ (clause : List ℤ) (codes sorted done : List ℕ) (all : AllByRecursion IsInRange clause)
+module _ (clause : List ℤ) (codes sorted done : List ℕ) (all : AllByRecursion (λ n. 0 < nat_abs n) clause)
     (is : codes ≡ codes_of clause) (moved : IsPermutation codes sorted) (order : IsSorted nat_cmp sorted)
     (left : done ≡ dedup (λ a b. a == b) sorted) where
   left_is : IsAscending done × ((c : ℕ) → is_among c done ≡ is_among c (codes_of clause))
   left_is = codes_left clause codes sorted done is moved order left
 
   pub no_row : has_pair done ≡ true → None ≡ row_unless_tautology clause
-  no_row e = ap (λ t. if t then None else Some (as_row clause))
-      (sym (is_taut clause done (are_positive clause all) left_is.0 left_is.1 e))
+  no_row e = ap (λ t. if t then None else Some (as_row clause)) (sym (is_taut clause done all left_is.0 left_is.1 e))
 
   pub row_made : has_pair done ≡ false → Some (map literal_of done) ≡ row_unless_tautology clause
-  row_made e = ap Some (row_is clause done (are_positive clause all) left_is.0 left_is.1 e)
-      ∙ ap (λ t. if t then None else Some (as_row clause))
-      (sym (not_taut clause done (are_positive clause all) left_is.0 left_is.1 e))
+  row_made e = ap Some (row_is clause done all left_is.0 left_is.1 e)
+      ∙ ap (λ t. if t then None else Some (as_row clause)) (sym (not_taut clause done all left_is.0 left_is.1 e))

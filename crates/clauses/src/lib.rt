@@ -8,6 +8,6 @@ mod row;
 mod scan;
 mod worked;
 
-pub use row::row_of;
+pub use row::{code_of, row_of, row_of_codes};
 pub use scan::{is_tautology, variables};
 pub use worked::worked_clauses;

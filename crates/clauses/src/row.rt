@@ -1,5 +1,5 @@
 //! The row of a clause, by sorting.
-ghost use Rattle.std.specs.Prelude.{◌≡◌, ◌<◌, ◌≤◌, map, All, OnOk, IfOk, nat_abs};
+ghost use Rattle.std.specs.Prelude.{◌≡◌, ◌<◌, ◌≤◌, List, ℤ, map, All, OnOk, IfOk, nat_abs};
 ghost use Rattle.std.specs.List.{AllByRecursion};
 ghost use Rattle.clauses.specs.Clause.{row_unless_tautology};
 ghost use Rattle.clauses.specs.Codes.{IsInRange, code_of as code_of_literal, codes_of as codes_of_clause, has_pair, literal_of};
@@ -16,12 +16,23 @@ pub fn row_of(alloc: Global, numbers: &[i64]) -> Result<Option<LitList>, AllocEr
     ensures { IfOk result (λ row. row ≡ row_unless_tautology numbers.now) }
 {
     let mut codes = codes_of(alloc, numbers)?;
+    let row = row_of_codes(alloc, &mut codes)?;
+    Ok(row)
+}
+
+/// The row of a clause whose literals come by their codes, as `row_of` answers it. The codes are sorted where they
+/// stand, so that a caller who has put them together needs no list of numbers beside them.
+pub fn row_of_codes(alloc: Global, codes: &mut Vec<u32>) -> Result<Option<LitList>, AllocError>
+    requires { All (λ c. (2 ≤ c) × (c < 2097154)) codes.old.items }
+    ensures { IfOk result (λ row. (clause : List ℤ) → AllByRecursion (λ n. 0 < nat_abs n) clause →
+        codes.old.items ≡ codes_of_clause clause → row ≡ row_unless_tautology clause) }
+{
     codes.sort_unstable();
     codes.dedup();
-    if has_both_signs(&codes) {
+    if has_both_signs(codes) {
         return Ok(None);
     }
-    let row = literals_of(alloc, &codes)?;
+    let row = literals_of(alloc, codes)?;
     Ok(Some(row))
 }
 
@@ -38,8 +49,8 @@ fn codes_of(alloc: Global, numbers: &[i64]) -> Result<Vec<u32>, AllocError>
     Ok(codes)
 }
 
-// The code of a literal.
-fn code_of(n: i64) -> u32
+/// The code of a literal: twice its variable, and one more where it is positive.
+pub fn code_of(n: i64) -> u32
     requires { nat_abs n ≤ 1048576 }
     ensures { result ≡ code_of_literal n }
 {

@@ -49,7 +49,8 @@ impl Roots<'_> {
     }
 }
 
-// Drops the roots with all that rests on them, and frees their rows. No root has an id below `from`.
+// Drops the roots with all that rests on them, and frees their rows, of which the others are moved together where many
+// went. No root has an id below `from`.
 pub(crate) fn drop_roots(
     notes: &mut Pages<Option<Note>>,
     rows: &mut Rows,
@@ -71,6 +72,7 @@ pub(crate) fn drop_roots(
         }
         id = next_live(notes, id + 1);
     }
+    rows.tidy();
 }
 
 // Whether a live step is a root, or rests on one that is gone.

@@ -26,7 +26,7 @@ use Rattle.calculus.proofs.Verdict.{option_cases}
 use Rattle.derive.specs.State.{Note, State, is_finish, may_be_antecedent, note_at, row_of, steps_of, why_at, why_in}
 use Rattle.derive.specs.Theorems.{StepsAreListed}
 use Rattle.frames.specs.State.{OpenFormula, open_clauses}
-use Rattle.qrp_trace.specs.Cores.{step_under}
+use Rattle.step_core.specs.Cores.{step_under}
 use Rattle.engine.specs.declared.verdict.Held.{Held}
 use Rattle.engine.proofs.FirstScope.{first_among, value_among}
 use Rattle.engine.specs.Asks.{PlaysFirst, Decides, IsVerdictOf, first_value, first_values, removed_value, values_of}

@@ -21,7 +21,7 @@ use Rattle.calculus.proofs.Lists.{contains_head, contains_tail, filter_at}
 use Rattle.derive.specs.State.{State, ids_of, is_finish, next_id, step_at, steps_of, why_at}
 use Rattle.derive.proofs.Legality.{stands_at}
 use Rattle.clean.specs.Turns.{is_reduction, reductions_in}
-use Rattle.qrp_trace.specs.Cores.{end_row_in, proof_at, step_under}
+use Rattle.step_core.specs.Cores.{end_row_in, proof_at, step_under}
 use Rattle.frames.specs.State.{OpenFormula}
 use Rattle.search.specs.Finishes.{HasNoFinish, finishes_in}
 use Rattle.search.specs.Changing.{room_of}

@@ -17,7 +17,7 @@ use Rattle.frames.specs.State.{OpenFormula, open_clauses}
 use Rattle.aig.specs.declared.edge.Node.TheVariants.{Constant}
 use Rattle.aig.specs.declared.strategy.Strategy.{Strategy}
 use Rattle.aig.specs.Strategies.{output_of, output_vars, values_of as circuit_values}
-use Rattle.qrp_trace.specs.Cores.{IsProofOf, Trace, inferences_of}
+use Rattle.step_core.specs.Cores.{IsProofOf, Trace, inferences_of}
 use Rattle.engine.specs.Asks.{IsCertificateOf, IsVerdictOf, values_of}
 use Rattle.engine.specs.Refusals.{winner_of}
 use Rattle.engine.specs.State.{VerdictState}

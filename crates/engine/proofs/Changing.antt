@@ -25,7 +25,7 @@ use Rattle.frames.specs.declared.refusal.FrameRefusal.TheVariants.{AssumptionsHe
 use Rattle.frames.specs.State.{Frame, OpenFormula, clauses_in, depth, empty_frame, leaves_in, popped, pushed, with_leaving, with_row, with_variable}
 use Rattle.frames.specs.Commands.{Activate, AddScope, AddVariable, CloseGroup, Deactivate, OpenGroup, Pop, Push, first_of, formula_after, is_empty, max_pushed, prefix_refusals, refusal_of, with_row_at}
 use Rattle.frames.specs.Groups.{clauses_at, grouped_in, is_active, with_clause_at, with_group, with_mark}
-use Rattle.qrp_trace.specs.Cores.{IsFinishAt, end_row_in, proof_at, step_under}
+use Rattle.step_core.specs.Cores.{IsFinishAt, end_row_in, proof_at, step_under}
 use Rattle.search.specs.Changing.{AddsClause, AddsClauses, IsRoomy, RestingGrows, StaysResting}
 use Rattle.search.specs.Finishes.{GainsNoFinish}
 use Rattle.search.specs.Counting.{size_of}

@@ -9,7 +9,7 @@ use Rattle.std.proofs.lemmas.List.Elements.{Contains-append_cases, Contains-appe
 use Rattle.calculus.specs.Rows.{Row}
 use Rattle.calculus.proofs.Lists.{contains_cons, contains_head, contains_nil, contains_tail, filter_at, filter_from, filter_same}
 use Rattle.calculus.proofs.Levels.{contains_map_of}
-use Rattle.qrp_trace.proofs.Ordering.{map_contains}
+use Rattle.step_core.proofs.Ordering.{map_contains}
 use Rattle.calculus.specs.Derivations.{IsDerivation}
 use Rattle.derive.specs.State.{OpenClause, State, clauses_of, open_clauses as clauses_in_search, steps_of}
 use Rattle.derive.proofs.Legality.{served}

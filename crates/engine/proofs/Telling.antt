@@ -16,7 +16,7 @@ use Rattle.calculus.specs.VerdictTheorems.{EndRowsGiveProofs, ProofsDecide}
 use Rattle.derive.specs.State.{Note, State, is_step, may_be_antecedent, note_at, row_of, side_at, steps_of, why_at, why_in}
 use Rattle.derive.specs.Theorems.{StepsAreListed}
 use Rattle.frames.specs.State.{OpenFormula, open_clauses}
-use Rattle.qrp_trace.specs.Cores.{IsFinishAt, end_row_in, proof_at, step_under}
+use Rattle.step_core.specs.Cores.{IsFinishAt, end_row_in, proof_at, step_under}
 use Rattle.search.specs.declared.outcome.Outcome.{Outcome}
 use Rattle.search.specs.declared.outcome.SolveStop.{SolveStop}
 use Rattle.search.specs.State.{SearchState}

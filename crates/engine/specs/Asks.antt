@@ -13,7 +13,7 @@ use Rattle.calculus.specs.Rows.{Assignment, Row, bad_choice, literal_over, varia
 use Rattle.calculus.specs.Verdicts.{AreOuter, IsProof}
 use Rattle.derive.specs.State.{State, row_of, why_at}
 use Rattle.frames.specs.State.{OpenFormula, open_clauses}
-use Rattle.qrp_trace.specs.Cores.{end_row_in}
+use Rattle.step_core.specs.Cores.{end_row_in}
 use Rattle.aig.specs.declared.edge.Node.TheVariants.{Constant}
 use Rattle.aig.specs.declared.strategy.Strategy.{Strategy}
 use Rattle.aig.specs.Strategies.{output_of, output_vars, values_of as circuit_values}

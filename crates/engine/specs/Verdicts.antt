@@ -6,7 +6,7 @@ use Rattle.steps.specs.Counter.{Counter}
 use Rattle.calculus.specs.Verdicts.{IsProof}
 use Rattle.derive.specs.State.{State, row_of}
 use Rattle.frames.specs.State.{OpenFormula, open_clauses}
-use Rattle.qrp_trace.specs.Cores.{proof_at}
+use Rattle.step_core.specs.Cores.{proof_at}
 use Rattle.search.specs.declared.outcome.SolveStop.{SolveStop}
 use Rattle.search.specs.Moves.{IsMatrix}
 use Rattle.search.specs.Stops.{IsStop}

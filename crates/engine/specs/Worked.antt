@@ -12,8 +12,8 @@ use Rattle.frames.specs.Commands.{Push}
 use Rattle.frames.specs.Fold.{state_of}
 use Rattle.frames.specs.State.{Frame, OpenFormula, popped}
 use Rattle.frames.specs.Worked.{framed as framed_commands}
-use Rattle.qrp_trace.specs.Cores.{proof_at}
-use Rattle.qrp_trace.specs.Worked.{clause, derived, stored}
+use Rattle.step_core.specs.Cores.{proof_at}
+use Rattle.step_core.specs.Worked.{clause, derived, stored}
 use Rattle.search.specs.Finishes.{finishes_in}
 use Rattle.engine.specs.declared.counts.Counts.{Counts}
 use Rattle.engine.specs.declared.verdict.Verdict.{Verdict}

@@ -10,7 +10,7 @@ use Rattle.calculus.specs.Rows.{Row}
 use Rattle.calculus.specs.Verdicts.{relevant_of}
 use Rattle.calculus.specs.Worked.{differ, existential, existential_first, minus, plus, refutation, universal_first}
 use Rattle.frames.specs.State.{OpenFormula, empty_formula, empty_frame}
-use Rattle.qrp_trace.specs.Worked.{clause}
+use Rattle.step_core.specs.Worked.{clause}
 use Rattle.aig.specs.declared.strategy.Strategy.{Strategy}
 use Rattle.engine.specs.declared.refusal.AskRefusal.TheVariants.{NoVerdict, NotOutermost, NotWinner, NoMemory}
 use Rattle.engine.specs.declared.verdict.Held.{Held}

@@ -11,7 +11,7 @@ ghost use Rattle.derive.specs.State.{IsLegalFor, has_rows, is_live, why_at};
 ghost use Rattle.clean.specs.Turns.{reductions_in};
 ghost use Rattle.frames.specs.State.{open_clauses};
 ghost use Rattle.search.specs.Moves.{IsMatrix};
-ghost use Rattle.qrp_trace.specs.Cores.{IsNumbered, inferences_of, proof_at};
+ghost use Rattle.step_core.specs.Cores.{IsNumbered, inferences_of, proof_at};
 ghost use Rattle.search.specs.Counting.{size_of};
 ghost use Rattle.search.specs.Finishes.{finishes_in};
 ghost use Rattle.search.specs.Long.{long_in};
@@ -32,7 +32,7 @@ use calculus::{
 use derive::{Derivation, Step, StepId, steps_are_listed};
 use extract::extract;
 use prefix::{Lit, Prefix, Var};
-use qrp_trace::{Core, core};
+use step_core::{Core, core};
 
 impl Engine {
     /// The last verdict, where no change came after it. It is the truth and has a proof; where the first scope is the

@@ -8,12 +8,12 @@ use Rattle.prefix.specs.declared.quant.Quant.{Quant}
 use Rattle.prefix.specs.Literal.{Literal}
 use Rattle.calculus.specs.Rows.{Row, bad_choice}
 use Rattle.calculus.specs.Derivations.{Inference}
-use Rattle.qrp_trace.specs.Cores.{core_rows, inferences_of, inference_from, row_numbered, step_numbered}
+use Rattle.step_core.specs.Cores.{core_rows, inferences_of, inference_from, row_numbered, step_numbered}
 use Rattle.extract.specs.Removals.{Removed, removals, removed_by, goes, stands_over}
 use Rattle.extract.specs.Tables.{removals_by, removals_here, removals_of_line, removed_of, unmarked}
-use Rattle.qrp_trace.specs.declared.listing.Line.{Line}
-use Rattle.qrp_trace.specs.declared.listing.CoreStep.{CoreStep}
-use Rattle.qrp_trace.specs.declared.listing.CoreStep.TheVariants.{Input, One, Two}
+use Rattle.step_core.specs.declared.listing.Line.{Line}
+use Rattle.step_core.specs.declared.listing.CoreStep.{CoreStep}
+use Rattle.step_core.specs.declared.listing.CoreStep.TheVariants.{Input, One, Two}
 use Rattle.extract.specs.declared.index.Removal.{Removal}
 
 pub removals_append : (pivot : Quant) (x : ℕ) (steps : List Inference) (s : Inference)

@@ -10,11 +10,11 @@ use Rattle.calculus.specs.Rows.{Row, Assignment, bad_choice, is_bad_throughout}
 use Rattle.aig.specs.Circuits.{Circuit, value_of, IsEdge}
 use Rattle.aig.specs.declared.edge.Edge.{Edge}
 use Rattle.aig.specs.declared.edge.Node.TheVariants.{Constant}
-use Rattle.qrp_trace.specs.Cores.{row_numbered}
+use Rattle.step_core.specs.Cores.{row_numbered}
 use Rattle.extract.specs.Removals.{Removed, goes, first_bad}
-use Rattle.qrp_trace.specs.declared.listing.Line.{Line}
-use Rattle.qrp_trace.specs.declared.listing.CoreStep.{CoreStep}
-use Rattle.qrp_trace.specs.declared.listing.CoreStep.TheVariants.{Input, One, Two}
+use Rattle.step_core.specs.declared.listing.Line.{Line}
+use Rattle.step_core.specs.declared.listing.CoreStep.{CoreStep}
+use Rattle.step_core.specs.declared.listing.CoreStep.TheVariants.{Input, One, Two}
 use Rattle.extract.specs.declared.index.Removal.{Removal}
 
 -- the edge of a variable

@@ -10,8 +10,8 @@ use Rattle.calculus.specs.Derivations.Reason.{Input as ByInput, One as ByOne, Tw
 use Rattle.aig.specs.Circuits.{Circuit}
 use Rattle.aig.specs.declared.edge.Edge.{Edge}
 use Rattle.aig.specs.declared.edge.Node.TheVariants.{Constant, Input as ByPlace}
-use Rattle.qrp_trace.specs.declared.listing.Line.{Line}
-use Rattle.qrp_trace.specs.declared.listing.CoreStep.TheVariants.{One, Two}
+use Rattle.step_core.specs.declared.listing.Line.{Line}
+use Rattle.step_core.specs.declared.listing.CoreStep.TheVariants.{One, Two}
 use Rattle.extract.specs.Removals.{Removed, first_bad, goes, removals, stands_over, weight_of, weights_of}
 use Rattle.extract.specs.Tables.{Agrees, AreEdges, AreKept, Covers, CoversRemoved, CoversRow, IsAssumedEdge, IsInputEdge, IsPlayTable, IsReady, IsRuledEdge, Keeps, edge_of, removals_of_line, removed_of, unmarked}
 use Rattle.extract.specs.declared.index.Removal.{Removal}

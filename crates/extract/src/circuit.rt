@@ -11,7 +11,7 @@ ghost use Rattle.aig.specs.Strategies.{IsStrategy, output_of, output_vars, value
 ghost use Rattle.aig.specs.declared.edge.Edge.{Edge};
 ghost use Rattle.aig.specs.declared.edge.Node.TheVariants.{Constant};
 ghost use Rattle.extract.specs.Tables.{IsPlayTable, edge_of, Agrees, Covers, CoversRemoved, Keeps, AreEdges, AreKept, IsInputEdge, IsAssumedEdge, IsRuledEdge, IsReady, removed_of, removals_at};
-ghost use Rattle.qrp_trace.specs.Cores.{core_rows, inferences_of, loser_of, IsProofOf};
+ghost use Rattle.step_core.specs.Cores.{core_rows, inferences_of, loser_of, IsProofOf};
 ghost use Rattle.extract.specs.Removals.{first_bad, weight_of, weights_of, removals};
 
 use crate::edges::{edge_at, put_edge};
@@ -21,9 +21,9 @@ use aig::{Aig, Edge, Output, OutputList, Strategy, VarList};
 use calculus::circuits_win;
 use memory::NoMemory;
 use prefix::{Lit, Prefix, Quant, Var};
-use qrp_trace::Core;
 use std::alloc::Global;
 use std::collections::BTreeSet;
+use step_core::Core;
 
 // The variables of a prefix, in order.
 fn variables_of(alloc: Global, prefix: &Prefix) -> Result<Vec<Var>, NoMemory>

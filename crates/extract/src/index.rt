@@ -1,16 +1,16 @@
 //! The removals of each variable's literals.
 ghost use Rattle.std.specs.Prelude.{◌≡◌, ℕ, ◌+◌, ◌<◌, ◌≤◌, ◌^◌, ◌==◌, [], ◌∷◌, ◌++◌, length, map, is_some, if◌then◌else◌, slice_index_or, All, IfOk, OnOk, vec_len};
 ghost use Rattle.calculus.specs.Rows.{bad_choice, literal_over};
-ghost use Rattle.qrp_trace.specs.declared.listing.Line.{Line};
-ghost use Rattle.qrp_trace.specs.Cores.{core_rows, inferences_of};
+ghost use Rattle.step_core.specs.declared.listing.Line.{Line};
+ghost use Rattle.step_core.specs.Cores.{core_rows, inferences_of};
 ghost use Rattle.extract.specs.Removals.{removals, stands_over};
 ghost use Rattle.extract.specs.Tables.{removals_at, unmarked, removals_here, removals_of_line, removed_of};
 
 use memory::NoMemory;
 use prefix::{Lit, Quant, Var};
-use qrp_trace::{Core, CoreStep};
 use std::alloc::Global;
 use std::marker::Model;
+use step_core::{Core, CoreStep};
 
 // A removal of a literal: the place of the step that removed it, from 0, and the value that it forces.
 #[derive(Clone, Copy, Debug)]

@@ -4,7 +4,7 @@ ghost use Rattle.prefix.specs.Sides.{bad_of};
 ghost use Rattle.calculus.specs.Rows.{Assignment, is_bad, is_bad_throughout};
 ghost use Rattle.aig.specs.Circuits.{Circuit, value_of, IsEdge, Grows};
 ghost use Rattle.extract.specs.Tables.{edge_of, Agrees, AreEdges, AreKept, CoversRow, CoversRemoved, removed_of};
-ghost use Rattle.qrp_trace.specs.Cores.{core_rows};
+ghost use Rattle.step_core.specs.Cores.{core_rows};
 ghost use Rattle.extract.specs.Removals.{first_bad, weight_of};
 
 use crate::edges::{edge_at, entry_at, put_entry};
@@ -12,7 +12,7 @@ use crate::index::Removal;
 use aig::{Aig, Edge};
 use memory::NoMemory;
 use prefix::{Lit, Quant};
-use qrp_trace::Core;
+use step_core::Core;
 
 // The edge that is true where a literal is bad.
 fn bad_edge(pivot: Quant, table: &Vec<Option<Edge>>, lit: Lit) -> Edge

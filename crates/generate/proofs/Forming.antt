@@ -8,7 +8,7 @@ use Rattle.std.proofs.lemmas.List.FromFn.{length-map-range_with_len, length-rang
 use Rattle.prefix.specs.Literal.{Literal}
 use Rattle.prefix.specs.Scopes.{AreDistinct, IsAscending, IsPrefix, all_variables, is_among}
 use Rattle.truth.specs.Formed.{IsClauseOver, IsFormed}
-use Rattle.qdimacs.proofs.Ascending.{below_all}
+use Rattle.clauses.proofs.Ascending.{below_all}
 use Rattle.generate.specs.Draws.{start_of}
 use Rattle.generate.specs.Made.{by_variable, clause_at, first_place, literals_drawn, made, put, scopes_over, second_place, third_place}
 use Rattle.generate.proofs.Places.{first_below, second_below, second_differs, third_below, third_differs}

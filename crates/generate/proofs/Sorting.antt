@@ -9,10 +9,9 @@ use Rattle.prefix.specs.Code.{code_of}
 use Rattle.prefix.specs.Literal.{Literal}
 use Rattle.prefix.specs.Scopes.{AreDistinct, IsAscending, insert_ascending, is_among}
 use Rattle.prefix.proofs.ScopeLemmas.{ascending-insert, is_among-insert_ascending}
-use Rattle.qdimacs.specs.Kept.{literal_of}
-use Rattle.qdimacs.proofs.Ascending.{same_elements}
+use Rattle.clauses.specs.Codes.{literal_of}
+use Rattle.clauses.proofs.Ascending.{same_elements, permuted_among}
 use Rattle.qdimacs.proofs.Fitting.{permuted_distinct}
-use Rattle.qdimacs.proofs.InOrder.{permuted_among}
 use Rattle.generate.specs.Made.{by_variable, put}
 
 abbrev pub variables : List Literal → List ℕ

@@ -17,11 +17,10 @@ use Rattle.prefix.proofs.InsertionLemmas.{level_found}
 use Rattle.prefix.proofs.ScopeLemmas.{is_among-append}
 use Rattle.truth.proofs.OrderLemmas.{has_quantifier}
 use Rattle.clauses.specs.Clause.{ascending}
-use Rattle.clauses.proofs.Ascending.{ascending_of, ascending_same}
+use Rattle.clauses.proofs.Ascending.{ascending_of, ascending_same, permuted_among}
 use Rattle.qdimacs.specs.Kept.{AreNew}
 use Rattle.qdimacs.proofs.Building.{inserted, last_grows, next_memory}
 use Rattle.qdimacs.proofs.Fitting.{distinct_apart, distinct_parts, permuted_distinct}
-use Rattle.qdimacs.proofs.InOrder.{permuted_among}
 use Rattle.qcir.specs.Building.{ends_existential}
 use Rattle.qcir.specs.Translation.{greatest_of, joined_last, own_scope, scopes_with}
 

@@ -3,9 +3,7 @@ use Rattle.std.proofs.Common.{◌≡◌, ℕ, zero, suc, ◌+◌, ◌<◌, ◌�
 use Rattle.std.specs.Prelude.{◌==◌}
 use Rattle.std.specs.List.{AllByRecursion, flat_map, list_all}
 use Rattle.std.proofs.lemmas.List.{append_assoc, append-nil, map-append, length-map}
-use Rattle.std.proofs.lemmas.Bool.{eqb-true, eq-eqb}
-use Rattle.qdimacs.proofs.Ascending.{or_left}
-use Rattle.qdimacs.proofs.Fitting.{or_right}
+use Rattle.std.proofs.lemmas.Bool.{eqb-true, eq-eqb, or_left, or_right}
 use Rattle.lexer.specs.declared.token.Token.{Token}
 use Rattle.lexer.specs.Words.{Item, word}
 use Rattle.prefix.specs.declared.quant.Quant.{Quant}

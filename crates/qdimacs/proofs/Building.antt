@@ -3,11 +3,10 @@ use Rattle.std.proofs.Common.{◌≡◌, ℕ, zero, suc, ◌+◌, ◌-◌, ◌<�
 use Rattle.std.specs.Prelude.{◌==◌, ◌||◌, nat_lt, if◌then◌else◌, is_some, MatchOption, IsOkUnless}
 use Rattle.std.specs.Option.{option_map}
 use Rattle.std.proofs.lemmas.List.{take_more}
-use Rattle.std.proofs.lemmas.Bool.{ne_eqb, eqb-true, eq-eqb}
+use Rattle.std.proofs.lemmas.Bool.{ne_eqb, eqb-true, eq-eqb, or_left, or_right}
 use Rattle.std.proofs.lemmas.Bool.Decides.{nat_tests}
 use Rattle.qdimacs.specs.Kept.{AreNew}
-use Rattle.qdimacs.proofs.Ascending.{true_is_not, or_left}
-use Rattle.qdimacs.proofs.Fitting.{or_right}
+use Rattle.clauses.proofs.Ascending.{true_is_not}
 use Rattle.prefix.specs.declared.quant.Quant.{Quant}
 use Rattle.prefix.specs.Scopes.{Scope, insert_ascending, with_variable_at, with_scope, is_among, IsAscending, level_of, AreDistinct}
 use Rattle.prefix.specs.Refusals.{scope_refusal, variable_refusal}

@@ -1,7 +1,7 @@
 -- The formula at the end of the text.
 use Rattle.std.proofs.Common.{◌≡◌, ℕ, zero, suc, ◌+◌, ◌<◌, ◌≤◌, ℤ, nat_abs, Bool, true, false, not, ◌&&◌, ◌||◌, List, [], ◌∷◌, ◌++◌, length, map, Some, refl, sym, ap, ◌∙◌, arith}
 use Rattle.std.specs.Prelude.{◌==◌, nat_lt, if◌then◌else◌, filter, slice_index_or}
-use Rattle.std.proofs.lemmas.Bool.{eq-eqb, eqb-true, lt-ltb, le-ltb}
+use Rattle.std.proofs.lemmas.Bool.{eq-eqb, eqb-true, lt-ltb, le-ltb, or_left}
 use Rattle.std.proofs.lemmas.List.{append-nil}
 use Rattle.prefix.specs.declared.quant.Quant.{Quant}
 use Rattle.prefix.specs.declared.quant.Quant.TheVariants.{Exists, Forall}
@@ -15,7 +15,7 @@ use Rattle.truth.specs.Limits.{max_scopes}
 use Rattle.qdimacs.specs.Kept.{AreMarks, put_front, AreScopes}
 use Rattle.qdimacs.proofs.Merged.{merged_declared}
 use Rattle.qdimacs.proofs.Fitting.{front_fits}
-use Rattle.qdimacs.proofs.Ascending.{ascending_same, true_is_not, or_left}
+use Rattle.clauses.proofs.Ascending.{ascending_same, true_is_not}
 
 pub filter_among : (v : ℕ) (p : ℕ → Bool) (xs : List ℕ) → is_among v (filter p xs) ≡ (is_among v xs && p v)
 filter_among v p [] = refl

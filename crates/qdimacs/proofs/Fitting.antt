@@ -5,27 +5,22 @@ use Rattle.std.specs.Option.{option_map}
 use Rattle.std.specs.List.Sorted.{IsPermutation}
 use Rattle.std.proofs.lemmas.List.Sorted.{length_permutation}
 use Rattle.std.proofs.lemmas.List.{append-nil}
-use Rattle.std.proofs.lemmas.Bool.{ne_eqb, eqb-true, eqb-false, eq-eqb}
+use Rattle.std.proofs.lemmas.Bool.{ne_eqb, eqb-true, eqb-false, eq-eqb, or_left, or_right, or_parts}
 use Rattle.std.proofs.lemmas.Bool.Decides.{nat_tests}
 use Rattle.prefix.specs.declared.quant.Quant.TheVariants.{Exists}
 use Rattle.prefix.specs.Scopes.{Scope, is_among, AreDistinct, IsAscending, level_of}
 use Rattle.prefix.proofs.ScopeLemmas.{is_among-append}
-use Rattle.qdimacs.specs.Formula.{QuantSet, same_quant, declared, in_order, put, ascending}
+use Rattle.qdimacs.specs.Formula.{QuantSet, same_quant, declared, in_order}
+use Rattle.clauses.specs.Clause.{put, ascending}
 use Rattle.qdimacs.specs.Kept.{put_front, sets_of, AreNew, AreScopes}
 use Rattle.qdimacs.specs.declared.sets.Row.{Row}
-use Rattle.qdimacs.proofs.Lists.{or_false}
-use Rattle.qdimacs.proofs.Ascending.{true_is_not, or_left, below_all, all_from, ascending_is, ascending_among, ascending_same}
-use Rattle.qdimacs.proofs.InOrder.{permuted_among}
-
-pub or_right : (a b : Bool) → b ≡ true → (a || b) ≡ true
-or_right true b h = refl
-or_right false b h = h
+use Rattle.clauses.proofs.Ascending.{true_is_not, below_all, all_from, ascending_is, ascending_among, ascending_same, permuted_among}
 
 -- the two parts of distinct numbers
 pub distinct_parts : (xs ys : List ℕ) → AreDistinct (xs ++ ys) → AreDistinct xs × AreDistinct ys
 distinct_parts [] ys d = (tt, d)
 distinct_parts (x ∷ xs) ys d =
-    let parts : (is_among x xs ≡ false) × (is_among x ys ≡ false) = or_false (is_among x xs) (is_among x ys)
+    let parts : (is_among x xs ≡ false) × (is_among x ys ≡ false) = or_parts (is_among x xs) (is_among x ys)
     (sym (is_among-append x xs ys) ∙ d.0) in
     let rest : AreDistinct xs × AreDistinct ys = distinct_parts xs ys d.1 in
     ((parts.0, rest.0), rest.1)
@@ -34,7 +29,7 @@ distinct_parts (x ∷ xs) ys d =
 pub distinct_apart : (xs ys : List ℕ) (v : ℕ) → AreDistinct (xs ++ ys) → is_among v ys ≡ true → is_among v xs ≡ false
 distinct_apart [] ys v d h = refl
 distinct_apart (x ∷ xs) ys v d h =
-    let out : is_among x ys ≡ false = (or_false (is_among x xs) (is_among x ys) (sym (is_among-append x xs ys) ∙ d.0)).1
+    let out : is_among x ys ≡ false = (or_parts (is_among x xs) (is_among x ys) (sym (is_among-append x xs ys) ∙ d.0)).1
     in
     let other : (x == v) ≡ false = ne_eqb x v (λ e. true_is_not (sym h ∙ ap (λ z. is_among z ys) (sym e) ∙ out)) in
     ap (λ b. b || is_among v xs) other ∙ distinct_apart xs ys v d.1 h
@@ -52,12 +47,12 @@ distinct_append (x ∷ xs) ys a b f = (
 
 put_new : (n : ℕ) (ms : List ℕ) → is_among n ms ≡ false → length (put n ms) ≡ suc (length ms)
 put_new n [] h = refl
-put_new n (m ∷ ms) h = by (nat_lt n m) (n == m) refl (put_new n ms (or_false (m == n) (is_among n ms) h).1)
+put_new n (m ∷ ms) h = by (nat_lt n m) (n == m) refl (put_new n ms (or_parts (m == n) (is_among n ms) h).1)
   where
     by : (a b : Bool) → (n == m) ≡ b → length (put n ms) ≡ suc (length ms)
         → length (if a then n ∷ m ∷ ms else if b then m ∷ ms else m ∷ put n ms) ≡ suc (suc (length ms))
     by true b e r = refl
-    by false true e r = true_is_not (sym (eq-eqb m n (sym (eqb-true n m e))) ∙ (or_false (m == n) (is_among n ms) h).0)
+    by false true e r = true_is_not (sym (eq-eqb m n (sym (eqb-true n m e))) ∙ (or_parts (m == n) (is_among n ms) h).0)
     by false false e r = ap suc r
 
 put_old : (n : ℕ) (ms : List ℕ) → IsAscending ms → is_among n ms ≡ true → length (put n ms) ≡ length ms

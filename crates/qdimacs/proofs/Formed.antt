@@ -2,19 +2,20 @@
 use Rattle.std.proofs.Common.{◌≡◌, ℕ, suc, ◌+◌, ◌≤◌, ℤ, pos, nat_abs, Bool, true, false, not, ◌&&◌, ◌||◌, List, [], ◌∷◌, length, map, refl, sym, ap, subst, ◌∙◌, arith, length-append}
 use Rattle.std.specs.Prelude.{◌==◌, if◌then◌else◌, filter, flat_map}
 use Rattle.std.specs.List.{AllByRecursion}
-use Rattle.std.proofs.lemmas.Bool.{eq-eqb}
+use Rattle.std.proofs.lemmas.Bool.{eq-eqb, or_left, or_right}
 use Rattle.std.proofs.lemmas.List.{map-append, length-map}
 use Rattle.prefix.specs.declared.quant.Quant.TheVariants.{Exists}
 use Rattle.prefix.specs.Literal.{Literal}
 use Rattle.prefix.specs.Scopes.{Scope, all_variables, is_among, IsAscending}
 use Rattle.prefix.proofs.ScopeLemmas.{is_among-append}
 use Rattle.truth.specs.declared.formula.Formula.{Formula}
-use Rattle.qdimacs.specs.Formula.{QuantSet, ascending, as_row, declared, formula_of, free, has_literal, in_order, is_tautology, literals_of, matrix_of, occurring, scopes_of}
+use Rattle.qdimacs.specs.Formula.{QuantSet, declared, formula_of, free, in_order, literals_of, matrix_of, occurring, scopes_of}
+use Rattle.clauses.specs.Clause.{ascending, as_row, has_literal, is_tautology}
 use Rattle.truth.specs.Formed.{IsClauseOver, IsFormed}
 use Rattle.truth.specs.Limits.{max_clauses, max_literals}
-use Rattle.qdimacs.proofs.Ascending.{ascending_among, ascending_is, or_left}
+use Rattle.clauses.proofs.Ascending.{ascending_among, ascending_is}
 use Rattle.qdimacs.proofs.Finishing.{filter_among}
-use Rattle.qdimacs.proofs.Fitting.{ascending_short, or_right}
+use Rattle.qdimacs.proofs.Fitting.{ascending_short}
 use Rattle.qdimacs.proofs.Merged.{merged_declared}
 
 -- the variables of scopes in order are those that the sets declare

@@ -1,21 +1,11 @@
 -- Sorting the variables of a row changes nothing of its scope.
-use Rattle.std.proofs.Common.{◌≡◌, ℕ, zero, suc, ◌+◌, ◌<◌, ◌||◌, List, [], ◌∷◌, ◌++◌, length, map, take, get_or, set, refl, sym, ap, ◌∙◌, arith}
-use Rattle.std.specs.Prelude.{◌==◌}
-use Rattle.std.specs.List.{list_any}
+use Rattle.std.proofs.Common.{◌≡◌, ℕ, zero, suc, ◌+◌, ◌<◌, List, [], ◌∷◌, ◌++◌, length, map, take, get_or, set, refl, sym, ap, ◌∙◌, arith}
 use Rattle.std.specs.List.Sorted.{IsPermutation}
-use Rattle.std.proofs.lemmas.List.Sorted.{list_any-IsPermutation}
-use Rattle.prefix.specs.Scopes.{Scope, is_among}
+use Rattle.prefix.specs.Scopes.{Scope}
 use Rattle.qdimacs.specs.declared.sets.Row.{Row}
 use Rattle.qdimacs.specs.Formula.{in_order}
 use Rattle.qdimacs.specs.Kept.{sets_of}
-use Rattle.qdimacs.proofs.Ascending.{ascending_same}
-
-pub among_any : (v : ℕ) (xs : List ℕ) → is_among v xs ≡ list_any (λ x. x == v) xs
-among_any v [] = refl
-among_any v (x ∷ xs) = ap (λ b. x == v || b) (among_any v xs)
-
-pub permuted_among : (v : ℕ) (xs ys : List ℕ) → IsPermutation xs ys → is_among v xs ≡ is_among v ys
-permuted_among v xs ys p = among_any v xs ∙ list_any-IsPermutation (λ x. x == v) xs ys p ∙ sym (among_any v ys)
+use Rattle.clauses.proofs.Ascending.{ascending_same, permuted_among}
 
 pub same_scope : (old new : Row) → new.quant ≡ old.quant → IsPermutation old.vars.items new.vars.items
     → in_order (new.quant, new.vars.items) ≡ in_order (old.quant, old.vars.items)

@@ -1,18 +1,21 @@
 -- What the reader keeps after one more word.
 use Rattle.std.proofs.Common.{◌≡◌, ℕ, suc, ◌+◌, ◌<◌, ◌≤◌, ℤ, pos, negsuc, nat_abs, Bool, true, false, ◌&&◌, ◌||◌, not, List, [], ◌∷◌, ◌++◌, length, map, set, refl, sym, ap, ◌∙◌, ⊎_elim, arith, length-append}
-use Rattle.std.specs.Prelude.{◌==◌, nat_lt, nat_le, if◌then◌else◌, filter, slice_index_or}
+use Rattle.std.specs.Prelude.{◌==◌, nat_lt, nat_le, if◌then◌else◌, filter, slice_index_or, None, Some}
 use Rattle.std.specs.List.{AllByRecursion}
 use Rattle.std.proofs.lemmas.Bool.{ne_eqb, cases_eq, eq-eqb}
 use Rattle.std.proofs.lemmas.Bool.Decides.{nat_tests}
 use Rattle.std.proofs.lemmas.List.{get_or-set_same, get_or-set_other, length-set, map-append, append_assoc, append-nil}
 use Rattle.prefix.specs.declared.quant.Quant.{Quant}
+use Rattle.prefix.specs.Literal.{Literal}
 use Rattle.prefix.specs.Scopes.{is_among}
 use Rattle.qdimacs.specs.declared.sets.Sets.{Sets}
-use Rattle.qdimacs.specs.declared.clauses.Clauses.{Clauses}
-use Rattle.qdimacs.specs.Formula.{QuantSet, merged, declared, same_quant, literals_of, matrix_of, is_tautology, as_row}
+use Rattle.qdimacs.specs.declared.clause_rows.Clauses.{Clauses}
+use Rattle.qdimacs.specs.Formula.{QuantSet, merged, declared, same_quant, literals_of, matrix_of}
+use Rattle.clauses.specs.Clause.{is_tautology, as_row, row_unless_tautology}
 use Rattle.qdimacs.specs.Rules.{Header, variable_rules}
 use Rattle.truth.specs.Limits.{max_literals, max_scopes}
-use Rattle.qdimacs.specs.Kept.{sets_of, AreMarks, last_differs, put_last, variable_rules_kept, code_of, codes_of, with_clause}
+use Rattle.qdimacs.specs.Kept.{sets_of, AreMarks, last_differs, put_last, variable_rules_kept, with_clause}
+use Rattle.clauses.specs.Codes.{code_of, codes_of}
 use Rattle.qdimacs.specs.Represents.{KeepsSets, KeepsClauses}
 use Rattle.qdimacs.proofs.Lists.{all_more, distinct_more}
 use Rattle.qdimacs.proofs.Grown.{declared_more, declared_variable, literals_more, merged_empty}
@@ -143,6 +146,25 @@ literal_more vars count old new clauses ls n some low room begun amount marks ro
           ∙ zero_not (map nat_abs (literals_of clauses ++ ls)) (nat_abs n) some k.positive;
       marked = ap length marks ∙ length-set old.marks.items (nat_abs n) true ∙ k.marked;
     }
+
+-- the matrix where the clause has no row, and where it has one
+pub with_none : (clause : List ℤ) (rows : List (List Literal)) → None ≡ row_unless_tautology clause
+    → rows ≡ with_clause clause rows
+with_none clause rows is = by (is_tautology clause) is
+  where
+    by : (t : Bool) → None ≡ (if t then None else Some (as_row clause))
+        → rows ≡ (if t then rows else rows ++ as_row clause ∷ [])
+    by true e = refl
+    by false e = cc
+
+pub with_some : (clause : List ℤ) (rows : List (List Literal)) (row : List Literal)
+    → Some row ≡ row_unless_tautology clause → rows ++ row ∷ [] ≡ with_clause clause rows
+with_some clause rows row is = by (is_tautology clause) is
+  where
+    by : (t : Bool) → Some row ≡ (if t then None else Some (as_row clause))
+        → rows ++ row ∷ [] ≡ (if t then rows else rows ++ as_row clause ∷ [])
+    by true e = cc
+    by false e = cc
 
 -- the matrix with one more clause
 pub matrix_more : (clauses : List (List ℤ)) (clause : List ℤ) → matrix_of (clauses ++ clause ∷ []) ≡ with_clause clause

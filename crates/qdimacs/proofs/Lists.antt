@@ -1,8 +1,8 @@
 -- One more element of a list.
-use Rattle.std.proofs.Common.{◌≡◌, ℕ, zero, suc, ◌<◌, Bool, true, false, ◌||◌, List, [], ◌∷◌, ◌++◌, length, take, drop, refl, sym, ap, ◌∙◌, arith}
+use Rattle.std.proofs.Common.{◌≡◌, ℕ, zero, suc, ◌<◌, false, ◌||◌, List, [], ◌∷◌, ◌++◌, length, take, drop, refl, sym, ap, ◌∙◌, arith}
 use Rattle.std.specs.Prelude.{◌==◌}
 use Rattle.std.specs.List.{AllByRecursion}
-use Rattle.std.proofs.lemmas.Bool.{eqb-false, ne_eqb}
+use Rattle.std.proofs.lemmas.Bool.{eqb-false, ne_eqb, or_parts}
 use Rattle.prefix.specs.Scopes.{is_among, AreDistinct}
 
 pub all_more : {X : Type 0} (P : X → Type 0) (xs : List X) (x : X) → AllByRecursion P xs → P x → AllByRecursion P
@@ -28,17 +28,13 @@ fifth_more P (suc zero) [] x all h = tt
 fifth_more P (suc (suc n)) [] x all h = tt
 fifth_more P (suc n) (y ∷ ys) x all h = fifth_more P n ys x all (λ e. h (ap suc e))
 
-pub or_false : (a b : Bool) → (a || b) ≡ false → (a ≡ false) × (b ≡ false)
-or_false true b h = cc
-or_false false b h = (refl, h)
-
 new_last : (u : ℕ) (us : List ℕ) (v : ℕ) → is_among u us ≡ false → (u == v) ≡ false → is_among u (us ++ v ∷ []) ≡ false
 new_last u [] v h e = ap (λ t. t || false) (ne_eqb v u (λ q. eqb-false u v e (sym q)))
-new_last u (w ∷ ws) v h e = let parts : ((w == u) ≡ false) × (is_among u ws ≡ false) = or_false (w == u) (is_among u ws)
+new_last u (w ∷ ws) v h e = let parts : ((w == u) ≡ false) × (is_among u ws ≡ false) = or_parts (w == u) (is_among u ws)
     h in ap (λ t. t || is_among u (ws ++ v ∷ [])) parts.0 ∙ new_last u ws v parts.1 e
 
 pub distinct_more : (vs : List ℕ) (v : ℕ) → AreDistinct vs → is_among v vs ≡ false → AreDistinct (vs ++ v ∷ [])
 distinct_more [] v all h = (refl, tt)
 distinct_more (u ∷ us) v all h =
-    let parts : ((u == v) ≡ false) × (is_among v us ≡ false) = or_false (u == v) (is_among v us) h in
+    let parts : ((u == v) ≡ false) × (is_among v us ≡ false) = or_parts (u == v) (is_among v us) h in
     (new_last u us v all.0 parts.0, distinct_more us v all.1 parts.1)

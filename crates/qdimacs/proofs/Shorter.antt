@@ -3,7 +3,7 @@ use Rattle.std.proofs.Common.{◌≡◌, ◌≢◌, ℕ, zero, suc, ◌<◌, ◌
 use Rattle.std.specs.Prelude.{◌==◌, if◌then◌else◌}
 use Rattle.std.specs.List.{AllByRecursion}
 use Rattle.std.proofs.lemmas.List.{append_assoc, append-nil}
-use Rattle.std.proofs.lemmas.Bool.{ne_eqb, eqb-false}
+use Rattle.std.proofs.lemmas.Bool.{ne_eqb, eqb-false, or_parts}
 use Rattle.prefix.specs.declared.quant.Quant.{Quant}
 use Rattle.qdimacs.specs.Formula.{QuantSet, merged, join, join_if, same_quant, declared, literals_of}
 use Rattle.qdimacs.specs.Rules.{Header}
@@ -11,7 +11,6 @@ use Rattle.truth.specs.Limits.{max_scopes, max_literals}
 use Rattle.qdimacs.specs.Reads.{AreAllowed}
 use Rattle.qdimacs.proofs.Grown.{declared_more, declared_variable, literals_more, merged_empty}
 use Rattle.prefix.specs.Scopes.{is_among, AreDistinct}
-use Rattle.qdimacs.proofs.Lists.{or_false}
 
 pub all_less : {X : Type 0} (P : X → Type 0) (xs : List X) (x : X) → AllByRecursion P (xs ++ x ∷ [])
     → AllByRecursion P xs × P x
@@ -35,9 +34,9 @@ fifth_less P (suc n) (y ∷ ys) x all = let rest : AllByRecursion P (take 1 (dro
 
 old_first : (u : ℕ) (us : List ℕ) (v : ℕ) → is_among u (us ++ v ∷ []) ≡ false → (is_among u us ≡ false)
     × ((v == u) ≡ false)
-old_first u [] v h = (refl, (or_false (v == u) false h).0)
+old_first u [] v h = (refl, (or_parts (v == u) false h).0)
 old_first u (w ∷ ws) v h =
-    let parts : ((w == u) ≡ false) × (is_among u (ws ++ v ∷ []) ≡ false) = or_false (w == u) (is_among u (ws ++ v ∷ []))
+    let parts : ((w == u) ≡ false) × (is_among u (ws ++ v ∷ []) ≡ false) = or_parts (w == u) (is_among u (ws ++ v ∷ []))
     h in
     let rest : (is_among u ws ≡ false) × ((v == u) ≡ false) = old_first u ws v parts.1 in
     (ap (λ t. t || is_among u ws) parts.0 ∙ rest.0, rest.1)

@@ -1,9 +1,8 @@
 -- The formula of the sets and clauses that were read.
-use Rattle.std.specs.Prelude.{ℕ, ℤ, pos, neg_ℤ, nat_abs, Bool, true, false, not, ◌==◌, nat_lt, if◌then◌else◌, List, [], ◌∷◌, ◌++◌, map, filter, flat_map}
-use Rattle.std.specs.List.{list_any}
-use Rattle.std.specs.Ordering.{int_eq}
+use Rattle.std.specs.Prelude.{ℕ, ℤ, nat_abs, Bool, true, false, not, List, [], ◌∷◌, ◌++◌, map, filter, flat_map}
 use Rattle.prefix.specs.Literal.{Literal}
 use Rattle.prefix.specs.Scopes.{Scope, is_among}
+use Rattle.clauses.specs.Clause.{as_row, ascending, is_tautology}
 use Rattle.truth.specs.declared.formula.Formula.{Formula}
 use Rattle.prefix.specs.declared.quant.Quant.{Quant}
 use Rattle.prefix.specs.declared.quant.Quant.TheVariants.{Exists, Forall}
@@ -33,15 +32,6 @@ abbrev pub merged : List QuantSet → List QuantSet
 merged [] = []
 merged (set ∷ sets) = join set.0 set.1 (merged sets)
 
--- without repeats, from the least to the greatest
-abbrev pub put : ℕ → List ℕ → List ℕ
-put n [] = n ∷ []
-put n (m ∷ ms) = if nat_lt n m then n ∷ m ∷ ms else if n == m then m ∷ ms else m ∷ put n ms
-
-abbrev pub ascending : List ℕ → List ℕ
-ascending [] = []
-ascending (n ∷ ns) = put n (ascending ns)
-
 -- the literals of clauses, one clause after another
 abbrev pub literals_of : List (List ℤ) → List ℤ
 literals_of clauses = flat_map (λ c. c) clauses
@@ -65,18 +55,7 @@ scopes_of sets clauses = merged ((Exists, free sets clauses) ∷ sets)
 abbrev pub in_order : QuantSet → Scope
 in_order set = record { quantifier = set.0; variables = ascending set.1 }
 
-abbrev pub has_literal : ℤ → List ℤ → Bool
-has_literal l ls = list_any (int_eq l) ls
-
-abbrev pub is_tautology : List ℤ → Bool
-is_tautology clause = list_any (λ l. has_literal (neg_ℤ l) clause) clause
-
--- The literals of a clause once each, ascending by variable. None stands beside its negation.
-abbrev pub as_row : List ℤ → List Literal
-as_row clause = map (λ v. record { variable = v; positive = has_literal (pos v) clause })
-    (ascending (map nat_abs clause))
-
--- The clauses that are no tautology.
+-- The rows of the clauses that are no tautology.
 abbrev pub matrix_of : List (List ℤ) → List (List Literal)
 matrix_of clauses = map as_row (filter (λ c. not (is_tautology c)) clauses)
 

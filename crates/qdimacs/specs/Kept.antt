@@ -1,5 +1,5 @@
 -- What the reader keeps of sets and clauses, and the rules over it.
-use Rattle.std.specs.Prelude.{◌≡◌, ℕ, ◌≤◌, ◌+◌, ◌*◌, ◌/◌, ◌%◌, ℤ, pos, negsuc, nat_abs, Bool, true, false, not, ◌&&◌, ◌||◌, ◌==◌, nat_lt, nat_le, if◌then◌else◌, List, [], ◌∷◌, ◌++◌, length, map, slice_index_or, Option, None, Result, Ok, Err}
+use Rattle.std.specs.Prelude.{◌≡◌, ℕ, ◌≤◌, ℤ, nat_abs, Bool, true, false, not, ◌&&◌, nat_lt, nat_le, if◌then◌else◌, List, [], ◌∷◌, ◌++◌, length, map, slice_index_or, Option, None, Result, Ok, Err}
 use Rattle.prefix.specs.Literal.{Literal}
 use Rattle.prefix.specs.declared.quant.Quant.{Quant}
 use Rattle.prefix.specs.declared.quant.Quant.TheVariants.{Exists}
@@ -8,7 +8,8 @@ use Rattle.lexer.specs.declared.token.Word.TheVariants.{Num}
 use Rattle.reading.specs.declared.refusal.ReadRefusal.{ReadRefusal}
 use Rattle.reading.specs.declared.refusal.Quantity.TheVariants.{Scopes, Literals}
 use Rattle.qdimacs.specs.declared.sets.Row.{Row}
-use Rattle.qdimacs.specs.Formula.{QuantSet, same_quant, is_tautology, as_row, declared}
+use Rattle.qdimacs.specs.Formula.{QuantSet, same_quant, declared}
+use Rattle.clauses.specs.Clause.{is_tautology, as_row}
 use Rattle.qdimacs.specs.Rules.{Outcome, refused, limit}
 use Rattle.truth.specs.Limits.{max_scopes, max_literals}
 use Rattle.reading.specs.Words.{is_natural}
@@ -66,24 +67,6 @@ literal_rules_kept vars amount n line =
 abbrev pub Checks : {A : Type 0} → Result A ReadRefusal → Option Outcome → Type 0
 Checks (Ok x) found = found ≡ None
 Checks (Err e) found = Is e found
-
--- The number that stands for a literal: twice its variable, and one more where it is positive.
-abbrev pub code_of : ℤ → ℕ
-code_of (pos n) = 2 * n + 1
-code_of (negsuc n) = 2 * (n + 1)
-
-abbrev pub codes_of : List ℤ → List ℕ
-codes_of clause = map code_of clause
-
--- The literal that a code stands for.
-abbrev pub literal_of : ℕ → Literal
-literal_of c = record { variable = c / 2; positive = c % 2 == 1 }
-
--- Whether neighbours have the same variable.
-abbrev pub has_pair : List ℕ → Bool
-has_pair [] = false
-has_pair (c ∷ []) = false
-has_pair (c ∷ d ∷ rest) = (c / 2 == d / 2) || has_pair (d ∷ rest)
 
 -- The matrix with one more clause, unless it is a tautology.
 abbrev pub with_clause : List ℤ → List (List Literal) → List (List Literal)

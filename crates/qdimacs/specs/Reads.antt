@@ -6,8 +6,6 @@ use Rattle.lexer.specs.declared.token.Word.TheVariants.{Num, Text}
 use Rattle.lexer.specs.declared.token.Token.{Token}
 use Rattle.lexer.specs.declared.token.Comments.TheVariants.{Dimacs}
 use Rattle.lexer.specs.Words.{Item, word, items}
-use Rattle.prefix.specs.declared.quant.Quant.{Quant}
-use Rattle.prefix.specs.declared.quant.Quant.TheVariants.{Exists, Forall}
 use Rattle.prefix.specs.Scopes.{AreDistinct}
 use Rattle.qdimacs.specs.Formula.{QuantSet, merged, declared, literals_of}
 use Rattle.qdimacs.specs.Rules.{Outcome, Header, Front, nothing, in_header, headed, between, in_set, in_clause, verdict}

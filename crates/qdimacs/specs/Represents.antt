@@ -7,7 +7,7 @@ use Rattle.prefix.specs.declared.quant.Quant.{Quant}
 use Rattle.truth.specs.declared.formula.Formula.{Formula}
 use Rattle.qdimacs.specs.declared.reader.Reader.{Reader}
 use Rattle.qdimacs.specs.declared.sets.Sets.{Sets}
-use Rattle.qdimacs.specs.declared.clauses.Clauses.{Clauses}
+use Rattle.qdimacs.specs.declared.clause_rows.Clauses.{Clauses}
 use Rattle.qdimacs.specs.declared.reader.Stage.{Stage}
 use Rattle.qdimacs.specs.declared.reader.Stage.TheVariants.{Nothing, Problem, Format, Vars, Headed, Between, InSet, InClause}
 use Rattle.reading.specs.declared.refusal.ReadRefusal.{ReadRefusal}
@@ -17,7 +17,8 @@ use Rattle.truth.specs.Limits.{max_vars, max_clauses, max_literals, max_scopes}
 use Rattle.reading.specs.Words.{is_zero, natural_of}
 use Rattle.qdimacs.specs.Run.{extended, clause_after}
 use Rattle.qdimacs.specs.Step.{Is, Closes}
-use Rattle.qdimacs.specs.Kept.{sets_of, AreMarks, codes_of}
+use Rattle.qdimacs.specs.Kept.{sets_of, AreMarks}
+use Rattle.clauses.specs.Codes.{codes_of}
 
 -- the numbers of the header and its line
 abbrev pub header_of : Reader → Header

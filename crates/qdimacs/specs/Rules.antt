@@ -1,14 +1,12 @@
 -- The rules of the text: what may follow what has been read, and what refuses each other word. The grammar is that of
 -- QDIMACS 1.1, input format (preamble, prefix, matrix); the limits, the numbers of the refusals and their order are
 -- own.
-use Rattle.std.specs.Prelude.{ℕ, suc, zero, ◌^◌, ℤ, pos, negsuc, nat_abs, Bool, true, false, not, ◌&&◌, ◌==◌, nat_lt, nat_le, if◌then◌else◌, List, [], ◌∷◌, ◌++◌, length, codes, Option, Some, None}
-use Rattle.std.specs.Str.{bytes_eq}
+use Rattle.std.specs.Prelude.{ℕ, suc, zero, ℤ, nat_abs, Bool, true, false, not, ◌&&◌, ◌==◌, nat_lt, nat_le, if◌then◌else◌, List, [], ◌∷◌, ◌++◌, length, codes, Option, Some, None}
 use Rattle.lexer.specs.declared.token.Word.{Word}
 use Rattle.lexer.specs.declared.token.Word.TheVariants.{Num, Text, Other}
 use Rattle.lexer.specs.Words.{Item, word, bad_byte, number_range, too_long, the_end}
 use Rattle.prefix.specs.declared.quant.Quant.{Quant}
 use Rattle.truth.specs.declared.formula.Formula.{Formula}
-use Rattle.prefix.specs.declared.quant.Quant.TheVariants.{Exists, Forall}
 use Rattle.prefix.specs.Scopes.{is_among}
 use Rattle.reading.specs.declared.refusal.Quantity.{Quantity}
 use Rattle.reading.specs.declared.refusal.Quantity.TheVariants.{Variables, Scopes, Clauses, Literals, Bytes}

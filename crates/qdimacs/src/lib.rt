@@ -3,7 +3,7 @@
 //! `specs/Reads` says what each text is: a formula, or refused with a number and a line, or beyond a limit.
 #![tactic(auto)]
 
-mod clauses;
+mod clause_rows;
 mod laws;
 mod read;
 mod reader;

@@ -8,7 +8,7 @@ ghost use Rattle.qdimacs.specs.Step.{Is};
 ghost use Rattle.truth.specs.Formed.{IsFormed};
 ghost use Rattle.qdimacs.specs.Represents.{Steps, Represents, Passes, Closing, TakesNumber, TakesVariable, IsMarked, Stood, IsFresh};
 
-use crate::clauses::Clauses;
+use crate::clause_rows::Clauses;
 use crate::refusal::{
     BAD_HEADER, BAD_WORD, MISSING_ZERO, NO_HEADER, SET_AFTER_CLAUSE, TOO_FEW_CLAUSES,
     TOO_MANY_CLAUSES, beyond, refused,

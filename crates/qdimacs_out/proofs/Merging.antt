@@ -6,7 +6,7 @@ use Rattle.prefix.specs.declared.quant.Quant.{Quant}
 use Rattle.prefix.specs.declared.quant.Quant.TheVariants.{Exists, Forall}
 use Rattle.prefix.specs.Scopes.{IsAscending, Scope, all_variables}
 use Rattle.qdimacs.specs.Formula.{QuantSet, declared, in_order, join, join_if, merged, same_quant}
-use Rattle.qdimacs.proofs.Ascending.{ascending_of}
+use Rattle.clauses.proofs.Ascending.{ascending_of}
 use Rattle.qdimacs_out.specs.Writable.{TakeTurns}
 
 -- the set of a scope

@@ -14,13 +14,14 @@ use Rattle.prefix.specs.declared.quant.Quant.TheVariants.{Exists, Forall}
 use Rattle.prefix.specs.Scopes.{AreDistinct, IsAscending, all_variables, is_among}
 use Rattle.prefix.proofs.ScopeLemmas.{is_among-append}
 use Rattle.truth.specs.declared.formula.Formula.{Formula}
-use Rattle.qdimacs.specs.Formula.{QuantSet, as_row, ascending, declared, formula_of, free, in_order, is_tautology, join, join_if, literals_of, matrix_of, merged, occurring, put, same_quant, scopes_of}
+use Rattle.qdimacs.specs.Formula.{QuantSet, declared, formula_of, free, in_order, join, join_if, literals_of, matrix_of, merged, occurring, same_quant, scopes_of}
+use Rattle.clauses.specs.Clause.{as_row, ascending, is_tautology, put}
 use Rattle.reading.specs.declared.refusal.Quantity.TheVariants.{Clauses, Scopes, Variables}
 use Rattle.qdimacs.specs.Reads.{AreAllowed, IsAllowed, Reads}
 use Rattle.qdimacs.specs.Rules.{Front, Header, Outcome, between, between_rules, clause_rules, end_rules, first_of, headed, header_limits, in_clause, in_header, in_set, inside_rules, limit, literal_rules, nothing, outside_rules, parsed, refused, set_rules, unless_zero, variable_rules, verdict, whole_rules, word_rules}
 use Rattle.truth.specs.Limits.{max_clauses, max_scopes, max_vars}
 use Rattle.reading.specs.Words.{is_zero, quant_of}
-use Rattle.qdimacs.proofs.Ascending.{ascending_among, ascending_is}
+use Rattle.clauses.proofs.Ascending.{ascending_among, ascending_is}
 use Rattle.qdimacs.proofs.Finishing.{filter_among}
 use Rattle.qdimacs.proofs.Fitting.{distinct_apart, distinct_append, distinct_parts}
 use Rattle.qdimacs.proofs.Formed.{formed_of}

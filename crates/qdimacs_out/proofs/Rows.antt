@@ -6,9 +6,10 @@ use Rattle.std.proofs.lemmas.Bool.{ne_eqb}
 use Rattle.prefix.specs.Code.{code_of as literal_code}
 use Rattle.prefix.specs.Literal.{Literal, signed_number}
 use Rattle.prefix.specs.Scopes.{IsAscending}
-use Rattle.qdimacs.specs.Formula.{as_row, is_tautology, matrix_of}
-use Rattle.qdimacs.specs.Kept.{code_of, codes_of, has_pair, literal_of}
-use Rattle.qdimacs.proofs.Ending.{not_taut, row_is}
+use Rattle.qdimacs.specs.Formula.{matrix_of}
+use Rattle.clauses.specs.Clause.{as_row, is_tautology}
+use Rattle.clauses.specs.Codes.{code_of, codes_of, has_pair, literal_of}
+use Rattle.clauses.proofs.Rows.{not_taut, row_is}
 use Rattle.generate.proofs.Sorting.{codes, codes_ascend, literals_back, variables}
 
 -- the numbers of literals

@@ -1,8 +1,1 @@
-pub mod Marking
-pub mod Told
-pub mod Ordering
-pub mod Numbering
-pub mod Used
-pub mod Linking
 pub mod Scoping
-pub mod Finishing

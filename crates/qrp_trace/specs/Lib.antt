@@ -1,5 +1,2 @@
-pub mod Cores
-pub mod Gathering
 pub mod Texts
-pub mod Theorems
 pub mod Worked

@@ -7,10 +7,10 @@ use Rattle.prefix.specs.declared.quant.Quant.TheVariants.{Exists, Forall}
 use Rattle.prefix.specs.Literal.{Literal}
 use Rattle.prefix.specs.Scopes.{Scope, all_variables}
 use Rattle.blocks.specs.Lines.{spaced}
-use Rattle.qrp_trace.specs.declared.listing.Line.{Line}
-use Rattle.qrp_trace.specs.declared.listing.CoreStep.{CoreStep}
-use Rattle.qrp_trace.specs.declared.listing.CoreStep.TheVariants.{Input, One, Two}
-use Rattle.qrp_trace.specs.Cores.{Trace, core_rows, row_numbered, step_numbered}
+use Rattle.step_core.specs.declared.listing.Line.{Line}
+use Rattle.step_core.specs.declared.listing.CoreStep.{CoreStep}
+use Rattle.step_core.specs.declared.listing.CoreStep.TheVariants.{Input, One, Two}
+use Rattle.step_core.specs.Cores.{Trace, core_rows, row_numbered, step_numbered}
 
 -- a text
 abbrev pub Text : Type 0

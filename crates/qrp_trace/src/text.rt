@@ -5,17 +5,17 @@ ghost use Rattle.std.specs.Io.KnownBytes.{Appends, Keeps};
 ghost use Rattle.prefix.specs.Scopes.{all_variables, quantifier_at, variables_at};
 ghost use Rattle.ports.specs.Bytes.{AppendsFront};
 ghost use Rattle.ports.specs.Causes.{HasCause};
-ghost use Rattle.qrp_trace.specs.Cores.{IsNumbered};
+ghost use Rattle.step_core.specs.Cores.{IsNumbered};
 ghost use Rattle.qrp_trace.specs.Texts.{greatest, header_line, literal_word, number_word, qrp_text, quantifier_word, scope_line, scope_numbered, step_line, variables_line, verdict_line as last_line};
 ghost use Rattle.ports.specs.Writing.{Writes};
 ghost use Rattle.blocks.specs.Held.{Puts};
 
-use crate::listing::Core;
 use crate::words;
 use blocks::Block;
 use ports::{Failed, Sink};
 use prefix::{Lit, Prefix, Quant, Var};
 use std::collections::BTreeSet;
+use step_core::Core;
 
 /// Writes the trace of a core under a prefix: the header, a line for each scope that has variables, one for each step,
 /// and the verdict. Each step but the last is, by its number, one that a later one rests on. This takes no memory.

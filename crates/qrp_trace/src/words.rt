@@ -3,9 +3,9 @@ ghost use Rattle.std.specs.Prelude.{◌≡◌, ◌++◌, codes};
 ghost use Rattle.std.specs.List.{flat_map};
 ghost use Rattle.qrp_trace.specs.Texts.{antecedents_of, header_line, literal_word, number_word};
 
-use crate::listing::CoreStep;
 use blocks::LineText;
 use prefix::Lit;
+use step_core::CoreStep;
 
 // The first line, with the greatest number of a variable and the number of steps.
 pub(crate) fn header(variables: usize, steps: usize) -> LineText

@@ -1,15 +1,5 @@
 //! Worked values of the definitions, each proved.
-ghost use Rattle.qrp_trace.specs.Worked.{WorkedCores, WorkedGaps, WorkedNumbers, WorkedTexts};
-
-/// The cores of steps of a small derivation, with their numbers.
-pub fn worked_cores()
-    ensures { WorkedCores }
-{}
-
-/// What is numbered and what isn't.
-pub fn worked_numbers()
-    ensures { WorkedNumbers }
-{}
+ghost use Rattle.qrp_trace.specs.Worked.{WorkedGaps, WorkedTexts};
 
 /// Texts of small cores.
 pub fn worked_texts()

@@ -4,3 +4,4 @@ pub mod Linking
 pub mod Parts
 pub mod Shortening
 pub mod Storing
+pub mod Gone

@@ -1,6 +1,6 @@
 -- Ids that are taken back: the last places go, of which none is of a live row.
-use Rattle.std.proofs.Common.{◌≡◌, ℕ, zero, suc, ◌+◌, ◌<◌, ◌≤◌, Bool, false, cond, List, [], ◌∷◌, length, map, take, get_or, Option, Some, None, is_some, refl, sym, ap, subst, ◌∙◌, ⊎_elim, arith}
-use Rattle.std.specs.Prelude.{count_by, min}
+use Rattle.std.proofs.Common.{◌≡◌, ℕ, zero, suc, ◌+◌, ◌<◌, ◌≤◌, Bool, false, cond, List, [], ◌∷◌, take, get_or, Option, Some, None, is_some, refl, sym, ap, subst, ◌∙◌, ⊎_elim, arith}
+use Rattle.std.specs.Prelude.{count_by}
 use Rattle.std.specs.Option.{option_map}
 use Rattle.std.proofs.lemmas.Bool.{cases_lt, true≢false}
 use Rattle.std.proofs.lemmas.List.{get_or-take, get_or_past, length-take, take-map}
@@ -10,7 +10,7 @@ use Rattle.rows.specs.declared.places.Place.{Place}
 use Rattle.rows.specs.declared.blocks.Block.{Block}
 use Rattle.rows.specs.Arena.{is_live}
 use Rattle.rows.specs.Places.{AreSpread, blocks_of, place_at}
-use Rattle.rows.specs.Blocks.{AreBlocks, block_at, block_in, has_block}
+use Rattle.rows.specs.Blocks.{AreBlocks, block_at, has_block}
 use Rattle.rows.specs.Stored.{AreStored, arena_of, stored}
 use Rattle.rows.proofs.Arenas.{live_place}
 use Rattle.rows.proofs.Parts.{map_at}

@@ -1,5 +1,5 @@
 -- Where rows stand.
-use Rattle.std.specs.Prelude.{◌≡◌, ℕ, ◌+◌, ◌<◌, ◌≤◌, ◌==◌, if◌then◌else◌, List, [], length, map, take, drop, Option, None, Some, is_some, slice_index_or}
+use Rattle.std.specs.Prelude.{◌≡◌, ℕ, ◌+◌, ◌<◌, ◌≤◌, ◌==◌, if◌then◌else◌, List, [], ◌++◌, length, map, replicate, take, drop, Option, None, Some, is_some, slice_index_or}
 use Rattle.std.specs.Option.{option_map}
 use Rattle.prefix.specs.Literal.{Literal}
 use Rattle.rows.specs.declared.places.Place.{Place}
@@ -29,6 +29,10 @@ with_block block place = record { start = place.start; len = place.len; block = 
 -- where the row under an id stands, if it is live
 abbrev pub place_at : List (Option Place) → ℕ → Option Place
 place_at places id = slice_index_or places id None
+
+-- places of which the first ones are of no live row, so many of them, and the others are these
+abbrev pub behind_gone : ℕ → List (Option Place) → List (Option Place)
+behind_gone gone places = replicate gone None ++ places
 
 -- the literals that stand at a place
 abbrev pub part : List Literal → Place → List Literal

@@ -5,9 +5,9 @@ ghost use Rattle.rows.specs.Places.{AreSpread, Reblocks, blocks_of, most_blocks,
 ghost use Rattle.rows.specs.Blocks.{AreBlocks, LosesBlock, block_at, block_in, has_block, links_in};
 
 use super::links::{Links, ThreeLinks};
-use super::places::{place_of, set_block};
+use super::places::set_block;
 use super::rows::RowId;
-use super::slots::Slot;
+use super::table::Table;
 
 // The link fields of a row.
 #[derive(Debug, Drop)]
@@ -96,20 +96,20 @@ pub(crate) fn write_three(blocks: &mut Vec<Block>, block: usize, base: usize, va
 
 // The block of a live row. Where it has none it gets one, for which there is room.
 #[inline]
-pub(crate) fn block_for(places: &mut Vec<Slot>, blocks: &mut Vec<Block>, id: RowId) -> usize
-    requires live { IsTrue (is_some (place_at places.old.items id)) }
-    requires blocks { AreBlocks (blocks_of places.old.items) blocks.old.items }
-    requires room { count_by is_some (blocks_of places.old.items) ≤ vec_capacity blocks.old }
-    requires few { count_by is_some (blocks_of places.old.items) ≤ most_blocks }
-    ensures block { block_in (blocks_of places.new.items) id ≡ Some (Some result) }
-    ensures blocks { AreBlocks (blocks_of places.new.items) blocks.new.items }
-    ensures same { Reblocks places.old.items places.new.items }
-    ensures live { count_by is_some (blocks_of places.new.items) ≡ count_by is_some (blocks_of places.old.items) }
-    ensures links { (i : ℕ) (b c : Option ℕ) → block_in (blocks_of places.old.items) i ≡ Some b →
-        block_in (blocks_of places.new.items) i ≡ Some c → links_in blocks.new.items c ≡ links_in blocks.old.items b }
+pub(crate) fn block_for(places: &mut Table, blocks: &mut Vec<Block>, id: RowId) -> usize
+    requires live { IsTrue (is_some (place_at places.old id)) }
+    requires blocks { AreBlocks (blocks_of places.old) blocks.old.items }
+    requires room { count_by is_some (blocks_of places.old) ≤ vec_capacity blocks.old }
+    requires few { count_by is_some (blocks_of places.old) ≤ most_blocks }
+    ensures block { block_in (blocks_of places.new) id ≡ Some (Some result) }
+    ensures blocks { AreBlocks (blocks_of places.new) blocks.new.items }
+    ensures same { Reblocks places.old places.new }
+    ensures live { count_by is_some (blocks_of places.new) ≡ count_by is_some (blocks_of places.old) }
+    ensures links { (i : ℕ) (b c : Option ℕ) → block_in (blocks_of places.old) i ≡ Some b →
+        block_in (blocks_of places.new) i ≡ Some c → links_in blocks.new.items c ≡ links_in blocks.old.items b }
     ensures room { vec_capacity blocks.old ≤ vec_capacity blocks.new }
 {
-    match place_of(places, id).block {
+    match places.place_of(id).block {
         Some(block) => block,
         None => give_block(places, blocks, id),
     }
@@ -117,15 +117,15 @@ pub(crate) fn block_for(places: &mut Vec<Slot>, blocks: &mut Vec<Block>, id: Row
 
 // Gives a row that has none a block, for which there is room.
 #[cold]
-fn give_block(places: &mut Vec<Slot>, blocks: &mut Vec<Block>, id: RowId) -> usize
-    requires live { block_in (blocks_of places.old.items) id ≡ Some None }
-    requires blocks { AreBlocks (blocks_of places.old.items) blocks.old.items }
-    requires room { count_by is_some (blocks_of places.old.items) ≤ vec_capacity blocks.old }
-    requires few { count_by is_some (blocks_of places.old.items) ≤ most_blocks }
+fn give_block(places: &mut Table, blocks: &mut Vec<Block>, id: RowId) -> usize
+    requires live { block_in (blocks_of places.old) id ≡ Some None }
+    requires blocks { AreBlocks (blocks_of places.old) blocks.old.items }
+    requires room { count_by is_some (blocks_of places.old) ≤ vec_capacity blocks.old }
+    requires few { count_by is_some (blocks_of places.old) ≤ most_blocks }
     ensures result { result ≡ length blocks.old.items }
-    ensures block { blocks_of places.new.items ≡ slice_set (blocks_of places.old.items) id (Some (Some result)) }
+    ensures block { blocks_of places.new ≡ slice_set (blocks_of places.old) id (Some (Some result)) }
     ensures blocks { blocks.new.items ≡ blocks.old.items ++ (record { owner = id; links = replicate 8 None }) ∷ [] }
-    ensures same { Reblocks places.old.items places.new.items }
+    ensures same { Reblocks places.old places.new }
     ensures room { vec_capacity blocks.old ≤ vec_capacity blocks.new }
 {
     let block = blocks.len();
@@ -139,18 +139,18 @@ fn give_block(places: &mut Vec<Slot>, blocks: &mut Vec<Block>, id: RowId) -> usi
 }
 
 // Takes a live row out. Where it has a block, the last block comes into its place.
-pub(crate) fn forget(places: &mut Vec<Slot>, blocks: &mut Vec<Block>, id: RowId)
-    requires live { IsTrue (is_some (place_at places.old.items id)) }
-    requires blocks { AreBlocks (blocks_of places.old.items) blocks.old.items }
-    requires few { count_by is_some (blocks_of places.old.items) ≤ most_blocks }
-    ensures loses { LosesBlock (blocks_of places.old.items) blocks.old.items (blocks_of places.new.items)
+pub(crate) fn forget(places: &mut Table, blocks: &mut Vec<Block>, id: RowId)
+    requires live { IsTrue (is_some (place_at places.old id)) }
+    requires blocks { AreBlocks (blocks_of places.old) blocks.old.items }
+    requires few { count_by is_some (blocks_of places.old) ≤ most_blocks }
+    ensures loses { LosesBlock (blocks_of places.old) blocks.old.items (blocks_of places.new)
         blocks.new.items id }
-    ensures same { Reblocks (slice_set places.old.items id None) places.new.items }
-    ensures live { count_by is_some (blocks_of places.new.items) + 1 ≡ count_by is_some (blocks_of places.old.items) }
+    ensures same { Reblocks (slice_set places.old id None) places.new }
+    ensures live { count_by is_some (blocks_of places.new) + 1 ≡ count_by is_some (blocks_of places.old) }
     ensures room { vec_capacity blocks.new ≡ vec_capacity blocks.old }
 {
-    let place = place_of(places, id);
-    places[id].clear();
+    let place = places.place_of(id);
+    places.clear(id);
     let Some(block) = place.block else {
         return;
     };

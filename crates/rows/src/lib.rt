@@ -7,6 +7,7 @@ mod links;
 mod places;
 mod rows;
 mod slots;
+mod table;
 
 pub use links::ThreeLinks;
 pub use rows::{RowId, Rows};

@@ -4,8 +4,9 @@ ghost use Rattle.rows.specs.Arena.{ChangesAt, ChangesLink, ChangesLinks, next_id
 
 use super::blocks::{Block, block_for, forget, read, read_three, write, write_three};
 use super::links::ThreeLinks;
-use super::places::{place_of, put, slide};
-use super::slots::{Slot, short, within};
+use super::places::{put, slide};
+use super::slots::{slot_from, within};
+use super::table::Table;
 use memory::NoMemory;
 use prefix::Lit;
 use std::alloc::Global;
@@ -19,21 +20,23 @@ pub type RowId = usize;
 ///
 /// Each row has its literals, which never change, and eight link fields, numbered from 0, for lists that are threaded
 /// through the rows. Every call takes constant time, but `add` and `add_pair`, which copy the literals, and `compact`,
-/// which goes over all ids.
+/// which goes over all ids but the first ones, where most of those in front have no live row.
 ///
-/// The literals of all rows stand in one list. A row that goes leaves a hole there, until `compact` moves the others
-/// together. Room for the link fields of all live rows is taken as rows come in, and written only for rows that have
+/// The literals of all rows stand in one list. A row that goes leaves a hole there, until `compact` or `tidy` moves the
+/// others together. Room for the link fields of all live rows is taken as rows come in, and written only for rows that have
 /// had a link.
 #[derive(Debug, Drop)]
 pub struct Rows {
     // The literals of the rows, in the order of their ids.
     lits: Vec<Lit>,
     // Where the row of each id stands, if it is live.
-    places: Vec<Slot>,
+    places: Table,
     // The link fields of the rows that have had a link, with room for those of all live rows.
     blocks: Vec<Block>,
     // How many rows are live.
     live: usize,
+    // How many rows went since the others were moved together.
+    holes: usize,
 }
 
 impl Model for Rows {
@@ -44,9 +47,9 @@ impl Model for Rows {
 
     ghost use Rattle.rows.specs.Stored.{AreStored, arena_of};
 
-    ghost view = { λ a. arena_of a.lits.items a.blocks.items a.places.items };
+    ghost view = { λ a. arena_of a.lits.items a.blocks.items a.places };
 
-    ghost invariant = { λ a. AreStored (length a.lits.items) a.places.items a.blocks.items a.live
+    ghost invariant = { λ a. AreStored (length a.lits.items) a.places a.blocks.items a.live
         (vec_capacity a.blocks) };
 }
 
@@ -57,9 +60,10 @@ impl Rows {
     {
         Self {
             lits: Vec::new(alloc),
-            places: Vec::new(alloc),
+            places: Table::new(alloc),
             blocks: Vec::new(alloc),
             live: 0,
+            holes: 0,
         }
     }
 
@@ -81,10 +85,7 @@ impl Rows {
     pub fn is_live(&self, id: RowId) -> bool
         ensures { result ≡ is_live self.now id }
     {
-        match self.places.get(id) {
-            Some(slot) => slot.is_live(),
-            None => false,
-        }
+        self.places.is_live(id)
     }
 
     /// The literals of a live row, in the order in which they came.
@@ -93,7 +94,7 @@ impl Rows {
         requires { IsTrue (is_live self.now id) }
         ensures { result.now ≡ literals_at self.now id }
     {
-        let place = place_of(&self.places, id);
+        let place = self.places.place_of(id);
         &self.lits[place.start..place.start + place.len]
     }
 
@@ -104,7 +105,7 @@ impl Rows {
         requires field { k < 8 }
         ensures { result ≡ link_at self.now id k }
     {
-        read(&self.blocks, place_of(&self.places, id).block, k)
+        read(&self.blocks, self.places.place_of(id).block, k)
     }
 
     /// Three link fields of a live row, that of a number and the two behind it.
@@ -116,7 +117,7 @@ impl Rows {
         ensures second { result.1 ≡ link_at self.now id (base + 1) }
         ensures third { result.2 ≡ link_at self.now id (base + 2) }
     {
-        read_three(&self.blocks, place_of(&self.places, id).block, base)
+        read_three(&self.blocks, self.places.place_of(id).block, base)
     }
 
     /// Writes a link field of a live row, and changes nothing else.
@@ -154,12 +155,12 @@ impl Rows {
         ensures err { OnErr result (self.new ≡ self.old) }
     {
         let id = self.places.len();
-        let len = short(lits.len())?;
+        let slot = slot_from(self.lits.len(), lits)?;
         within(self.live, 1)?;
-        self.places.reserve(1)?;
         self.blocks.reserve(self.live + 1 - self.blocks.len())?;
         self.lits.reserve(lits.len())?;
-        put(&mut self.lits, &mut self.places, lits, len);
+        self.places.push(slot)?;
+        put(&mut self.lits, lits);
         self.live += 1;
         Ok(id)
     }
@@ -171,15 +172,16 @@ impl Rows {
         ensures err { OnErr result (self.new ≡ self.old) }
     {
         let id = self.places.len();
-        let lens = (short(first.len())?, short(second.len())?);
+        let slot = slot_from(self.lits.len(), first)?;
+        let next = slot_from(self.lits.len() + first.len(), second)?;
         within(self.live, 2)?;
-        self.places.reserve(2)?;
         self.blocks.reserve(self.live + 2 - self.blocks.len())?;
         self.lits.reserve(first.len() + second.len())?;
-        put(&mut self.lits, &mut self.places, first, lens.0);
-        put(&mut self.lits, &mut self.places, second, lens.1);
+        self.places.push_pair(slot, next)?;
+        put(&mut self.lits, first);
+        put(&mut self.lits, second);
         self.live += 2;
-        Ok((id, id + 1))
+        Ok((id, self.places.len() - 1))
     }
 
     /// Takes a live row out, and no other. Its id isn't given again, unless it is taken back. This takes no memory.
@@ -190,6 +192,7 @@ impl Rows {
         ensures next { next_id self.new ≡ next_id self.old }
     {
         self.live -= 1;
+        self.holes = self.holes.saturating_add(1);
         forget(&mut self.places, &mut self.blocks, id);
     }
 
@@ -208,5 +211,17 @@ impl Rows {
         ensures { self.new ≡ self.old }
     {
         slide(&mut self.lits, &mut self.places);
+        self.places.trim();
+        self.holes = 0;
+    }
+
+    /// Moves what is live together, as `compact` does, where as many rows went since the last time as half of the ids
+    /// that it would go over. So all such passes together take constant time for each row that went.
+    pub fn tidy(&mut self)
+        ensures { self.new ≡ self.old }
+    {
+        if self.holes >= self.places.kept() / 2 {
+            self.compact();
+        }
     }
 }

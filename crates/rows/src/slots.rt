@@ -1,10 +1,11 @@
 //! Places as they are kept, in 16 bytes each.
-ghost use Rattle.std.specs.Prelude.{◌≡◌, ◌+◌, ◌<◌, ◌≤◌, IfOk, IfSome, OnOk, IsTrue, None, Some, is_some};
+ghost use Rattle.std.specs.Prelude.{◌≡◌, ◌+◌, ◌<◌, ◌≤◌, IfOk, IfSome, OnOk, IsTrue, None, Some, is_some, length};
 ghost use Rattle.std.specs.Option.{option_map};
 ghost use Rattle.rows.specs.Places.{block_numbered, moved_to, most_blocks, with_block};
 
 use super::places::Place;
 use memory::NoMemory;
+use prefix::Lit;
 use std::marker::Model;
 
 // What stands in place of a block's number for a row that has no block.
@@ -59,8 +60,17 @@ fn number_of(block: Option<usize>) -> u32
     }
 }
 
-// The length of a row as a slot keeps it. There is no memory for a longer one.
-pub(crate) fn short(len: usize) -> Result<u32, NoMemory>
+// The slot of a row with these literals, which stand from there on, and without a block. There is no memory for a longer
+// row than a slot can tell of.
+pub(crate) fn slot_from(start: usize, lits: &[Lit]) -> Result<Slot, NoMemory>
+    ensures { IfOk result (λ slot. slot ≡ Some (record { start = start; len = length lits.now; block = None })) }
+{
+    let len = short(lits.len())?;
+    Ok(Slot::new(start, len))
+}
+
+// The length of a row as a slot keeps it.
+fn short(len: usize) -> Result<u32, NoMemory>
     ensures { IfOk result (λ n. n ≡ len) }
 {
     u32::try_from(len).map_err(|_| NoMemory)

@@ -17,7 +17,7 @@ use Rattle.trail.proofs.Keeping.{assigned_few}
 use Rattle.derive.specs.State.{State, IsLegalFor, clauses_of, row_of, side_at, steps_of, why_at}
 use Rattle.derive.specs.Adding.{Removes, finish_at}
 use Rattle.derive.specs.Theorems.{SameClausesServe, StepsAreListed}
-use Rattle.qrp_trace.specs.Theorems.{FinishesEndProofs}
+use Rattle.step_core.specs.Theorems.{FinishesEndProofs}
 use Rattle.clean.specs.Reasons.{IsReducedStep}
 use Rattle.search.specs.Counting.{IsBounded, size_of}
 use Rattle.search.specs.Moves.{IsMatrix}

@@ -10,7 +10,7 @@ use Rattle.calculus.specs.Rows.{Row}
 use Rattle.calculus.specs.Search.{AreTheAssumptions}
 use Rattle.trail.specs.State.{Account}
 use Rattle.derive.specs.State.{State, clauses_of, is_live, side_at}
-use Rattle.qrp_trace.specs.Cores.{IsFinishAt}
+use Rattle.step_core.specs.Cores.{IsFinishAt}
 use Rattle.search.specs.Counting.{size_of}
 use Rattle.search.specs.Moves.{IsDue}
 use Rattle.search.specs.State.{IsSearching, SearchState}

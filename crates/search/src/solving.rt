@@ -29,7 +29,7 @@ use derive::{StepId, same_clauses_serve, steps_are_listed};
 use matrix::Matrix;
 use memory::NoMemory;
 use prefix::{Lit, Prefix};
-use qrp_trace::finishes_end_proofs;
+use step_core::finishes_end_proofs;
 use steps::{Spent, Steps, Stop};
 use trail::Stopped;
 use watch::{agreeing_laws, holding_laws, looking_laws};

@@ -17,7 +17,7 @@ use Rattle.frames.specs.State.{OpenFormula}
 use Rattle.aig.specs.declared.strategy.Strategy.{Strategy}
 use Rattle.aiger_out.specs.Aag.{IsAagText}
 use Rattle.derive.specs.State.{State}
-use Rattle.qrp_trace.specs.Cores.{IsNumbered, Trace, inferences_of, proof_at}
+use Rattle.step_core.specs.Cores.{IsNumbered, Trace, inferences_of, proof_at}
 use Rattle.qrp_trace.specs.Texts.{qrp_text}
 use Rattle.ports.specs.Writing.{Writes}
 use Rattle.engine.specs.declared.refusal.AskRefusal.{AskRefusal}

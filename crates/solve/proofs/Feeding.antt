@@ -3,7 +3,7 @@ use Rattle.std.proofs.Common.{◌≡◌, ℕ, zero, suc, ◌+◌, ◌-◌, ◌<�
 use Rattle.std.specs.Prelude.{◌==◌, ◌^◌, min, drop, slice_get, unwrap_or, nat_lt, nat_le, if◌then◌else◌, is_some, flat_map, IsOkUnless, MatchOption, Result, Err}
 use Rattle.std.specs.Option.{option_map}
 use Rattle.std.specs.List.{AllByRecursion, list_all}
-use Rattle.std.proofs.lemmas.Bool.{eqb-true, ne_eqb}
+use Rattle.std.proofs.lemmas.Bool.{eqb-true, ne_eqb, or_right}
 use Rattle.std.proofs.lemmas.Bool.Decides.{nat_tests}
 use Rattle.std.proofs.lemmas.List.{append-nil, append_assoc, length-take-le, take_more}
 use Rattle.prefix.specs.declared.quant.Quant.{Quant}
@@ -22,7 +22,7 @@ use Rattle.frames.specs.Commands.{AddClause, AddScope, AddVariable, first_of, fo
 use Rattle.truth.specs.Limits.{max_clauses, max_literals}
 use Rattle.truth.specs.Formed.{IsClauseOver}
 use Rattle.qdimacs.specs.Kept.{AreNew}
-use Rattle.qdimacs.proofs.Fitting.{distinct_apart, distinct_parts, or_right}
+use Rattle.qdimacs.proofs.Fitting.{distinct_apart, distinct_parts}
 use Rattle.qdimacs.proofs.Building.{among_get, last_none, scope_last, taken_new, variable_last}
 use Rattle.solve.specs.Feeding.{HoldsFormula, formula_with}
 use Rattle.solve.proofs.Numbers.{amount, known_in, no_tautology, numbers, positive_in, same_row}

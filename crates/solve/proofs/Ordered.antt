@@ -9,7 +9,7 @@ use Rattle.calculus.specs.Derivations.{Inference, core_order, inferences_of, is_
 use Rattle.calculus.specs.Verdicts.{finish_of, finish_steps, is_assumed}
 use Rattle.calculus.proofs.Lists.{contains_head, contains_tail, filter_all, filter_at}
 use Rattle.derive.specs.State.{State, steps_of, why_at}
-use Rattle.qrp_trace.specs.Cores.{end_row_in, proof_at, step_under}
+use Rattle.step_core.specs.Cores.{end_row_in, proof_at, step_under}
 
 not_true : (b : Bool) → not b ≡ true → b ≡ false
 not_true true e = sym e

@@ -8,10 +8,10 @@ use Rattle.calculus.specs.Derivations.{Inference}
 use Rattle.calculus.specs.Derivations.Reason.{Input as ByInput, One as ByOne, Two as ByTwo}
 use Rattle.calculus.specs.Rows.{Row}
 use Rattle.calculus.specs.Worked.{existential}
-use Rattle.qrp_trace.specs.declared.listing.Line.{Line}
-use Rattle.qrp_trace.specs.declared.listing.CoreStep.{CoreStep}
-use Rattle.qrp_trace.specs.declared.listing.CoreStep.TheVariants.{Input, One, Two}
-use Rattle.qrp_trace.specs.Cores.{IsNumbered, RestsOnNumber, Trace, core_rows, inference_from, inferences_of, reason_by, row_numbered, step_numbered}
+use Rattle.step_core.specs.declared.listing.Line.{Line}
+use Rattle.step_core.specs.declared.listing.CoreStep.{CoreStep}
+use Rattle.step_core.specs.declared.listing.CoreStep.TheVariants.{Input, One, Two}
+use Rattle.step_core.specs.Cores.{IsNumbered, RestsOnNumber, Trace, core_rows, inference_from, inferences_of, reason_by, row_numbered, step_numbered}
 use Rattle.qrp_trace.specs.Texts.{qrp_text}
 use Rattle.solve.specs.Traces.{IsTraceText}
 use Rattle.solve.specs.Worked.{by_itself, trace_text}

@@ -5,7 +5,7 @@ use Rattle.prefix.specs.Scopes.{Scope}
 use Rattle.calculus.specs.Derivations.{core_order}
 use Rattle.frames.specs.State.{OpenFormula}
 use Rattle.derive.specs.State.{State}
-use Rattle.qrp_trace.specs.Cores.{IsNumbered, Trace, inferences_of, proof_at}
+use Rattle.step_core.specs.Cores.{IsNumbered, Trace, inferences_of, proof_at}
 use Rattle.qrp_trace.specs.Texts.{qrp_text}
 use Rattle.engine.specs.Refusals.{winner_of}
 use Rattle.engine.specs.State.{EngineState, VerdictState}

@@ -2,7 +2,7 @@
 use Rattle.std.specs.Prelude.{◌≡◌, Bool, List}
 use Rattle.prefix.specs.Scopes.{Scope}
 use Rattle.calculus.specs.Derivations.{Inference, core_order}
-use Rattle.qrp_trace.specs.Cores.{IsNumbered, Trace as TraceCore, inferences_of}
+use Rattle.step_core.specs.Cores.{IsNumbered, Trace as TraceCore, inferences_of}
 use Rattle.qrp_trace.specs.Texts.{qrp_text}
 use Rattle.engine.specs.Refusals.{winner_of}
 use Rattle.solve.specs.Outputs.{Text}

@@ -14,7 +14,8 @@ use aig::Strategy;
 use aiger_out::{circuits_have_one_form_of_bytes, circuits_have_one_text, write_aag, write_aig};
 use ports::{Failed, Sink, write_all};
 use prefix::Prefix;
-use qrp_trace::{Core, write_trace};
+use qrp_trace::write_trace;
+use step_core::Core;
 
 /// Writes the line of an answer.
 pub fn write_answer<S: Sink>(answer: Answer, sink: &mut S) -> Result<(), Failed>

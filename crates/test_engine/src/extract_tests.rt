@@ -12,9 +12,9 @@ use derive::{Derivation, StepId};
 use extract::extract;
 use fixtures::{Workshop, ascends, is_usable, prefix_of, row, rows};
 use prefix::{Clauses, Cubes, Lit, LitList, Prefix, Quant, Var};
-use qrp_trace::{core, finishes_end_proofs};
 use std::alloc::Global;
 use std::test::Fail;
+use step_core::{core, finishes_end_proofs};
 
 // Whether a literal is over a variable.
 fn is_of_var(lit: Lit, v: Var) -> bool

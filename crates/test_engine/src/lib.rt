@@ -1,4 +1,4 @@
-//! Tests of the crates `qrp_trace`, `extract` and `engine`.
+//! Tests of the crates `step_core`, `qrp_trace`, `extract` and `engine`.
 #![tactic(auto)]
 
 #[cfg(test)]

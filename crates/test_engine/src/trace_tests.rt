@@ -1,11 +1,12 @@
-//! Tests of `qrp_trace`.
+//! Tests of `step_core` and `qrp_trace`.
 use derive::StepId;
 use fixtures::{Workshop, literal, prefix_of};
 use ports::{Failed, MemorySink};
 use prefix::{Prefix, Quant};
-use qrp_trace::{Core, core, write_trace};
+use qrp_trace::write_trace;
 use std::alloc::Global;
 use std::test::Fail;
+use step_core::{Core, core};
 
 const REFUTATION: &str =
     "p qrp 2 5\ne 2 0\na 1 0\n1 1 2 0 0\n2 -1 -2 0 0\n3 2 0 1 0\n4 -2 0 2 0\n5 0 3 4 0\nr UNSAT\n";

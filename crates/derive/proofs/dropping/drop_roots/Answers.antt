@@ -1,4 +1,6 @@
-use Rattle.std.proofs.Common.{◌≡◌, ◌+◌, length, ◌<◌, ◌≤◌, sym, arith, ◌∙◌}
+use Rattle.std.proofs.Common.{◌≡◌, ◌+◌, length, ◌<◌, ◌≤◌, sym, subst, arith, ◌∙◌}
+use Rattle.rows.specs.Arena.{Arena}
+use Rattle.derive.specs.Dropping.{DropsFrom}
 use Rattle.derive.specs.Missing.{falls_now}
 use Rattle.derive.specs.Roots.{is_root}
 use Rattle.derive.proofs.Falling.{Passed, falls_alike, passed_first, passed_keep, passed_drop, passed_skip, passed_all, row_there}
@@ -43,7 +45,9 @@ pub returns : goal.returns
 returns c =
     let same = c.loop-id.invariant.same_next in
     let all : length c.loop-id.notes ≤ c.loop-id.id = omega arith in
-    passed_all _ _ _ _ _ c.loop-id.id all c.loop-id.invariant
+    subst (λ (rows : Arena). DropsFrom (is_root c.args.roots.now c.args.rows.now) c.args.notes.now c.loop-id.notes
+    c.args.rows.now rows) (sym c.tidy.ensures)
+    (passed_all _ _ _ _ _ c.loop-id.id all c.loop-id.invariant)
 
 pub falls-requires : goal.falls-requires
 falls-requires c = λ note there.

@@ -1,6 +1,6 @@
 use Rattle.std.proofs.Common.{refl}
 use Rattle.derive.specs.State.{side_at, why_at}
-use Rattle.qrp_trace.proofs.Told.{antecedent_live, rests_told}
+use Rattle.step_core.proofs.Told.{antecedent_live, rests_told}
 use Rattle.engine.proofs.asks.removed_value.Goals as goal
 
 pub lits-requires-clause-live : goal.lits-requires-clause-live

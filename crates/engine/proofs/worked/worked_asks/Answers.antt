@@ -5,7 +5,7 @@ use Rattle.calculus.specs.Derivations.{Inference}
 use Rattle.calculus.specs.Plays.{played_from, with_given}
 use Rattle.calculus.specs.Rows.{Row}
 use Rattle.calculus.proofs.Lists.{contains_nil}
-use Rattle.qrp_trace.specs.Worked.{clause}
+use Rattle.step_core.specs.Worked.{clause}
 use Rattle.search.specs.Finishes.{IsFinishId}
 use Rattle.engine.specs.Worked.{finished_with}
 use Rattle.engine.proofs.worked.worked_asks.Goals as goal

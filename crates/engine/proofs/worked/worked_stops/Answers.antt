@@ -2,7 +2,7 @@ use Rattle.std.proofs.Common.{◌≡◌, ◌<◌, [], ◌∷◌, Some, refl, ari
 use Rattle.calculus.specs.Derivations.Why.{Given}
 use Rattle.calculus.specs.Worked.{minus, plus}
 use Rattle.derive.specs.State.{State}
-use Rattle.qrp_trace.specs.Worked.{clause, stored}
+use Rattle.step_core.specs.Worked.{clause, stored}
 use Rattle.engine.proofs.worked.worked_stops.Goals as goal
 
 -- the two clauses

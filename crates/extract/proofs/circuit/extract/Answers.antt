@@ -3,7 +3,7 @@ use Rattle.prefix.specs.declared.quant.Quant.{Quant}
 use Rattle.prefix.specs.Scopes.{all_variables, quantifier_of}
 use Rattle.calculus.specs.Rows.{is_of}
 use Rattle.calculus.proofs.Lists.{filter_at}
-use Rattle.qrp_trace.specs.Cores.{inferences_of, loser_of}
+use Rattle.step_core.specs.Cores.{inferences_of, loser_of}
 use Rattle.extract.proofs.Played.{play_constants, play_keeps, play_follows}
 use Rattle.extract.proofs.circuit.extract.Goals as goal
 

@@ -1,7 +1,7 @@
 use Rattle.std.proofs.Common.{sym, ap, ◌∙◌, is_some}
 use Rattle.std.proofs.lemmas.Result.{on_ok_weaker}
 use Rattle.calculus.proofs.RowLemmas.{none_from}
-use Rattle.qrp_trace.specs.Cores.{core_rows}
+use Rattle.step_core.specs.Cores.{core_rows}
 use Rattle.extract.specs.Tables.{edge_of}
 use Rattle.extract.proofs.Filled.{turn_edges}
 use Rattle.extract.proofs.circuit.put_rule.Goals as goal

@@ -1,6 +1,6 @@
 use Rattle.std.proofs.Common.{◌≡◌, get_or, arith, ◌∙◌}
 use Rattle.std.proofs.lemmas.List.{take_all, get_or_default}
-use Rattle.qrp_trace.specs.Cores.{core_rows}
+use Rattle.step_core.specs.Cores.{core_rows}
 use Rattle.extract.proofs.Filled.{ready_now, ruled_more}
 use Rattle.extract.proofs.circuit.put_ruled.Goals as goal
 

@@ -1,4 +1,4 @@
-use Rattle.qrp_trace.specs.Cores.{core_rows}
+use Rattle.step_core.specs.Cores.{core_rows}
 use Rattle.extract.specs.Tables.{AreKept}
 use Rattle.extract.proofs.Filled.{IsRuledTable}
 use Rattle.extract.proofs.circuit.put_ruled.Given as goal

@@ -1,6 +1,6 @@
 use Rattle.std.proofs.Common.{◌≡◌, ◌≤◌, ℕ, map, ⊎_elim, ap, ◌∙◌}
 use Rattle.prefix.specs.declared.quant.Quant.{Quant}
-use Rattle.qrp_trace.specs.Cores.{core_rows, inferences_of, loser_of}
+use Rattle.step_core.specs.Cores.{core_rows, inferences_of, loser_of}
 use Rattle.extract.specs.Removals.{removals, weights_of}
 use Rattle.prefix.specs.Scopes.{all_variables}
 use Rattle.calculus.specs.Limits.{gate_weight}

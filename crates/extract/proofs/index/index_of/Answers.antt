@@ -1,6 +1,6 @@
 use Rattle.std.proofs.Common.{[], arith}
 use Rattle.extract.specs.Tables.{removals_at}
-use Rattle.qrp_trace.specs.declared.listing.CoreStep.TheVariants.{Input}
+use Rattle.step_core.specs.declared.listing.CoreStep.TheVariants.{Input}
 use Rattle.extract.proofs.Indexing.{index_start, index_more, index_end}
 use Rattle.extract.proofs.index.index_of.Goals as goal
 

@@ -1,5 +1,5 @@
 use Rattle.std.proofs.Common.{◌-◌, arith, false}
-use Rattle.qrp_trace.specs.Cores.{core_rows}
+use Rattle.step_core.specs.Cores.{core_rows}
 use Rattle.extract.specs.Tables.{removed_of}
 use Rattle.extract.proofs.Rules.{contains_mapped, drop_before, rule_more}
 use Rattle.extract.proofs.rule.first_falsified.Goals as goal

@@ -1,5 +1,5 @@
 use Rattle.std.proofs.Common.{drop, map, length, ◌≤◌}
-use Rattle.qrp_trace.specs.Cores.{core_rows}
+use Rattle.step_core.specs.Cores.{core_rows}
 use Rattle.extract.specs.Tables.{removed_of, AreKept}
 use Rattle.extract.proofs.Rules.{IsRuleEdge}
 use Rattle.extract.proofs.rule.first_falsified.Given as goal

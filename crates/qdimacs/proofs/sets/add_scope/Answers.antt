@@ -3,7 +3,7 @@ use Rattle.std.proofs.lemmas.List.{take_all}
 use Rattle.prefix.specs.Scopes.{is_among}
 use Rattle.qdimacs.proofs.Building.{inserted, inserted_among, scope_last, last_grows, or_none, scope_memory, next_memory}
 use Rattle.std.proofs.lemmas.Result.{err_from_is_err_and}
-use Rattle.qdimacs.proofs.Ascending.{ascending_of}
+use Rattle.clauses.proofs.Ascending.{ascending_of}
 use Rattle.qdimacs.proofs.sets.add_scope.Goals as goal
 
 pub loop-v-preserved : goal.loop-v-preserved

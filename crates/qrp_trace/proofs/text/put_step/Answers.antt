@@ -1,7 +1,7 @@
 use Rattle.std.proofs.Common.{◌++◌, codes}
 use Rattle.std.specs.List.{flat_map}
 use Rattle.blocks.proofs.Putting.{part_more, part_then, puts_err, puts_then}
-use Rattle.qrp_trace.specs.Cores.{core_rows, row_numbered, step_numbered}
+use Rattle.step_core.specs.Cores.{core_rows, row_numbered, step_numbered}
 use Rattle.qrp_trace.specs.Texts.{antecedents_of, literal_word, number_word}
 use Rattle.qrp_trace.proofs.text.put_step.Goals as goal
 

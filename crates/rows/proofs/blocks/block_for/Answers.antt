@@ -8,11 +8,11 @@ use Rattle.rows.proofs.blocks.block_for.Goals as goal
 
 pub returns-in-None-clause-blocks : goal.returns-in-None-clause-blocks
 returns-in-None-clause-blocks c =
-    let rows = blocks_of c.args.places.now.items in
+    let rows = blocks_of c.args.places.now in
     let blocks = c.args.blocks.now.items in
-    let there : block_in rows c.args.id ≡ Some None = block_there c.args.places.now.items c.args.id c.place_of.result
+    let there : block_in rows c.args.id ≡ Some None = block_there c.args.places.now c.args.id c.place_of.result
     c.place_of.ensures ∙ ap Some c.in-None.is in
-    let rows_are : blocks_of c.give_block.new.places.items ≡ set rows c.args.id (Some (Some (length blocks))) =
+    let rows_are : blocks_of c.give_block.new.places ≡ set rows c.args.id (Some (Some (length blocks))) =
     c.give_block.ensures.block ∙ ap (λ n. set rows c.args.id (Some (Some n))) c.give_block.ensures.result in
     let P : List Block → Type 0 = λ bs. AreBlocks (set rows c.args.id (Some (Some (length blocks)))) bs in
     let Q : List (Option (Option ℕ)) → Type 0 = λ rs. AreBlocks rs c.give_block.new.blocks.items in
@@ -21,11 +21,11 @@ returns-in-None-clause-blocks c =
 
 pub returns-in-None-clause-live : goal.returns-in-None-clause-live
 returns-in-None-clause-live c =
-    let rows = blocks_of c.args.places.now.items in
+    let rows = blocks_of c.args.places.now in
     let blocks = c.args.blocks.now.items in
-    let there : block_in rows c.args.id ≡ Some None = block_there c.args.places.now.items c.args.id c.place_of.result
+    let there : block_in rows c.args.id ≡ Some None = block_there c.args.places.now c.args.id c.place_of.result
     c.place_of.ensures ∙ ap Some c.in-None.is in
-    let rows_are : blocks_of c.give_block.new.places.items ≡ set rows c.args.id (Some (Some (length blocks))) =
+    let rows_are : blocks_of c.give_block.new.places ≡ set rows c.args.id (Some (Some (length blocks))) =
     c.give_block.ensures.block ∙ ap (λ n. set rows c.args.id (Some (Some n))) c.give_block.ensures.result in
     ap (λ (rs : List (Option (Option ℕ))). count_by is_some rs) rows_are ∙ live_given rows blocks c.requires.blocks
     c.args.id there

@@ -4,7 +4,7 @@ use Rattle.std.specs.Option.{option_map}
 use Rattle.std.proofs.lemmas.List.{map-set, get_or_default, get_or-set_other}
 use Rattle.rows.specs.declared.places.Place.{Place}
 use Rattle.rows.specs.declared.blocks.Block.{Block}
-use Rattle.rows.specs.Places.{blocks_of}
+use Rattle.rows.specs.Places.{blocks_of, place_at}
 use Rattle.rows.specs.Blocks.{LosesBlock, block_at, block_in, no_block}
 use Rattle.rows.proofs.Blocking.{block_there, count_le, live_block, live_less, live_swapped, loses_last, loses_none, loses_swapped, owner_row, owner_differs}
 use Rattle.rows.proofs.blocks.forget.Goals as goal
@@ -12,14 +12,14 @@ use Rattle.rows.proofs.blocks.forget.Goals as goal
 abbrev Rows : Type 0
 Rows = List (Option (Option ℕ))
 
-gone : (places : List (Option Place)) (id : ℕ) (o : Option Place) → o ≡ None → blocks_of (set places id o) ≡ set
-    (blocks_of places) id None
-gone places id o e = map-set (option_map (λ (p : Place). p.block)) places id o
-    ∙ ap (λ (q : Option Place). set (blocks_of places) id (option_map (λ (p : Place). p.block) q)) e
+gone : (places : List (Option Place)) (id : ℕ) (new : List (Option Place)) → new ≡ set places id None
+    → blocks_of new ≡ set (blocks_of places) id None
+gone places id new e = ap (λ (ps : List (Option Place)). blocks_of ps) e
+    ∙ map-set (option_map (λ (p : Place). p.block)) places id None
 
 pub returns-in_default-clause-loses : goal.returns-in_default-clause-loses
 returns-in_default-clause-loses c =
-    let places = c.args.places.now.items in
+    let places = c.args.places.now in
     let blocks = c.args.blocks.now.items in
     let none : c.place_of-place.result.block ≡ None = c.in_default.is in
     let there : block_in (blocks_of places) c.args.id ≡ Some None = block_there places c.args.id c.place_of-place.result
@@ -30,7 +30,7 @@ returns-in_default-clause-loses c =
 
 pub returns-in_default-clause-live : goal.returns-in_default-clause-live
 returns-in_default-clause-live c =
-    let places = c.args.places.now.items in
+    let places = c.args.places.now in
     let none : c.place_of-place.result.block ≡ None = c.in_default.is in
     let there : block_in (blocks_of places) c.args.id ≡ Some None = block_there places c.args.id c.place_of-place.result
     c.place_of-place.ensures ∙ ap Some none in
@@ -39,7 +39,7 @@ returns-in_default-clause-live c =
 
 pub swap_remove-requires : goal.swap_remove-requires
 swap_remove-requires c =
-    let places = c.args.places.now.items in
+    let places = c.args.places.now in
     let there : block_in (blocks_of places) c.args.id ≡ Some (Some c.in-Some.block) = block_there places c.args.id
     c.place_of-place.result c.place_of-place.ensures ∙ ap Some c.in-Some.is in
     let within = (c.requires.blocks.has c.args.id c.in-Some.block there).0 in
@@ -48,7 +48,7 @@ swap_remove-requires c =
 
 pub set_block-requires : goal.set_block-requires
 set_block-requires c =
-    let places = c.args.places.now.items in
+    let places = c.args.places.now in
     let blocks = c.args.blocks.now.items in
     let new = c.swap_remove.new.self.items in
     let b = c.in-Some.block in
@@ -79,14 +79,15 @@ set_block-requires c =
     let le = count_le (blocks_of places) in
     let few = c.requires.few in
     record {
-      live = ap is_some (get_or-set_other places c.args.id c.index.result.now.owner c.clear.new.self None apart)
+      live = ap (λ (ps : List (Option Place)). is_some (place_at ps c.index.result.now.owner)) c.clear.ensures
+          ∙ ap is_some (get_or-set_other places c.args.id c.index.result.now.owner None None apart)
           ∙ live_block places c.index.result.now.owner (Some (length blocks - 1)) row;
       fits = omega arith;
     }
 
 pub returns-then-block-len-clause-loses : goal.returns-then-block-len-clause-loses
 returns-then-block-len-clause-loses c =
-    let places = c.args.places.now.items in
+    let places = c.args.places.now in
     let blocks = c.args.blocks.now.items in
     let new = c.swap_remove.new.self.items in
     let b = c.in-Some.block in
@@ -109,7 +110,7 @@ returns-then-block-len-clause-loses c =
     low in
     let owner_is : c.index.result.now.owner ≡ (block_at blocks (length blocks - 1)).owner = ap (λ (k : Block). k.owner)
     (at ∙ moved more) in
-    let rows_are : blocks_of c.set_block.new.places.items ≡ set (set (blocks_of places) c.args.id None)
+    let rows_are : blocks_of c.set_block.new.places ≡ set (set (blocks_of places) c.args.id None)
     c.index.result.now.owner (Some (Some b)) = c.set_block.ensures.blocks
     ∙ ap (λ (rows : Rows). set rows c.index.result.now.owner (Some (Some b)))
     (gone places c.args.id c.clear.new.self c.clear.ensures) in
@@ -119,7 +120,7 @@ returns-then-block-len-clause-loses c =
 
 pub returns-then-block-len-clause-live : goal.returns-then-block-len-clause-live
 returns-then-block-len-clause-live c =
-    let places = c.args.places.now.items in
+    let places = c.args.places.now in
     let blocks = c.args.blocks.now.items in
     let new = c.swap_remove.new.self.items in
     let b = c.in-Some.block in
@@ -142,7 +143,7 @@ returns-then-block-len-clause-live c =
     low in
     let owner_is : c.index.result.now.owner ≡ (block_at blocks (length blocks - 1)).owner = ap (λ (k : Block). k.owner)
     (at ∙ moved more) in
-    let rows_are : blocks_of c.set_block.new.places.items ≡ set (set (blocks_of places) c.args.id None)
+    let rows_are : blocks_of c.set_block.new.places ≡ set (set (blocks_of places) c.args.id None)
     c.index.result.now.owner (Some (Some b)) = c.set_block.ensures.blocks
     ∙ ap (λ (rows : Rows). set rows c.index.result.now.owner (Some (Some b)))
     (gone places c.args.id c.clear.new.self c.clear.ensures) in
@@ -153,7 +154,7 @@ returns-then-block-len-clause-live c =
 
 pub returns-else-block-len-clause-loses : goal.returns-else-block-len-clause-loses
 returns-else-block-len-clause-loses c =
-    let places = c.args.places.now.items in
+    let places = c.args.places.now in
     let blocks = c.args.blocks.now.items in
     let new = c.swap_remove.new.self.items in
     let b = c.in-Some.block in
@@ -176,7 +177,7 @@ returns-else-block-len-clause-loses c =
 
 pub returns-else-block-len-clause-live : goal.returns-else-block-len-clause-live
 returns-else-block-len-clause-live c =
-    let places = c.args.places.now.items in
+    let places = c.args.places.now in
     let there : block_in (blocks_of places) c.args.id ≡ Some (Some c.in-Some.block) = block_there places c.args.id
     c.place_of-place.result c.place_of-place.ensures ∙ ap Some c.in-Some.is in
     ap (λ (rows : Rows). count_by is_some rows + 1) (gone places c.args.id c.clear.new.self c.clear.ensures)

@@ -8,7 +8,7 @@ use Rattle.rows.proofs.blocks.give_block.Goals as goal
 
 pub returns-clause-blocks : goal.returns-clause-blocks
 returns-clause-blocks c =
-    let fewer = count_less (blocks_of c.args.places.now.items) c.args.id c.requires.live in
+    let fewer = count_less (blocks_of c.args.places.now) c.args.id c.requires.live in
     let count = c.requires.blocks.counted in
     let room = c.requires.room in
     let len = c.args.blocks.now.ok.0 in
@@ -19,7 +19,7 @@ returns-clause-blocks c =
 
 pub set_block-requires-clause-fits : goal.set_block-requires-clause-fits
 set_block-requires-clause-fits c =
-    let fewer = count_less (blocks_of c.args.places.now.items) c.args.id c.requires.live in
+    let fewer = count_less (blocks_of c.args.places.now) c.args.id c.requires.live in
     let count = c.requires.blocks.counted in
     let few = c.requires.few in
     let is = c.len-block.ensures in

@@ -3,7 +3,7 @@ use Rattle.prefix.specs.Literal.{Literal}
 use Rattle.prefix.specs.Scopes.{Scope}
 use Rattle.calculus.specs.Verdicts.{IsProof}
 use Rattle.frames.specs.State.{open_clauses}
-use Rattle.qrp_trace.specs.Cores.{inferences_of, loser_of}
+use Rattle.step_core.specs.Cores.{inferences_of, loser_of}
 use Rattle.search.specs.Counting.{size_of}
 use Rattle.engine.specs.declared.verdict.Held.{Held}
 use Rattle.engine.specs.Asks.{IsCertificateOf, IsVerdictOf}

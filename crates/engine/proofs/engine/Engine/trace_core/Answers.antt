@@ -1,6 +1,6 @@
 use Rattle.std.proofs.Common.{◌≡◌, arith, Option, IfSome, ap, sym, ◌∙◌, subst}
 use Rattle.derive.specs.State.{IsLegalFor, State}
-use Rattle.qrp_trace.specs.Cores.{IsFinishAt, inferences_of, proof_at}
+use Rattle.step_core.specs.Cores.{IsFinishAt, inferences_of, proof_at}
 use Rattle.engine.proofs.Bounding.{proof_few}
 use Rattle.engine.specs.declared.verdict.Held.{Held}
 use Rattle.engine.specs.Kept.{IsHeld}

@@ -1,7 +1,7 @@
 use Rattle.std.proofs.Common.{◌≤◌, ◌<◌, subst, arith}
 use Rattle.std.proofs.lemmas.List.Elements.{All-from_recursion}
 use Rattle.qdimacs.specs.Represents.{Stands}
-use Rattle.qdimacs.specs.Kept.{codes_of}
+use Rattle.clauses.specs.Codes.{codes_of}
 use Rattle.qdimacs.specs.declared.reader.Stage.TheVariants.{InClause}
 use Rattle.qdimacs.proofs.Keeping.{codes_low}
 use Rattle.qdimacs.proofs.reader.Reader.take.Goals as goal

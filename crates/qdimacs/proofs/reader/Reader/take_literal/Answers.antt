@@ -2,7 +2,8 @@ use Rattle.std.proofs.Common.{◌≡◌, ◌<◌, None, sym, ap, ◌∙◌, ◌+
 use Rattle.std.proofs.Math.Facts.{to_z-of_z}
 use Rattle.qdimacs.specs.Rules.{first_of, literal_rules}
 use Rattle.qdimacs.specs.Represents.{header_of}
-use Rattle.qdimacs.specs.Kept.{literal_rules_kept, code_of}
+use Rattle.qdimacs.specs.Kept.{literal_rules_kept}
+use Rattle.clauses.specs.Codes.{code_of}
 use Rattle.qdimacs.proofs.ReaderSteps.{literal_zero, literal_taken, literal_low}
 use Rattle.qdimacs.proofs.Keeping.{clause_ended, literal_more, above_zero}
 use Rattle.qdimacs.proofs.reader.Reader.take_literal.Goals as goal

@@ -1,4 +1,4 @@
-use Rattle.std.proofs.Common.{◌≡◌, ◌+◌, ◌≤◌, List, [], ◌∷◌, ◌++◌, length, Option, Some, None, ap, ap₂, sym, subst, ◌∙◌, arith}
+use Rattle.std.proofs.Common.{ℕ, ◌≡◌, ◌+◌, ◌≤◌, List, [], ◌∷◌, ◌++◌, length, Option, Some, None, ap, sym, subst, ◌∙◌, arith}
 use Rattle.std.specs.Prelude.{vec_capacity}
 use Rattle.std.specs.Option.{option_map}
 use Rattle.std.proofs.lemmas.List.{length-map}
@@ -13,55 +13,55 @@ use Rattle.rows.proofs.rows.Rows.add.Goals as goal
 
 pub overflow_sub-self-inside : goal.overflow_sub-self-inside
 overflow_sub-self-inside c =
-    let few = blocks_few (length c.self.inside.lits.items) c.self.inside.places.items c.self.inside.blocks.items
+    let few = blocks_few (length c.self.inside.lits.items) c.self.inside.places c.self.inside.blocks.items
     c.self.inside.live (vec_capacity c.self.inside.blocks) c.self.invariant in
-    let is = c.len.ensures in
+    let is = c.len-2.ensures in
     let ok = c.self.inside.blocks.ok.0 in
     omega arith
 
 pub invariant_of-self-2 : goal.invariant_of-self-2
 invariant_of-self-2 c =
     let lits = c.self.inside.lits.items in
-    let places = c.self.inside.places.items in
+    let places = c.self.inside.places in
     let row = c.args.lits.now in
     let e1 : c.put.new.all.items ≡ lits ++ row = c.put.ensures.lits ∙ ap (λ (ls : List Literal). ls ++ row)
-    c.reserve-3.ensures.items in
-    let e2 : c.put.new.places.items ≡ places ++ Some (record { start = length lits; len = length row; block = None }) ∷
-    [] = c.put.ensures.places
-    ∙ ap₂ (λ (ps : List (Option Place)) (ls : List Literal). ps ++ Some
-    (record { start = length ls; len = length row; block = None }) ∷ []) c.reserve.ensures.items
-    c.reserve-3.ensures.items in
+    c.reserve-2.ensures.items in
+    let start : c.len.result ≡ length lits = c.len.ensures ∙ c.self.inside.lits.ok.0 in
+    let e2 : c.push.new.self ≡ places ++ Some (record { start = length lits; len = length row; block = None }) ∷ [] =
+    c.in_ok-push.ensures.ok
+    ∙ ap (λ (o : Option Place). places ++ o ∷ [])
+    (c.in_ok-slot.ensures ∙ ap (λ (n : ℕ). Some (record { start = n; len = length row; block = None })) start) in
     let few = blocks_few (length lits) places c.self.inside.blocks.items c.self.inside.live
     (vec_capacity c.self.inside.blocks) c.self.invariant in
-    let is = c.len.ensures in
+    let is = c.len-2.ensures in
     let ok = c.self.inside.blocks.ok.0 in
-    let same = c.reserve-2.ensures.len in
-    let room = c.in_ok-reserve-2.ensures.ok in
-    let fits : c.self.inside.live + 1 ≤ vec_capacity c.reserve-2.new.self = omega arith in
-    let P : List Block → Type 0 = λ bs. AreStored (length c.put.new.all.items) c.put.new.places.items bs
-    (c.self.inside.live + 1) (vec_capacity c.reserve-2.new.self) in
-    subst P (sym c.reserve-2.ensures.items)
-    (stored_put lits row c.put.new.all.items places c.put.new.places.items c.self.inside.blocks.items c.self.inside.live
-    (vec_capacity c.self.inside.blocks) (vec_capacity c.reserve-2.new.self) e1 e2 c.self.invariant fits
+    let same = c.reserve.ensures.len in
+    let room = c.in_ok-reserve.ensures.ok in
+    let fits : c.self.inside.live + 1 ≤ vec_capacity c.reserve.new.self = omega arith in
+    let P : List Block → Type 0 = λ bs. AreStored (length c.put.new.all.items) c.push.new.self bs
+    (c.self.inside.live + 1) (vec_capacity c.reserve.new.self) in
+    subst P (sym c.reserve.ensures.items)
+    (stored_put lits row c.put.new.all.items places c.push.new.self c.self.inside.blocks.items c.self.inside.live
+    (vec_capacity c.self.inside.blocks) (vec_capacity c.reserve.new.self) e1 e2 c.self.invariant fits
     c.in_ok-within.ensures)
 
 pub returns-clause-arena : goal.returns-clause-arena
 returns-clause-arena c =
     let lits = c.self.inside.lits.items in
-    let places = c.self.inside.places.items in
+    let places = c.self.inside.places in
     let row = c.args.lits.now in
     let e1 : c.put.new.all.items ≡ lits ++ row = c.put.ensures.lits ∙ ap (λ (ls : List Literal). ls ++ row)
-    c.reserve-3.ensures.items in
-    let e2 : c.put.new.places.items ≡ places ++ Some (record { start = length lits; len = length row; block = None }) ∷
-    [] = c.put.ensures.places
-    ∙ ap₂ (λ (ps : List (Option Place)) (ls : List Literal). ps ++ Some
-    (record { start = length ls; len = length row; block = None }) ∷ []) c.reserve.ensures.items
-    c.reserve-3.ensures.items in (
-      c.len-id.ensures ∙ c.self.inside.places.ok.0
+    c.reserve-2.ensures.items in
+    let start : c.len.result ≡ length lits = c.len.ensures ∙ c.self.inside.lits.ok.0 in
+    let e2 : c.push.new.self ≡ places ++ Some (record { start = length lits; len = length row; block = None }) ∷ [] =
+    c.in_ok-push.ensures.ok
+    ∙ ap (λ (o : Option Place). places ++ o ∷ [])
+    (c.in_ok-slot.ensures ∙ ap (λ (n : ℕ). Some (record { start = n; len = length row; block = None })) start) in (
+      c.len-id.ensures
           ∙ sym (length-map places (option_map (stored lits c.self.inside.blocks.items))) ∙ ap (λ (a : Arena). length a)
           c.self.view_is,
-      ap (λ (bs : List Block). arena_of c.put.new.all.items bs c.put.new.places.items) c.reserve-2.ensures.items
-          ∙ arena_put lits row c.put.new.all.items c.self.inside.blocks.items places c.put.new.places.items e1 e2
+      ap (λ (bs : List Block). arena_of c.put.new.all.items bs c.push.new.self) c.reserve.ensures.items
+          ∙ arena_put lits row c.put.new.all.items c.self.inside.blocks.items places c.push.new.self e1 e2
           c.self.invariant.spread
           ∙ ap (λ (a : Arena). with_row a row) c.self.view_is,
     )

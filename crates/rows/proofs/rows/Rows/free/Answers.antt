@@ -10,7 +10,7 @@ use Rattle.rows.proofs.rows.Rows.free.Goals as goal
 
 pub overflow_sub-self : goal.overflow_sub-self
 overflow_sub-self c =
-    let places = c.self.inside.places.items in
+    let places = c.self.inside.places in
     let here : is_some (place_at places c.args.id) ≡ true =
     sym (live_place c.self.inside.lits.items c.self.inside.blocks.items places c.args.id)
     ∙ ap (λ (a : Arena). is_live a c.args.id) c.self.view_is ∙ c.requires in
@@ -20,14 +20,14 @@ overflow_sub-self c =
     omega arith
 
 pub invariant_of-self : goal.invariant_of-self
-invariant_of-self c = stored_less (length c.self.inside.lits.items) c.self.inside.places.items c.forget.new.places.items
+invariant_of-self c = stored_less (length c.self.inside.lits.items) c.self.inside.places c.forget.new.places
     c.self.inside.blocks.items c.forget.new.blocks.items c.self.inside.live (vec_capacity c.self.inside.blocks)
     (vec_capacity c.forget.new.blocks) c.args.id c.self.invariant c.forget.ensures.same c.forget.ensures.loses
     c.forget.ensures.live c.forget.ensures.room
 
 pub returns-clause-arena : goal.returns-clause-arena
 returns-clause-arena c = arena_less c.self.inside.lits.items c.self.inside.blocks.items c.forget.new.blocks.items
-    c.self.inside.places.items c.forget.new.places.items c.args.id c.forget.ensures.same c.forget.ensures.loses
+    c.self.inside.places c.forget.new.places c.args.id c.forget.ensures.same c.forget.ensures.loses
     ∙ ap (λ (a : Arena). set a c.args.id None) c.self.view_is
 
 pub returns-clause-rest : goal.returns-clause-rest

@@ -24,20 +24,20 @@ invariant_of-self c =
     (c.block_for-block.ensures.blocks.has c.args.id b c.block_for-block.ensures.block).0 in
     let more : vec_capacity c.self.inside.blocks ≤ vec_capacity c.write_three.new.blocks =
     (let r = c.block_for-block.ensures.room in let w = c.write_three.ensures.room in omega arith) in
-    let P : List Block → Type 0 = λ bs. AreStored (length c.self.inside.lits.items) c.block_for-block.new.places.items
+    let P : List Block → Type 0 = λ bs. AreStored (length c.self.inside.lits.items) c.block_for-block.new.places
     bs c.self.inside.live (vec_capacity c.write_three.new.blocks) in
     subst P (sym c.write_three.ensures.items)
-    (stored_linked (length c.self.inside.lits.items) c.self.inside.places.items c.block_for-block.new.places.items
+    (stored_linked (length c.self.inside.lits.items) c.self.inside.places c.block_for-block.new.places
     c.self.inside.blocks.items middle c.self.inside.live (vec_capacity c.self.inside.blocks)
     (vec_capacity c.write_three.new.blocks) b links c.self.invariant c.block_for-block.ensures.same
     c.block_for-block.ensures.blocks c.block_for-block.ensures.live within more)
 
 pub returns-clause-arena : goal.returns-clause-arena
 returns-clause-arena c =
-    let places = c.self.inside.places.items in
+    let places = c.self.inside.places in
     let blocks = c.self.inside.blocks.items in
     let lits = c.self.inside.lits.items in
-    let new_places = c.block_for-block.new.places.items in
+    let new_places = c.block_for-block.new.places in
     let middle = c.block_for-block.new.blocks.items in
     let b = c.block_for-block.result in
     let links = set_three c.args.base c.args.values (block_at middle b).links in
@@ -56,7 +56,7 @@ returns-clause-arena c =
 
 pub returns-clause-rest : goal.returns-clause-rest
 returns-clause-rest c =
-    let places = c.self.inside.places.items in
+    let places = c.self.inside.places in
     let blocks = c.self.inside.blocks.items in
     let lits = c.self.inside.lits.items in
     let b = c.block_for-block.result in

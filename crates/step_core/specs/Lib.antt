@@ -1,0 +1,4 @@
+pub mod Cores
+pub mod Gathering
+pub mod Theorems
+pub mod Worked
