@@ -5,12 +5,12 @@
 //! system doesn't give.
 #![tactic(auto)]
 
+mod commands;
 mod ending;
-mod run;
 #[cfg(test)]
 mod tests;
 mod words;
 
+pub use commands::{report, run};
 pub use ending::RunEnding;
-pub use run::{report, run};
 pub use words::words_of;

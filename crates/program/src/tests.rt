@@ -13,8 +13,7 @@ mod pigeons;
 mod restarts;
 mod scripts;
 
-use super::run::{report, run};
-use super::words::words_of;
+use crate::{report, run, words_of};
 use ports::{Input, MemoryDesk, MemorySink};
 use std::alloc::Global;
 use std::io::{Error, ErrorKind};

@@ -43,7 +43,7 @@ one_row = (
       says [],
       refuted,
       refl,
-      inl refutes,
+      inl (refutes start.witness),
       (refl, refl),
     ),
   ),

@@ -7,6 +7,7 @@ use Rattle.calculus.proofs.Lists.{contains_nil, contains_head}
 use Rattle.solve.specs.Decisions.{Decides}
 use Rattle.solve.specs.Worked.{contradiction, refuted}
 use Rattle.solve.specs.Outputs.{says}
+use Rattle.solve.specs.Standing.{Witness}
 
 -- the empty cube hits no clause, and is a proof by itself
 pub empty_cube : IsProof Forall [] [] [] (record { row = []; reason = Input } ∷ [])
@@ -34,9 +35,10 @@ empty_proof = record {
   used = tt;
 }
 
--- the formula of the empty clause is false
-pub refutes : Decides contradiction (says (codes "UNSAT\n")) refuted
-refutes = record {
+-- the formula of the empty clause is false, whatever came before
+pub refutes : (witness : Witness) → Decides (record { script = contradiction.script; witness = witness })
+    (says (codes "UNSAT\n")) refuted
+refutes witness = record {
   truth = false;
   right = refl;
   witness = record { proof = empty_proof; values = λ e. absurd (let f : None ≡ Some Forall = e in cc) };

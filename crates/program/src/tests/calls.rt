@@ -1,8 +1,8 @@
 //! Runs that call the output once for each block of 4,096 bytes, and once to flush it.
 
-use super::super::run::run;
 use super::pigeons::formula_of;
 use super::{desk, words};
+use crate::run;
 use ports::MemorySink;
 use std::alloc::Global;
 use std::test::Fail;

@@ -1,8 +1,8 @@
 //! Devices that give and take small pieces, and whose calls fail in turn.
 
-use super::super::run::run;
 use super::scripts::{carry_out, lines, written};
 use super::{DIFFERS, desk, words};
+use crate::run;
 use ports::MemorySink;
 use std::alloc::Global;
 use std::test::Fail;

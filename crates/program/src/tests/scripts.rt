@@ -1,8 +1,8 @@
 //! Runs on scripts. In the tables `/` stands for a line end.
 ghost use Rattle.std.specs.Prelude.{◌<◌};
 
-use super::super::run::run;
 use super::{desk, words};
+use crate::run;
 use ports::{Desk, MemoryDesk, MemorySink};
 use std::alloc::Global;
 use std::test::Fail;

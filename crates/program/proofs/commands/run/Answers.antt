@@ -7,7 +7,7 @@ use Rattle.program.specs.Told.{IsOutput}
 use Rattle.program.proofs.Endings as by
 use Rattle.program.specs.Complete.{IsComplete}
 use Rattle.program.proofs.Completing.{complete}
-use Rattle.program.proofs.run.run.Goals as goal
+use Rattle.program.proofs.commands.run.Goals as goal
 
 pub returns-clause-statuses : goal.returns-clause-statuses
 returns-clause-statuses g c =

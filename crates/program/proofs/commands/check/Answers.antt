@@ -10,7 +10,7 @@ use Rattle.program.specs.Asked.{input_name}
 use Rattle.program.specs.Run.{IsCheckWork}
 use Rattle.program.proofs.Checking.{done_counted, done_finished}
 use Rattle.program.proofs.Choosing.{chosen, where_chosen}
-use Rattle.program.proofs.run.check.Goals as goal
+use Rattle.program.proofs.commands.check.Goals as goal
 
 pub returns-clause-checked : goal.returns-clause-checked
 returns-clause-checked g c =

@@ -11,7 +11,7 @@ use Rattle.ports.specs.Causes.{IsCounted}
 use Rattle.solve.specs.Endings.{IsDone}
 use Rattle.solve.specs.declared.ending.Ending.TheVariants.{ReadFault}
 use Rattle.program.proofs.Choosing.{chosen, where_chosen}
-use Rattle.program.proofs.run.reply.Goals as goal
+use Rattle.program.proofs.commands.reply.Goals as goal
 
 pub returns-then-is_err-clause-replied : goal.returns-then-is_err-clause-replied
 returns-then-is_err-clause-replied g c = unchosen _ _ _ _ _ c.each_script_has_one_reading.ensures.some

@@ -1,6 +1,6 @@
 use Rattle.std.proofs.Common.{subst}
 use Rattle.program.specs.Asked.{RoomForCommand, known_for}
-use Rattle.program.proofs.run.carry_out.Goals as goal
+use Rattle.program.proofs.commands.carry_out.Goals as goal
 
 pub returns-in-Check-clause-room : goal.returns-in-Check-clause-room
 returns-in-Check-clause-room g c room =

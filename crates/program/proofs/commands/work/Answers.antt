@@ -6,7 +6,7 @@ use Rattle.solve.specs.Terms.{terms_of}
 use Rattle.program.specs.Asked.{input_name}
 use Rattle.program.specs.Run.{IsSolved}
 use Rattle.program.proofs.Choosing.{chosen}
-use Rattle.program.proofs.run.work.Goals as goal
+use Rattle.program.proofs.commands.work.Goals as goal
 
 pub returns-clause-solved : goal.returns-clause-solved
 returns-clause-solved g c =
