@@ -3,7 +3,8 @@
 
 Each script opens a frame, puts ten clauses into it, solves and drops the frame, again and again: `small` over an empty
 formula, `base` over one of so many clauses that stay, and `leave` with ten variables of its own in version 2, which
-leave with the frame. The time is to be linear in the number of commands; a round over a base decides its variables.
+leave with the frame; `same` puts one clause of one literal into it, the same each time. The time is to be linear in the
+number of commands; a round over a base decides its variables.
 
 usage: scripts.py        QBF=COMMAND in the environment: another command than bin/qbf script
 """
@@ -47,11 +48,17 @@ def leaving(commands):
     return "".join(lines)
 
 
+def again(commands):
+    """A script of so many commands, four a round: a frame with the same unit clause each time."""
+    return "p qscript 1\nscope e\nvar 1 1\n" + "push\nclause 1 0\nsolve\npop\n" * (commands // 4)
+
+
 def scripts(commands):
     """Scripts of so many commands, by their names."""
     yield "small", script(commands, 30, 0)
     yield "base", script(commands, 300, 1000)
     yield "leave", leaving(commands)
+    yield "same", again(commands)
 
 
 def cost(command):

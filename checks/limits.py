@@ -35,7 +35,7 @@ MOST_SECONDS, MOST_MEMORY = 300, 6 * 2**30
 # Many clauses, and the seconds within which they are taken: a pass over all of them for each one would take minutes.
 MANY, FEW_SECONDS = 400_000, 20
 # Bytes: what 350,000 more commands may leave that drop what they made, and what numbers of variables may take.
-DROPPED, NUMBERS = 2 * MIB, 80_000_000
+DROPPED, NUMBERS = 2 * MIB, 80 * MIB
 
 
 def lines(*some):

@@ -1,9 +1,7 @@
 -- What is among the numbers of a list.
 use Rattle.std.proofs.Common.{◌≡◌, ℕ, zero, suc, ◌<◌, ⊎_elim, Bool, true, false, ◌||◌, List, [], ◌∷◌, length, get_or, refl, sym, ap, ◌∙◌, arith, nat_eq}
 use Rattle.std.specs.List.{list_any}
-use Rattle.std.specs.List.Sorted.{IsPermutation}
 use Rattle.std.proofs.lemmas.Bool.{eqb-true, eq-eqb, or_cases, or_left, or_right, true≢false}
-use Rattle.std.proofs.lemmas.List.Sorted.{list_any-IsPermutation}
 use Rattle.prefix.specs.Scopes.{is_among}
 
 pub same_bools : (a b : Bool) → (a ≡ true → b ≡ true) → (b ≡ true → a ≡ true) → a ≡ b
@@ -18,10 +16,6 @@ or_off false = refl
 among_any : (v : ℕ) (xs : List ℕ) → is_among v xs ≡ list_any (λ x. nat_eq x v) xs
 among_any v [] = refl
 among_any v (x ∷ xs) = ap (λ b. nat_eq x v || b) (among_any v xs)
-
-pub permuted_among : (v : ℕ) (xs ys : List ℕ) → IsPermutation xs ys → is_among v xs ≡ is_among v ys
-permuted_among v xs ys p =
-    among_any v xs ∙ list_any-IsPermutation (λ x. nat_eq x v) xs ys p ∙ sym (among_any v ys)
 
 pub among_get : (xs : List ℕ) (j d : ℕ) → j < length xs → is_among (get_or xs j d) xs ≡ true
 among_get [] j d low = absurd (omega arith)

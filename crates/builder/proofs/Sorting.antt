@@ -7,11 +7,11 @@ use Rattle.std.proofs.lemmas.Bool.{cases_Bool, eqb-true, eq-eqb, or_cases, or_le
 use Rattle.std.proofs.lemmas.Map.Keys.{IsStrictlyIncreasing-dedup, sorted_from_strictly_increasing}
 use Rattle.prefix.specs.Scopes.{is_among, IsAscending}
 use Rattle.clauses.specs.Codes.{has_pair}
-use Rattle.clauses.proofs.Ascending.{ascending_of, all_from, below_all}
+use Rattle.clauses.proofs.Ascending.{ascending_of, all_from, below_all, permuted_among}
 use Rattle.clauses.proofs.Rows.{dedup_among, ascending_from, pair_witness, apart, halves_ascend}
 use Rattle.builder.specs.Rows.{flipped, literal_of, is_left_out, as_row}
 use Rattle.builder.specs.Building.{has_one, row_of_sorted}
-use Rattle.builder.proofs.Lists.{among_get, any_at, any_from, permuted_among, same_bools}
+use Rattle.builder.proofs.Lists.{among_get, any_at, any_from, same_bools}
 use Rattle.builder.proofs.Opposites.{flip_even, flip_odd, parity}
 
 -- what sorting and leaving out repeats gives

@@ -1,5 +1,5 @@
 -- Ascending lists.
-use Rattle.std.proofs.Common.{◌≡◌, ℕ, ◌<◌, ◌≤◌, Bool, true, false, ◌||◌, List, [], ◌∷◌, refl, sym, ap, ◌∙◌, ⊎_elim, arith}
+use Rattle.std.proofs.Common.{◌≡◌, ℕ, suc, ◌<◌, ◌≤◌, Bool, true, false, ◌||◌, List, [], ◌∷◌, length, refl, sym, ap, ◌∙◌, ⊎_elim, arith}
 use Rattle.std.specs.Prelude.{◌==◌, nat_lt, if◌then◌else◌}
 use Rattle.std.specs.List.{AllByRecursion, list_any}
 use Rattle.std.specs.List.Sorted.{IsPermutation}
@@ -95,6 +95,21 @@ ascending_is (n ∷ ns) = put_ascending n (ascending ns) (ascending_is ns)
 pub ascending_among : (w : ℕ) (ns : List ℕ) → is_among w (ascending ns) ≡ is_among w ns
 ascending_among w [] = refl
 ascending_among w (n ∷ ns) = put_among w n (ascending ns) ∙ ap (λ b. n == w || b) (ascending_among w ns)
+
+-- it has no more of them
+put_short : (n : ℕ) (ms : List ℕ) → length (put n ms) ≤ suc (length ms)
+put_short n [] = omega arith
+put_short n (m ∷ ms) = by (nat_lt n m) (n == m) (put_short n ms)
+  where
+    by : (b c : Bool) → length (put n ms) ≤ suc (length ms)
+        → length (if b then n ∷ m ∷ ms else if c then m ∷ ms else m ∷ put n ms) ≤ suc (suc (length ms))
+    by true c h = omega arith
+    by false true h = omega arith
+    by false false h = omega (arith, h)
+
+pub ascending_short : (ns : List ℕ) → length (ascending ns) ≤ length ns
+ascending_short [] = omega arith
+ascending_short (n ∷ ns) = omega (arith, put_short n (ascending ns), ascending_short ns)
 
 -- the ascending list of the same elements
 pub ascending_of : (xs ns : List ℕ) → IsAscending xs → ((v : ℕ) → is_among v xs ≡ is_among v ns) → xs ≡ ascending ns

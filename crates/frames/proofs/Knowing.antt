@@ -1,9 +1,9 @@
 -- Clauses over variables of a prefix.
-use Rattle.std.proofs.Common.{◌≡◌, ℕ, ◌≤◌, ℤ, nat_abs, Bool, true, false, ◌||◌, ◌&&◌, List, [], ◌∷◌, map, length, refl, sym, ap, ◌∙◌}
+use Rattle.std.proofs.Common.{◌≡◌, ℕ, ◌≤◌, ℤ, nat_abs, Bool, true, false, ◌||◌, List, [], ◌∷◌, map, length, refl, sym, ap, ◌∙◌}
 use Rattle.std.specs.Prelude.{◌==◌, is_some, Contains, pos}
 use Rattle.std.specs.List.{AllByRecursion, list_all}
 use Rattle.std.proofs.lemmas.List.{length-map}
-use Rattle.std.proofs.lemmas.Bool.{eqb-true}
+use Rattle.std.proofs.lemmas.Bool.{eqb-true, and_parts}
 use Rattle.prefix.specs.Literal.{Literal}
 use Rattle.prefix.specs.Scopes.{Scope, is_among, level_of, all_variables, IsPrefix}
 use Rattle.prefix.proofs.InsertionLemmas.{level_found}
@@ -28,10 +28,6 @@ pub known_in_range : (scopes : List Scope) (v : ℕ) → IsPrefix scopes → is_
     → (1 ≤ v) × (v ≤ 1048576)
 known_in_range scopes v valid e = among_all (λ x. (1 ≤ x) × (x ≤ 1048576)) (all_variables scopes) v valid.in_range
     (sym (level_found scopes v) ∙ e)
-
-and_parts : (a b : Bool) → (a && b) ≡ true → (a ≡ true) × (b ≡ true)
-and_parts true b e = (refl, e)
-and_parts false b e = absurd (cc)
 
 pub all_in_range : (scopes : List Scope) (clause : List ℤ) → IsPrefix scopes → list_all (is_known scopes) clause
     ≡ true → AllByRecursion IsInRange clause

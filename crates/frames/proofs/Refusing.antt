@@ -1,5 +1,5 @@
 -- Which refusal of a clause comes.
-use Rattle.std.proofs.Common.{◌≡◌, ℕ, ◌+◌, ◌≤◌, ℤ, nat_abs, Bool, true, false, not, ◌&&◌, ◌||◌, List, [], ◌∷◌, length, map, suc, refl, ap, sym, ◌∙◌, arith}
+use Rattle.std.proofs.Common.{◌≡◌, ℕ, ◌+◌, ◌≤◌, ℤ, nat_abs, Bool, true, false, not, ◌&&◌, ◌||◌, List, [], ◌∷◌, length, map, refl, ap, sym, ◌∙◌, arith}
 use Rattle.std.specs.Prelude.{◌==◌, eqb, if◌then◌else◌, nat_lt, nat_le, Option, Some, None, Result, Ok, Err, MatchOption, is_some, IsOkUnless}
 use Rattle.std.specs.Option.{option_eq}
 use Rattle.std.proofs.lemmas.Bool.{eqb-true}
@@ -9,12 +9,13 @@ use Rattle.prefix.specs.Scopes.{Scope, level_of}
 use Rattle.prefix.specs.Refusals.{variable_refusal}
 use Rattle.prefix.specs.declared.refusal.PrefixRefusal.{PrefixRefusal}
 use Rattle.prefix.specs.declared.refusal.PrefixRefusal.TheVariants.{VarTwice, VarRange, ScopeRange}
-use Rattle.clauses.specs.Clause.{ascending, put, variables_of}
+use Rattle.clauses.specs.Clause.{ascending, variables_of}
 use Rattle.frames.specs.Commands.{exceeds}
 use Rattle.truth.specs.Limits.{max_clauses, max_literals}
 use Rattle.frames.specs.declared.frames.Start.{Start}
 use Rattle.frames.specs.declared.refusal.FrameRefusal.{FrameRefusal}
 use Rattle.frames.specs.declared.refusal.FrameRefusal.TheVariants.{UnknownVar, Limit, NoMemory}
+use Rattle.clauses.proofs.Ascending.{ascending_short}
 
 -- what refuses a clause, from the three tests
 abbrev pub tested : Bool → Bool → Bool → Option FrameRefusal
@@ -51,28 +52,11 @@ is_one (Some n) e = by (n == 1) refl e
     by true f g = ap Some (eqb-true n 1 f)
     by false f g = absurd (let h : true ≡ false = g in cc)
 
-put_length : (n : ℕ) (ms : List ℕ) → length (put n ms) ≤ suc (length ms)
-put_length n [] = omega arith
-put_length n (m ∷ ms) = by (nat_lt n m) (n == m) (put_length n ms)
-  where
-    by : (b c : Bool) → length (put n ms) ≤ suc (length ms)
-        → length (if b then n ∷ m ∷ ms else if c then m ∷ ms else m ∷ put n ms) ≤ suc (suc (length ms))
-    by true c h = omega arith
-    by false true h = omega arith
-    by false false h = omega (arith, h)
-
-ascending_length : (ns : List ℕ) → length (ascending ns) ≤ length ns
-ascending_length [] = omega arith
-ascending_length (n ∷ ns) =
-    let later : length (ascending ns) ≤ length ns = ascending_length ns in
-    let more : length (put n (ascending ns)) ≤ suc (length (ascending ns)) = put_length n (ascending ns) in
-    omega (arith, later, more)
-
 -- a clause has at most as many variables as literals
 pub variables_length : (clause : List ℤ) → length (variables_of clause) ≤ length clause
 variables_length clause =
     let few : length (ascending (map nat_abs clause)) ≤ length (map nat_abs clause) =
-    ascending_length (map nat_abs clause) in
+    ascending_short (map nat_abs clause) in
     let same : length (map nat_abs clause) ≡ length clause = length-map clause nat_abs in
     omega (arith, few, same)
 

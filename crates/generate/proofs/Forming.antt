@@ -8,7 +8,7 @@ use Rattle.std.proofs.lemmas.List.FromFn.{length-map-range_with_len, length-rang
 use Rattle.prefix.specs.Literal.{Literal}
 use Rattle.prefix.specs.Scopes.{AreDistinct, IsAscending, IsPrefix, all_variables, is_among}
 use Rattle.truth.specs.Formed.{IsClauseOver, IsFormed}
-use Rattle.clauses.proofs.Ascending.{below_all}
+use Rattle.clauses.proofs.Ascending.{below_all, all_from}
 use Rattle.generate.specs.Draws.{start_of}
 use Rattle.generate.specs.Made.{by_variable, clause_at, first_place, literals_drawn, made, put, scopes_over, second_place, third_place}
 use Rattle.generate.proofs.Places.{first_below, second_below, second_differs, third_below, third_differs}
@@ -37,10 +37,6 @@ pub ascending_distinct : (xs : List ℕ) → IsAscending xs → AreDistinct xs
 ascending_distinct [] h = tt
 ascending_distinct (x ∷ xs) h = (below_all x xs h.0, ascending_distinct xs h.1)
 
-all_kept : (P Q : ℕ → Type 0) (xs : List ℕ) → ((x : ℕ) → P x → Q x) → AllByRecursion P xs → AllByRecursion Q xs
-all_kept P Q [] f h = tt
-all_kept P Q (x ∷ xs) f h = (f x h.0, all_kept P Q xs f h.1)
-
 pub prefix_is : (v : ℕ) → 3 ≤ v → v ≤ 32000 → IsPrefix (scopes_over v)
 prefix_is v low high = record {
   few = omega arith;
@@ -53,7 +49,7 @@ prefix_is v low high = record {
   );
   distinct = subst AreDistinct (sym (variables_are v)) (ascending_distinct (range_with_len 1 v) (range_ascends 1 v));
   in_range = subst (AllByRecursion (λ u. (1 ≤ u) × (u ≤ 1048576))) (sym (variables_are v))
-      (all_kept (λ u. (1 ≤ u) × (u < v + 1)) (λ u. (1 ≤ u) × (u ≤ 1048576)) (range_with_len 1 v)
+      (all_from (λ u. (1 ≤ u) × (u < v + 1)) (λ u. (1 ≤ u) × (u ≤ 1048576)) (range_with_len 1 v)
       (λ u h. (h.0, omega (arith, h.1))) (range_within 1 (v + 1) 1 v (omega arith) (omega arith)));
 }
 

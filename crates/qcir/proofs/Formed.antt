@@ -1,6 +1,5 @@
 -- The formula of a circuit is as one that was read: clauses over the prefix, within the limits.
 use Rattle.std.proofs.Common.{◌≡◌, ℕ, suc, ◌+◌, ◌*◌, ◌^◌, ◌≤◌, nat_abs, Bool, true, false, not, cond, List, [], ◌∷◌, ◌++◌, length, map, filter, Contains, refl, sym, ap, ap₂, subst, ◌∙◌, arith, length-append, append-nil, nat_eq}
-use Rattle.std.specs.Prelude.{nat_lt, if◌then◌else◌}
 use Rattle.std.specs.List.{AllByRecursion, flat_map}
 use Rattle.std.proofs.lemmas.Bool.{eq-eqb, or_left, or_right}
 use Rattle.std.proofs.lemmas.List.{length-map}
@@ -8,8 +7,8 @@ use Rattle.std.proofs.lemmas.List.Concat.{flat_map-append}
 use Rattle.prefix.specs.Literal.{Literal, negation, signed_number}
 use Rattle.prefix.specs.Scopes.{Scope, IsAscending, all_variables, is_among}
 use Rattle.calculus.proofs.Lists.{contains_head, contains_tail}
-use Rattle.clauses.specs.Clause.{as_row, ascending, is_tautology, put}
-use Rattle.clauses.proofs.Ascending.{ascending_among, ascending_is}
+use Rattle.clauses.specs.Clause.{as_row, ascending, is_tautology}
+use Rattle.clauses.proofs.Ascending.{ascending_among, ascending_is, ascending_short}
 use Rattle.truth.specs.Formed.{IsClauseOver, IsFormed}
 use Rattle.qcir.specs.declared.circuit.Circuit.{Circuit}
 use Rattle.qcir.specs.declared.circuit.Gate.{Gate}
@@ -82,20 +81,6 @@ rows_few (c ∷ cs) = by (is_tautology (written c)) (rows_few cs)
         (filter (λ d. not (is_tautology d)) (map written cs)))) ≤ suc (length cs)
     by true h = omega (arith, h)
     by false h = omega (arith, h)
-
-put_short : (n : ℕ) (ms : List ℕ) → length (put n ms) ≤ suc (length ms)
-put_short n [] = omega arith
-put_short n (m ∷ ms) = by (nat_lt n m) (nat_eq n m) (put_short n ms)
-  where
-    by : (a b : Bool) → length (put n ms) ≤ suc (length ms)
-        → length (if a then n ∷ m ∷ ms else if b then m ∷ ms else m ∷ put n ms) ≤ suc (suc (length ms))
-    by true b h = omega arith
-    by false true h = omega arith
-    by false false h = omega (arith, h)
-
-ascending_short : (ns : List ℕ) → length (ascending ns) ≤ length ns
-ascending_short [] = omega arith
-ascending_short (n ∷ ns) = omega (arith, put_short n (ascending ns), ascending_short ns)
 
 row_short : (clause : List Literal) → length (as_row (written clause)) ≤ length clause
 row_short clause =

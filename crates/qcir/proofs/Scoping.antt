@@ -23,6 +23,7 @@ use Rattle.qdimacs.proofs.Building.{inserted, last_grows, next_memory}
 use Rattle.qdimacs.proofs.Fitting.{distinct_apart, distinct_parts, permuted_distinct}
 use Rattle.qcir.specs.Building.{ends_existential}
 use Rattle.qcir.specs.Translation.{greatest_of, joined_last, own_scope, scopes_with}
+use Rattle.calculus.proofs.RowLemmas.{none_from}
 
 -- scopes with one more
 abbrev pub and_scope : List Scope → Quant → List ℕ → List Scope
@@ -64,10 +65,6 @@ new_permuted ss vs ws new p = record {
 pub ascending_permuted : (vs ws : List ℕ) → IsPermutation vs ws → ascending ws ≡ ascending vs
 ascending_permuted vs ws p = ascending_same ws vs (λ v. sym (permuted_among v vs ws p))
 
-none_found : {X : Type 0} (o : Option X) → is_some o ≡ false → o ≡ None
-none_found None h = refl
-none_found (Some x) h = absurd (let e : true ≡ false = h in cc)
-
 -- variables that stand in no scope before them
 pub new_behind : (ss : List Scope) (vs : List ℕ) → AreDistinct (all_variables ss ++ vs)
     → ((v : ℕ) → is_among v vs ≡ true → (1 ≤ v) × (v ≤ 1048576)) → AreNew ss vs
@@ -77,7 +74,7 @@ new_behind ss vs once range = record {
       let r = range v h in (
         r.0,
         r.1,
-        none_found (level_of ss v) (level_found ss v ∙ distinct_apart (all_variables ss) vs v once h),
+        none_from (level_of ss v) (level_found ss v ∙ distinct_apart (all_variables ss) vs v once h),
       );
 }
 

@@ -14,10 +14,7 @@ use Rattle.qcir.proofs.TrueRows.{rows_true, same_bools}
 use Rattle.qcir.proofs.Defined.{definitions, AreThere, gates_forced, gates_made, gates_off, gates_new}
 use Rattle.qcir.proofs.Known.{all_known, all_positive, known_cases}
 use Rattle.qcir.proofs.Places.{IsSplit, split, split_among}
-
-or_off : (b : Bool) → (b || false) ≡ b
-or_off true = refl
-or_off false = refl
+use Rattle.std.proofs.Math.Bool.{or-false}
 
 module _ (c : Circuit) (is : IsCircuit c) where
   abbrev all : List ℕ
@@ -85,7 +82,7 @@ module _ (c : Circuit) (is : IsCircuit c) where
             and_parts (matrix_true σ (definitions c.gates)) ((literal_true σ c.output || false) && true)
             (sym (matrix_is σ known_there) ∙ r.2) in
             let output : literal_true σ c.output ≡ true =
-            sym (or_off (literal_true σ c.output)) ∙ (and_parts (literal_true σ c.output || false) true parts.1).0 in
+            sym (or-false (literal_true σ c.output)) ∙ (and_parts (literal_true σ c.output || false) true parts.1).0 in
             let ρ : Values = λ v. cond (is_among v names) (τ v) (σ v) in
             let agree : (v : ℕ) → is_among v all ≡ true → ρ v ≡ σ v = λ v u.
             cond-false (is_among v names) (τ v) (σ v) (gates_new c.gates all is.gates v u) in
@@ -123,7 +120,7 @@ module _ (c : Circuit) (is : IsCircuit c) where
             })
             (matrix_is σ made.there
             ∙ and_from (matrix_true σ (definitions c.gates)) ((literal_true σ c.output || false) && true) made.holds
-            (and_from (literal_true σ c.output || false) true (or_off (literal_true σ c.output) ∙ r.2) refl))
+            (and_from (literal_true σ c.output || false) true (or-false (literal_true σ c.output) ∙ r.2) refl))
 
     translation_is : truth (translated c).prefix (translated c).clauses ≡ circuit_truth c
     translation_is =

@@ -3,7 +3,7 @@ use Rattle.std.proofs.Common.{◌≡◌, ℕ, ◌+◌, ◌<◌, ◌≤◌, ℤ, 
 use Rattle.std.specs.Prelude.{nat_lt, nat_le}
 use Rattle.std.specs.List.{AllByRecursion}
 use Rattle.std.proofs.lemmas.List.{map-append, append_assoc, append-nil}
-use Rattle.std.proofs.lemmas.Bool.{ltb-false, leb-false}
+use Rattle.std.proofs.lemmas.Bool.{ltb-false, leb-false, not-false, or_parts}
 use Rattle.prefix.specs.declared.quant.Quant.{Quant}
 use Rattle.prefix.specs.Scopes.{is_among, AreDistinct}
 use Rattle.reading.specs.declared.refusal.Quantity.TheVariants.{Scopes, Clauses}
@@ -23,7 +23,7 @@ use Rattle.qcir_reader.specs.Rules.{Outcome, GateText, Front, first_of, refused,
 use Rattle.truth.specs.Limits.{max_scopes, max_clauses}
 use Rattle.qcir_reader.specs.Run.{noted, with_variable, with_set, with_output, with_name, with_kind, with_input, with_gate}
 use Rattle.qcir_reader.specs.Reads.{IsAllowed, IsAt, IsName}
-use Rattle.qcir_reader.proofs.Tests.{none_refuses, not_false, or_false, is_name, is_variable}
+use Rattle.qcir_reader.proofs.Tests.{none_refuses, is_name, is_variable}
 use Rattle.qcir_reader.proofs.Gates.{amount_more, scopes_as_many, earlier_more, no_scope_more, earlier_none}
 
 -- the same elsewhere
@@ -76,7 +76,7 @@ variable_goes place f n line h a =
           (all_more IsName (quantified f) v a.names (is_variable n one.0).0);
       distinct = subst AreDistinct (sym longer)
           (distinct_more (quantified f) v a.distinct
-          (or_false (is_among v (quantified f)) (is_among v (gate_names_of f.gates)) two.0).0);
+          (or_parts (is_among v (quantified f)) (is_among v (gate_names_of f.gates)) two.0).0);
       scopes = ltb-false max_scopes (length (merged (f.sets ++ (f.quant, f.vars ++ v ∷ []) ∷ []))) three.0;
       gates = earlier_none (declared f.sets ++ (f.vars ++ v ∷ [])) f.gates a.stands.1;
       gate_names = a.gate_names;
@@ -206,7 +206,7 @@ input_goes place f n line h a =
           name = a.stands.2.name;
           fresh = a.stands.2.fresh;
           inputs = all_more (λ m. (0 < nat_abs m) × (is_known f (nat_abs m) ≡ true)) f.gate.inputs n a.stands.2.inputs
-              ((is_name n one.0).0, not_false (is_known f v) two.0);
+              ((is_name n one.0).0, not-false (is_known f v) two.0);
           few = omega (arith, low, length-append f.gate.inputs (n ∷ []));
           scopes = a.stands.2.scopes;
         },

@@ -1,9 +1,9 @@
 -- A text that is something by the grammar is what is computed.
-use Rattle.std.proofs.Common.{◌≡◌, ℕ, zero, suc, ◌+◌, ◌<◌, ◌≤◌, ℤ, pos, nat_abs, Bool, true, false, ◌&&◌, ◌||◌, List, [], ◌∷◌, ◌++◌, length, map, None, Some, refl, sym, ap, subst, ◌∙◌, arith, length-append}
+use Rattle.std.proofs.Common.{◌≡◌, ℕ, zero, suc, ◌+◌, ◌<◌, ◌≤◌, ℤ, pos, nat_abs, Bool, true, false, ◌||◌, List, [], ◌∷◌, ◌++◌, length, map, None, Some, refl, sym, ap, subst, ◌∙◌, arith, length-append}
 use Rattle.std.specs.Prelude.{◌==◌}
 use Rattle.std.specs.List.{AllByRecursion, flat_map, list_all}
 use Rattle.std.proofs.lemmas.List.{append_assoc, append-nil, map-append, length-map}
-use Rattle.std.proofs.lemmas.Bool.{eqb-true, eq-eqb, or_left, or_right}
+use Rattle.std.proofs.lemmas.Bool.{eqb-true, eq-eqb, or_left, or_right, and_parts}
 use Rattle.lexer.specs.declared.token.Token.{Token}
 use Rattle.lexer.specs.Words.{Item, word}
 use Rattle.prefix.specs.declared.quant.Quant.{Quant}
@@ -32,6 +32,7 @@ use Rattle.qcir_reader.proofs.RunSets.{begun_runs as sets_begun}
 use Rattle.qcir_reader.proofs.RunGates.{AreInputs, AreNext, IsNext, gates_at, gate_text, gates_run, last_gate, name_runs, equals_runs}
 use Rattle.qcir_reader.proofs.RunGates.{begun_runs as gate_begun}
 use Rattle.qcir_reader.proofs.Alike.{SameAt, verdict_same}
+use Rattle.std.proofs.Math.Bool.{or-false}
 
 -- the quantifier statements
 all_sets : (stage : Stage) (f : Front) → IsAllowed stage f → AreSets (f.sets ++ (f.quant, f.vars) ∷ [])
@@ -182,10 +183,6 @@ amount_front xs (y ∷ ys) =
     (append_assoc xs (y ∷ []) ys) (amount_front (xs ++ y ∷ []) ys) in
     omega (arith, one, more)
 
-both_parts : (a b : Bool) → (a && b) ≡ true → (a ≡ true) × (b ≡ true)
-both_parts true b h = (refl, h)
-both_parts false b h = cc
-
 inputs_are : (b : Front) (done : List GateText) (known : List ℕ) (ns : List ℤ)
     → ((v : ℕ) → is_among v known ≡ is_known (gates_at b done b.gate) v)
     → ((v : ℕ) → is_known (gates_at b done b.gate) v ≡ true → IsName v)
@@ -193,7 +190,7 @@ inputs_are : (b : Front) (done : List GateText) (known : List ℕ) (ns : List �
     → AreInputs (gates_at b done b.gate) ns
 inputs_are b done known [] same range h = tt
 inputs_are b done known (n ∷ ns) same range h =
-    let parts = both_parts (is_among (literal_of n).variable known)
+    let parts = and_parts (is_among (literal_of n).variable known)
     (list_all (λ (l : Literal). is_among l.variable known) (map literal_of ns)) h in
     let there : is_known (gates_at b done b.gate) (nat_abs n) ≡ true = sym (same (nat_abs n))
     ∙ ap (λ v. is_among v known) (sym (literal_variable n)) ∙ parts.0 in
@@ -267,10 +264,6 @@ name_of : (ns : List ℕ) (v : ℕ) → AllByRecursion IsName ns → is_among v 
 name_of [] v all h = cc
 name_of (n ∷ ns) v all h = name_by (n == v) n ns v refl all.0 (name_of ns v all.1) h
 
-or_false_is : (t : Bool) → (t || false) ≡ t
-or_false_is true = refl
-or_false_is false = refl
-
 or_cases_of : (a b : Bool) (P : Type 0) → (a || b) ≡ true → (a ≡ true → P) → (b ≡ true → P) → P
 or_cases_of true b P h f g = f refl
 or_cases_of false b P h f g = g h
@@ -279,7 +272,7 @@ body_allowed : (stage : Stage) (f : Front) → IsAllowed stage f → f.vars ≡ 
 body_allowed stage f a none =
     let same : (v : ℕ) → is_among v (quantified f) ≡ is_known (gates_at (base_of f) [] no_gate) v =
     λ v. ap (λ vs. is_among v (declared f.sets ++ vs)) none
-    ∙ sym (or_false_is (is_among v (declared f.sets ++ []))) in
+    ∙ sym (or-false (is_among v (declared f.sets ++ []))) in
     gates_allowed f.gates (base_of f) [] (quantified f) same (λ v h. name_of (quantified f) v a.names (same v ∙ h))
     a.gates a.gate_names (each_scope (scopes_of f.sets) (gate_names_of f.gates) a.gate_scopes) a.few
 

@@ -1,6 +1,6 @@
 -- The computation goes through what is written.
-use Rattle.std.proofs.Common.{◌≡◌, ℕ, suc, ◌<◌, ◌≤◌, ℤ, nat_abs, Bool, true, false, ◌||◌, List, [], ◌∷◌, ◌++◌, length, map, None, refl, sym, ap, subst, ◌∙◌, arith}
-use Rattle.std.specs.Prelude.{◌==◌, nat_lt, if◌then◌else◌}
+use Rattle.std.proofs.Common.{◌≡◌, ℕ, ◌<◌, ◌≤◌, ℤ, nat_abs, Bool, true, false, ◌||◌, List, [], ◌∷◌, ◌++◌, length, map, None, refl, sym, ap, subst, ◌∙◌, arith}
+use Rattle.std.specs.Prelude.{◌==◌, nat_lt}
 use Rattle.std.specs.List.{AllByRecursion}
 use Rattle.std.proofs.lemmas.Bool.{ne_eqb, le-ltb}
 use Rattle.std.proofs.lemmas.List.{map-append, append_assoc, append-nil}
@@ -9,16 +9,14 @@ use Rattle.lexer.specs.Words.{Item, word}
 use Rattle.prefix.specs.declared.quant.Quant.{Quant}
 use Rattle.prefix.specs.Scopes.{is_among, AreDistinct}
 use Rattle.qdimacs.specs.Formula.{QuantSet, merged}
-use Rattle.qdimacs.specs.Kept.{last_differs}
 use Rattle.qdimacs.proofs.Grown.{merged_empty}
-use Rattle.qdimacs.proofs.Merged.{merged_put}
-use Rattle.qdimacs.proofs.Keeping.{put_length}
 use Rattle.qcir_reader.specs.declared.sign.Stage.{Stage}
 use Rattle.qcir_reader.specs.declared.sign.Sign.{Sign}
 use Rattle.qcir_reader.specs.Grammar.{sign_of}
 use Rattle.qcir_reader.specs.Rules.{Outcome, Front, first_of, word_rules, is_no_name, max_name}
 use Rattle.qcir_reader.specs.Run.{noted, moved, decided, outcome_from}
 use Rattle.qcir_reader.specs.Reads.{IsName}
+use Rattle.qdimacs.proofs.Shorter.{merged_less}
 
 -- the signs of tokens
 abbrev pub signs : List Token → List Sign
@@ -134,26 +132,13 @@ pub distinct_front : (xs ys : List ℕ) → AreDistinct (xs ++ ys) → AreDistin
 distinct_front [] ys d = tt
 distinct_front (x ∷ xs) ys d = (among_front x xs ys d.0, distinct_front xs ys d.1)
 
--- merged scopes grow
-merged_one : (sets : List QuantSet) (q : Quant) (vs : List ℕ) (v : ℕ) → length (merged (sets ++ (q, vs) ∷ [])) ≤ length
-    (merged (sets ++ (q, vs ++ v ∷ []) ∷ []))
-merged_one sets q vs v =
-    subst (λ n. length (merged (sets ++ (q, vs) ∷ [])) ≤ n)
-    (sym (ap length (merged_put sets q vs v) ∙ put_length q v (merged (sets ++ (q, vs) ∷ []))))
-    (by (last_differs q (merged (sets ++ (q, vs) ∷ []))))
-  where
-    by : (b : Bool) → length (merged (sets ++ (q, vs) ∷ [])) ≤
-        (if b then suc (length (merged (sets ++ (q, vs) ∷ []))) else length (merged (sets ++ (q, vs) ∷ [])))
-    by true = omega arith
-    by false = omega arith
-
 pub merged_vars : (sets : List QuantSet) (q : Quant) (us vs : List ℕ) → length (merged (sets ++ (q, us) ∷ [])) ≤ length
     (merged (sets ++ (q, us ++ vs) ∷ []))
 merged_vars sets q us [] = subst (λ x. length (merged (sets ++ (q, us) ∷ [])) ≤ length (merged (sets ++ (q, x) ∷ [])))
     (sym (append-nil us)) (omega arith)
 merged_vars sets q us (v ∷ vs) =
     let one : length (merged (sets ++ (q, us) ∷ [])) ≤ length (merged (sets ++ (q, us ++ v ∷ []) ∷ [])) =
-    merged_one sets q us v in
+    merged_less sets q us v in
     let more : length (merged (sets ++ (q, us ++ v ∷ []) ∷ [])) ≤ length (merged (sets ++ (q, us ++ v ∷ vs) ∷ [])) =
     subst (λ x. length (merged (sets ++ (q, us ++ v ∷ []) ∷ [])) ≤ length (merged (sets ++ (q, x) ∷ [])))
     (append_assoc us (v ∷ []) vs) (merged_vars sets q (us ++ v ∷ []) vs) in

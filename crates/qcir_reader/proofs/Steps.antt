@@ -1,6 +1,6 @@
 -- From step to step, what is left gives the outcome that the whole gives.
 use Rattle.std.proofs.Common.{◌≡◌, ℕ, Option, None, Some, Result, Ok, Err, List, [], ◌∷◌, refl, sym, ap, subst, ◌∙◌}
-use Rattle.std.specs.Prelude.{option_map, IfSome, OnOk}
+use Rattle.std.specs.Prelude.{option_map, IfSome}
 use Rattle.lexer.specs.declared.token.Comments.TheVariants.{Hash}
 use Rattle.lexer.specs.declared.token.Token.{Token}
 use Rattle.lexer.specs.declared.token.LexRefusal.{LexRefusal}
@@ -115,10 +115,6 @@ nothing_left None l now stage front s line r e a = tt
 nothing_left (Some text) l None stage front s line r e a = absurd r
 nothing_left (Some text) None (Some is) stage front s line r e a = cc
 nothing_left (Some text) (Some rest) (Some is) stage front s line r e a = ap Some a
-
-pub on_ok : {A E : Type 0} (result : Result A E) (P : Type 0) → P → OnOk result P
-on_ok (Ok x) P h = h
-on_ok (Err e) P h = tt
 
 -- want of memory says nothing of the text
 pub memory_says_nothing : (left : Option (List ℕ)) → IfSome left (λ text. IsAnswer (Err NoMemory) text)

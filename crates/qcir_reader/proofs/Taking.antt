@@ -25,10 +25,11 @@ use Rattle.qcir_reader.specs.Reads.{IsAllowed, IsName}
 use Rattle.qcir_reader.specs.Kept.{is_beyond, variable_rules_kept, output_rules_kept}
 use Rattle.qcir_reader.specs.Represents.{Keeps, Represents}
 use Rattle.qcir_reader.specs.Answers.{Is}
-use Rattle.qcir_reader.proofs.Tests.{none_refuses, next_rule, not_false, is_variable}
+use Rattle.qcir_reader.proofs.Tests.{none_refuses, next_rule, is_variable}
 use Rattle.qcir_reader.proofs.Runs.{name_is}
 use Rattle.qcir_reader.specs.declared.refusal.QcirRefusal.TheVariants.{Refused, Limit, ReadFault, NoMemory}
 use Rattle.qcir_reader.proofs.Outcomes.{still_allowed}
+use Rattle.std.proofs.lemmas.Bool.{not-false}
 
 pub unsupported_word : (stage : Stage) (f : Front) (s : Sign) (line : ℕ) → is_unsupported stage s ≡ true
     → first_of (word_rules stage f s line) ≡ Some (refused 72 line)
@@ -156,7 +157,7 @@ output_known r f k h =
     let two = none_refuses (not (slice_index_or r.sets.marks.items (nat_abs r.output) false)) (refused 74 r.output_line)
     [] one.1 in
     sym (k.marks (nat_abs f.output.literal)) ∙ ap (λ n. slice_index_or r.sets.marks.items (nat_abs n) false)
-    (sym k.output) ∙ not_false (slice_index_or r.sets.marks.items (nat_abs r.output) false) two.0
+    (sym k.output) ∙ not-false (slice_index_or r.sets.marks.items (nat_abs r.output) false) two.0
 
 -- a quantifier
 pub quantifier_noted : (r : Reader) (f : Front) (s : Sign) (q : Quant) (line : ℕ) → r.stage ≡ Between → s ≡ Quantifier q

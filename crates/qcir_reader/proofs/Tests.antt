@@ -1,7 +1,7 @@
 -- What rules that don't refuse tell.
-use Rattle.std.proofs.Common.{◌≡◌, ℤ, pos, negsuc, nat_abs, Bool, true, false, not, ◌||◌, List, ◌∷◌, None, Some, refl, arith}
+use Rattle.std.proofs.Common.{◌≡◌, ℤ, pos, negsuc, nat_abs, Bool, true, false, List, ◌∷◌, None, Some, refl, arith}
 use Rattle.std.specs.Prelude.{◌==◌, nat_lt, if◌then◌else◌}
-use Rattle.std.proofs.lemmas.Bool.{eqb-false, ltb-false}
+use Rattle.std.proofs.lemmas.Bool.{eqb-false, ltb-false, or_parts}
 use Rattle.qcir_reader.specs.Rules.{Outcome, first_of, is_no_name, is_no_variable, max_name}
 use Rattle.qcir_reader.specs.Reads.{IsName}
 
@@ -11,18 +11,10 @@ pub none_refuses : (test : Bool) (o : Outcome) (rules : List (Bool × Outcome)) 
 none_refuses true o rules h = cc
 none_refuses false o rules h = (refl, h)
 
-pub not_false : (b : Bool) → not b ≡ false → b ≡ true
-not_false true h = refl
-not_false false h = cc
-
-pub or_false : (a b : Bool) → (a || b) ≡ false → (a ≡ false) × (b ≡ false)
-or_false true b h = cc
-or_false false b h = (refl, h)
-
 -- a number that is a name
 pub is_name : (n : ℤ) → is_no_name n ≡ false → IsName (nat_abs n)
 is_name n h =
-    let parts : ((nat_abs n == 0) ≡ false) × (nat_lt max_name (nat_abs n) ≡ false) = or_false (nat_abs n == 0)
+    let parts : ((nat_abs n == 0) ≡ false) × (nat_lt max_name (nat_abs n) ≡ false) = or_parts (nat_abs n == 0)
     (nat_lt max_name (nat_abs n)) h in
     let some : nat_abs n ≡ 0 → ⊥ = eqb-false (nat_abs n) 0 parts.0 in
     (omega (arith, some), ltb-false max_name (nat_abs n) parts.1)

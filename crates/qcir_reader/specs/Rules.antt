@@ -1,6 +1,6 @@
 -- The rules of the text: what refuses each word behind what has been read, and what the end means. The numbers of the
 -- refusals, their order and the limits are own.
-use Rattle.std.specs.Prelude.{ℕ, ◌+◌, ◌^◌, ℤ, pos, negsuc, nat_abs, Bool, true, false, not, ◌||◌, ◌==◌, nat_lt, nat_le, if◌then◌else◌, List, [], ◌∷◌, ◌++◌, length, map, Option, Some, None, is_none}
+use Rattle.std.specs.Prelude.{ℕ, ◌+◌, ℤ, pos, negsuc, nat_abs, Bool, true, false, not, ◌||◌, ◌==◌, nat_lt, nat_le, if◌then◌else◌, List, [], ◌∷◌, ◌++◌, length, map, Option, Some, None, is_none}
 use Rattle.std.specs.List.{flat_map}
 use Rattle.lexer.specs.Words.{Item, word, bad_byte, number_range, too_long, the_end}
 use Rattle.prefix.specs.declared.quant.Quant.{Quant}

@@ -13,10 +13,7 @@ use Rattle.prefix.specs.Refusals.{scope_refusal, variable_refusal}
 use Rattle.prefix.specs.declared.refusal.PrefixRefusal.{PrefixRefusal}
 use Rattle.prefix.specs.declared.refusal.PrefixRefusal.TheVariants.{NoMemory, VarRange, VarTwice, ScopeRange, ScopeLimit}
 use Rattle.prefix.proofs.ScopeLemmas.{is_among-insert_ascending, level_none_parts, ascending-insert}
-
-pub or_none : (b : Bool) → (b || false) ≡ b
-or_none true = refl
-or_none false = refl
+use Rattle.std.proofs.Math.Bool.{or-false}
 
 -- these put into an ascending list, the first first
 abbrev pub inserted : List ℕ → List ℕ → List ℕ
@@ -152,7 +149,7 @@ next_memory ss now q vs i n r low new number built h =
     let v : ℕ = get_or vs i 0 in
     let each = new.each v (among_get vs i low) in
     let out : is_among v (inserted (take i vs) []) ≡ false = inserted_among v (take i vs) []
-    ∙ or_none (is_among v (take i vs)) ∙ taken_new vs i low new.distinct in
+    ∙ or-false (is_among v (take i vs)) ∙ taken_new vs i low new.distinct in
     let long : length now ≡ length ss + 1 = ap length built ∙ length-append ss
     (record { quantifier = q; variables = inserted (take i vs) [] } ∷ []) in
     variable_memory now v n r each.0 each.1 (ap (λ s. level_of s v) built ∙ last_none ss q (inserted (take i vs) []) v

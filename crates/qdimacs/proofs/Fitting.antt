@@ -14,7 +14,7 @@ use Rattle.qdimacs.specs.Formula.{QuantSet, same_quant, declared, in_order}
 use Rattle.clauses.specs.Clause.{put, ascending}
 use Rattle.qdimacs.specs.Kept.{put_front, sets_of, AreNew, AreScopes}
 use Rattle.qdimacs.specs.declared.sets.Row.{Row}
-use Rattle.clauses.proofs.Ascending.{true_is_not, below_all, all_from, ascending_is, ascending_among, ascending_same, permuted_among}
+use Rattle.clauses.proofs.Ascending.{true_is_not, below_all, all_from, ascending_is, ascending_among, ascending_same, permuted_among, ascending_short}
 
 -- the two parts of distinct numbers
 pub distinct_parts : (xs ys : List ℕ) → AreDistinct (xs ++ ys) → AreDistinct xs × AreDistinct ys
@@ -72,19 +72,6 @@ put_old n (m ∷ ms) a h = by (nat_lt n m) (n == m) refl refl (put_old n ms a.1)
     by false true e f r = refl
     by false false e f r =
         ap suc (r (sym (ap (λ t. t || is_among n ms) (ne_eqb m n (λ q. eqb-false n m f (sym q)))) ∙ h))
-
-put_length : (n : ℕ) (ms : List ℕ) → IsAscending ms → (b : Bool) → is_among n ms ≡ b → length (put n ms) ≤ suc
-    (length ms)
-put_length n ms a true e = omega (arith, put_old n ms a e)
-put_length n ms a false e = omega (arith, put_new n ms e)
-
-pub ascending_short : (xs : List ℕ) → length (ascending xs) ≤ length xs
-ascending_short [] = omega arith
-ascending_short (x ∷ xs) = omega (
-  arith,
-  put_length x (ascending xs) (ascending_is xs) (is_among x (ascending xs)) refl,
-  ascending_short xs,
-)
 
 distinct_long : (xs : List ℕ) → AreDistinct xs → length (ascending xs) ≡ length xs
 distinct_long [] d = refl

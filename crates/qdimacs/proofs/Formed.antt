@@ -13,9 +13,8 @@ use Rattle.qdimacs.specs.Formula.{QuantSet, declared, formula_of, free, in_order
 use Rattle.clauses.specs.Clause.{ascending, as_row, has_literal, is_tautology}
 use Rattle.truth.specs.Formed.{IsClauseOver, IsFormed}
 use Rattle.truth.specs.Limits.{max_clauses, max_literals}
-use Rattle.clauses.proofs.Ascending.{ascending_among, ascending_is}
+use Rattle.clauses.proofs.Ascending.{ascending_among, ascending_is, ascending_short}
 use Rattle.qdimacs.proofs.Finishing.{filter_among}
-use Rattle.qdimacs.proofs.Fitting.{ascending_short}
 use Rattle.qdimacs.proofs.Merged.{merged_declared}
 
 -- the variables of scopes in order are those that the sets declare
@@ -94,7 +93,7 @@ rows_over scopes (c ∷ cs) f =
     by true one rest = rest
     by false one rest = (one, rest)
 
-rows_few : (clauses : List (List ℤ)) → length (matrix_of clauses) ≤ length clauses
+pub rows_few : (clauses : List (List ℤ)) → length (matrix_of clauses) ≤ length clauses
 rows_few [] = omega arith
 rows_few (c ∷ cs) = by (is_tautology c) (rows_few cs)
   where

@@ -10,7 +10,7 @@ same_self : (q : Quant) → same_quant q q ≡ true
 same_self Exists = refl
 same_self Forall = refl
 
-same_is : (q r : Quant) → same_quant q r ≡ true → q ≡ r
+pub same_is : (q r : Quant) → same_quant q r ≡ true → q ≡ r
 same_is Exists Exists h = refl
 same_is Forall Forall h = refl
 same_is Exists Forall h = cc

@@ -1,5 +1,5 @@
 -- What tests on words tell.
-use Rattle.std.proofs.Common.{◌≡◌, ℕ, pos, negsuc, Bool, true, false, not, ◌&&◌, List, None, refl, ap}
+use Rattle.std.proofs.Common.{◌≡◌, ℕ, pos, negsuc, Bool, true, false, not, List, None, refl, ap}
 use Rattle.std.proofs.lemmas.Slice.Eq.{bytes_eq-Decides}
 use Rattle.lexer.specs.declared.token.Word.{Word}
 use Rattle.lexer.specs.declared.token.Word.TheVariants.{Num, Text, Other}
@@ -28,14 +28,6 @@ pub passes : (test : Bool) (o : Outcome) (rules : List (Bool × Outcome)) → fi
     → (test ≡ true) × (first_of rules ≡ None)
 passes true o rules h = (refl, h)
 passes false o rules h = cc
-
-pub not_false : (b : Bool) → not b ≡ false → b ≡ true
-not_false true h = refl
-not_false false h = cc
-
-pub both_true : (a b : Bool) → (a && b) ≡ true → (a ≡ true) × (b ≡ true)
-both_true true b h = (refl, h)
-both_true false b h = cc
 
 -- no rule of either list refuses
 pub none_of_both : (xs ys : List (Bool × Outcome)) → first_of (xs ++ ys) ≡ None → (first_of xs ≡ None)

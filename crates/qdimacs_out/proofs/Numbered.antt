@@ -1,15 +1,11 @@
 -- The scope with a number.
-use Rattle.std.proofs.Common.{◌≡◌, ℕ, zero, suc, ◌+◌, ◌-◌, ◌<◌, List, [], ◌∷◌, length, get_or, Option, Some, None, refl, sym, ap, ap₂, ◌∙◌, arith}
+use Rattle.std.proofs.Common.{◌≡◌, ℕ, ◌+◌, ◌-◌, ◌<◌, List, [], length, get_or, Option, Some, None, sym, ap, ap₂, ◌∙◌, arith}
 use Rattle.std.specs.Prelude.{◌==◌, slice_get, unwrap_or}
 use Rattle.std.specs.Option.{option_map}
 use Rattle.std.proofs.lemmas.Bool.{cond-false, ne_eqb}
 use Rattle.prefix.specs.declared.quant.Quant.{Quant}
 use Rattle.prefix.specs.Scopes.{Scope, quantifier_at, variables_at}
-
-get_in : {X : Type 0} (xs : List X) (k : ℕ) (d : X) → k < length xs → slice_get xs k ≡ Some (get_or xs k d)
-get_in [] k d h = absurd (omega arith)
-get_in (x ∷ xs) zero d h = refl
-get_in (x ∷ xs) (suc k) d h = get_in xs k d (omega arith)
+use Rattle.truth.proofs.OrderLemmas.{slice_get_in}
 
 -- its quantifier and its variables make it
 pub scope_found : (ss : List Scope) (i : ℕ) (d : Scope) (q : Quant) (found : Option Quant) (vs : List ℕ)
@@ -18,7 +14,7 @@ pub scope_found : (ss : List Scope) (i : ℕ) (d : Scope) (q : Quant) (found : O
     → get_or ss i d ≡ record { quantifier = q; variables = vs }
 scope_found ss i d q found vs low is some those =
     let back : i + 1 - 1 ≡ i = omega arith in
-    let here : slice_get ss (i + 1 - 1) ≡ Some (get_or ss i d) = ap (slice_get ss) back ∙ get_in ss i d low in
+    let here : slice_get ss (i + 1 - 1) ≡ Some (get_or ss i d) = ap (slice_get ss) back ∙ slice_get_in ss i d low in
     let quantifier : Some q ≡ Some (get_or ss i d).quantifier =
     sym some ∙ is
     ∙ cond-false (i + 1 == 0) None (option_map (λ (s : Scope). s.quantifier) (slice_get ss (i + 1 - 1)))

@@ -1,11 +1,10 @@
 -- A formula that is read has the form in which it is written.
-use Rattle.std.proofs.Common.{◌≡◌, ◌≢◌, ⊎_elim, ℕ, ◌≤◌, ◌<◌, ℤ, nat_abs, Bool, true, false, not, ◌&&◌, ◌||◌, List, [], ◌∷◌, ◌++◌, length, map, Option, Some, None, refl, sym, ap, ap₂, subst, ◌∙◌, arith}
-use Rattle.std.specs.Prelude.{◌==◌, filter, if◌then◌else◌, nat_lt}
+use Rattle.std.proofs.Common.{◌≡◌, ◌≢◌, ⊎_elim, ℕ, ◌≤◌, ◌<◌, ℤ, nat_abs, Bool, true, false, not, ◌&&◌, ◌||◌, List, [], ◌∷◌, ◌++◌, length, map, Option, Some, None, refl, sym, ap, subst, ◌∙◌, arith}
+use Rattle.std.specs.Prelude.{◌==◌, if◌then◌else◌, nat_lt}
 use Rattle.std.specs.List.{AllByRecursion}
 use Rattle.std.proofs.lemmas.Bool.{false≢true, or_cases, or_parts}
 use Rattle.std.proofs.lemmas.Bool.Decides.{nat_tests}
 use Rattle.std.proofs.lemmas.List.{length-map}
-use Rattle.std.proofs.lemmas.List.Sums.{count_by-le-length, length-filter}
 use Rattle.lexer.specs.declared.token.Word.{Word}
 use Rattle.lexer.specs.declared.token.Word.TheVariants.{Num, Text, Other}
 use Rattle.lexer.specs.Words.{Item, bad_byte, number_range, the_end, too_long, word}
@@ -14,8 +13,8 @@ use Rattle.prefix.specs.declared.quant.Quant.TheVariants.{Exists, Forall}
 use Rattle.prefix.specs.Scopes.{AreDistinct, IsAscending, all_variables, is_among}
 use Rattle.prefix.proofs.ScopeLemmas.{is_among-append}
 use Rattle.truth.specs.declared.formula.Formula.{Formula}
-use Rattle.qdimacs.specs.Formula.{QuantSet, declared, formula_of, free, in_order, join, join_if, literals_of, matrix_of, merged, occurring, same_quant, scopes_of}
-use Rattle.clauses.specs.Clause.{as_row, ascending, is_tautology, put}
+use Rattle.qdimacs.specs.Formula.{QuantSet, declared, formula_of, free, in_order, join, join_if, literals_of, merged, occurring, same_quant, scopes_of}
+use Rattle.clauses.specs.Clause.{ascending, put}
 use Rattle.reading.specs.declared.refusal.Quantity.TheVariants.{Clauses, Scopes, Variables}
 use Rattle.qdimacs.specs.Reads.{AreAllowed, IsAllowed, Reads}
 use Rattle.qdimacs.specs.Rules.{Front, Header, Outcome, between, between_rules, clause_rules, end_rules, first_of, headed, header_limits, in_clause, in_header, in_set, inside_rules, limit, literal_rules, nothing, outside_rules, parsed, refused, set_rules, unless_zero, variable_rules, verdict, whole_rules, word_rules}
@@ -24,8 +23,8 @@ use Rattle.reading.specs.Words.{is_zero, quant_of}
 use Rattle.clauses.proofs.Ascending.{ascending_among, ascending_is}
 use Rattle.qdimacs.proofs.Finishing.{filter_among}
 use Rattle.qdimacs.proofs.Fitting.{distinct_apart, distinct_append, distinct_parts}
-use Rattle.qdimacs.proofs.Formed.{formed_of}
-use Rattle.qdimacs.proofs.Merged.{merged_declared}
+use Rattle.qdimacs.proofs.Formed.{formed_of, ordered_among, rows_few}
+use Rattle.qdimacs.proofs.Merged.{merged_declared, same_is}
 use Rattle.generate.proofs.Forming.{ascending_distinct}
 use Rattle.qdimacs_out.specs.Writable.{IsWritable, TakeTurns}
 use Rattle.qdimacs_out.proofs.All.{all_mapped, at_among, from_among}
@@ -168,12 +167,6 @@ item_whole front (the_end line) f a e = end_whole front line f a e
 
 -- merged scopes take turns, and each has a variable
 
-same_quantifier : (q r : Quant) → same_quant q r ≡ true → q ≡ r
-same_quantifier Exists Exists e = refl
-same_quantifier Exists Forall e = cc
-same_quantifier Forall Exists e = cc
-same_quantifier Forall Forall e = refl
-
 other_quantifier : (q r : Quant) → same_quant q r ≡ false → q ≢ r
 other_quantifier Exists Exists e = λ f. false≢true (sym e)
 other_quantifier Exists Forall e = λ f. let g : Exists ≡ Forall = f in cc
@@ -192,7 +185,7 @@ join_turns q (v ∷ vs) [] h = tt
 join_turns q (v ∷ vs) (s ∷ rest) h = by (same_quant q s.0) refl
   where
     by : (b : Bool) → same_quant q s.0 ≡ b → TakeTurns (map in_order (join_if b q (v ∷ vs) s.0 s.1 rest))
-    by true e = same_turns q s.0 ((v ∷ vs) ++ s.1) s.1 rest (same_quantifier q s.0 e) h
+    by true e = same_turns q s.0 ((v ∷ vs) ++ s.1) s.1 rest (same_is q s.0 e) h
     by false e = (other_quantifier q s.0 e, h)
 
 merged_turns : (xs : List QuantSet) → TakeTurns (map in_order (merged xs))
@@ -266,24 +259,12 @@ merged_sets [] h = tt
 merged_sets (x ∷ xs) h = join_sets x.0 x.1 (merged xs) (merged_sets xs h.1)
     (λ v there. ap (is_among v) (merged_declared xs) ∙ h.0 v there)
 
-ordered_among : (v : ℕ) (xs : List QuantSet) → is_among v (all_variables (map in_order xs)) ≡ is_among v (declared xs)
-ordered_among v [] = refl
-ordered_among v (x ∷ xs) =
-    is_among-append v (ascending x.1) (all_variables (map in_order xs))
-    ∙ ap₂ (λ a b. a || b) (ascending_among v x.1) (ordered_among v xs)
-    ∙ sym (is_among-append v x.1 (declared xs))
-
 apart_distinct : (xs : List QuantSet) → AreApart xs → AreDistinct (all_variables (map in_order xs))
 apart_distinct [] h = tt
 apart_distinct (x ∷ xs) h =
     distinct_append (ascending x.1) (all_variables (map in_order xs))
     (ascending_distinct (ascending x.1) (ascending_is x.1))
     (apart_distinct xs h.1) (λ v there. ordered_among v xs ∙ h.0 v (sym (ascending_among v x.1) ∙ there))
-
-fewer_rows : (clauses : List (List ℤ)) → length (matrix_of clauses) ≤ length clauses
-fewer_rows clauses =
-    let p : List ℤ → Bool = λ c. not (is_tautology c) in
-    omega (arith, length-map (filter p clauses) as_row, length-filter p clauses, count_by-le-length p clauses)
 
 module _ (vars count : ℕ) (sets : List QuantSet) (clauses : List (List ℤ)) (line : ℕ)
     (a : AreAllowed (record { vars = vars; count = count; line = line }) sets clauses)
@@ -343,7 +324,7 @@ module _ (vars count : ℕ) (sets : List QuantSet) (clauses : List (List ℤ)) (
         declared = from_among (λ v. (1 ≤ v) × (v ≤ vars))
             (all_variables (map in_order (scopes_of sets clauses))) within;
         rows = formed.rows;
-        fewer = omega (arith, fewer_rows clauses, enough);
+        fewer = omega (arith, rows_few clauses, enough);
         vars_few = limits.0;
         scopes_few = rw (length-map (scopes_of sets clauses) in_order) few;
         clauses_few = limits.1;

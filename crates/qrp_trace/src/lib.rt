@@ -1,8 +1,8 @@
 //! The trace of a core as a text.
 //!
-//! `write_trace` writes a core in this project's profile of the QRP format (Niemetz, Preiner, Lonsing, Seidl and Biere,
-//! *Resolution-based certificate extraction for QBF*, 2012). `specs/Texts` has the definitions, and `specs/Worked` small
-//! values.
+//! `write_trace` writes a core in this project's profile of the QRP format (Niemetz, Preiner, Lonsing, Seidl and
+//! Biere, *Resolution-based certificate extraction for QBF*, 2012). `specs/Texts` has the definitions, and
+//! `specs/Worked` small values.
 #![tactic(auto)]
 
 mod text;

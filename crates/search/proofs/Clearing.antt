@@ -1,32 +1,35 @@
 -- Steps that nothing kept rests on are dropped while a search goes on.
-use Rattle.std.proofs.Common.{◌≡◌, ◌≤◌, ◌+◌, ◌⊎◌, Bool, cond, length, ℕ, ◌++◌, true, List, Some, Contains, IsTrue, is_some, refl, sym, ap, subst, ◌∙◌, inl, inr, ⊎_elim, arith}
-use Rattle.std.proofs.lemmas.Bool.{cond-true, false≢true}
+use Rattle.std.proofs.Common.{◌≡◌, ◌<◌, ◌≤◌, ◌+◌, ◌⊎◌, nat_lt, Bool, cond, length, ℕ, ◌++◌, true, List, Some, Contains, IsTrue, is_some, refl, sym, ap, subst, ◌∙◌, inl, inr, ⊎_elim, arith}
+use Rattle.std.proofs.lemmas.Bool.{cases_Bool, cond-true, false≢true, ltb-true}
 use Rattle.std.proofs.lemmas.List.Elements.{Contains-append_left, Contains-append_right}
 use Rattle.prefix.specs.declared.quant.Quant.{Quant}
 use Rattle.prefix.specs.Literal.{negation}
 use Rattle.prefix.specs.Scopes.{Scope}
 use Rattle.rows.specs.Arena.{literals_of}
-use Rattle.calculus.proofs.Sizes.{trail_length}
+use Rattle.calculus.proofs.Sizes.{row_length, trail_length}
 use Rattle.calculus.specs.Rows.{Row}
 use Rattle.calculus.specs.Search.{IsCleanBut, IsUnitIn, before_on, cause_on, value_on}
 use Rattle.calculus.specs.Search.Cause.{Propagated}
 use Rattle.calculus.specs.Derivations.{RestsOn}
 use Rattle.calculus.specs.Derivations.Why.{ReducedFrom}
-use Rattle.derive.specs.State.{IsLegalFor, State, SameStep, clauses_of, is_live, note_at, row_of, side_at, why_at, why_in}
+use Rattle.derive.specs.State.{IsLegalFor, State, SameStep, clauses_of, is_live, is_step, note_at, row_of, side_at, why_at, why_in}
 use Rattle.derive.specs.Dropping.{Drops, StepTest}
 use Rattle.derive.specs.Sweeping.{Stays, Sweeps}
 use Rattle.derive.specs.Sweeping.Stays.{under}
 use Rattle.trail.specs.State.{TrailState}
 use Rattle.watch.specs.Laws.{AgreeingLaws, HoldingLaws}
 use Rattle.clean.specs.Reasons.{HaveReasons, IsReason}
+use Rattle.clean.proofs.Keeping.{step_row}
 use Rattle.search.specs.Forgetting.{AreLive, Clears, Forgets, HasFewLong, HaveAllReasons, Thins, left_long, many_long, without_detached}
 use Rattle.search.specs.Counting.{size_of}
-use Rattle.search.specs.Long.{is_input}
+use Rattle.search.specs.Long.{is_input, is_learned, is_long}
 use Rattle.search.specs.State.{IsAttached, IsSearching, SearchState}
 use Rattle.search.proofs.Aging.{older_dropped, older_none, older_same, older_then}
 use Rattle.search.proofs.Dropping.{attached_on, attached_still, attached_was, intact_rederived, note_of, rederived, tally_left, watched_left}
 use Rattle.search.proofs.Marks.{reduced_by, step_live}
 use Rattle.search.proofs.Reducing.{reductions_left, reductions_same}
+use Rattle.search.proofs.Tallying.{one_if}
+use Rattle.search.proofs.Thinning.{and_true}
 
 -- the input clauses that reductions rest on stay
 module _ (keep : List ℕ) (old new : State) (sweeps : Sweeps keep old new) where
@@ -163,3 +166,21 @@ forgets_none scopes s searching few = record {
   lets = record { was = λ side id a. a; stays = λ side id a may. a };
   reductions = omega arith;
 }
+
+-- a row was attached: a short one, or one of few
+pub few_kept : (scopes : List Scope) (old new : SearchState) (id : ℕ) → IsLegalFor scopes old.derivation
+    → IsTrue (is_step old.derivation id) → (IsTrue (is_long old.derivation id) → old.long ≤ many_long)
+    → new.long ≤ old.long + one_if (is_long old.derivation id) → HasFewLong scopes old → HasFewLong scopes new
+few_kept scopes old new id legal step may one few =
+    let row = row_of old.derivation id in
+    ⊎_elim
+    (λ t.
+    let e : one_if (is_long old.derivation id) ≡ 1 = ap one_if t in
+    let least = may t in
+    let longer : 3 < length row =
+    ltb-true 3 (length row)
+    (and_true (is_learned old.derivation.notes (note_at old.derivation id)) (nat_lt 3 (length row)) t).1 in
+    let most = row_length scopes row (step_row scopes old.derivation id legal step) in
+    omega (arith, e, least, longer, most, one))
+    (λ f. let e : one_if (is_long old.derivation id) ≡ 0 = ap one_if f in omega (arith, e, one, few))
+    (cases_Bool (is_long old.derivation id))

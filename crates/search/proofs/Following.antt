@@ -6,6 +6,7 @@ use Rattle.prefix.specs.Scopes.{Scope}
 use Rattle.steps.specs.Counter.{Counter, after}
 use Rattle.calculus.specs.Rows.{Row}
 use Rattle.calculus.specs.Search.{AreTheAssumptions, IsUnitIn, Trail, cut_trail, value_on}
+use Rattle.calculus.specs.Verdicts.{IsEndRow}
 use Rattle.trail.specs.State.{TrailState, counted}
 use Rattle.trail.specs.declared.allowed.Allowed.TheVariants.{Anything}
 use Rattle.derive.specs.State.{State, Notes, OpenClause, clauses_of, may_be_antecedent, note_in, row_of, side_in}
@@ -14,7 +15,7 @@ use Rattle.analyse.specs.Lessons.{EndsOn}
 use Rattle.decide.specs.Decision.{IsDecision}
 use Rattle.decide.specs.Memory.{Memory}
 use Rattle.search.specs.State.{IsPaused, IsSearching, SearchState}
-use Rattle.search.specs.Counting.{IsCounted, lesson_cost, size_of}
+use Rattle.search.specs.Counting.{IsBounded, IsCounted, lesson_cost, size_of}
 use Rattle.search.specs.Forgetting.{Forgets}
 use Rattle.search.specs.Moves.{Advances, Analyses, BeginsAnew, Covers, Ends, Halts, IsMatrix, KeepsOlder, Proceeds, SameSteps, Undoes, WasDue}
 use Rattle.search.specs.Moves.IsDue.{decision, unit}
@@ -152,6 +153,24 @@ ends_analysed scopes s new before now side row analyses step ends = record {
       (analyses.owed start is);
   row = step;
   end = λ assumptions a. ends assumptions (analyses.assumed assumptions a);
+}
+
+-- and the end row was kept
+pub ends_kept : (scopes : List Scope) (s between new : SearchState) (before now : Counter) (side : Quant) (row : ℕ)
+    → Ends scopes 1 s between before now side row → Keeps scopes between new
+    → Ends scopes 1 s new before now side row
+ends_kept scopes s between new before now side row ends keeps = record {
+  paused = keeps.searching.paused;
+  clauses = keeps.steps.clauses ∙ ends.clauses;
+  older = older_then s.derivation between.derivation new.derivation ends.older
+      (older_same between.derivation new.derivation keeps.steps);
+  budget = ends.budget;
+  rises = ends.rises;
+  bounded = λ start is. subst (λ (t : TrailState). IsBounded (size_of scopes) start t now) (sym keeps.trail)
+      (ends.bounded start is);
+  row = step_same side scopes between.derivation new.derivation row keeps.steps ends.row;
+  end = λ assumptions a. subst (λ (r : Row). IsEndRow side scopes assumptions r) (sym (keeps.steps.literals row))
+      (ends.end assumptions a);
 }
 
 -- with less slack before

@@ -348,6 +348,15 @@ module _ (scopes : List Scope) (old mid : SearchState) (id : ℕ) (joins : Joins
         let few = count_few (is_kept_long mid.derivation) (next_id mid.derivation) in
         omega (arith, r, t, same, e, few)
 
+-- at most one more is counted
+pub one_joined : (scopes : List Scope) (old mid new : SearchState) (id : ℕ) → Joins scopes old mid id
+    → mid.long ≡ old.long → new ≡ with_long mid (mid.long + one_if (is_long mid.derivation id))
+    → new.long ≤ old.long + one_if (is_long old.derivation id)
+one_joined scopes old mid new id joins same is =
+    let was = ap one_if (long_as_was old.derivation mid.derivation id joins.steps joins.others) in
+    let now = ap (λ (s : SearchState). s.long) is in
+    omega (arith, was, now, same)
+
 module _ (old mid : SearchState) (id : ℕ) (parts : Parts old mid id)
     (live : IsTrue (is_live old.derivation id))
     (held : is_attached (side_at old.derivation id) (rows_of old) id ≡ true) where

@@ -5,12 +5,13 @@ ghost use Rattle.derive.specs.State.{has_rows, is_live, next_id, side_at};
 ghost use Rattle.watch.specs.Links.{is_attached};
 ghost use Rattle.clean.specs.Reasons.{IsReducedStep};
 ghost use Rattle.search.specs.State.{IsAttached, IsIntact, IsPaused, IsResting, IsSearching, IsTallied, rows_of, with_long};
+ghost use Rattle.search.specs.Forgetting.{HasFewLong, many_long};
 ghost use Rattle.search.specs.Long.{is_long};
 ghost use Rattle.search.specs.Moves.{SameSteps};
 ghost use Rattle.search.specs.Forcing.{HasNoCubes, NoCubeAttached};
 ghost use Rattle.search.specs.Watching.{Joins, JoinsAll, Keeps, Parts};
 
-use crate::forgetting::is_long;
+use crate::forgetting::{MOST, is_long};
 use crate::search::Search;
 use crate::watching::{attach_to, detach_from, has_row};
 use derive::{Derivation, StepId};
@@ -68,6 +69,7 @@ impl Search {
         requires listed { Contains self.old.watched id }
         ensures joins { Joins prefix.now self.old self.new id }
         ensures tallied { IsTallied self.new }
+        ensures one { self.new.long ≤ self.old.long + (if is_long self.old.derivation id then 1 else 0) }
     {
         if self.has(id) {
             return;
@@ -178,6 +180,7 @@ impl Search {
         requires reduced { IsReducedStep (side_at self.old.derivation row) prefix.now self.old.derivation row }
         ensures keeps { Keeps prefix.now self.old self.new }
         ensures kept { OnOk result (IsAttached self.new (side_at self.old.derivation row) row) }
+        ensures one { self.new.long ≤ self.old.long + (if is_long self.old.derivation row then 1 else 0) }
     {
         if self.has(row) {
             return Ok(());
@@ -185,6 +188,29 @@ impl Search {
         self.watched.push(row)?;
         self.join(prefix, row);
         Ok(())
+    }
+
+    // Keeps an end row, for a later solve to end by, where there is memory for it: but for a long one where many long
+    // ones are kept. Where the watches weren't quiet since the solve began, a row with the same literals may be
+    // attached already, and none is kept: what this solve found without a decision, a later one finds so too.
+    pub(crate) fn keep_end(&mut self, prefix: &Prefix, row: StepId)
+        requires searching { IsSearching prefix.now self.old }
+        requires reduced { IsReducedStep (side_at self.old.derivation row) prefix.now self.old.derivation row }
+        ensures keeps { Keeps prefix.now self.old self.new }
+        ensures long { HasFewLong prefix.now self.old → HasFewLong prefix.now self.new }
+    {
+        if self.was_quiet && self.may_stay(row) {
+            let _ = self.keep(prefix, row);
+        }
+    }
+
+    // Whether a live row is short, or not many long ones are attached.
+    fn may_stay(&self, row: StepId) -> bool
+        requires live { IsTrue (is_live self.now.derivation row) }
+        requires rows { IsTrue (has_rows self.now.derivation) }
+        ensures { IsTrue result → IsTrue (is_long self.now.derivation row) → self.now.long ≤ many_long }
+    {
+        self.long <= MOST || !is_long(&self.derivation, row)
     }
 
     // Whether a live row is attached to the watch of its side.

@@ -20,7 +20,7 @@ use trail::{Trail, Why};
 use watch::{agreeing_laws, holding_laws};
 
 // Where more long learned rows than these are no reasons, some are forgotten.
-const MOST: usize = 512;
+pub(crate) const MOST: usize = 512;
 
 // So many of them are left then.
 const LEFT: usize = 256;

@@ -59,7 +59,10 @@ impl Search {
             < 2 * (marks_left self.old.trail * length self.old.trail.placed + length self.old.trail.placed) }
     {
         match self.analysed(prefix, side, row, steps)? {
-            Lesson::End { row } => Ok(Some(EndRow { side, row })),
+            Lesson::End { row } => {
+                self.keep_end(prefix, row);
+                Ok(Some(EndRow { side, row }))
+            }
             Lesson::Learn { row, lit, level } => {
                 if self.is_restart_due(restarts) {
                     self.begin_anew(prefix, row)?;

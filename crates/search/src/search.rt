@@ -41,6 +41,8 @@ pub struct Search {
     pub(crate) sweep_at: usize,
     // How many lessons come before the next restart is due; contracts don't see it.
     pub(crate) lessons_left: u8,
+    // Whether the watches were quiet since the solve began; contracts don't see it.
+    pub(crate) was_quiet: bool,
 }
 
 impl Model for Search {
@@ -82,6 +84,7 @@ impl Search {
             tidy_at: 0,
             sweep_at: 0,
             lessons_left: LESSONS,
+            was_quiet: false,
         }
     }
 }

@@ -286,6 +286,7 @@ impl Search {
         self.cubes.undone(0);
         self.joined = true;
         self.lessons_left = LESSONS;
+        self.was_quiet = false;
     }
 
     // Ends where the budget is spent: the trail is emptied, and the finish of the last outcome goes; what is watched
@@ -308,6 +309,7 @@ impl Search {
         self.cubes.undone(0);
         self.joined = true;
         self.lessons_left = LESSONS;
+        self.was_quiet = false;
         self.drop_finish(prefix);
         stopped
     }

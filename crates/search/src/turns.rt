@@ -124,6 +124,7 @@ impl Search {
         ensures long { HasFewLong prefix.now self.old → OnOk result (HasFewLong prefix.now self.new) }
         ensures reductions { ReducesFew self.old.derivation self.new.derivation steps.old steps.new }
     {
+        self.was_quiet = true;
         let Some(lit) = self.decider.next_decision(&self.trail, prefix) else {
             let cube = self.solution(prefix, matrix, steps)?;
             return self.learn(prefix, Quant::Forall, cube, restarts, steps);

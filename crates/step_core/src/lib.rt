@@ -1,7 +1,7 @@
 //! The steps that a step of a derivation rests on, listed and numbered.
 //!
-//! `core` picks them from a derivation, the inputs first, and numbers them from 1. `specs/Cores` has the definitions, and
-//! `specs/Worked` small values.
+//! `core` picks them from a derivation, the inputs first, and numbers them from 1. `specs/Cores` has the definitions,
+//! and `specs/Worked` small values.
 #![tactic(auto)]
 
 mod gather;

@@ -1,6 +1,6 @@
 //! What the search saves, in steps: no clause says that lessons, the order of rows that wait, priorities, first signs
-//! or restarts help. Each number lies between the steps that a solve takes and those that it takes without one of
-//! these.
+//! or restarts help, or that end rows are kept. Each number lies between the steps that a solve takes and those that it
+//! takes without one of these.
 ghost use Rattle.std.specs.Prelude.{◌<◌};
 
 use super::play::{put, put_scope};
@@ -157,11 +157,11 @@ fn put_formula(engine: &mut Engine, alloc: Global, formula: Formula) -> Result<(
     }
 }
 
-// Solves within each of these numbers of steps in turn. Fails with the first number that doesn't end so.
-fn solve_each(engine: &mut Engine, budgets: &[u64], want: Ended) -> Result<(), Fail> {
-    for budget in budgets {
+// Solves within each of these numbers of steps in turn. Fails with the first one that doesn't end as it should.
+fn solve_each(engine: &mut Engine, turns: &[(u64, Ended)]) -> Result<(), Fail> {
+    for (budget, want) in turns {
         let ended = solve(engine, *budget)?;
-        if ended != want {
+        if ended != *want {
             return Err((*budget, ended))?;
         }
     }
@@ -173,12 +173,11 @@ fn put_and_solve(
     alloc: Global,
     formula: Formula,
     restarts: u32,
-    budgets: &[u64],
-    want: Ended,
+    turns: &[(u64, Ended)],
 ) -> Result<(), Fail> {
     put_formula(engine, alloc, formula)?;
     engine.set_restarts(restarts);
-    solve_each(engine, budgets, want)
+    solve_each(engine, turns)
 }
 
 // Solves a formula in a new engine, where a search may begin anew so often. Fails where a solve doesn't end so.
@@ -186,24 +185,59 @@ fn ends(
     alloc: Global,
     formula: Formula,
     restarts: u32,
-    budgets: &[u64],
-    want: Ended,
+    turns: &[(u64, Ended)],
 ) -> Result<(), Fail> {
     let mut engine = Engine::new(alloc)?;
-    put_and_solve(&mut engine, alloc, formula, restarts, budgets, want)
+    put_and_solve(&mut engine, alloc, formula, restarts, turns)
 }
 
-// At first, and again: where lessons aren't kept, the first solve takes 4,726 steps and the second 10,071.
+// A solve goes on with the lessons of one that was stopped; where lessons aren't kept, this one takes 9,864 steps.
 #[test]
 fn lessons_are_kept_for_the_next_solve(rt: HostRuntime) -> Result<(), Fail> {
-    let budgets = [4_000, 100];
-    ends(
-        rt.alloc(),
-        Formula::Pigeons(5),
-        0,
-        &budgets,
-        Ended::Answered(false),
-    )
+    let turns = [(1_500, Ended::Stopped(0)), (2_000, Ended::Answered(false))];
+    ends(rt.alloc(), Formula::Pigeons(5), 0, &turns)
+}
+
+// Solved again, a formula takes no step. Where end rows aren't kept, the first one takes up to a hundred then, and the
+// second one 80.
+#[test]
+fn end_rows_are_kept_for_the_next_solve(rt: HostRuntime) -> Result<(), Fail> {
+    for (formula, first, truth) in [
+        (Formula::Pigeons(5), 4_000, false),
+        (Formula::Many(2, 80, 344), 8_000, true),
+    ] {
+        let end = Ended::Answered(truth);
+        ends(rt.alloc(), formula, 0, &[(first, end), (0, end)])?;
+    }
+    Ok(())
+}
+
+// Puts in a clause in a frame of its own, solves, and drops the frame.
+fn go_round(engine: &mut Engine) -> Result<(), Fail> {
+    engine.push()?;
+    engine.clause(&[1])?;
+    solve(engine, 10)?;
+    Ok(engine.pop()?)
+}
+
+// How many steps are live behind the first such round, and behind so many more.
+fn left_behind(engine: &mut Engine, rounds: u32) -> Result<(usize, usize), Fail> {
+    put_scope(engine, Quant::Exists, 1, 1)?;
+    go_round(engine)?;
+    let first = engine.derivation().live_steps();
+    for _ in 0..rounds {
+        go_round(engine)?;
+    }
+    Ok((first, engine.derivation().live_steps()))
+}
+
+// A later round makes no initial cube, since that of the first one serves.
+#[test]
+fn rounds_with_the_same_clause_leave_no_more_behind(rt: HostRuntime) -> Result<(), Fail> {
+    let mut engine = Engine::new(rt.alloc())?;
+    let (first, last) = left_behind(&mut engine, 20)?;
+    assert_eq!(rt; first, last);
+    Ok(())
 }
 
 // Where rows that wait are looked at last come, first served, this takes 16,950 steps; without priorities 30,843, and
@@ -211,14 +245,14 @@ fn lessons_are_kept_for_the_next_solve(rt: HostRuntime) -> Result<(), Fail> {
 #[test]
 fn rows_wait_in_a_queue_and_priorities_count(rt: HostRuntime) -> Result<(), Fail> {
     let formula = Formula::Many(2, 80, 344);
-    ends(rt.alloc(), formula, 0, &[8_000], Ended::Answered(true))
+    ends(rt.alloc(), formula, 0, &[(8_000, Ended::Answered(true))])
 }
 
 // Where each existential variable is false at first, this takes 4,213 steps.
 #[test]
 fn first_signs_are_those_of_most_clauses(rt: HostRuntime) -> Result<(), Fail> {
     let formula = Formula::Many(0, 800, 2_400);
-    ends(rt.alloc(), formula, 0, &[2_000], Ended::Answered(true))
+    ends(rt.alloc(), formula, 0, &[(2_000, Ended::Answered(true))])
 }
 
 // The search begins anew with the 64th lesson, and where that is allowed with the 128th.
@@ -232,13 +266,8 @@ fn a_search_begins_anew_no_more_often_than_it_may(rt: HostRuntime) -> Result<(),
         (6, 2, 9_000, 2),
     ] {
         let formula = Formula::Pigeons(holes);
-        ends(
-            rt.alloc(),
-            formula,
-            restarts,
-            &[budget],
-            Ended::Stopped(made),
-        )?;
+        let stopped = (budget, Ended::Stopped(made));
+        ends(rt.alloc(), formula, restarts, &[stopped])?;
     }
     Ok(())
 }

@@ -3,9 +3,10 @@ use Rattle.std.proofs.lemmas.List.{get_or_default, take_all}
 use Rattle.std.proofs.lemmas.Result.{err_from_is_err_and}
 use Rattle.prefix.specs.Scopes.{is_among}
 use Rattle.clauses.proofs.Ascending.{ascending_of}
-use Rattle.qdimacs.proofs.Building.{inserted, inserted_among, scope_last, or_none, scope_memory}
+use Rattle.qdimacs.proofs.Building.{inserted, inserted_among, scope_last, scope_memory}
 use Rattle.qcir.proofs.Scoping.{and_scope, scope_grows, variable_memory}
 use Rattle.qcir.proofs.scopes.add_scope.Goals as goal
+use Rattle.std.proofs.Math.Bool.{or-false}
 
 pub loop-v-preserved : goal.loop-v-preserved
 loop-v-preserved c =
@@ -59,6 +60,6 @@ returns c =
       ok = c.loop-v.invariant.built
           ∙ ap (and_scope c.args.prefix.now c.args.quant)
           (ascending_of (inserted (take c.loop-v.v-index vs) []) vs c.loop-v.invariant.ascending
-          (λ v. inserted_among v (take c.loop-v.v-index vs) [] ∙ or_none _ ∙ ap (is_among v) full));
+          (λ v. inserted_among v (take c.loop-v.v-index vs) [] ∙ or-false _ ∙ ap (is_among v) full));
       memory = tt;
     }

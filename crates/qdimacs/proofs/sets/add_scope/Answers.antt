@@ -1,10 +1,11 @@
 use Rattle.std.proofs.Common.{◌≡◌, Err, ◌∷◌, ◌++◌, [], length, ap, ◌∙◌, take, arith, ◌-◌, ◌+◌, length-append}
 use Rattle.std.proofs.lemmas.List.{take_all}
 use Rattle.prefix.specs.Scopes.{is_among}
-use Rattle.qdimacs.proofs.Building.{inserted, inserted_among, scope_last, last_grows, or_none, scope_memory, next_memory}
+use Rattle.qdimacs.proofs.Building.{inserted, inserted_among, scope_last, last_grows, scope_memory, next_memory}
 use Rattle.std.proofs.lemmas.Result.{err_from_is_err_and}
 use Rattle.clauses.proofs.Ascending.{ascending_of}
 use Rattle.qdimacs.proofs.sets.add_scope.Goals as goal
+use Rattle.std.proofs.Math.Bool.{or-false}
 
 pub loop-v-preserved : goal.loop-v-preserved
 loop-v-preserved c =
@@ -47,6 +48,6 @@ returns c =
       ok = c.loop-v.invariant.built
           ∙ ap (λ us. c.args.prefix.now ++ record { quantifier = c.args.quant; variables = us } ∷ [])
           (ascending_of (inserted (take c.loop-v.v-index vs) []) vs c.loop-v.invariant.ascending
-          (λ v. inserted_among v (take c.loop-v.v-index vs) [] ∙ or_none _ ∙ ap (is_among v) full));
+          (λ v. inserted_among v (take c.loop-v.v-index vs) [] ∙ or-false _ ∙ ap (is_among v) full));
       memory = tt;
     }

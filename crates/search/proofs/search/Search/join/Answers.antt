@@ -1,7 +1,7 @@
 use Rattle.std.proofs.Common.{◌≡◌, sym, subst, ◌∙◌}
 use Rattle.search.specs.State.{IsTallied, SearchState}
 use Rattle.search.specs.Watching.{Joins}
-use Rattle.search.proofs.Tallying.{joins_counted, tallied_joined, tally_fits}
+use Rattle.search.proofs.Tallying.{joins_counted, one_joined, tallied_joined, tally_fits}
 use Rattle.search.proofs.search.Search.join.Goals as goal
 
 pub count-requires-clause-fits : goal.count-requires-clause-fits
@@ -29,3 +29,11 @@ returns-clause-tallied c =
     (tallied_joined c.args.prefix.now c.args.self.now c.attach.new.self c.args.id joins c.requires.live free
     c.requires.tallied (subst (λ (s : SearchState). c.attach.new.self.long ≡ s.long) c.has.ensures.same
     c.attach.ensures.long))
+
+pub returns-clause-one : goal.returns-clause-one
+returns-clause-one c =
+    let joins = subst (λ (s : SearchState). Joins c.args.prefix.now s c.attach.new.self c.args.id) c.has.ensures.same
+    c.attach.ensures.joins in
+    one_joined c.args.prefix.now c.args.self.now c.attach.new.self c.count.new.self c.args.id joins
+    (subst (λ (s : SearchState). c.attach.new.self.long ≡ s.long) c.has.ensures.same c.attach.ensures.long)
+    c.count.ensures

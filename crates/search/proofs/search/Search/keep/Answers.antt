@@ -1,12 +1,14 @@
-use Rattle.std.proofs.Common.{◌≡◌, ◌∙◌, ap, sym, subst}
+use Rattle.std.proofs.Common.{◌≡◌, ◌≤◌, ◌+◌, ◌∙◌, ap, sym, subst}
 use Rattle.derive.specs.State.{side_at, side_in}
 use Rattle.clean.specs.Reasons.{IsReducedStep}
+use Rattle.search.specs.Long.{is_long}
 use Rattle.search.specs.State.{IsAttached, IsSearching, SearchState}
 use Rattle.search.specs.Watching.{Keeps}
 use Rattle.search.specs.contracts.search.Search.{the_view}
 use Rattle.search.proofs.Joining.{attached_own}
 use Rattle.search.proofs.Listing.{intact_more, keeps_more}
 use Rattle.search.proofs.Marks.{note_same}
+use Rattle.search.proofs.Tallying.{one_if}
 use Rattle.search.proofs.search.Search.keep.Goals as goal
 
 pub join-requires-clause-intact : goal.join-requires-clause-intact
@@ -36,3 +38,10 @@ returns-clause-keeps c =
     subst (λ (t : SearchState). Keeps c.args.prefix.now t c.join.new.self) is
     (keeps_more c.args.prefix.now s c.push.new.self.items c.args.row c.in_ok-push.ensures.items c.join.new.self
     (subst (IsSearching c.args.prefix.now) (sym is) c.requires.searching) c.join.ensures.joins c.join.ensures.tallied)
+
+pub returns-clause-one : goal.returns-clause-one
+returns-clause-one c =
+    let s = the_view c.self.inside in
+    let is : s ≡ c.args.self.now = c.self.view_is ∙ c.has.ensures.same in
+    subst (λ (t : SearchState). c.join.new.self.long ≤ t.long + one_if (is_long t.derivation c.args.row)) is
+    c.join.ensures.one

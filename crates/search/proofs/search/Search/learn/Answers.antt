@@ -4,19 +4,38 @@ use Rattle.steps.specs.declared.stop.Stop.TheVariants.{Spent as spent}
 use Rattle.analyse.specs.declared.lesson.Lesson.{Lesson}
 use Rattle.analyse.specs.Lessons.{IsLesson}
 use Rattle.clean.proofs.Rounds.{on_err}
+use Rattle.clean.specs.Reasons.{IsReducedStep}
+use Rattle.prefix.specs.declared.quant.Quant.{Quant}
 use Rattle.search.specs.Counting.{lesson_cost, size_of}
 use Rattle.search.specs.Moves.{Advances, Analyses}
 use Rattle.search.specs.State.{IsSearching, SearchState}
-use Rattle.search.proofs.Following.{advances_at, advances_forgot, advances_later, due_later, ends_analysed, halts_advanced, halts_later}
+use Rattle.search.proofs.Following.{advances_at, advances_forgot, advances_later, due_later, ends_analysed, ends_kept, halts_advanced, halts_later}
+use Rattle.search.proofs.Reducing.{reductions_same}
 use Rattle.search.proofs.search.Search.learn.Goals as goal
 use Rattle.search.proofs.search.Search.learn.Goals.{then-is_restart_due+in_ok-begin_anew-in-Learn, else-is_restart_due+in_ok-backjump-in-Learn}
+
+pub keep_end-requires-clause-reduced : goal.keep_end-requires-clause-reduced
+keep_end-requires-clause-reduced c =
+    let lesson = subst (λ (l : Lesson). IsLesson c.args.side c.args.prefix.now c.analysed.new.self.trail.placed
+    c.analysed.new.self.derivation l) c.in-End.is c.in_ok-row.ensures.lesson in
+    subst (λ (q : Quant). IsReducedStep q c.args.prefix.now c.analysed.new.self.derivation c.in-End.row)
+    (sym lesson.0.of_side) lesson.0
 
 pub returns-in-End-clause-end : goal.returns-in-End-clause-end
 returns-in-End-clause-end c =
     let lesson = subst (λ (l : Lesson). IsLesson c.args.side c.args.prefix.now c.analysed.new.self.trail.placed
     c.analysed.new.self.derivation l) c.in-End.is c.in_ok-row.ensures.lesson in
-    ends_analysed c.args.prefix.now c.args.self.now c.analysed.new.self c.args.steps.now c.analysed.new.steps
-    c.args.side c.in-End.row c.in_ok-row.ensures.ok lesson.0 lesson.1
+    ends_kept c.args.prefix.now c.args.self.now c.analysed.new.self c.keep_end.new.self c.args.steps.now
+    c.analysed.new.steps c.args.side c.in-End.row
+    (ends_analysed c.args.prefix.now c.args.self.now c.analysed.new.self c.args.steps.now c.analysed.new.steps
+    c.args.side c.in-End.row c.in_ok-row.ensures.ok lesson.0 lesson.1)
+    c.keep_end.ensures.keeps
+
+pub returns-in-End-clause-reductions : goal.returns-in-End-clause-reductions
+returns-in-End-clause-reductions c =
+    let same = reductions_same c.analysed.new.self.derivation c.keep_end.new.self.derivation
+    c.keep_end.ensures.keeps.steps in
+    rw same c.in_ok-row.ensures.reductions
 
 pub returns-in_err-begin_anew-in-Learn-clause-err : goal.returns-in_err-begin_anew-in-Learn-clause-err
 returns-in_err-begin_anew-in-Learn-clause-err c =
