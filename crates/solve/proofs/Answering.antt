@@ -1,5 +1,5 @@
 -- Answers to a formula that was loaded and decided.
-use Rattle.std.proofs.Common.{◌≡◌, ℕ, ◌-◌, Bool, true, false, List, [], ◌++◌, length, codes, Some, None, refl, sym, ap, subst, ◌∙◌, arith, append-nil, ⊎_elim}
+use Rattle.std.proofs.Common.{◌≡◌, ℕ, Bool, true, false, List, [], ◌++◌, length, codes, Some, None, refl, sym, ap, subst, ◌∙◌, arith, append-nil, ⊎_elim}
 use Rattle.std.specs.Prelude.{max, option_map}
 use Rattle.truth.specs.declared.formula.Formula.{Formula}
 use Rattle.truth.specs.Truth.{truth, truth_under}

@@ -1,6 +1,6 @@
 -- What was written, in whole or in front, and what was flushed.
 use Rattle.std.proofs.Common.{◌≡◌, ℕ, List, Option, Some, None, Result, Ok, Err, sym, subst, arith, length}
-use Rattle.std.specs.Prelude.{◌-◌, IfSome, OnOk}
+use Rattle.std.specs.Prelude.{IfSome, OnOk}
 use Rattle.std.specs.Io.KnownBytes.{Appends, Keeps}
 use Rattle.std.proofs.lemmas.List.{take_all}
 use Rattle.ports.specs.Bytes.{AllFlushed, AppendsFront}

@@ -6,7 +6,6 @@ use Rattle.steps.specs.Counter.{step_limit}
 use Rattle.calculus.specs.Limits.{propagation_limit}
 use Rattle.calculus.specs.Search.{IsRefuted}
 use Rattle.search.specs.Counting.{size_of}
-use Rattle.qdimacs.specs.Rules.{limit}
 use Rattle.solve.specs.Terms.{Terms}
 use Rattle.solve.specs.declared.answer.Answer.{Answer}
 use Rattle.solve.specs.declared.answer.Answer.TheVariants.{Sat, Unsat, Unknown}
