@@ -1,8 +1,7 @@
 -- Replies to a question for a core.
 use Rattle.std.proofs.Common.{◌≡◌, ℕ, Bool, true, false, List, [], ◌∷◌, Option, Some, None, codes, refl, sym, ap, subst, ◌∙◌, inl, inr, arith}
 use Rattle.std.specs.Prelude.{◌<◌, ◌≤◌, Err, IfSome, MatchOption, Result, if◌then◌else◌, option_map}
-use Rattle.steps.specs.Counter.{left, step_limit}
-use Rattle.prefix.specs.Literal.{Literal}
+use Rattle.steps.specs.Counter.{step_limit}
 use Rattle.trail.specs.State.{Account}
 use Rattle.frames.specs.Fold.{Given}
 use Rattle.frames.specs.State.{OpenFormula}
@@ -13,7 +12,7 @@ use Rattle.engine.specs.declared.group_core.CoreRefusal.TheVariants.{NotUnsat, N
 use Rattle.engine.specs.State.{EngineState, VerdictState}
 use Rattle.qscript.specs.declared.command.Command.TheVariants.{GroupCore}
 use Rattle.session.specs.declared.reply.Reply.TheVariants.{Unknown}
-use Rattle.session.specs.Replies.{GivesUpCore, IsReplyWith, TellsCore, core_text, no_core, refusal_number}
+use Rattle.session.specs.Replies.{IsReplyWith, core_text, no_core, refusal_number}
 use Rattle.solve.specs.Outputs.{says}
 use Rattle.solve.specs.Standing.{Standing}
 use Rattle.solve.specs.Holding.{Holds, given_of}

@@ -1,5 +1,5 @@
 -- The replies that commands may have.
-use Rattle.std.specs.Prelude.{◌≡◌, ◌⊎◌, ℕ, ◌<◌, not, true, false, Bool, if◌then◌else◌, List, ◌∷◌, ◌++◌, codes, Option, Some, None, IfSome, unwrap_or, []}
+use Rattle.std.specs.Prelude.{◌≡◌, ◌⊎◌, ℕ, ◌<◌, not, false, Bool, if◌then◌else◌, List, ◌∷◌, ◌++◌, codes, Option, Some, None, IfSome, unwrap_or, []}
 use Rattle.std.specs.Fmt.{decimal}
 use Rattle.std.specs.List.{flat_map}
 use Rattle.std.specs.Option.{option_and_then}

@@ -1,5 +1,4 @@
 -- A session, as contracts see it.
-use Rattle.std.specs.Prelude.{◌-◌}
 use Rattle.engine.specs.State.{EngineState}
 use Rattle.solve.specs.Terms.{Terms}
 

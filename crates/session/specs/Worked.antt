@@ -1,7 +1,6 @@
 -- Worked values: replies to commands.
 use Rattle.std.specs.Prelude.{◌≡◌, pos, negsuc, true, false, ◌∷◌, codes, Some, None, []}
 use Rattle.prefix.specs.declared.quant.Quant.TheVariants.{Exists}
-use Rattle.calculus.specs.Worked.{existential}
 use Rattle.frames.specs.Commands.{AddScope, AddVariable, Assume as AssumeLiteral, Solve as Decide, Verdict}
 use Rattle.frames.specs.Fold.{state_of}
 use Rattle.qscript.specs.declared.command.Command.TheVariants.{Assume, Clause, Pop, Solve, Trace, Value}

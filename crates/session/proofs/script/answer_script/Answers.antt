@@ -1,4 +1,4 @@
-use Rattle.std.proofs.Common.{◌≡◌, ◌≤◌, ℕ, List, [], Option, None, Err, Ok, Some, ap, arith, false, refl, sym, subst, true, ◌∙◌, is_err, is_ok}
+use Rattle.std.proofs.Common.{◌≡◌, ◌≤◌, ℕ, List, [], Option, None, Err, Ok, Some, ap, arith, refl, sym, subst, true, ◌∙◌, is_err, is_ok}
 use Rattle.std.specs.Prelude.{IfSome, IsErrOf, IsOk, is_some}
 use Rattle.ports.specs.Causes.{Rose}
 use Rattle.std.proofs.lemmas.Bool.{false≢true}

@@ -3,7 +3,7 @@ use Rattle.ports.specs.Writing.{Writes}
 use Rattle.qscript.specs.declared.command.Command.TheVariants.{Solve}
 use Rattle.solve.specs.Answers.{answer_line}
 use Rattle.solve.specs.Decisions.{IsSolved, answered, told_by as told_by_decision, truth_of}
-use Rattle.session.specs.Steps.{IsSolveReply, reply_to, told_by}
+use Rattle.session.specs.Steps.{IsSolveReply, told_by}
 use Rattle.session.proofs.Solved.{is_right, told_same}
 use Rattle.session.proofs.Telling.{sent, stepped}
 use Rattle.session.proofs.session.solve.Goals as goal

@@ -1,4 +1,4 @@
-use Rattle.std.proofs.Common.{◌≡◌, ◌<◌, false, [], codes, refl, ap, arith}
+use Rattle.std.proofs.Common.{[], codes, refl}
 use Rattle.std.specs.Fmt.{digits}
 use Rattle.solve.specs.Outputs.{says}
 use Rattle.solve.specs.Standing.{start}
