@@ -7,7 +7,6 @@ use Rattle.ports.specs.Bytes.{AllFlushed}
 use Rattle.ports.specs.Causes.{IsCounted, Rose}
 use Rattle.qdimacs.specs.Rules.{parsed}
 use Rattle.truth.specs.declared.formula.Formula.{Formula}
-use Rattle.truth.specs.Truth.{truth}
 use Rattle.trail.specs.State.{Account}
 use Rattle.calculus.specs.Limits.{weight_bound}
 use Rattle.frames.specs.State.{OpenFormula}
@@ -24,7 +23,7 @@ use Rattle.files.specs.declared.job.Job.TheVariants.{Solve, Qdo, Trace, Cert}
 use Rattle.files.specs.Endings.{IsUnread, ending_with}
 use Rattle.solve.specs.Feeding.{opened}
 use Rattle.files.specs.Inputs.{Says, format_of}
-use Rattle.solve.specs.Decisions.{IsAnsweredBy, answer_with, unassumed, answered}
+use Rattle.solve.specs.Decisions.{IsAnsweredBy, answer_with, unassumed}
 use Rattle.files.specs.Jobs.{HasVerdictText, IsJobText, IsReplyTo, IsUntouched, IsVerdict, LeavesOutput, RepliesTo, RoomForJob, WritesJob, gates_for, solution_line, value_lines}
 use Rattle.solve.specs.Outputs.{Text}
 use Rattle.solve.specs.Traces.{IsTraceText}
