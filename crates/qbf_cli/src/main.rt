@@ -1,13 +1,8 @@
 //! `qbf`: decides quantified Boolean formulas, one of a file or those of a script.
 #![tactic(auto)]
 
-mod ending;
-mod run;
-#[cfg(test)]
-mod tests;
-mod words;
-
 use ports::{HostDesk, HostSink};
+use program::{report, run, words_of};
 use std::process::ExitCode;
 use std::rt::Env;
 use std::{env, io};
@@ -15,11 +10,11 @@ use std::{env, io};
 fn main(rt: HostRuntime) -> ExitCode {
     let mut out = HostSink::new(rt.stdout());
     let mut err = HostSink::new(rt.stderr());
-    let status = match words::words_of(rt.alloc(), given(&rt)) {
+    let status = match words_of(rt.alloc(), given(&rt)) {
         Ok(words) => {
             let mut desk = HostDesk::new(rt);
             let mut stops = Vec::new(rt.alloc());
-            run::run(
+            run(
                 rt.alloc(),
                 &words,
                 &mut desk,
@@ -28,7 +23,7 @@ fn main(rt: HostRuntime) -> ExitCode {
                 &mut stops,
             )
         }
-        Err(ending) => run::report(&mut err, &ending),
+        Err(ending) => report(&mut err, &ending),
     };
     ExitCode::from(status)
 }

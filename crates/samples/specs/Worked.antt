@@ -1,7 +1,7 @@
 -- Worked values: the first formulas from seed 0 on, their counts, and what is left on an output.
 use Rattle.std.specs.Prelude.{◌≡◌, [], codes, true, Some}
 use Rattle.generate.specs.Made.{made}
-use Rattle.session.specs.declared.ending.Ending.TheVariants.{Done, NoMemory, ReadFault, WriteFault}
+use Rattle.solve.specs.declared.ending.Ending.TheVariants.{Done, NoMemory, ReadFault, WriteFault}
 use Rattle.samples.specs.Samples.{LeavesText, counts_lines, counts_text, false_ones, is_true, sample, true_ones}
 
 pub record WorkedSamples : Type 0 where

@@ -3,7 +3,7 @@ ghost use Rattle.std.specs.Prelude.{◌≡◌, ◌≢◌, ◌≤◌, ◌<◌, �
 ghost use Rattle.std.specs.Fmt.{decimal};
 ghost use Rattle.ports.specs.Bytes.{AllFlushed};
 ghost use Rattle.ports.specs.Causes.{IsCounted};
-ghost use Rattle.session.specs.Solve.{IsDone};
+ghost use Rattle.solve.specs.Endings.{IsDone};
 ghost use Rattle.samples.specs.Samples.{LeavesText, counted_line, counts_lines, counts_text, false_ones, is_true, true_ones};
 
 use crate::sending::{ending, send_text};
@@ -11,7 +11,7 @@ use blocks::LineText;
 use generate::{made_formulas_are_formed, make};
 use memory::NoMemory;
 use ports::Sink;
-use session::{Answer, Ending, decide_formula};
+use solve::{Answer, Ending, decide_formula};
 use std::alloc::Global;
 
 // How many formulas are true, and how many false.

@@ -7,7 +7,7 @@ ghost use Rattle.qdimacs_out.specs.Texts.{formula_text};
 
 use ports::{Failed, Sink, write_all};
 use qdimacs_out::write_formula;
-use session::Ending;
+use solve::Ending;
 use truth::Formula;
 
 // Writes a text, and flushes.

@@ -4,13 +4,13 @@ ghost use Rattle.ports.specs.Bytes.{AllFlushed};
 ghost use Rattle.ports.specs.Causes.{IsCounted};
 ghost use Rattle.generate.specs.Made.{made};
 ghost use Rattle.qdimacs_out.specs.Texts.{formula_text};
-ghost use Rattle.session.specs.Solve.{IsDone};
+ghost use Rattle.solve.specs.Endings.{IsDone};
 ghost use Rattle.samples.specs.Samples.{LeavesText};
 
 use crate::sending::{ending, send_formula};
 use generate::make;
 use ports::Sink;
-use session::Ending;
+use solve::Ending;
 use std::alloc::Global;
 
 /// Writes the formula of a seed with so many variables and clauses as QDIMACS 1.1 writes it, and flushes.

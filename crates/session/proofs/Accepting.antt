@@ -21,12 +21,13 @@ use Rattle.session.specs.declared.reply.Reply.{Reply}
 use Rattle.session.specs.declared.reply.Reply.TheVariants.{Refused, Silent}
 use Rattle.session.specs.declared.reply.SessionStop.{SessionStop}
 use Rattle.session.specs.declared.reply.SessionStop.TheVariants.{NoMemory}
-use Rattle.session.specs.Replies.{Changes, IsAccepted, IsReplyWith, Output, no_change, refusal_number, refused_text, says}
-use Rattle.session.specs.Standing.{Standing}
-use Rattle.session.specs.State.{Holds, given_of}
+use Rattle.session.specs.Replies.{Changes, IsAccepted, IsReplyWith, no_change, refusal_number, refused_text}
+use Rattle.solve.specs.Outputs.{Output, says}
+use Rattle.solve.specs.Standing.{Standing}
+use Rattle.solve.specs.Holding.{Holds, given_of}
 use Rattle.session.specs.Steps.{IsAcceptedReply, IsReplyFor, Refuses, Steps, left_by}
 use Rattle.session.proofs.Telling.{stepped}
-use Rattle.session.specs.Terms.{Terms}
+use Rattle.solve.specs.Terms.{Terms}
 
 -- each refusal of a command has a number
 

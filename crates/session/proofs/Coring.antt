@@ -1,8 +1,7 @@
 -- Replies to a question for a core.
 use Rattle.std.proofs.Common.{◌≡◌, ℕ, Bool, true, false, List, [], ◌∷◌, Option, Some, None, codes, refl, sym, ap, subst, ◌∙◌, inl, inr, arith}
 use Rattle.std.specs.Prelude.{◌<◌, ◌≤◌, Err, IfSome, MatchOption, Result, if◌then◌else◌, option_map}
-use Rattle.steps.specs.Counter.{left, step_limit}
-use Rattle.prefix.specs.Literal.{Literal}
+use Rattle.steps.specs.Counter.{step_limit}
 use Rattle.trail.specs.State.{Account}
 use Rattle.frames.specs.Fold.{Given}
 use Rattle.frames.specs.State.{OpenFormula}
@@ -13,12 +12,13 @@ use Rattle.engine.specs.declared.group_core.CoreRefusal.TheVariants.{NotUnsat, N
 use Rattle.engine.specs.State.{EngineState, VerdictState}
 use Rattle.qscript.specs.declared.command.Command.TheVariants.{GroupCore}
 use Rattle.session.specs.declared.reply.Reply.TheVariants.{Unknown}
-use Rattle.session.specs.Replies.{GivesUpCore, IsReplyWith, TellsCore, core_text, no_core, refusal_number, says}
-use Rattle.session.specs.Standing.{Standing}
-use Rattle.session.specs.State.{Holds, given_of}
+use Rattle.session.specs.Replies.{IsReplyWith, core_text, no_core, refusal_number}
+use Rattle.solve.specs.Outputs.{says}
+use Rattle.solve.specs.Standing.{Standing}
+use Rattle.solve.specs.Holding.{Holds, given_of}
 use Rattle.session.specs.Steps.{IsReplyFor}
-use Rattle.session.specs.Stops.{IsStopAt}
-use Rattle.session.specs.Terms.{Terms}
+use Rattle.solve.specs.Stops.{IsStopAt}
+use Rattle.solve.specs.Terms.{Terms}
 use Rattle.session.proofs.Telling.{IsAnswer}
 
 -- where a core is not refused, or the budget is spent, the verdict is that the formula is false

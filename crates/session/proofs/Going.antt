@@ -12,15 +12,16 @@ use Rattle.qscript.specs.declared.words.Item.{Item}
 use Rattle.qscript.specs.declared.words.Item.TheVariants.{BadByte, End, NumberRange, TooLong, Word}
 use Rattle.qscript.specs.Run.{Script}
 use Rattle.qscript.specs.State.{EndsWith, GoesOn, IsDone, IsFirst, IsRefusal, is_end, is_fault}
-use Rattle.session.specs.declared.ending.Ending.{Ending}
-use Rattle.session.specs.declared.ending.Ending.TheVariants.{Done, Limit, CheckLimit, NoMemory, ReadFault, Refused, WriteFault}
-use Rattle.session.specs.Endings.{ending_for}
-use Rattle.session.specs.Replies.{IsReply, Leads, Output, Text, joined, says}
+use Rattle.solve.specs.declared.ending.Ending.{Ending}
+use Rattle.solve.specs.declared.ending.Ending.TheVariants.{Done, Limit, CheckLimit, NoMemory, ReadFault, Refused, WriteFault}
+use Rattle.solve.specs.Endings.{ending_for}
+use Rattle.session.specs.Replies.{IsReply, Leads, joined}
+use Rattle.solve.specs.Outputs.{Output, Text, says}
 use Rattle.session.specs.Scripts.{Answers, IsLeftAt, IsSentAt, IsUnderWay}
-use Rattle.session.specs.Standing.{Standing}
-use Rattle.session.specs.State.{Holds}
+use Rattle.solve.specs.Standing.{Standing}
+use Rattle.solve.specs.Holding.{Holds}
 use Rattle.session.specs.Steps.{Goes}
-use Rattle.session.specs.Terms.{Terms}
+use Rattle.solve.specs.Terms.{Terms}
 
 output_is : (t u : Text) (l m : List Account) → t ≡ u → l ≡ m
     → ◌≡◌ {A = Output} (record { text = t; stops = l }) (record { text = u; stops = m })

@@ -12,10 +12,11 @@ use Rattle.session.specs.declared.reply.Reply.TheVariants.{Silent}
 use Rattle.session.specs.declared.reply.SessionStop.{SessionStop}
 use Rattle.session.specs.declared.reply.SessionStop.TheVariants.{NoMemory}
 use Rattle.session.specs.Replies.{no_change}
-use Rattle.session.specs.Standing.{Standing}
-use Rattle.session.specs.State.{Holds, SessionState}
+use Rattle.solve.specs.Standing.{Standing}
+use Rattle.session.specs.State.{SessionState}
+use Rattle.solve.specs.Holding.{Holds}
 use Rattle.session.specs.Steps.{Refuses}
-use Rattle.session.specs.Terms.{Terms}
+use Rattle.solve.specs.Terms.{Terms}
 
 -- a session on these terms
 abbrev session_of : Terms → EngineState → SessionState

@@ -2,9 +2,9 @@
 use Rattle.std.proofs.Common.{◌≡◌, ℕ, refl, ap, arith}
 use Rattle.std.specs.Prelude.{max}
 use Rattle.engine.specs.State.{EngineState}
-use Rattle.session.specs.Standing.{Standing}
-use Rattle.session.specs.State.{Holds}
-use Rattle.session.specs.Terms.{Terms, terms_of, with_restarts}
+use Rattle.solve.specs.Standing.{Standing}
+use Rattle.solve.specs.Holding.{Holds}
+use Rattle.solve.specs.Terms.{Terms, terms_of, with_restarts}
 
 -- it is no change
 pub set_holds : (terms : Terms) (e : EngineState) (s : Standing) (restarts : ℕ) → Holds terms e s

@@ -8,12 +8,13 @@ use Rattle.qscript.specs.declared.command.Command.{Command}
 use Rattle.qscript.specs.declared.command.Command.TheVariants.{Pop}
 use Rattle.qscript.specs.Reads.{Ending as ScriptEnding, ReadsScript, done}
 use Rattle.qscript.proofs.Outcomes.{computed_reading, one_reading}
-use Rattle.session.specs.declared.ending.Ending.{Ending}
-use Rattle.session.specs.declared.ending.Ending.TheVariants.{WriteFault}
-use Rattle.session.specs.Replies.{IsReply, Leads, Output, joined, refused_text, says}
-use Rattle.session.specs.Scripts.{AreAnswered, AreFirst, IsReadOut}
-use Rattle.session.specs.Standing.{Standing, start, start_in}
-use Rattle.session.specs.Terms.{Terms}
+use Rattle.solve.specs.declared.ending.Ending.{Ending}
+use Rattle.solve.specs.declared.ending.Ending.TheVariants.{WriteFault}
+use Rattle.session.specs.Replies.{IsReply, Leads, joined, refused_text}
+use Rattle.solve.specs.Outputs.{Output, says}
+use Rattle.session.specs.Scripts.{AreAnswered, AreFirst, IsReadOut, start_in}
+use Rattle.solve.specs.Standing.{Standing, start}
+use Rattle.solve.specs.Terms.{Terms}
 use Rattle.session.specs.WorkedScripts.{one_refusal, two_pops, two_refusals}
 
 -- both commands are read

@@ -3,7 +3,6 @@ use Rattle.std.proofs.Common.{◌≡◌, ◌≢◌, ℕ, List, [], ◌++◌, Opt
 use Rattle.std.specs.Prelude.{IfErr, ⊤, ◌-◌, is_err, IfSome, IsErrOf, IsOk}
 use Rattle.std.specs.Io.KnownBytes.{Appends, Keeps}
 use Rattle.std.proofs.KnownBytes.{Appends-nil, Appends-kept}
-use Rattle.std.proofs.lemmas.List.{take_all}
 use Rattle.ports.specs.Bytes.{AllFlushed, AppendsFront}
 use Rattle.ports.specs.Causes.{Rose, HasCause, IsCounted}
 use Rattle.trail.specs.State.{Account}
@@ -15,14 +14,13 @@ use Rattle.reading.specs.declared.refusal.ReadRefusal.{ReadRefusal}
 use Rattle.reading.specs.declared.refusal.ReadRefusal.TheVariants.{Refused as Malformed, Limit as Beyond, ReadFault as Unreadable, NoMemory as NoRoom}
 use Rattle.qscript.specs.Run.{Reading, Script, ends, stopped}
 use Rattle.qscript.specs.State.{EndsReading, Heads}
-use Rattle.session.specs.declared.ending.Ending.{Ending}
-use Rattle.session.specs.declared.ending.Ending.TheVariants.{Done, Limit, CheckLimit, NoMemory, ReadFault, Refused, WriteFault}
-use Rattle.session.specs.Replies.{Text, says}
-use Rattle.session.specs.Scripts.{Answers, AreAnswered, AreFirst, EndsScript, IsLeftAt, IsReadOut, IsScriptEnding, IsScriptOf, IsSentAt, RoomForReplies, ending_of}
-use Rattle.session.specs.Endings.{ending_for}
-use Rattle.session.specs.Solve.{IsDone}
-use Rattle.session.specs.Standing.{start_in}
-use Rattle.session.specs.Terms.{Terms}
+use Rattle.solve.specs.declared.ending.Ending.{Ending}
+use Rattle.solve.specs.declared.ending.Ending.TheVariants.{Done, Limit, CheckLimit, NoMemory, ReadFault, Refused, WriteFault}
+use Rattle.solve.specs.Outputs.{Text, says}
+use Rattle.session.specs.Scripts.{Answers, AreAnswered, AreFirst, EndsScript, IsLeftAt, IsReadOut, IsScriptEnding, IsSentAt, RoomForReplies, ending_of, start_in}
+use Rattle.solve.specs.Endings.{ending_for, IsDone}
+use Rattle.solve.specs.Terms.{Terms}
+use Rattle.solve.proofs.Written.{some_map, front_all, flushed_kept}
 
 -- each text is read in some way
 abbrev pub AllRead : Type 0
@@ -48,10 +46,6 @@ headed_text (Some text) reading after version all law heads =
     let r = all text in
     let is = subst (λ o. Heads (Ok version) o (λ _. after)) (law text r.0 r.1 r.2 r.3) heads in
     (r.1, r.2, subst (λ v. ReadsScript text v r.1 r.2) is.0 r.3, is.1)
-
-pub some_map : {X : Type 0} (o : Option X) (P Q : X → Type 0) → ((x : X) → P x → Q x) → IfSome o P → IfSome o Q
-some_map None P Q f h = tt
-some_map (Some x) P Q f h = f x h
 
 pub any_text : (known : Option (List ℕ)) → IfSome known (λ text. ⊤)
 any_text None = tt
@@ -141,13 +135,6 @@ module _ (terms : Terms) (known a : Option (List ℕ)) (stops : List Account)
   headless_open (Beyond quantity line) is = is
   headless_open Unreadable is = is
   headless_open NoRoom is = is
-
-pub front_all : (a b : Option (List ℕ)) (text : Text) → Appends a b text → AppendsFront a b text
-front_all a b text whole = record {
-  count = length text;
-  within = omega arith;
-  appended = subst (Appends a b) (sym (take_all (length text) text (omega arith))) whole;
-}
 
 front_kept : (a b c : Option (List ℕ)) (text : Text) → AppendsFront a b text → Keeps b c → AppendsFront a c text
 front_kept a b c text front kept = record {
@@ -360,12 +347,6 @@ module _ {S : Type 0} (written flushed : S → Option (List ℕ)) (faults : S �
       by (Err NoMemory) h is = absurd (cc)
 
 -- a flush after all replies
-
-pub flushed_kept : (old middle new all_of : Option (List ℕ)) → Keeps old middle → AllFlushed all_of middle new
-    → AllFlushed all_of old new
-flushed_kept None middle new written kept all = tt
-flushed_kept (Some x) None new written kept all = absurd kept
-flushed_kept (Some x) (Some y) new written kept all = all
 
 answered_kept : (terms : Terms) (known a m n : Option (List ℕ)) (stops : List Account × List Account) (ending : Ending)
     → AreAnswered terms known (a, m) stops ending → Keeps m n → AreAnswered terms known (a, n) stops ending

@@ -1,5 +1,5 @@
 -- Replies that are sent.
-use Rattle.std.proofs.Common.{◌≡◌, ◌≤◌, arith, length, ℕ, Bool, true, false, not, List, [], ◌∷◌, ◌++◌, Option, Some, None, Result, Ok, Err, refl, sym, ap, subst, ◌∙◌}
+use Rattle.std.proofs.Common.{◌≡◌, ◌≤◌, length, ℕ, Bool, true, false, not, List, [], ◌∷◌, ◌++◌, Option, Some, None, Result, Ok, Err, refl, sym, ap, subst, ◌∙◌}
 use Rattle.std.specs.Prelude.{IfSome, MatchOption, if◌then◌else◌, option_map, unwrap_or}
 use Rattle.std.proofs.lemmas.Bool.{false≢true}
 use Rattle.ports.specs.declared.failed.Failed.{Failed}
@@ -7,14 +7,13 @@ use Rattle.prefix.specs.declared.quant.Quant.{Quant}
 use Rattle.prefix.specs.Literal.{Literal}
 use Rattle.prefix.specs.Scopes.{Scope, level_of, quantifier_at, variables_at}
 use Rattle.prefix.specs.Sides.{is_of}
-use Rattle.calculus.specs.Derivations.{Inference, core_order}
+use Rattle.calculus.specs.Derivations.{Inference}
 use Rattle.calculus.specs.Limits.{weight_bound}
 use Rattle.calculus.specs.Plays.{literals_of}
 use Rattle.calculus.specs.Rows.{Assignment, Row}
 use Rattle.calculus.specs.Verdicts.{IsProof, relevant_of}
 use Rattle.frames.specs.Fold.{Given}
 use Rattle.frames.specs.State.{OpenFormula}
-use Rattle.aig.specs.Strategies.{values_of as circuit_values}
 use Rattle.aig.specs.declared.strategy.Strategy.{Strategy}
 use Rattle.aiger_out.specs.Aag.{IsAagText}
 use Rattle.derive.specs.State.{State}
@@ -23,7 +22,7 @@ use Rattle.qrp_trace.specs.Texts.{qrp_text}
 use Rattle.ports.specs.Writing.{Writes}
 use Rattle.engine.specs.declared.refusal.AskRefusal.{AskRefusal}
 use Rattle.engine.specs.declared.refusal.AskRefusal.TheVariants.{NoVerdict, NotOutermost, NotWinner}
-use Rattle.engine.specs.Asks.{IsCertificateOf, IsVerdictOf, first_values, values_of}
+use Rattle.engine.specs.Asks.{IsCertificateOf, IsVerdictOf, values_of}
 use Rattle.engine.specs.Refusals.{ask_refusal, is_outermost, value_refusal, winner_of}
 use Rattle.engine.specs.State.{EngineState, VerdictState}
 use Rattle.qscript.specs.declared.command.Command.{Command}
@@ -32,15 +31,17 @@ use Rattle.session.specs.declared.reply.Reply.{Reply}
 use Rattle.session.specs.declared.reply.Reply.TheVariants.{Written}
 use Rattle.session.specs.declared.reply.SessionStop.{SessionStop}
 use Rattle.session.specs.declared.reply.SessionStop.TheVariants.{NoMemory, WriteFault}
-use Rattle.session.proofs.Gates.{weight_grows}
-use Rattle.session.proofs.Ordered.{proof_ordered}
-use Rattle.session.proofs.Scripting.{some_map}
-use Rattle.session.specs.Replies.{Certifies, gates_after, IsAccepted, IsCertText, IsReply, IsReplyWith, IsTraceText, Tells, Text, last_row, no_first, no_value, no_verdict, refusal_number, relevant_text, says, value_in, value_text}
-use Rattle.engine.proofs.FirstScope.{first_among, level_is, literal_among, value_among}
-use Rattle.session.specs.Standing.{Standing}
-use Rattle.session.specs.State.{Holds, given_of}
+use Rattle.solve.proofs.Written.{some_map}
+use Rattle.session.specs.Replies.{IsAccepted, IsReply, IsReplyWith, Tells, last_row, no_first, no_value, no_verdict, refusal_number, relevant_text, value_in, value_text}
+use Rattle.solve.specs.Outputs.{Text, says}
+use Rattle.solve.specs.Certificates.{Certifies, gates_after, IsCertText}
+use Rattle.engine.proofs.FirstScope.{first_among, level_is, value_among}
+use Rattle.solve.specs.Standing.{Standing}
+use Rattle.solve.specs.Holding.{Holds, given_of}
 use Rattle.session.specs.Steps.{IsAcceptedReply, IsReplyFor, IsSent, Sends, Steps, told_by}
-use Rattle.session.specs.Terms.{Terms}
+use Rattle.solve.specs.Terms.{Terms}
+use Rattle.solve.proofs.Certified.{certifies_after}
+use Rattle.solve.proofs.Traced.{trace_after}
 
 -- a text answers a question, of whose refusal this is the number
 abbrev pub IsAnswer : Terms → Command → Standing → Text → Option ℕ → Type 0
@@ -100,24 +101,6 @@ outer_of_none : (a b : Bool) → (if not a then Some NotOutermost else (if b the
     → a ≡ true
 outer_of_none true b e = refl
 outer_of_none false b e = absurd (cc)
-
--- the circuit of a verdict certifies it: the first scope's outputs have the values of the play
-circuit_certifies : (f : OpenFormula) (v : VerdictState) (strategy : Strategy) (bound : ℕ)
-    → IsCertificateOf f v strategy → length strategy.aig.gates ≤ bound
-    → Certifies f (given_of v) (first_values f v) bound strategy
-circuit_certifies f v strategy bound is few = record {
-  winner = is.winner;
-  inputs = is.inputs;
-  outputs = is.outputs;
-  wins = is.wins;
-  earlier = is.earlier;
-  assumed = is.assumed;
-  first_values = λ first l listed inputs.
-      let place = literal_among (values_of f v) (variables_at f.scopes 1) l listed in
-      ap (circuit_values strategy inputs) (sym (ap (λ (m : Literal). m.variable) place.2))
-      ∙ is.first first place.0 place.1 inputs ∙ ap (λ (m : Literal). m.positive) place.2;
-  few = few;
-}
 
 none_of_two : (a b : Bool) → (if a then Some NotOutermost else (if b then Some NotWinner else None)) ≡ None
     → (if◌then◌else◌ {A = Option ℕ} a (Some 51) (if◌then◌else◌ {A = Option ℕ} b (Some 52) None)) ≡ None
@@ -190,56 +173,15 @@ module _ (terms : Terms) (e : EngineState) (s : Standing) (holds : Holds terms e
       → IfSome e.verdict (λ v. v.proof ≡ proof_at d v.assumptions v.end)
       → IsAnswer terms TraceCommand s (qrp_text scopes core) (refusal_number s TraceCommand)
   tells_trace core scopes d same asked winner list numbered derived = unless_none e.verdict refl asked (λ v some.
-      let wins = subst (λ o. IfSome o (λ v. core.winner ≡ winner_of v.truth)) some winner in
-      let is = subst (λ o. IfSome o (λ v. inferences_of core.lines ≡ v.proof)) some list in
-      let made = subst (λ o. IfSome o (λ v. v.proof ≡ proof_at d v.assumptions v.end)) some derived in
-      answered TraceCommand (qrp_text scopes core) v some
-      (told_at (λ given text. IsTraceText s.script.formula.scopes given.truth s.witness.proof text)
-      (qrp_text scopes core) v some (record {
-        core = core;
-        winner = wins;
-        numbered = numbered;
-        proof_steps = is ∙ sym (holds.proof v some);
-        inputs_first = subst (λ steps. core_order steps ≡ steps) (sym (holds.proof v some ∙ made))
-            (proof_ordered d v.assumptions v.end);
-        text_of_core = ap (λ f. qrp_text f core) (same ∙ sym (ap (λ (f : OpenFormula). f.scopes) holds.formula));
-      })) refl)
+      answered TraceCommand (qrp_text scopes core) v some (record {
+        text = qrp_text scopes core;
+        told = trace_after terms e s holds core scopes d same winner list numbered derived;
+        says_text = refl;
+        same = refl;
+      }) refl)
 
   abbrev bound : ℕ
   bound = gates_after terms s.script
-
-  few_after : (gates : ℕ) → gates ≤ weight_bound e.counts.clauses e.counts.solves e.counts.budget e.counts.restarts
-      e.counts.vars → gates ≤ bound
-  few_after gates few =
-      let solves : e.counts.solves ≤ s.script.solves = let same = holds.solves in omega (arith, same) in
-      let most : e.counts.restarts ≤ terms.greatest = let low = holds.most_restarts in omega (arith, low) in
-      let grown = weight_grows e.counts.clauses s.script.clauses e.counts.solves s.script.solves e.counts.budget
-      terms.budget e.counts.restarts terms.greatest e.counts.vars s.script.greatest holds.clauses solves holds.budgets
-      most holds.variables in
-      omega (arith, few, grown)
-
-  certifies_at : (strategy : Strategy) (v : VerdictState) → e.verdict ≡ Some v → IsCertificateOf e.formula v strategy
-      → length strategy.aig.gates ≤ bound → Certifies s.script.formula (given_of v) s.witness.values bound strategy
-  certifies_at strategy v some is few =
-      subst (λ f. Certifies f (given_of v) s.witness.values bound strategy) (sym holds.formula)
-      (subst (λ l. Certifies e.formula (given_of v) l bound strategy) (sym (holds.values v some))
-      (circuit_certifies e.formula v strategy bound is few))
-
-  -- the engine's circuit of a verdict certifies what the commands came to
-  pub certifies_after : (strategy : Strategy) → IfSome e.verdict (λ v. IsCertificateOf e.formula v strategy)
-      → length strategy.aig.gates ≤ weight_bound e.counts.clauses e.counts.solves e.counts.budget
-      e.counts.restarts e.counts.vars
-      → IfSome s.script.verdict (λ given. Certifies s.script.formula given s.witness.values bound strategy)
-  certifies_after strategy certifies few =
-      subst (λ o. IfSome o (λ given. Certifies s.script.formula given s.witness.values bound strategy))
-      (sym holds.verdict) (by e.verdict refl)
-    where
-      by : (o : Option VerdictState) → e.verdict ≡ o → IfSome (option_map given_of o)
-          (λ given. Certifies s.script.formula given s.witness.values bound strategy)
-      by None none = tt
-      by (Some v) some = certifies_at strategy v some
-          (subst (λ o. IfSome o (λ v. IsCertificateOf e.formula v strategy)) some certifies)
-          (few_after (length strategy.aig.gates) few)
 
   pub tells_circuit : (strategy : Strategy) (text : Text) → IsAagText text strategy
       → ask_refusal e ≡ None → IfSome e.verdict (λ v. IsCertificateOf e.formula v strategy)
@@ -257,7 +199,7 @@ module _ (terms : Terms) (e : EngineState) (s : Standing) (holds : Holds terms e
               denotes = denotes;
               certifies = is;
               reached = λ trim. absurd (false≢true trim);
-            }) (certifies_after strategy certifies few);
+            }) (certifies_after terms e s holds strategy certifies few);
         says_text = refl;
         same = refl;
       }) refl)

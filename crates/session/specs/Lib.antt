@@ -1,17 +1,8 @@
-pub mod Checks
 pub mod Endings
-pub mod Feeding
-pub mod Inputs
-pub mod Jobs
 pub mod Replies
 pub mod Scripts
-pub mod Solve
-pub mod Standing
 pub mod State
 pub mod Steps
-pub mod Stops
-pub mod Terms
 pub mod Worked
-pub mod WorkedInputs
 pub mod WorkedScripts
 pub mod WorkedSteps

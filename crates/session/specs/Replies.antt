@@ -1,54 +1,34 @@
 -- The replies that commands may have.
-use Rattle.std.specs.Prelude.{◌≡◌, ◌≢◌, ◌⊎◌, ℕ, ◌<◌, ◌≤◌, length, not, true, false, Bool, if◌then◌else◌, List, [], ◌∷◌, ◌++◌, filter, codes, Contains, Option, Some, None, IfSome, unwrap_or}
+use Rattle.std.specs.Prelude.{◌≡◌, ◌⊎◌, ℕ, ◌<◌, not, false, Bool, if◌then◌else◌, List, ◌∷◌, ◌++◌, codes, Option, Some, None, IfSome, unwrap_or, []}
 use Rattle.std.specs.Fmt.{decimal}
 use Rattle.std.specs.List.{flat_map}
 use Rattle.std.specs.Option.{option_and_then}
-use Rattle.prefix.specs.declared.quant.Quant.{Quant}
 use Rattle.prefix.specs.Literal.{Literal}
 use Rattle.prefix.specs.Sides.{is_of}
-use Rattle.prefix.specs.Scopes.{Scope, all_variables, quantifier_at, quantifier_of}
+use Rattle.prefix.specs.Scopes.{Scope, quantifier_at}
 use Rattle.steps.specs.Counter.{step_limit}
-use Rattle.truth.specs.Truth.{assumed_value, truth_under}
-use Rattle.calculus.specs.Derivations.{Inference, core_order}
-use Rattle.calculus.specs.Limits.{propagation_limit, weight_bound}
-use Rattle.calculus.specs.Plays.{DependsOnEarlier, Wins}
-use Rattle.calculus.specs.Rows.{Assignment, Row}
-use Rattle.calculus.specs.Search.{IsRefuted}
+use Rattle.truth.specs.Truth.{assumed_value}
+use Rattle.calculus.specs.Derivations.{Inference}
+use Rattle.calculus.specs.Rows.{Row}
 use Rattle.calculus.specs.Verdicts.{relevant_of}
 use Rattle.trail.specs.State.{Account}
-use Rattle.frames.specs.Commands.{Activate as ActivateGroup, AddClause, AddScope, AddVariable, Assume as AssumeLiteral, CloseGroup as CloseFrames, Command as FrameCommand, Deactivate as DeactivateGroup, OpenGroup as OpenFrames, Pop as PopFrame, Push as PushFrame, Solve as Decide, Stop, Verdict, refusal_of}
-use Rattle.frames.specs.Fold.{Given, ScriptState, state_after}
+use Rattle.frames.specs.Commands.{Activate as ActivateGroup, AddClause, AddScope, AddVariable, Assume as AssumeLiteral, CloseGroup as CloseFrames, Command as FrameCommand, Deactivate as DeactivateGroup, OpenGroup as OpenFrames, Pop as PopFrame, Push as PushFrame, refusal_of}
+use Rattle.frames.specs.Fold.{Given, state_after}
 use Rattle.frames.specs.Refusal.{number_of}
-use Rattle.frames.specs.State.{OpenFormula, open_clauses}
-use Rattle.step_core.specs.Cores.{IsNumbered, Trace as TraceCore, inferences_of}
-use Rattle.qrp_trace.specs.Texts.{literal_word, number_word, qrp_text}
-use Rattle.aig.specs.declared.edge.Node.TheVariants.{Constant}
-use Rattle.aig.specs.declared.strategy.Strategy.{Strategy}
-use Rattle.aig.specs.Strategies.{output_of, output_vars, values_of}
-use Rattle.aiger_out.specs.Aag.{IsAagText}
-use Rattle.aiger_out.specs.Binary.{IsAigBytes}
-use Rattle.trim.specs.Trimmed.{IsReached}
+use Rattle.frames.specs.State.{OpenFormula}
+use Rattle.qrp_trace.specs.Texts.{literal_word, number_word}
 use Rattle.search.specs.Counting.{size_of}
 use Rattle.engine.specs.Cores.{HasCore, core_of}
 use Rattle.engine.specs.Refusals.{is_outermost, winner_of}
-use Rattle.engine.specs.Verdicts.{loser_of}
 use Rattle.qscript.specs.declared.command.Command.{Command}
 use Rattle.qscript.specs.declared.command.Command.TheVariants.{Scope as ScopeCommand, Var, Clause, Push, Pop, Assume, Solve, Value, Relevant, Trace, Cert, OpenGroup, CloseGroup, Activate, Deactivate, GroupCore}
-use Rattle.session.specs.Standing.{IsWitness, Standing, start}
-use Rattle.session.specs.Stops.{IsStopAt}
-use Rattle.session.specs.Terms.{Terms}
-
-abbrev pub Text : Type 0
-Text = List ℕ
-
--- what replies write, and what is told of the searches that stopped, one for each `UNKNOWN`
-pub record Output : Type 0 where
-  pub text : Text
-  pub stops : List Account
-
--- a text alone
-abbrev pub says : Text → Output
-says text = record { text = text; stops = [] }
+use Rattle.solve.specs.Standing.{Standing, start}
+use Rattle.solve.specs.Stops.{IsStopAt}
+use Rattle.solve.specs.Terms.{Terms}
+use Rattle.solve.specs.Outputs.{Text, Output, says, literal_number}
+use Rattle.solve.specs.Decisions.{IsSolved}
+use Rattle.solve.specs.Traces.{IsTraceText}
+use Rattle.solve.specs.Certificates.{IsCertText, gates_after}
 
 -- one output behind another
 abbrev pub joined : Output → Output → Output
@@ -104,10 +84,6 @@ refusal_number s GroupCore = no_core s.script.verdict
 abbrev pub refused_text : ℕ → Text
 refused_text number = codes "refused " ++ (decimal number ++ codes "\n")
 
--- a literal as a number: that of its variable, with a minus sign for a negation
-abbrev pub literal_number : Literal → Text
-literal_number l = (if l.positive then [] else codes "-") ++ decimal l.variable
-
 abbrev pub value_text : Literal → Text
 value_text l = codes "value " ++ (literal_number l ++ codes "\n")
 
@@ -118,10 +94,6 @@ relevant_text lits = codes "relevant " ++ (flat_map literal_word lits ++ codes "
 abbrev pub core_text : List ℕ → Text
 core_text groups = codes "core " ++ (flat_map number_word groups ++ codes "0\n")
 
-abbrev pub verdict_text : Bool → Text
-verdict_text true = codes "SAT\n"
-verdict_text false = codes "UNSAT\n"
-
 -- the row that a proof ends in
 abbrev pub last_row : List Inference → Row
 last_row [] = []
@@ -131,64 +103,6 @@ last_row (s ∷ t ∷ steps) = last_row (t ∷ steps)
 -- the first-scope value of a variable, as a literal
 abbrev pub value_in : List Literal → ℕ → Literal
 value_in values v = record { variable = v; positive = unwrap_or (assumed_value values v) false }
-
--- the text is the trace of a proof, whose steps are those of a core, the inputs first, for the winner
-pub record IsTraceText (scopes : List Scope) (truth : Bool) (proof : List Inference) (text : Text) : Type 0 where
-  pub core : TraceCore
-  pub winner : core.winner ≡ winner_of truth
-  pub numbered : IsNumbered core.lines
-  pub proof_steps : inferences_of core.lines ≡ proof
-  pub inputs_first : core_order proof ≡ proof
-  pub text_of_core : text ≡ qrp_text scopes core
-
--- the variables of a quantifier, in prefix order
-abbrev pub variables_with : Quant → List Scope → List ℕ
-variables_with quant scopes = filter (λ v. is_of (quantifier_of scopes v) quant) (all_variables scopes)
-
--- how many gates a circuit may have after these commands, each solve of which was made on such terms
-abbrev pub gates_after : Terms → ScriptState → ℕ
-gates_after terms s = weight_bound s.clauses s.solves terms.budget terms.greatest s.greatest
-
--- A circuit certifies a verdict: its inputs are all variables of the loser and its outputs all of the winner, in prefix
--- order. It wins against all values of the inputs that the assumptions allow, each output depends on inputs of earlier
--- scopes alone, an assumed output is the constant of its assumed value, and where the first scope is the winner's its
--- outputs have these values. It has so many gates at most.
-pub record Certifies (formula : OpenFormula) (given : Given) (values : List Literal) (bound : ℕ) (strategy : Strategy)
-    : Type 0 where
-  pub winner : strategy.winner ≡ winner_of given.truth
-  pub inputs : strategy.inputs ≡ variables_with (loser_of given.truth) formula.scopes
-  pub outputs : output_vars strategy.outputs ≡ variables_with (winner_of given.truth) formula.scopes
-  pub wins : Wins (loser_of given.truth) formula.scopes (open_clauses formula) given.assumptions
-      (values_of strategy)
-  pub earlier : DependsOnEarlier (loser_of given.truth) formula.scopes (values_of strategy)
-  pub assumed : (x : ℕ) (b : Bool) → assumed_value given.assumptions x ≡ Some b
-      → quantifier_of formula.scopes x ≢ Some (loser_of given.truth)
-      → output_of strategy.outputs x ≡ Some (record { node = Constant; negated = b })
-  pub first_values : quantifier_at formula.scopes 1 ≡ Some (winner_of given.truth) → (l : Literal) →
-      Contains values l → (inputs : Assignment) → values_of strategy inputs l.variable ≡ l.positive
-  pub few : length strategy.aig.gates ≤ bound
-
--- each gate is reached from an output
-abbrev pub AllReached : Strategy → Type 0
-AllReached strategy = (j : ℕ) → j < length strategy.aig.gates → IsReached strategy j
-
--- a text denotes a circuit by AIGER 1.9, in ASCII or in the binary form
-abbrev pub Denotes : (binary : Bool) → Text → Strategy → Type 0
-Denotes false text strategy = IsAagText text strategy
-Denotes true text strategy = IsAigBytes text strategy
-
--- A text in one of the two forms is a certificate of a verdict: it denotes a circuit that certifies it, and where it is
--- to be trimmed, each gate is reached from an output.
-pub record IsCertificate (binary trim : Bool) (formula : OpenFormula) (given : Given) (values : List Literal)
-    (bound : ℕ) (text : Text) : Type 0 where
-  pub strategy : Strategy
-  pub denotes : Denotes binary text strategy
-  pub certifies : Certifies formula given values bound strategy
-  pub reached : trim ≡ true → AllReached strategy
-
--- the certificate that a script asks for: in ASCII, and not trimmed
-abbrev pub IsCertText : OpenFormula → Given → List Literal → ℕ → Text → Type 0
-IsCertText formula given values bound text = IsCertificate false false formula given values bound text
 
 -- what an accepted command may reply
 
@@ -203,30 +117,6 @@ pub record Tells (s : Standing) (IsTold : Given → Text → Type 0) (out : Outp
   pub told : IfSome s.script.verdict (λ given. IsTold given text)
   pub says_text : out ≡ says text
   pub same : after ≡ s
-
--- A verdict is the truth of the open formula under the assumptions, and is kept with a witness.
-pub record Decides (s : Standing) (out : Output) (after : Standing) : Type 0 where
-  pub truth : Bool
-  pub right : truth_under s.script.formula.assumptions s.script.formula.scopes
-      (open_clauses s.script.formula) ≡ truth
-  pub witness : IsWitness s.script.formula (record {
-    truth = truth;
-    assumptions = s.script.formula.assumptions;
-  }) after.witness
-  pub says_truth : out ≡ says (verdict_text truth)
-  pub state : after.script ≡ state_after s.script (Decide (Verdict truth))
-
--- Without a verdict the budget is below the step limit of the formula's variables, for a search that may begin anew so
--- often, and a search over these stopped at it. At the first solve, where propagation refutes the clauses from the
--- assumptions, the budget is below the limit of propagation.
-pub record GivesUp (terms : Terms) (s : Standing) (out : Output) (after : Standing) : Type 0 where
-  pub stopped : Account
-  pub short : terms.budget < step_limit terms.restarts (size_of s.script.formula.scopes)
-  pub slow : s.script.solves ≡ 0 → IsRefuted s.script.formula.scopes (open_clauses s.script.formula)
-      s.script.formula.assumptions → terms.budget < propagation_limit (size_of s.script.formula.scopes)
-  pub stop : IsStopAt terms (size_of s.script.formula.scopes) stopped
-  pub says_unknown : out ≡ record { text = codes "UNKNOWN\n"; stops = stopped ∷ [] }
-  pub state : after ≡ record s { script = state_after s.script (Decide Stop) }
 
 -- The core is that of the verdict's assumptions: with its groups the open formula is false, and without any one of them
 -- it is true. Nothing changes.
@@ -252,7 +142,7 @@ IsAccepted terms s (Clause lits) out after = Changes s (AddClause lits) out afte
 IsAccepted terms s Push out after = Changes s PushFrame out after
 IsAccepted terms s Pop out after = Changes s PopFrame out after
 IsAccepted terms s (Assume lit) out after = Changes s (AssumeLiteral lit) out after
-IsAccepted terms s Solve out after = Decides s out after ⊎ GivesUp terms s out after
+IsAccepted terms s Solve out after = IsSolved terms s out after
 IsAccepted terms s (Value v) out after =
     Tells s (λ given text. text ≡ value_text (value_in s.witness.values v)) out after
 IsAccepted terms s Relevant out after =

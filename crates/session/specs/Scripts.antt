@@ -1,5 +1,5 @@
 -- What the work on a script comes to.
-use Rattle.std.specs.Prelude.{◌≡◌, ◌≢◌, ℕ, List, ◌++◌, length, Option, Some, IfSome, Result, Ok, Err, ⊤}
+use Rattle.std.specs.Prelude.{◌≡◌, ◌≢◌, ℕ, List, ◌++◌, length, Option, Some, IfSome, Result, Ok, Err, ⊤, None}
 use Rattle.std.specs.Io.KnownBytes.{Appends}
 use Rattle.ports.specs.Bytes.{AppendsFront}
 use Rattle.trail.specs.State.{Account}
@@ -10,12 +10,18 @@ use Rattle.ports.specs.Writing.{Stops, Wrote}
 use Rattle.engine.specs.State.{EngineState}
 use Rattle.qscript.specs.Run.{Script, stopped}
 use Rattle.qscript.specs.Reads.{Ending as ScriptEnding, ReadsScript, done, limit, refused}
-use Rattle.session.specs.declared.ending.Ending.{Ending}
-use Rattle.session.specs.declared.ending.Ending.TheVariants.{Done, Refused, Limit, CheckLimit, ReadFault, WriteFault, NoMemory}
-use Rattle.session.specs.Replies.{Leads, Output, Text}
-use Rattle.session.specs.Standing.{Standing, start_in}
-use Rattle.session.specs.State.{Holds}
-use Rattle.session.specs.Terms.{Terms}
+use Rattle.solve.specs.declared.ending.Ending.{Ending}
+use Rattle.solve.specs.declared.ending.Ending.TheVariants.{Done, Refused, Limit, CheckLimit, ReadFault, WriteFault, NoMemory}
+use Rattle.session.specs.Replies.{Leads}
+use Rattle.solve.specs.Outputs.{Output, Text}
+use Rattle.solve.specs.Standing.{Standing, start, start_of}
+use Rattle.solve.specs.Holding.{Holds}
+use Rattle.solve.specs.Terms.{Terms}
+
+-- the same by what a header names; where it names no version, no command is given
+abbrev pub start_in : Option Version → Standing
+start_in None = start
+start_in (Some version) = start_of version
 
 -- The text is a script of these commands with this ending, whatever version its header names.
 abbrev pub IsScriptOf : List ℕ → List Command → ScriptEnding → Type 0

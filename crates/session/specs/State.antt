@@ -1,30 +1,8 @@
--- A session, as contracts see it, and how it holds what the commands of a script came to.
-use Rattle.std.specs.Prelude.{◌≡◌, ◌≤◌, ◌-◌, ◌^◌, max, min, Some, option_map}
-use Rattle.frames.specs.Fold.{Given}
-use Rattle.engine.specs.Asks.{first_values}
-use Rattle.engine.specs.State.{EngineState, VerdictState}
-use Rattle.session.specs.Standing.{Standing}
-use Rattle.session.specs.Terms.{Terms}
+-- A session, as contracts see it.
+use Rattle.engine.specs.State.{EngineState}
+use Rattle.solve.specs.Terms.{Terms}
 
 -- the terms of each solve, and the engine
 pub record SessionState : Type 0 where
   pub terms : Terms
   pub engine : EngineState
-
-abbrev pub given_of : VerdictState → Given
-given_of v = record { truth = v.truth; assumptions = v.assumptions }
-
--- An engine has the formula and the verdict that commands came to, with its proof and its play's values. It counted no
--- more clauses and variables than they have, and no solve of a greater budget or of more restarts; its count of solves
--- is theirs, up to its last value. Its next solve may begin anew as often as the terms say.
-pub record Holds (terms : Terms) (e : EngineState) (s : Standing) : Type 0 where
-  pub formula : s.script.formula ≡ e.formula
-  pub verdict : s.script.verdict ≡ option_map given_of e.verdict
-  pub proof : (v : VerdictState) → e.verdict ≡ Some v → s.witness.proof ≡ v.proof
-  pub values : (v : VerdictState) → e.verdict ≡ Some v → s.witness.values ≡ first_values e.formula v
-  pub clauses : e.counts.clauses ≤ s.script.clauses
-  pub solves : e.counts.solves ≡ min s.script.solves (2 ^ 64 - 1)
-  pub budgets : e.counts.budget ≤ terms.budget
-  pub restarts : e.restarts ≡ terms.restarts
-  pub most_restarts : max e.counts.restarts e.restarts ≤ terms.greatest
-  pub variables : e.counts.vars ≤ s.script.greatest

@@ -1,27 +1,26 @@
 -- What a session does at a command.
-use Rattle.std.specs.Prelude.{◌≡◌, ◌≤◌, ℕ, Bool, true, false, List, [], ◌∷◌, ◌++◌, Option, Some, None, Result, Ok, Err, ⊤}
-use Rattle.truth.specs.Truth.{truth_under}
+use Rattle.std.specs.Prelude.{◌≡◌, ◌≤◌, ℕ, Bool, true, false, List, ◌∷◌, ◌++◌, Option, Some, None, Result, Ok, Err, ⊤, []}
 use Rattle.trail.specs.State.{Account}
-use Rattle.frames.specs.Commands.{Solve as Decide, Stop}
-use Rattle.frames.specs.Fold.{state_after}
-use Rattle.frames.specs.State.{OpenFormula, open_clauses}
 use Rattle.ports.specs.Writing.{Stops, Wrote}
 use Rattle.engine.specs.State.{EngineState}
 use Rattle.qscript.specs.declared.command.Command.{Command}
 use Rattle.qscript.specs.declared.command.Command.TheVariants.{Scope as ScopeCommand, Var, Clause, Push, Pop, Assume, Solve, Value, Relevant, Trace, Cert, OpenGroup, CloseGroup, Activate, Deactivate, GroupCore}
-use Rattle.session.specs.declared.answer.Answer.{Answer}
-use Rattle.session.specs.declared.answer.Answer.TheVariants.{Sat as IsSat, Unsat as IsUnsat, Unknown as IsUnknown}
-use Rattle.session.specs.declared.ending.Ending.{Ending}
-use Rattle.session.specs.declared.ending.Ending.TheVariants.{Done, Refused as Malformed, Limit as Beyond, CheckLimit, ReadFault as Unreadable, WriteFault as EndsInFault, NoMemory as EndsInWant}
+use Rattle.solve.specs.declared.ending.Ending.{Ending}
+use Rattle.solve.specs.declared.ending.Ending.TheVariants.{Done, Refused as Malformed, Limit as Beyond, CheckLimit, ReadFault as Unreadable, WriteFault as EndsInFault, NoMemory as EndsInWant}
 use Rattle.session.specs.declared.reply.Reply.{Reply}
 use Rattle.session.specs.declared.reply.Reply.TheVariants.{Silent, Refused, Sat, Unsat, Unknown, Written}
 use Rattle.session.specs.declared.reply.SessionStop.{SessionStop}
 use Rattle.session.specs.declared.reply.SessionStop.TheVariants.{WriteFault, NoMemory}
-use Rattle.session.specs.Replies.{IsReply, Output, Text, refusal_number, refused_text}
-use Rattle.session.specs.Solve.{answer_line}
-use Rattle.session.specs.Standing.{Standing}
-use Rattle.session.specs.State.{Holds, SessionState}
-use Rattle.session.specs.Terms.{Terms}
+use Rattle.session.specs.Replies.{IsReply, refusal_number, refused_text}
+use Rattle.solve.specs.Outputs.{Output, Text}
+use Rattle.solve.specs.Standing.{Standing}
+use Rattle.session.specs.State.{SessionState}
+use Rattle.solve.specs.Holding.{Holds}
+use Rattle.solve.specs.Terms.{Terms}
+use Rattle.solve.specs.declared.decision.Decision.{Decision}
+use Rattle.solve.specs.declared.decision.Decision.TheVariants.{Sat as IsTrue, Unsat as IsFalse, Unknown as IsStopped}
+use Rattle.solve.specs.Decisions.{stopped_at, truth_of}
+use Rattle.solve.specs.Stops.{listed}
 
 -- what a reply tells of a search that stopped
 abbrev pub told_by : Reply → List Account
@@ -32,14 +31,11 @@ told_by Unsat = []
 told_by (Unknown stopped) = stopped ∷ []
 told_by Written = []
 
--- what is told, if anything is
-abbrev pub listed : Option Account → List Account
-listed None = []
-listed (Some stopped) = stopped ∷ []
-
--- the truth of a formula under its assumptions
-abbrev pub truth_of : OpenFormula → Bool
-truth_of f = truth_under f.assumptions f.scopes (open_clauses f)
+-- the reply to a solve that came to this
+abbrev pub reply_to : Decision → Reply
+reply_to IsTrue = Sat
+reply_to IsFalse = Unsat
+reply_to (IsStopped stopped) = Unknown stopped
 
 -- The reply to a solve of a formula with this truth: the truth, or that the budget was spent first.
 abbrev pub IsSolveReply : Bool → Reply → Type 0
@@ -113,7 +109,7 @@ left_by (Clause lits) s = s
 left_by Push s = s
 left_by Pop s = s
 left_by (Assume lit) s = s
-left_by Solve s = record s { script = state_after s.script (Decide Stop) }
+left_by Solve s = stopped_at s
 left_by (Value v) s = s
 left_by Relevant s = s
 left_by Trace s = s
@@ -123,28 +119,6 @@ left_by CloseGroup s = s
 left_by (Activate group) s = s
 left_by (Deactivate group) s = s
 left_by GroupCore s = s
-
--- the reply to a verdict
-abbrev pub reply_of : Bool → Reply
-reply_of true = Sat
-reply_of false = Unsat
-
--- the answer that a reply to a solve has
-abbrev pub answered : Reply → Answer
-answered Silent = IsUnsat
-answered (Refused number) = IsUnsat
-answered Sat = IsSat
-answered Unsat = IsUnsat
-answered (Unknown stopped) = IsUnknown
-answered Written = IsUnsat
-
--- The reply to a solve says the truth, or that the budget was spent; it has the line of its answer, and the engine
--- holds what it comes to.
-pub record IsDecided (terms : Terms) (s : Standing) (reply : Reply) (e : EngineState) : Type 0 where
-  pub after : Standing
-  pub reply_is : IsReply terms s Solve (record { text = answer_line (answered reply); stops = told_by reply }) after
-  pub says_truth : IsSolveReply (truth_of s.script.formula) reply
-  pub holds : Holds terms e after
 
 -- A command is replied to, and the reply is written; or a front of it is, before a fault; or there is no memory for one
 -- that isn't refused, and nothing is written. `old` and `new` are the sink, by what sinks of its type tell.

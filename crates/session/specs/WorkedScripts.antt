@@ -2,11 +2,11 @@
 use Rattle.std.specs.Prelude.{◌≤◌, ℕ, List, [], ◌∷◌, codes, None, Some}
 use Rattle.versions.specs.declared.version.Version.TheVariants.{One, Two}
 use Rattle.qscript.specs.declared.command.Command.TheVariants.{Pop, Push}
-use Rattle.session.specs.declared.ending.Ending.{Ending}
-use Rattle.session.specs.declared.ending.Ending.TheVariants.{Done, NoMemory, ReadFault, Refused, WriteFault}
+use Rattle.solve.specs.declared.ending.Ending.{Ending}
+use Rattle.solve.specs.declared.ending.Ending.TheVariants.{Done, NoMemory, ReadFault, Refused, WriteFault}
 use Rattle.session.specs.Scripts.{AreAnswered, AreFirst, RoomForReplies}
-use Rattle.session.specs.Terms.{terms_of}
-use Rattle.session.specs.Worked.{at_thirty_six}
+use Rattle.solve.specs.Terms.{terms_of}
+use Rattle.solve.specs.Worked.{at_thirty_six}
 
 -- a script of two commands, each of which is refused
 abbrev pub two_pops : List ℕ

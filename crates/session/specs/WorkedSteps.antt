@@ -7,11 +7,12 @@ use Rattle.qscript.specs.declared.command.Command.{Command}
 use Rattle.qscript.specs.declared.command.Command.TheVariants.{Assume, Cert, Clause, Pop, Push, Relevant, Scope, Solve, Trace, Value, Var}
 use Rattle.session.specs.declared.reply.Reply.TheVariants.{Refused, Sat, Silent, Unknown, Unsat, Written}
 use Rattle.session.specs.Replies.{refusal_number}
-use Rattle.session.specs.Standing.{start}
+use Rattle.solve.specs.Standing.{start}
 use Rattle.session.specs.State.{SessionState}
 use Rattle.session.specs.Steps.{IsAcceptedReply, IsQuestion, IsReplyFor, LeavesAtWant}
-use Rattle.session.specs.Terms.{terms_of}
-use Rattle.session.specs.Worked.{at_thirty_six, contradiction, negative}
+use Rattle.solve.specs.Terms.{terms_of}
+use Rattle.session.specs.Worked.{negative}
+use Rattle.solve.specs.Worked.{at_thirty_six, contradiction}
 
 -- a command of each kind that changes the formula, and one of each that asks for something
 abbrev pub changes : List Command

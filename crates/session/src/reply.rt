@@ -1,10 +1,12 @@
 //! Replies to commands.
 ghost use Rattle.std.specs.Prelude.{◌≡◌};
 ghost use Rattle.session.specs.declared.reply.SessionStop.TheVariants.{NoMemory};
-ghost use Rattle.session.specs.Steps.{answered, listed, told_by};
+ghost use Rattle.session.specs.Endings.{ending_at};
+ghost use Rattle.session.specs.Steps.{reply_to, told_by};
+ghost use Rattle.solve.specs.Stops.{listed};
 
-use crate::answer::Answer;
 use memory::NoMemory as NoRoom;
+use solve::{Decision, Ending};
 use trail::Stopped;
 
 /// The reply to a command.
@@ -36,14 +38,14 @@ pub enum SessionStop {
 }
 
 impl Reply {
-    // The answer to a solve.
-    pub(crate) fn answer(&self) -> Answer
-        ensures { result ≡ answered self.now }
+    // The reply to a solve that came to this.
+    pub(crate) fn to_solve(decision: Decision) -> Self
+        ensures { result ≡ reply_to decision }
     {
-        match self {
-            Self::Sat => Answer::Sat,
-            Self::Unknown(_) => Answer::Unknown,
-            _ => Answer::Unsat,
+        match decision {
+            Decision::Sat => Self::Sat,
+            Decision::Unsat => Self::Unsat,
+            Decision::Unknown(stopped) => Self::Unknown(stopped),
         }
     }
 
@@ -63,5 +65,17 @@ impl From<NoRoom> for SessionStop {
 
     fn from(_e: NoRoom) -> Self {
         Self::NoMemory
+    }
+}
+
+// The ending where a reply fails.
+impl From<SessionStop> for Ending {
+    ghost from_gives = { λ e ending. ending ≡ ending_at e };
+
+    fn from(e: SessionStop) -> Self {
+        match e {
+            SessionStop::WriteFault(_) => Self::WriteFault,
+            SessionStop::NoMemory => Self::NoMemory,
+        }
     }
 }

@@ -1,23 +1,23 @@
 //! A script, read from the chosen input and replied to.
-ghost use Rattle.std.specs.Prelude.{◌≡◌, ◌≢◌, ◌<◌, ◌++◌, ℕ, false, vec_len, vec_capacity, List, IfErr, IfOk, IfSome, IsErrOf, IsOk, OnErr, OnOk, [], Some, None};
+ghost use Rattle.std.specs.Prelude.{◌≡◌, ◌≢◌, ℕ, false, List, IfErr, IfOk, IfSome, IsErrOf, IsOk, OnErr, OnOk, [], Some, None};
 ghost use Rattle.ports.specs.Bytes.{AllFlushed};
 ghost use Rattle.ports.specs.Causes.{IsCounted};
 ghost use Rattle.qscript.specs.declared.command.Command.{Command as AnyCommand};
 ghost use Rattle.qscript.specs.Reads.{Ending as ScriptEnding};
 ghost use Rattle.qscript.specs.State.{EndsWith, is_fault, upcoming};
 ghost use Rattle.session.specs.Scripts.{Answers, AreAnswered, IsLeftAt, IsScriptEnding, IsScriptOf, IsSentAt, RoomForReplies, ending_of};
-ghost use Rattle.session.specs.Steps.{Goes, listed};
-ghost use Rattle.session.specs.Solve.{IsDone};
-ghost use Rattle.session.specs.Standing.{Standing, start_of};
-ghost use Rattle.session.specs.State.{Holds};
-ghost use Rattle.session.specs.Terms.{terms_of};
+ghost use Rattle.session.specs.Steps.{Goes};
+ghost use Rattle.solve.specs.Endings.{IsDone};
+ghost use Rattle.solve.specs.Standing.{Standing, start_of};
+ghost use Rattle.solve.specs.Holding.{Holds};
+ghost use Rattle.solve.specs.Terms.{terms_of};
 
-use crate::ending::Ending;
 use crate::reply::{Reply, SessionStop};
 use crate::session::Session;
 use memory::NoMemory;
 use ports::{Desk, Sink};
 use qscript::{Command, ScriptReader, each_script_has_one_reading};
+use solve::{Ending, put_told};
 use std::alloc::Global;
 use trail::Stopped;
 use versions::Version;
@@ -162,15 +162,5 @@ fn answer<S: Sink>(
             Err(Ending::WriteFault)
         }
         Err(SessionStop::NoMemory) => Err(Ending::NoMemory),
-    }
-}
-
-// Puts what is told, if anything is, into the list, which has room for it.
-pub(crate) fn put_told(stops: &mut Vec<Stopped>, told: Option<Stopped>)
-    requires room { vec_len stops.old < vec_capacity stops.old }
-    ensures { stops.new.items ≡ stops.old.items ++ listed told }
-{
-    if let Some(stopped) = told {
-        let _ = stops.push(stopped);
     }
 }

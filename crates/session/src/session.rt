@@ -1,27 +1,22 @@
 //! Sessions: the commands of a script, replied to.
-ghost use Rattle.std.specs.Prelude.{◌≡◌, ℕ, Ok, Err, Some, IsOk, IfOk, IfSome, OnErr, MatchResult};
+ghost use Rattle.std.specs.Prelude.{◌≡◌, ℕ, Ok, Err, Some, IsOk, IfOk, MatchResult};
 ghost use Rattle.frames.specs.Refusal.{number_of};
-ghost use Rattle.engine.specs.Asks.{IsVerdictOf, PlaysFirst};
-ghost use Rattle.session.specs.Standing.{Standing, start, start_of};
-ghost use Rattle.session.specs.State.{Holds};
+ghost use Rattle.solve.specs.Standing.{Standing, start, start_of};
+ghost use Rattle.solve.specs.Holding.{Holds};
 ghost use Rattle.session.specs.Replies.{refusal_number};
-ghost use Rattle.session.specs.Steps.{IsDecided, IsQuestion, IsSent, LeavesAtWant, Refuses, Steps as StepsOf, left_by, reply_of};
-ghost use Rattle.session.specs.Terms.{Terms, terms_of, with_restarts};
+ghost use Rattle.session.specs.Steps.{IsQuestion, IsSent, LeavesAtWant, Refuses, Steps as StepsOf};
+ghost use Rattle.solve.specs.Terms.{Terms, terms_of, with_restarts};
 
-use crate::answer::Answer;
-use crate::lines::{
-    write_answer, write_circuit, write_core, write_groups, write_refused, write_relevant,
-    write_value,
-};
+use crate::lines::{write_groups, write_refused, write_relevant, write_value};
 use crate::reply::{Reply, SessionStop};
-use engine::{CoreRefusal, Engine, SolveStop, Verdict};
+use engine::{CoreRefusal, Engine};
 use frames::FrameRefusal;
 use memory::NoMemory;
 use ports::{Failed, Sink};
 use qscript::Command;
+use solve::{Answer, decide, write_answer, write_circuit, write_core};
 use std::alloc::Global;
 use std::marker::Model;
-use steps::Steps;
 use versions::Version;
 
 /// An engine that takes the commands of a script and writes their replies. Contracts see the terms of each solve and
@@ -158,36 +153,9 @@ fn solve<S: Sink>(engine: &mut Engine, budget: u64, sink: &mut S) -> Result<Repl
     ensures { (terms : Terms) (s : Standing) → terms.budget ≡ budget → Holds terms engine.old s → StepsOf S.written
         S.flushed S.faults S.has_room terms Command.Solve s sink.old sink.new engine.new result }
 {
-    let reply = decide(engine, budget)?;
-    send(write_answer(reply.answer(), sink), reply)
-}
-
-// The reply to a solve of the open formula.
-pub(crate) fn decide(engine: &mut Engine, budget: u64) -> Result<Reply, NoMemory>
-    ensures ok { (terms : Terms) (s : Standing) → terms.budget ≡ budget → Holds terms engine.old s
-        → IfOk result (λ reply. IsDecided terms s reply engine.new) }
-    ensures err { (terms : Terms) (s : Standing) → terms.budget ≡ budget → Holds terms engine.old s
-        → OnErr result (Holds terms engine.new (left_by Command.Solve s)) }
-{
-    match engine.solve(&mut Steps::new(budget)) {
-        Ok(verdict) => Ok(told(engine, verdict)),
-        Err(SolveStop::Spent(stopped)) => Ok(Reply::Unknown(stopped)),
-        Err(SolveStop::NoMemory) => Err(NoMemory),
-    }
-}
-
-// The reply to a verdict that the engine found.
-fn told(engine: &Engine, verdict: Verdict) -> Reply
-    ensures truth { result ≡ reply_of verdict.truth }
-    ensures facts { IfSome engine.now.verdict (IsVerdictOf engine.now.formula) }
-    ensures first { IfSome engine.now.verdict (PlaysFirst engine.now.formula) }
-{
-    let _facts = engine.verdict();
-    if verdict.truth {
-        Reply::Sat
-    } else {
-        Reply::Unsat
-    }
+    let decision = decide(engine, budget)?;
+    let answer = decision.answer();
+    send(write_answer(answer, sink), Reply::to_solve(decision))
 }
 
 // Tells the winner's value of a variable of the first scope.
@@ -215,7 +183,7 @@ fn tell_relevant<S: Sink>(engine: &Engine, sink: &mut S) -> Result<Reply, Sessio
 }
 
 // Tells the verdict's trace.
-pub(crate) fn tell_trace<S: Sink>(engine: &Engine, sink: &mut S) -> Result<Reply, SessionStop>
+fn tell_trace<S: Sink>(engine: &Engine, sink: &mut S) -> Result<Reply, SessionStop>
     ensures { (terms : Terms) (s : Standing) → Holds terms engine.now s → StepsOf S.written S.flushed S.faults
         S.has_room terms
         Command.Trace s sink.old sink.new engine.now result }

@@ -2,7 +2,7 @@
 use crate::build::sink_with;
 use ports::MemorySink;
 use samples::{count_samples, write_sample};
-use session::Ending;
+use solve::Ending;
 use std::test::Fail;
 
 #[test]

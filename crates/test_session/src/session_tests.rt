@@ -1,10 +1,12 @@
 //! Files that are solved, and scripts that are replied to.
 use crate::build::{desk_with, sink_with};
+use files::{Job, run_file};
 use ports::MemorySink;
 use prefix::Quant;
 use qscript::Command;
 use reading::Quantity;
-use session::{Answer, Ending, Job, Reply, Session, run_file, run_script};
+use session::{Reply, Session, run_script};
+use solve::{Answer, Ending};
 use std::test::Fail;
 
 // For each value of 1 there is one of 2 that differs from it.

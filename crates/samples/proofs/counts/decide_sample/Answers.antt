@@ -3,8 +3,8 @@ use Rattle.std.proofs.lemmas.List.FromFn.{length-range_with_len}
 use Rattle.truth.specs.declared.formula.Formula.{Formula}
 use Rattle.search.specs.Counting.{size_of}
 use Rattle.steps.specs.Counter.{step_limit}
-use Rattle.session.specs.Solve.{IsAnswerTo, IsShort}
-use Rattle.session.specs.Terms.{terms_of}
+use Rattle.solve.specs.Answers.{IsAnswerTo, IsShort}
+use Rattle.solve.specs.Terms.{terms_of}
 use Rattle.samples.proofs.Counting.{enough, three_more}
 use Rattle.samples.proofs.counts.decide_sample.Goals as goal
 

@@ -1,6 +1,6 @@
 use Rattle.std.proofs.Common.{rules, Err, subst, sym, arith, refl, ◌∙◌}
 use Rattle.qscript.specs.State.{upcoming}
-use Rattle.session.specs.State.{Holds}
+use Rattle.solve.specs.Holding.{Holds}
 use Rattle.session.specs.Steps.{Goes}
 use Rattle.std.proofs.lemmas.Result.{err_from_is_err_and}
 use Rattle.session.proofs.Going.{begun, ended, failed_at, goes_itself, goes_on, gone_on, no_command, refused_at}

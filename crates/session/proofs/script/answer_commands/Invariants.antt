@@ -2,8 +2,8 @@ use Rattle.std.proofs.Common.{◌≡◌, ◌≤◌, ℕ, false, List}
 use Rattle.qscript.specs.State.{EndsWith, GoesOn, is_fault, most_to_come, upcoming}
 use Rattle.ports.specs.Writing.{Wrote}
 use Rattle.session.specs.Scripts.{IsUnderWay}
-use Rattle.session.specs.Standing.{Standing}
-use Rattle.session.specs.State.{Holds}
+use Rattle.solve.specs.Standing.{Standing}
+use Rattle.solve.specs.Holding.{Holds}
 use Rattle.session.proofs.script.answer_commands.Given as goal
 
 abbrev pub invariant-loop-command : goal.invariant-loop-command

@@ -1,16 +1,16 @@
-use Rattle.std.proofs.Common.{◌≡◌, ◌≤◌, ℕ, List, [], Option, None, Err, Ok, Some, ap, arith, false, refl, sym, subst, true, ◌∙◌, is_err, is_ok}
+use Rattle.std.proofs.Common.{◌≡◌, ◌≤◌, ℕ, List, [], Option, None, Err, Ok, Some, ap, arith, refl, sym, subst, true, ◌∙◌, is_err, is_ok}
 use Rattle.std.specs.Prelude.{IfSome, IsErrOf, IsOk, is_some}
 use Rattle.ports.specs.Causes.{Rose}
 use Rattle.std.proofs.lemmas.Bool.{false≢true}
 use Rattle.std.proofs.lemmas.Result.{err_from_is_err_and}
 use Rattle.qscript.specs.State.{reading, upcoming}
-use Rattle.session.specs.declared.ending.Ending.{Ending}
-use Rattle.session.specs.declared.ending.Ending.TheVariants.{Done, ReadFault, WriteFault}
-use Rattle.session.specs.Endings.{ending_for}
+use Rattle.solve.specs.declared.ending.Ending.{Ending}
+use Rattle.solve.specs.declared.ending.Ending.TheVariants.{Done, ReadFault, WriteFault}
+use Rattle.solve.specs.Endings.{ending_for}
 use Rattle.session.specs.Scripts.{AreAnswered, RoomForReplies, ending_of}
-use Rattle.session.specs.Standing.{start_of}
-use Rattle.session.specs.State.{Holds}
-use Rattle.session.specs.Terms.{terms_of}
+use Rattle.solve.specs.Standing.{start_of}
+use Rattle.solve.specs.Holding.{Holds}
+use Rattle.solve.specs.Terms.{terms_of}
 use Rattle.session.proofs.Scripting.{all_flushed, answered_is, any_text, counted_is, ending_is, fault_answered, fault_counted, flushed_answered, headed_text, headless_answered, headless_ending, headless_open, headless_read, headless_unwritten, none_answered, not_done, room_is, room_left}
 use Rattle.session.proofs.script.answer_script.Goals as goal
 

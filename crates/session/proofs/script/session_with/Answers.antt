@@ -1,5 +1,5 @@
 use Rattle.std.proofs.Common.{◌∙◌, ap}
-use Rattle.session.specs.Terms.{with_restarts}
+use Rattle.solve.specs.Terms.{with_restarts}
 use Rattle.session.proofs.Restarting.{first_terms}
 use Rattle.session.proofs.script.session_with.Goals as goal
 

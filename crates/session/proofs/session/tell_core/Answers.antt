@@ -1,13 +1,12 @@
-use Rattle.std.proofs.Common.{◌≡◌, Err, Ok, Some, ap, codes, sym, subst, ◌∙◌}
-use Rattle.std.specs.Prelude.{IfErr, IfOk, IfSome, OnOk}
-use Rattle.engine.specs.Cores.{HasCore, IsCoreStop, core_of}
+use Rattle.std.proofs.Common.{◌≡◌, Err, ap, codes, sym, subst, ◌∙◌}
+use Rattle.std.specs.Prelude.{IfErr}
+use Rattle.engine.specs.Cores.{IsCoreStop}
 use Rattle.engine.specs.State.{VerdictState}
 use Rattle.engine.specs.declared.group_core.CoreRefusal.TheVariants.{NotUnsat, NoVerdict, Spent}
 use Rattle.qscript.specs.declared.command.Command.TheVariants.{GroupCore}
 use Rattle.session.specs.declared.reply.Reply.TheVariants.{Unknown}
-use Rattle.session.specs.Replies.{core_text}
-use Rattle.session.proofs.Coring.{core_asked, gives_up_core, tells_core}
-use Rattle.session.proofs.Telling.{sent, stepped, tells}
+use Rattle.session.proofs.Coring.{core_asked, gives_up_core}
+use Rattle.session.proofs.Telling.{sent, stepped}
 use Rattle.session.proofs.session.tell_core.Goals as goal
 
 pub returns-in-Err-Spent : goal.returns-in-Err-Spent

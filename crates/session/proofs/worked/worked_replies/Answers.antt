@@ -1,7 +1,7 @@
-use Rattle.std.proofs.Common.{◌≡◌, ◌<◌, false, [], codes, refl, ap, arith}
+use Rattle.std.proofs.Common.{[], codes, refl}
 use Rattle.std.specs.Fmt.{digits}
-use Rattle.session.specs.Replies.{says}
-use Rattle.session.specs.Standing.{start}
+use Rattle.solve.specs.Outputs.{says}
+use Rattle.solve.specs.Standing.{start}
 use Rattle.session.proofs.Working.{empty_script, empty_ends, no_silence, one_row}
 use Rattle.session.proofs.worked.worked_replies.Goals as goal
 
@@ -41,10 +41,6 @@ returns c = record {
   );
   not_silent = λ h. no_silence h;
   unsat = one_row;
-  not_sat = λ after d. absurd (let t : false ≡ d.truth = d.right in
-      let line : codes "SAT\n" ≡ codes "UNSAT\n" = ap (λ o. o.text) (rw (← t) at d.says_truth) in cc);
-  short = λ out after g. absurd (let low : 16 < 16 = g.short in omega (arith, low));
-  short_again = λ out after g. absurd (let low : 16 < 16 = g.short in omega (arith, low));
   empty = empty_script;
   not_refused = λ r. empty_ends r;
 }

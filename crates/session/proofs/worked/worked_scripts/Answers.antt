@@ -2,13 +2,14 @@ use Rattle.std.proofs.Common.{◌≡◌, ◌≤◌, List, [], ◌∷◌, length,
 use Rattle.qscript.specs.declared.command.Command.{Command}
 use Rattle.qscript.specs.declared.command.Command.TheVariants.{Pop, Push}
 use Rattle.qscript.specs.Reads.{done}
-use Rattle.session.specs.declared.ending.Ending.TheVariants.{Done, NoMemory, ReadFault, Refused, WriteFault}
+use Rattle.solve.specs.declared.ending.Ending.TheVariants.{Done, NoMemory, ReadFault, Refused, WriteFault}
 use Rattle.versions.specs.declared.version.Version.TheVariants.{One, Two}
 use Rattle.qscript.proofs.Outcomes.{computed_reading}
-use Rattle.session.specs.Replies.{Leads, says}
-use Rattle.session.specs.Standing.{start}
-use Rattle.session.specs.Terms.{terms_of}
-use Rattle.session.specs.Worked.{at_thirty_six}
+use Rattle.session.specs.Replies.{Leads}
+use Rattle.solve.specs.Outputs.{says}
+use Rattle.solve.specs.Standing.{start}
+use Rattle.solve.specs.Terms.{terms_of}
+use Rattle.solve.specs.Worked.{at_thirty_six}
 use Rattle.session.specs.WorkedScripts.{one_refusal, two_refusals}
 use Rattle.session.proofs.ScriptValues.{at_start, both_read, first_ones, first_version, front_head, leads_one, leads_two, none_told, read_length, reply_length, some_reply, too_short, whole_length}
 use Rattle.session.proofs.worked.worked_scripts.Goals as goal

@@ -1,0 +1,111 @@
+-- Worked values: what a status says of a certificate that is checked, and what the check writes.
+use Rattle.std.proofs.Common.{◌≡◌, ◌∙◌, ◌<◌, ◌-◌, ◌^◌, ℕ, true, false, List, [], ◌∷◌, codes, Contains, Some, None, ap, inl, ⊎_elim, refl, sym, subst, arith}
+use Rattle.std.proofs.lemmas.Bool.{false≢true}
+use Rattle.steps.specs.Counter.{step_limit}
+use Rattle.truth.specs.declared.formula.Formula.{Formula}
+use Rattle.truth.specs.Truth.{truth}
+use Rattle.search.specs.Counting.{size_of}
+use Rattle.reading.specs.declared.refusal.Quantity.TheVariants.{Variables}
+use Rattle.command.specs.Forms.{AreAlike, Asks, Text, check_flags}
+use Rattle.command.specs.Forms.Flag.{the_decide}
+use Rattle.command.specs.declared.command.Command.{Command}
+use Rattle.command.specs.declared.command.Command.TheVariants.{Cert, Check, Demo, Gen, Script, Solve, Trace}
+use Rattle.command.proofs.AccountLemmas.{one_command}
+use Rattle.solve.specs.declared.answer.Answer.TheVariants.{Unsat}
+use Rattle.files.specs.declared.check.Outcome.{Outcome}
+use Rattle.files.specs.declared.check.Outcome.TheVariants.{Beyond, Checked, Undecided, Unknown}
+use Rattle.solve.specs.declared.ending.Ending.TheVariants.{CheckLimit, Done}
+use Rattle.files.specs.Checks.{IsCheckOn, check_ending}
+use Rattle.files.specs.Worked.{anything_fits}
+use Rattle.files.proofs.JobValues.{bare, bare_is, bare_reads}
+use Rattle.program.specs.Asked.{AskedEither, IsSample, OfCheckCommand, OfFormula, OfScript}
+use Rattle.program.specs.Complete.{IsValid, IsValidFor}
+use Rattle.program.specs.Run.{EndsIn, IsBeyond, IsUndecidedCheck, IsVerdict}
+use Rattle.program.specs.Told.{IsCheckOutput}
+use Rattle.qscript.specs.Reads.{done}
+use Rattle.program.proofs.Solving.{other_verdict}
+use Rattle.program.proofs.WorkedVerdicts.{great_reads, great_text, holds}
+use Rattle.program.proofs.WorkedWords.{letter, no_part, plain, whole}
+
+-- `qbf check`
+abbrev pub check_words : List Text
+check_words = codes "qbf" ∷ codes "check" ∷ []
+
+abbrev pub check : Command
+check = Check whole 0 false None
+
+pub asks_check : Asks check_words check
+asks_check = (codes "qbf", [], refl, no_part (check_flags false) refl)
+
+is_check : (c : Command) → AreAlike c check → c ≡ check
+is_check (Check budget restarts decide None) alike =
+    let first : budget ≡ whole = alike.budgets in
+    let second : restarts ≡ 0 = alike.restarts in
+    let third : decide ≡ false = alike.flags the_decide in
+    ap (λ b. Check b restarts decide None) first ∙ ap (λ r. Check whole r decide None) second
+    ∙ ap (λ d. Check whole 0 d None) third
+is_check (Check budget restarts decide (Some name)) alike =
+    absurd (let no : Some name.now ≡ None = alike.names in cc)
+is_check (Solve budget restarts form name) alike =
+    absurd (let n : 111 ≡ 104 = ap (letter 1) alike.words in omega (arith, n))
+is_check (Trace budget restarts name) alike =
+    absurd (let n : 114 ≡ 104 = ap (letter 1) alike.words in omega (arith, n))
+is_check (Cert budget restarts binary trim name) alike =
+    absurd (let n : 101 ≡ 104 = ap (letter 1) alike.words in omega (arith, n))
+is_check (Script budget restarts name) alike =
+    absurd (let n : 99 ≡ 104 = ap (letter 1) alike.words in omega (arith, n))
+is_check (Gen seed vars clauses) alike = absurd (let n : 101 ≡ 104 = ap (letter 1) alike.words in omega (arith, n))
+is_check (Demo seed count) alike = absurd (let n : 101 ≡ 104 = ap (letter 1) alike.words in omega (arith, n))
+
+pub only_check : (c : Command) → Asks check_words c → c ≡ check
+only_check c asks = is_check c (one_command check_words c check asks asks_check)
+
+-- a text beyond a limit has status 6, with `check` too
+pub checked_limit : IsVerdict check_words (holds great_text) 6
+checked_limit = other_verdict check_words (holds great_text) 6 refl (λ e. absurd (omega (arith, e)))
+    (λ _. inl (inl (check, asks_check, (Variables, 1, great_reads))))
+    (λ e. absurd (omega (arith, e))) (λ none. absurd (none check asks_check))
+
+-- where the check formula isn't to be decided, 0 comes only where the budget is too low for the formula
+low_for_true : AskedEither check_words (holds bare) IsBeyond (λ terms text. EndsIn text done) → ⊥
+low_for_true h = ⊎_elim
+    (λ f. let is = subst (λ d. OfFormula d (holds bare) IsBeyond) (only_check f.0 f.1) f.2 in
+    let low : 2 ^ 64 - 1 < 16 = subst (λ (g : Formula). whole < step_limit 0 (size_of g.prefix))
+    (bare_is is.0 is.1) is.2 in omega (arith, low))
+    (λ s. subst (λ d. OfScript d (holds bare) (λ terms text. EndsIn text done)) (only_check s.0 s.1) s.2) h
+
+pub true_as_unknown : IsVerdict check_words (holds bare) 0 → ⊥
+true_as_unknown h = ⊎_elim
+    (λ any. ⊎_elim low_for_true (λ s. subst IsSample (only_check s.0 s.1) s.2) any)
+    (λ c. let is = subst (λ d. OfCheckCommand d (holds bare) IsUndecidedCheck) (only_check c.0 c.1) c.2 in
+    absurd (false≢true is.3.is.0)) (h.unknown refl)
+
+-- a formula is a valid input
+pub valid_check : IsValid check_words (holds bare)
+valid_check = record {
+  command = check;
+  asks = asks_check;
+  valid = λ c asks. subst (λ d. IsValidFor d (holds bare)) (sym (only_check c asks)) (anything_fits, bare_reads);
+}
+
+same_status : (n m : ℕ) → Done n ≡ Done m → n ≡ m
+same_status n m e = cc
+
+-- a circuit that certifies a true formula is none of a false one
+true_as_false : (outcome : Outcome) (text : Text) → check_ending outcome ≡ Done 20
+    → IsCheckOn true plain (Some bare) ([], []) outcome text → ⊥
+true_as_false Unknown text end on = absurd (let no = same_status 0 20 end in omega (arith, no))
+true_as_false (Checked true) text end on = absurd (let no = same_status 10 20 end in omega (arith, no))
+true_as_false (Checked false) text end on =
+    absurd (false≢true (sym (subst (λ (g : Formula). truth g.prefix g.clauses ≡ false) (bare_is on.formula on.read)
+    on.is.certified.right)))
+true_as_false Undecided text end on = absurd (let no = same_status 0 20 end in omega (arith, no))
+true_as_false (Beyond quantity) text end on = absurd (let no : CheckLimit quantity ≡ Done 20 = end in cc)
+
+pub wins_for_false : IsCheckOutput true plain (Some bare) (Some [], Some (codes "WINS\n")) [] 20 → ⊥
+wins_for_false h = let is = h.reply (Unsat, refl) in true_as_false is.0 is.1 is.2 is.3
+
+-- with a status of an ending without an answer nothing is written
+pub writes_more : (status : ℕ) → Contains (2 ∷ 3 ∷ 5 ∷ []) status
+    → IsCheckOutput true plain (Some bare) (Some [], Some (codes "WINS\n")) [] status → ⊥
+writes_more status ends h = let none : codes "WINS\n" ≡ [] = (h.nothing ends).0 in absurd (cc)

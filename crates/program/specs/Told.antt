@@ -1,0 +1,106 @@
+-- What a run writes, and what it tells of searches that stopped.
+use Rattle.std.specs.Prelude.{◌≡◌, ◌≢◌, ◌⊎◌, ℕ, Bool, List, [], ◌∷◌, Contains, Option, IfSome}
+use Rattle.std.specs.Io.KnownBytes.{Appends, Keeps}
+use Rattle.ports.specs.Bytes.{AppendsFront}
+use Rattle.trail.specs.State.{Account}
+use Rattle.command.specs.Forms.{Asks, Text}
+use Rattle.command.specs.declared.command.Command.{Command}
+use Rattle.command.specs.declared.command.Command.TheVariants.{Solve, Trace, Cert, Check, Script, Gen, Demo}
+use Rattle.qscript.specs.declared.command.Command.{Command as ScriptCommand}
+use Rattle.versions.specs.declared.version.Version.{Version}
+use Rattle.qscript.specs.Reads.{Ending as ScriptEnding, ReadsScript}
+use Rattle.solve.specs.declared.answer.Answer.{Answer}
+use Rattle.session.specs.Replies.{Leads}
+use Rattle.solve.specs.Outputs.{Output}
+use Rattle.session.specs.Scripts.{AreFirst, start_in}
+use Rattle.reading.specs.declared.refusal.Quantity.{Quantity}
+use Rattle.files.specs.declared.check.Outcome.{Outcome}
+use Rattle.files.specs.declared.check.Outcome.TheVariants.{Beyond}
+use Rattle.solve.specs.declared.ending.Ending.TheVariants.{Done}
+use Rattle.files.specs.Checks.{IsCheckOn, check_ending}
+use Rattle.files.specs.Jobs.{IsReplyOn}
+use Rattle.files.specs.Solve.{HasAnswer, OfAnswer}
+use Rattle.solve.specs.Standing.{Standing}
+use Rattle.solve.specs.Terms.{Terms, terms_of}
+use Rattle.files.specs.declared.job.Job.{Job}
+use Rattle.files.specs.declared.job.Job.TheVariants.{Trace as TraceJob, Cert as CertJob}
+use Rattle.generate.specs.Made.{made}
+use Rattle.qdimacs_out.specs.Texts.{formula_text}
+use Rattle.samples.specs.Samples.{counts_text}
+use Rattle.program.specs.Asked.{known_for, solve_job}
+
+-- What a job on a formula leaves on the output and tells: its reply with an answer, a front of one after a write fault,
+-- and else nothing. With UNKNOWN an entry is told of its search, and else none. `written` is what stood on the output
+-- and stands on it.
+pub record IsJobOutput (job : Job) (terms : Terms) (known : Option Text) (written : Option Text × Option Text)
+    (stops : List Account) (status : ℕ) : Type 0 where
+  pub reply : HasAnswer status → OfAnswer status (λ answer. (text : Text)
+      × IsReplyOn job terms known ([], stops) answer text × Appends written.0 written.1 text)
+  pub front : status ≡ 4 → (answer : Answer) × (text : Text) × IsReplyOn job terms known ([], stops) answer text
+      × AppendsFront written.0 written.1 text
+  pub nothing : Contains (2 ∷ 3 ∷ 5 ∷ 6 ∷ []) status → Keeps written.0 written.1 × (stops ≡ [])
+
+-- What a check of a certificate leaves on the output and tells: its text where it comes to an answer, or to a limit of
+-- the check formula, a front of one after a write fault, and else nothing.
+pub record IsCheckOutput (decide : Bool) (terms : Terms) (known : Option Text) (written : Option Text × Option Text)
+    (stops : List Account) (status : ℕ) : Type 0 where
+  pub reply : HasAnswer status → (outcome : Outcome) × (text : Text) × (check_ending outcome ≡ Done status)
+      × IsCheckOn decide terms known ([], stops) outcome text × Appends written.0 written.1 text
+  pub limit : status ≡ 6 → (Keeps written.0 written.1 × (stops ≡ [])) ⊎ ((quantity : Quantity) × (text : Text)
+      × IsCheckOn decide terms known ([], stops) (Beyond quantity) text × Appends written.0 written.1 text)
+  pub front : status ≡ 4 → (outcome : Outcome) × (text : Text)
+      × IsCheckOn decide terms known ([], stops) outcome text × AppendsFront written.0 written.1 text
+  pub nothing : Contains (2 ∷ 3 ∷ 5 ∷ []) status → Keeps written.0 written.1 × (stops ≡ [])
+
+-- What a script leaves on the output: allowed replies to commands, all of them, or after a write fault a front of them.
+-- The commands are the first of the text's script, by the version that its header names, if the text is told, and all
+-- of them where it was read to its ending. What is told of searches is an entry for each UNKNOWN among the replies, in
+-- their order.
+pub record IsScriptOutput (terms : Terms) (known : Option Text) (written : Option Text × Option Text)
+    (stops : List Account) (status : ℕ) : Type 0 where
+  pub version : Option Version
+  pub commands : List ScriptCommand
+  pub out : Output
+  pub after : Standing
+  pub allowed : Leads terms (start_in version) commands out after
+  pub first : IfSome known (λ text. AreFirst text version commands)
+  pub all : Contains (0 ∷ 2 ∷ 6 ∷ []) status →
+      IfSome known (λ text. (ending : ScriptEnding) × ReadsScript text version commands ending)
+  pub front : AppendsFront written.0 written.1 out.text
+  pub whole : status ≢ 4 → Appends written.0 written.1 out.text
+  pub told : stops ≡ out.stops
+
+-- What a command leaves on the output that makes formulas and writes this text: all of it, or after a write fault a
+-- front of it; or nothing, for want of memory. No search is told of.
+pub record IsSampleOutput (text : Text) (written : Option Text × Option Text) (stops : List Account) (status : ℕ)
+    : Type 0 where
+  pub whole : status ≡ 0 → Appends written.0 written.1 text
+  pub front : status ≡ 4 → AppendsFront written.0 written.1 text
+  pub nothing : status ≡ 5 → Keeps written.0 written.1
+  pub none : stops ≡ []
+  pub ends : Contains (0 ∷ 4 ∷ 5 ∷ []) status
+
+-- what a command leaves on the output and tells, whose input is this text, where it is told
+abbrev pub IsOutputOf : Command → (known : Option Text) (written : Option Text × Option Text)
+    (stops : List Account) → ℕ → Type 0
+IsOutputOf (Solve budget restarts form name) known written stops status =
+    IsJobOutput (solve_job form) (terms_of budget restarts) known written stops status
+IsOutputOf (Trace budget restarts name) known written stops status = IsJobOutput TraceJob (terms_of budget restarts)
+    known written stops status
+IsOutputOf (Cert budget restarts binary trim name) known written stops status =
+    IsJobOutput (CertJob binary trim) (terms_of budget restarts) known written stops status
+IsOutputOf (Check budget restarts decide name) known written stops status =
+    IsCheckOutput decide (terms_of budget restarts) known written stops status
+IsOutputOf (Script budget restarts name) known written stops status = IsScriptOutput (terms_of budget restarts) known
+    written stops status
+IsOutputOf (Gen seed vars clauses) known written stops status =
+    IsSampleOutput (formula_text (made seed vars clauses)) written stops status
+IsOutputOf (Demo seed count) known written stops status = IsSampleOutput (counts_text seed count) written stops status
+
+-- What a run leaves on the output and tells: what the command does that the words ask for. Nothing, where they ask for
+-- none, or want of memory came before.
+abbrev pub IsOutput : (words : List Text) (content : Text → Option Text) (written : Option Text × Option Text)
+    (stops : List Account) → ℕ → Type 0
+IsOutput words content written stops status =
+    (Contains (5 ∷ 7 ∷ []) status × Keeps written.0 written.1 × (stops ≡ []))
+    ⊎ ((c : Command) × Asks words c × IsOutputOf c (known_for content c) written stops status)

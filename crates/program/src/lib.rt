@@ -1,0 +1,16 @@
+//! The program `qbf` as a function over a desk and two sinks: the words of a command line, carried out.
+//!
+//! `specs/Run` says what a run comes to, `specs/Asked` which input and which work the words ask for, `specs/Told` what
+//! stands on the output, `specs/Complete` which inputs are answered, and `specs/Words` what is said of words that the
+//! system doesn't give.
+#![tactic(auto)]
+
+mod commands;
+mod ending;
+#[cfg(test)]
+mod tests;
+mod words;
+
+pub use commands::{report, run};
+pub use ending::RunEnding;
+pub use words::words_of;

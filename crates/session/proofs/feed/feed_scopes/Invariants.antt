@@ -1,7 +1,0 @@
-use Rattle.std.proofs.Common.{[], ◌-◌, take}
-use Rattle.session.specs.Feeding.{HoldsFormula}
-use Rattle.session.proofs.feed.feed_scopes.Given as goal
-
--- the engine holds the scopes so far
-abbrev pub invariant-loop-number : goal.invariant-loop-number
-invariant-loop-number l = HoldsFormula (take (l.number - 1) l.prefix) [] l.engine

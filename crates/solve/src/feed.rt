@@ -1,0 +1,94 @@
+//! A formula that was read, fed to an engine.
+ghost use Rattle.std.specs.Prelude.{◌≡◌, ◌∷◌, ◌++◌, ◌<◌, ◌≤◌, ◌^◌, [], length, map, IsOkUnless, OnOk};
+ghost use Rattle.std.specs.List.{AllByRecursion};
+ghost use Rattle.prefix.specs.Literal.{signed_number};
+ghost use Rattle.prefix.specs.Scopes.{IsAscending, IsPrefix};
+ghost use Rattle.truth.specs.Formed.{IsClauseOver, IsFormed};
+ghost use Rattle.qdimacs.specs.Kept.{AreNew};
+ghost use Rattle.frames.specs.State.{literals_in};
+ghost use Rattle.solve.specs.Feeding.{HoldsFormula};
+
+use engine::Engine;
+use frames::FrameRefusal;
+use prefix::{Lit, LitList, Prefix, Quant, Var};
+use std::alloc::{AllocError, Global};
+use std::collections::BTreeSet;
+use truth::Formula;
+
+// Gives the scopes, the variables and the clauses of a formula to an engine that has none. They are refused for want of
+// memory alone. The time is linear in the variables and literals, apart from sorting a clause.
+pub(crate) fn feed(alloc: Global, engine: &mut Engine, f: &Formula) -> Result<(), FrameRefusal>
+    requires empty { HoldsFormula [] [] engine.old }
+    requires formed { IsFormed f.now }
+    ensures ok { OnOk result (HoldsFormula f.now.prefix f.now.clauses engine.new) }
+    ensures memory { IsOkUnless result FrameRefusal.NoMemory }
+{
+    feed_scopes(engine, &f.prefix)?;
+    let mut numbers = Vec::new(alloc);
+    feed_clauses(engine, f.clauses.clauses(), &mut numbers)
+}
+
+// Gives the scopes with their variables.
+fn feed_scopes(engine: &mut Engine, prefix: &Prefix) -> Result<(), FrameRefusal>
+    requires { HoldsFormula [] [] engine.old }
+    ensures ok { OnOk result (HoldsFormula prefix.now [] engine.new) }
+    ensures valid { IsPrefix prefix.now }
+    ensures memory { IsOkUnless result FrameRefusal.NoMemory }
+{
+    for number in 1..prefix.scopes() + 1 {
+        if let Some(quant) = prefix.scope_quant(number) {
+            feed_scope(engine, quant, prefix.vars_of(number))?;
+        }
+    }
+    Ok(())
+}
+
+// Gives a scope, as the last, with its variables.
+fn feed_scope(engine: &mut Engine, quant: Quant, vars: &BTreeSet<Var>) -> Result<(), FrameRefusal>
+    requires holds { HoldsFormula engine.old.formula.scopes [] engine.old }
+    requires room { length engine.old.formula.scopes < 65536 }
+    requires new { AreNew engine.old.formula.scopes vars.now.keys }
+    requires ascending { IsAscending vars.now.keys }
+    ensures ok { OnOk result (HoldsFormula (engine.old.formula.scopes
+        ++ record { quantifier = quant; variables = vars.now.keys } ∷ []) [] engine.new) }
+    ensures memory { IsOkUnless result FrameRefusal.NoMemory }
+{
+    engine.scope(quant, None)?;
+    let number = engine.prefix().scopes() as u64;
+    for var in vars {
+        engine.var(var.number() as u64, number)?;
+    }
+    Ok(())
+}
+
+// Gives the clauses, the numbers of each in the same buffer.
+fn feed_clauses(
+    engine: &mut Engine,
+    clauses: &[LitList],
+    numbers: &mut Vec<i64>,
+) -> Result<(), FrameRefusal>
+    requires holds { HoldsFormula engine.old.formula.scopes [] engine.old }
+    requires valid { IsPrefix engine.old.formula.scopes }
+    requires rows { AllByRecursion (IsClauseOver engine.old.formula.scopes) clauses.now }
+    requires count { length clauses.now ≤ 2 ^ 24 }
+    requires amount { literals_in clauses.now ≤ 2 ^ 28 }
+    ensures ok { OnOk result (HoldsFormula engine.old.formula.scopes clauses.now engine.new) }
+    ensures memory { IsOkUnless result FrameRefusal.NoMemory }
+{
+    for clause in clauses {
+        put_numbers(numbers, clause.lits())?;
+        engine.clause(numbers)?;
+    }
+    Ok(())
+}
+
+// Puts the numbers of these literals in the place of others.
+fn put_numbers(numbers: &mut Vec<i64>, lits: &[Lit]) -> Result<(), AllocError>
+    ensures { OnOk result (numbers.new.items ≡ map signed_number lits.now) }
+{
+    numbers.clear();
+    for lit in lits {
+        numbers.push(lit.number() as i64)?;
+    }
+    Ok(())
+}

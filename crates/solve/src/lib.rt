@@ -1,0 +1,22 @@
+//! A formula, loaded into an engine and solved, and what is told of its verdict.
+//!
+//! `specs/Terms` says on what terms a solve is made, `specs/Standing` what commands come to that build a formula and
+//! decide it, `specs/Feeding` what an engine holds that was fed with one, `specs/Decisions` what a solve comes to,
+//! `specs/Answers` what the answer to a formula is, and `specs/Stops` what is told of a search that stopped.
+//! `specs/Traces` and `specs/Certificates` say what the trace and the circuit of a verdict are.
+#![tactic(auto)]
+
+mod answer;
+mod decision;
+mod ending;
+mod feed;
+mod formula;
+mod lines;
+mod worked;
+
+pub use answer::Answer;
+pub use decision::{Decision, put_told};
+pub use ending::Ending;
+pub use formula::{decide, decide_formula, engine_with};
+pub use lines::{write, write_answer, write_circuit, write_core};
+pub use worked::{worked_answers, worked_certificates, worked_decisions, worked_traces};
