@@ -18,7 +18,7 @@ use Rattle.session.specs.State.{SessionState}
 use Rattle.solve.specs.Holding.{Holds}
 use Rattle.solve.specs.Terms.{Terms}
 use Rattle.solve.specs.declared.decision.Decision.{Decision}
-use Rattle.solve.specs.declared.decision.Decision.TheVariants.{Sat as IsTrue, Unsat as IsFalse, Unknown as IsStopped}
+use Rattle.solve.specs.declared.decision.Decision.TheVariants.{Sat as is_sat, Unsat as is_unsat, Unknown as is_unknown}
 use Rattle.solve.specs.Decisions.{stopped_at, truth_of}
 use Rattle.solve.specs.Stops.{listed}
 
@@ -33,9 +33,9 @@ told_by Written = []
 
 -- the reply to a solve that came to this
 abbrev pub reply_to : Decision → Reply
-reply_to IsTrue = Sat
-reply_to IsFalse = Unsat
-reply_to (IsStopped stopped) = Unknown stopped
+reply_to is_sat = Sat
+reply_to is_unsat = Unsat
+reply_to (is_unknown stopped) = Unknown stopped
 
 -- The reply to a solve of a formula with this truth: the truth, or that the budget was spent first.
 abbrev pub IsSolveReply : Bool → Reply → Type 0

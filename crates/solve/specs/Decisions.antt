@@ -21,30 +21,30 @@ use Rattle.solve.specs.Holding.{Holds}
 use Rattle.truth.specs.declared.formula.Formula.{Formula}
 use Rattle.solve.specs.Feeding.{opened}
 use Rattle.solve.specs.declared.decision.Decision.{Decision}
-use Rattle.solve.specs.declared.decision.Decision.TheVariants.{Sat as IsTrue, Unsat as IsFalse, Unknown as IsStopped}
+use Rattle.solve.specs.declared.decision.Decision.TheVariants.{Sat as is_sat, Unsat as is_unsat, Unknown as is_unknown}
 
 -- what it tells of a search that stopped
 abbrev pub told_by : Decision → List Account
-told_by IsTrue = []
-told_by IsFalse = []
-told_by (IsStopped stopped) = stopped ∷ []
+told_by is_sat = []
+told_by is_unsat = []
+told_by (is_unknown stopped) = stopped ∷ []
 
 -- its answer
 abbrev pub answered : Decision → Answer
-answered IsTrue = Sat
-answered IsFalse = Unsat
-answered (IsStopped stopped) = Unknown
+answered is_sat = Sat
+answered is_unsat = Unsat
+answered (is_unknown stopped) = Unknown
 
 -- that of a verdict
 abbrev pub decision_of : Bool → Decision
-decision_of true = IsTrue
-decision_of false = IsFalse
+decision_of true = is_sat
+decision_of false = is_unsat
 
 -- It is right of a formula with this truth: it says the truth, or that the budget was spent first.
 abbrev pub IsRight : Bool → Decision → Type 0
-IsRight truth IsTrue = truth ≡ true
-IsRight truth IsFalse = truth ≡ false
-IsRight truth (IsStopped stopped) = ⊤
+IsRight truth is_sat = truth ≡ true
+IsRight truth is_unsat = truth ≡ false
+IsRight truth (is_unknown stopped) = ⊤
 
 -- the truth of a formula under its assumptions
 abbrev pub truth_of : OpenFormula → Bool

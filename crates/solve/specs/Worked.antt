@@ -20,7 +20,7 @@ use Rattle.solve.specs.Answers.{IsAnswerTo}
 use Rattle.solve.specs.Standing.{Standing}
 use Rattle.solve.specs.Stops.{AddsEntry, IsStopAt}
 use Rattle.solve.specs.Terms.{terms_of, with_restarts}
-use Rattle.solve.specs.declared.decision.Decision.TheVariants.{Sat as IsTrue, Unknown as IsStopped}
+use Rattle.solve.specs.declared.decision.Decision.TheVariants.{Sat as is_sat, Unknown as is_unknown}
 
 -- 2 differs from 1, with these quantifiers of 1 and 2 in that order
 abbrev pub differs : Quant → Quant → Formula
@@ -77,9 +77,9 @@ refuted = record {
 
 -- decisions that are right, and that aren't
 pub record WorkedDecisions : Type 0 where
-  pub says_true : IsRight true IsTrue
-  pub not_true : IsRight false IsTrue → ⊥
-  pub gives_up : IsRight false (IsStopped at_thirty_six)
+  pub says_true : IsRight true is_sat
+  pub not_true : IsRight false is_sat → ⊥
+  pub gives_up : IsRight false (is_unknown at_thirty_six)
   -- the empty clause makes the formula false, whatever the budget
   pub unsat : Decides contradiction (says (codes "UNSAT\n")) refuted
   pub not_sat : (after : Standing) → Decides contradiction (says (codes "SAT\n")) after → ⊥
