@@ -1,6 +1,7 @@
 pub mod Asks
 pub mod Cores
 pub mod Counting
+pub mod Given
 pub mod Kept
 pub mod Marks
 pub mod Refusals

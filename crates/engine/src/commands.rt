@@ -1,17 +1,20 @@
 //! Commands that change the formula.
-ghost use Rattle.std.specs.Prelude.{◌≡◌, ◌≢◌, ◌≤◌, ◌<◌, None, IsOk, IfErr, OnOk, OnErr, IsOkUnless, MatchOption, vec_len, vec_capacity};
+ghost use Rattle.std.specs.Prelude.{◌≡◌, ◌≢◌, ◌≤◌, ◌<◌, None, IsOk, IfErr, OnOk, OnErr, IsOkUnless, MatchOption, map, vec_len, vec_capacity};
+ghost use Rattle.prefix.specs.Literal.{signed_number};
+ghost use Rattle.truth.specs.Formed.{IsClauseOver};
 ghost use Rattle.frames.specs.Commands.{AddClause, AddScope, AddVariable, Assume, Pop, Push, refusal_of};
 ghost use Rattle.engine.specs.Counting.{with_clause};
+ghost use Rattle.engine.specs.Given.{MayBeGiven, numbers_of};
 ghost use Rattle.engine.specs.State.{changed};
 
 use crate::engine::Engine;
-use crate::tied::{drop_top, forget_outcome, put_clause};
+use crate::tied::{Given, drop_top, forget_outcome, put_clause};
 use crate::variables::variable_for;
 use calculus::prefixes_grow;
 use derive::StepId;
 use frames::{FrameRefusal, Frames};
 use memory::NoMemory;
-use prefix::Quant;
+use prefix::{LitList, Quant};
 use search::resting_grows;
 
 impl Engine {
@@ -70,7 +73,40 @@ impl Engine {
         ensures err { OnErr result (self.new ≡ record self.old { kept_long = self.new.kept_long }) }
         ensures fewer { OnErr result (self.new.kept_long ≤ self.old.kept_long) }
     {
-        put_clause(&mut self.frames, &mut self.search, lits)?;
+        self.put(Given::Numbers(lits))
+    }
+
+    /// Puts a row into the open group, or else into the top frame: the clause of its literals, which moves in and isn't
+    /// sorted again. It is refused as `clause` refuses that clause, and leaves what that leaves.
+    pub fn row(&mut self, row: LitList) -> Result<(), FrameRefusal>
+        requires { IsClauseOver self.old.formula.scopes row }
+        ensures ok { OnOk result (self.new ≡ record (changed self.old (AddClause (map signed_number row))) {
+          counts = with_clause self.old.counts;
+          kept_long = self.new.kept_long;
+        }) }
+        ensures refused { MatchOption (refusal_of self.old.formula (AddClause (map signed_number row)))
+            (IsOkUnless result FrameRefusal.NoMemory) (λ e. result ≡ Err e) }
+        ensures stays { IfErr result (λ e. e ≢ FrameRefusal.NoMemory → self.new ≡ self.old) }
+        ensures err { OnErr result (self.new ≡ record self.old { kept_long = self.new.kept_long }) }
+        ensures fewer { OnErr result (self.new.kept_long ≤ self.old.kept_long) }
+    {
+        self.put(Given::Row(row))
+    }
+
+    // Puts a clause in.
+    fn put(&mut self, clause: Given<'_>) -> Result<(), FrameRefusal>
+        requires { MayBeGiven self.old.formula.scopes clause }
+        ensures ok { OnOk result (self.new ≡ record (changed self.old (AddClause (numbers_of clause))) {
+          counts = with_clause self.old.counts;
+          kept_long = self.new.kept_long;
+        }) }
+        ensures refused { MatchOption (refusal_of self.old.formula (AddClause (numbers_of clause)))
+            (IsOkUnless result FrameRefusal.NoMemory) (λ e. result ≡ Err e) }
+        ensures stays { IfErr result (λ e. e ≢ FrameRefusal.NoMemory → self.new ≡ self.old) }
+        ensures err { OnErr result (self.new ≡ record self.old { kept_long = self.new.kept_long }) }
+        ensures fewer { OnErr result (self.new.kept_long ≤ self.old.kept_long) }
+    {
+        put_clause(&mut self.frames, &mut self.search, clause)?;
         forget_outcome(&mut self.search, &self.frames);
         self.verdict = None;
         self.counts = self.counts.with_clause();

@@ -1,5 +1,5 @@
 //! Frames and a search that belong together.
-ghost use Rattle.std.specs.Prelude.{◌≡◌, ◌≢◌, ◌≤◌, ◌<◌, ◌+◌, ◌-◌, ◌^◌, ◌==◌, ◌||◌, ℕ, not, filter, List, IfOk, IfErr, IfSome, OnOk, OnErr, IsOkUnless, MatchOption};
+ghost use Rattle.std.specs.Prelude.{◌≡◌, ◌≢◌, ◌≤◌, ◌<◌, ◌+◌, ◌-◌, ◌^◌, ◌==◌, ◌||◌, ℕ, not, filter, List, Some, Err, IfOk, IfErr, IfSome, OnOk, OnErr, IsOkUnless, MatchOption};
 ghost use Rattle.steps.specs.Counter.{step_limit};
 ghost use Rattle.prefix.specs.Scopes.{Scope};
 ghost use Rattle.calculus.specs.Derivations.{Extends};
@@ -17,6 +17,7 @@ ghost use Rattle.search.specs.Finishes.{HasNoFinish, IsFinishId};
 ghost use Rattle.search.specs.Forcing.{HasNoCubes};
 ghost use Rattle.search.specs.Long.{long_in};
 ghost use Rattle.search.specs.Stops.{IsQuickStop};
+ghost use Rattle.engine.specs.Given.{MayBeGiven, numbers_of};
 ghost use Rattle.engine.specs.Kept.{AreTied, IsFound, group_tag, joined_tag};
 ghost use Rattle.engine.specs.Verdicts.{IsStopFor};
 
@@ -25,7 +26,7 @@ use derive::StepId;
 use frames::{FrameRefusal, Frames};
 use matrix::Matrix;
 use memory::NoMemory;
-use prefix::Lit;
+use prefix::{Lit, LitList};
 use search::{Search, SolveStop};
 use steps::Steps;
 
@@ -87,17 +88,42 @@ pub(crate) fn decide(
     })
 }
 
+// A clause as it is given: by numbers, as QDIMACS 1.1 writes literals, or as a row of the prefix, which moves in.
+#[derive(Debug, Drop)]
+pub(crate) enum Given<'a> {
+    Numbers(&'a [i64]),
+    Row(LitList),
+}
+
+// Puts a clause into the frames.
+fn accept(frames: &mut Frames, clause: Given<'_>) -> Result<(), FrameRefusal>
+    requires { MayBeGiven frames.old.formula.scopes clause }
+    ensures ok { OnOk result (frames.new ≡ record {
+      formula = formula_after frames.old.formula (AddClause (numbers_of clause));
+      before = Some frames.old.formula;
+    }) }
+    ensures refused { MatchOption (refusal_of frames.old.formula (AddClause (numbers_of clause)))
+        (IsOkUnless result FrameRefusal.NoMemory) (λ e. result ≡ Err e) }
+    ensures err { OnErr result (frames.new ≡ frames.old) }
+{
+    match clause {
+        Given::Numbers(lits) => frames.add_clause(lits),
+        Given::Row(row) => frames.add_row(row),
+    }
+}
+
 // Puts a clause into the frames, and its row into the search, where it is open. With no memory the formula and the
-// steps
-// stay; where the clause is refused, all does.
+// steps stay; where the clause is refused, all does.
 pub(crate) fn put_clause(
     frames: &mut Frames,
     search: &mut Search,
-    lits: &[i64],
+    clause: Given<'_>,
 ) -> Result<(), FrameRefusal>
-    requires { AreTied frames.old.formula search.old }
-    ensures ok { OnOk result (frames.new.formula ≡ formula_after frames.old.formula (AddClause lits.now)) }
-    ensures refused { MatchOption (refusal_of frames.old.formula (AddClause lits.now))
+    requires tied { AreTied frames.old.formula search.old }
+    requires given { MayBeGiven frames.old.formula.scopes clause }
+    ensures ok { OnOk result (frames.new.formula
+        ≡ formula_after frames.old.formula (AddClause (numbers_of clause))) }
+    ensures refused { MatchOption (refusal_of frames.old.formula (AddClause (numbers_of clause)))
         (IsOkUnless result FrameRefusal.NoMemory) (λ e. result ≡ Err e) }
     ensures err { OnErr result (frames.new.formula ≡ frames.old.formula) }
     ensures stays { IfErr result (λ e. e ≢ FrameRefusal.NoMemory → search.new ≡ search.old) }
@@ -108,7 +134,7 @@ pub(crate) fn put_clause(
     ensures reductions { reductions_in search.new.derivation ≤ reductions_in search.old.derivation + 1 }
     ensures older { KeepsOlder search.old.derivation search.new.derivation }
 {
-    frames.add_clause(lits)?;
+    accept(frames, clause)?;
     if put_last(search, frames).is_err() {
         frames.take_back();
         return Err(FrameRefusal::NoMemory);

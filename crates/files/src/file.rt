@@ -36,7 +36,7 @@ use memory::NoMemory;
 use ports::{Desk, Failed, Sink};
 use prefix::{Prefix, Quant};
 use solve::{
-    Answer, Ending, decide, engine_with, put_told, write_answer, write_circuit, write_core,
+    Answer, Ending, decide, engine_of, put_told, write_answer, write_circuit, write_core,
 };
 use std::alloc::Global;
 use trail::Stopped;
@@ -144,11 +144,11 @@ fn load<D: Desk>(alloc: Global, job: Job, desk: &mut D) -> Result<(Engine, Heade
     ensures stays { (n : List ℕ) → D.steady desk.old n → D.steady desk.new n }
 {
     let f = read_input(alloc, job, desk)?;
-    let engine = engine_with(alloc, &f)?;
     let header = Header {
         vars: f.declared_vars,
         clauses: f.declared_clauses,
     };
+    let engine = engine_of(alloc, f)?;
     Ok((engine, header))
 }
 

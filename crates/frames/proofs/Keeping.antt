@@ -15,9 +15,9 @@ use Rattle.frames.specs.declared.frames.Latest.TheVariants.{Other, LeftOut, Kept
 use Rattle.frames.specs.declared.frames.Start.{Start}
 use Rattle.prefix.specs.Scopes.{IsAscending}
 use Rattle.calculus.specs.Rows.{variables_in}
-use Rattle.clauses.specs.Clause.{is_tautology, as_row}
+use Rattle.clauses.specs.Clause.{as_row}
 use Rattle.frames.specs.State.{Frame, OpenFormula, put_assumption, settled, pushed, popped, depth, top_variables, with_row, with_leaving, with_variable, leaves_in, without_variables, without_assumed}
-use Rattle.frames.specs.Commands.{Pop, formula_after, max_pushed, with_clause, with_row_at}
+use Rattle.frames.specs.Commands.{Pop, formula_after, max_pushed, with_row_at}
 use Rattle.frames.specs.Groups.{Group}
 use Rattle.frames.specs.Kept.{at_first, AreStarts, AreFrames, AreAssumptions, formula_of, state_of, frames_from, outside, rows_before, rows_with}
 use Rattle.frames.specs.Places.{GroupsState, joined, with_joined, without_last}
@@ -289,21 +289,10 @@ told_last now None f b before some is e = absurd (some refl)
 told_last now (Some x) f b before some is e =
     let same : b ≡ before = cc in subst (λ (g : OpenFormula). f ≡ with_row_at g.current (now x) g) same is
 
-if_plain : (t : Bool) (clause : List ℤ) (s : OpenFormula) → t ≡ false
+pub if_plain : (t : Bool) (clause : List ℤ) (s : OpenFormula) → t ≡ false
     → with_row_at s.current (as_row clause) s ≡ (if t then s else with_row_at s.current (as_row clause) s)
 if_plain true clause s e = absurd (cc)
 if_plain false clause s e = refl
-
--- a row of a clause that is no tautology
-view_kept : (version : Version) (scopes : List Scope) (starts : List Start) (rows : List Row) (vars : List ℕ)
-    (gs : GroupsState) (ls : List Literal) (clause : List ℤ) → is_tautology clause ≡ false
-    → AreStarts at_first starts (ending rows vars)
-    → formula_of version scopes starts (rows_with gs.current (as_row clause) rows) vars
-    (with_joined (as_row clause) gs) ls
-    ≡ with_clause clause (formula_of version scopes starts rows vars gs ls)
-view_kept version scopes starts rows vars gs ls clause plain a =
-    with_row_is version scopes starts rows vars gs.groups gs.current ls (as_row clause) a
-    ∙ if_plain (is_tautology clause) clause (formula_of version scopes starts rows vars gs ls) plain
 
 -- the row is the last one
 row_back : (current : Option ℕ) (r : Row) (rows : List Row) → rows_before current (rows_with current r rows) ≡ rows
@@ -311,21 +300,20 @@ row_back None r rows = all_but_last rows r
 row_back (Some n) r rows = refl
 
 pub view_put : (version : Version) (scopes : List Scope) (starts : List Start) (rows more : List Row) (vars : List ℕ)
-    (gs news : GroupsState) (ls : List Literal) (clause : List ℤ) → is_tautology clause ≡ false
-    → more ≡ rows_with gs.current (as_row clause) rows → news ≡ with_joined (as_row clause) gs
-    → AreStarts at_first starts (ending rows vars)
+    (gs news : GroupsState) (ls : List Literal) (row : Row) → more ≡ rows_with gs.current row rows
+    → news ≡ with_joined row gs → AreStarts at_first starts (ending rows vars)
     → state_of version scopes starts more vars news ls Kept ≡ record {
-      formula = with_clause clause (formula_of version scopes starts rows vars gs ls);
+      formula = with_row_at gs.current row (formula_of version scopes starts rows vars gs ls);
       before = Some (formula_of version scopes starts rows vars gs ls);
     }
-view_put version scopes starts rows more vars gs news ls clause plain e g a =
+view_put version scopes starts rows more vars gs news ls row e g a =
     ap₂ (λ (rs : List Row) (s : GroupsState). state_of version scopes starts rs vars s ls Kept) e g
     ∙ ap₂ (λ (f b : OpenFormula). record { formula = f; before = Some b })
-    (view_kept version scopes starts rows vars gs ls clause plain a)
+    (with_row_is version scopes starts rows vars gs.groups gs.current ls row a)
     (ap₂ (λ (rs : List Row) (hs : List Group). formula_of version scopes starts rs vars (record {
       groups = hs;
       current = gs.current;
-    }) ls) (row_back gs.current (as_row clause) rows) (joined_back gs.current (as_row clause) gs.groups))
+    }) ls) (row_back gs.current row rows) (joined_back gs.current row gs.groups))
 
 added_leaving : (version : Version) (scopes : List Scope) (starts : List Start) (rows : List Row) (vars : List ℕ)
     (r : Row) → AreStarts at_first starts (ending rows vars)

@@ -5,6 +5,7 @@ pub mod Holding
 pub mod Keeping
 pub mod Knowing
 pub mod Leaving
+pub mod Numbers
 pub mod Placing
 pub mod Refusing
 pub mod Starts

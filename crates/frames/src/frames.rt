@@ -1,15 +1,17 @@
 //! Frames.
-ghost use Rattle.std.specs.Prelude.{Ok, ◌≡◌, ◌<◌, ℕ, true, false, [], Some, None, is_some, IsSome, IsOk, IfOk, IfSome, OnOk, OnErr, IsOkUnless, MatchOption, length, slice_get};
+ghost use Rattle.std.specs.Prelude.{Ok, ◌≡◌, ◌<◌, ℕ, true, false, [], Some, None, is_some, IsSome, IsOk, IfOk, IfSome, OnOk, OnErr, IsOkUnless, MatchOption, length, map, slice_get};
 ghost use Rattle.std.specs.List.{AllByRecursion};
+ghost use Rattle.prefix.specs.Literal.{signed_number};
 ghost use Rattle.prefix.specs.Scopes.{IsPrefix, IsAscending, AreDistinct, level_of};
 ghost use Rattle.calculus.specs.Rows.{IsRow, variables_in};
 ghost use Rattle.calculus.specs.Verdicts.{AreOuter};
-ghost use Rattle.frames.specs.State.{OpenFormula, new_formula, empty_formula, settled, clauses_in, open_clauses as open_clauses_of, popped, variables_on_top, depth as depth_of};
+ghost use Rattle.truth.specs.Formed.{IsClauseOver};
+ghost use Rattle.frames.specs.State.{OpenFormula, all_clauses, new_formula, empty_formula, settled, clauses_in, open_clauses as open_clauses_of, popped, variables_on_top, depth as depth_of};
 ghost use Rattle.frames.specs.Groups.{AreRising, active_in, clauses_at, grouped_in, is_active as is_active_in, is_group, with_mark};
 ghost use Rattle.frames.specs.Places.{IsGroupAt};
 ghost use Rattle.frames.specs.Kept.{last_vars};
 ghost use Rattle.frames.specs.Leaving.{NamesNone};
-ghost use Rattle.frames.specs.Commands.{with_row_at, Activate, AddClause, AddScope, AddVariable, Assume, CloseGroup, Deactivate, OpenGroup, Pop, Push, first_of, formula_after, refusal_of, turn_refusals};
+ghost use Rattle.frames.specs.Commands.{with_row_at, Activate, AddClause, AddScope, AddVariable, Assume, CloseGroup, Deactivate, OpenGroup, Pop, Push, first_of, formula_after, is_beyond, refusal_of, turn_refusals};
 
 use crate::assumptions::Assumptions;
 use crate::groups::{Group, Groups};
@@ -240,6 +242,39 @@ impl Frames {
             self.latest = Latest::LeftOut;
             return Ok(());
         };
+        self.put(row)
+    }
+
+    /// Puts a row into the open group, or else into the top frame: the clause of its literals, which moves in and isn't
+    /// sorted again. It is refused as `add_clause` refuses that clause; the time is constant.
+    pub fn add_row(&mut self, row: LitList) -> Result<(), FrameRefusal>
+        requires { IsClauseOver self.old.formula.scopes row }
+        ensures ok { OnOk result (self.new ≡ record {
+          formula = formula_after self.old.formula (AddClause (map signed_number row));
+          before = Some self.old.formula;
+        }) }
+        ensures refused { MatchOption (refusal_of self.old.formula (AddClause (map signed_number row)))
+            (IsOkUnless result FrameRefusal.NoMemory) (λ e. result ≡ Err e) }
+        ensures err { OnErr result (self.new ≡ self.old) }
+    {
+        // The scopes are a prefix.
+        let _valid = self.prefix();
+        self.put(row)
+    }
+
+    // Puts a row of the prefix into the open group, or else into the top frame.
+    fn put(&mut self, row: LitList) -> Result<(), FrameRefusal>
+        requires { IsRow self.old.formula.scopes row }
+        ensures ok { OnOk result (self.new ≡ record {
+          formula = with_row_at self.old.formula.current row self.old.formula;
+          before = Some self.old.formula;
+        }) }
+        ensures limit { is_beyond (all_clauses self.old.formula) (length row) ≡ true →
+            result ≡ Err FrameRefusal.Limit }
+        ensures within { is_beyond (all_clauses self.old.formula) (length row) ≡ false →
+            IsOkUnless result FrameRefusal.NoMemory }
+        ensures err { OnErr result (self.new ≡ self.old) }
+    {
         let added = row.lits().len();
         if self.total.is_beyond(added) {
             return Err(FrameRefusal::Limit);

@@ -1,5 +1,4 @@
 mod Feeding
-mod Numbers
 pub mod Answering
 pub mod Certified
 pub mod Certifying

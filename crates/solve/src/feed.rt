@@ -1,7 +1,6 @@
 //! A formula that was read, fed to an engine.
-ghost use Rattle.std.specs.Prelude.{◌≡◌, ◌∷◌, ◌++◌, ◌<◌, ◌≤◌, ◌^◌, [], length, map, IsOkUnless, OnOk};
+ghost use Rattle.std.specs.Prelude.{◌≡◌, ◌∷◌, ◌++◌, ◌<◌, ◌≤◌, ◌^◌, [], length, IfOk, IsOkUnless, OnOk};
 ghost use Rattle.std.specs.List.{AllByRecursion};
-ghost use Rattle.prefix.specs.Literal.{signed_number};
 ghost use Rattle.prefix.specs.Scopes.{IsAscending, IsPrefix};
 ghost use Rattle.truth.specs.Formed.{IsClauseOver, IsFormed};
 ghost use Rattle.qdimacs.specs.Kept.{AreNew};
@@ -10,13 +9,13 @@ ghost use Rattle.solve.specs.Feeding.{HoldsFormula};
 
 use engine::Engine;
 use frames::FrameRefusal;
-use prefix::{Lit, LitList, Prefix, Quant, Var};
+use prefix::{LitList, Prefix, Quant, Var};
 use std::alloc::{AllocError, Global};
 use std::collections::BTreeSet;
 use truth::Formula;
 
-// Gives the scopes, the variables and the clauses of a formula to an engine that has none. They are refused for want of
-// memory alone. The time is linear in the variables and literals, apart from sorting a clause.
+// Gives the scopes, the variables and copies of the clauses of a formula to an engine that has none. They are refused
+// for want of memory alone. The time is linear in the variables and literals.
 pub(crate) fn feed(alloc: Global, engine: &mut Engine, f: &Formula) -> Result<(), FrameRefusal>
     requires empty { HoldsFormula [] [] engine.old }
     requires formed { IsFormed f.now }
@@ -24,8 +23,18 @@ pub(crate) fn feed(alloc: Global, engine: &mut Engine, f: &Formula) -> Result<()
     ensures memory { IsOkUnless result FrameRefusal.NoMemory }
 {
     feed_scopes(engine, &f.prefix)?;
-    let mut numbers = Vec::new(alloc);
-    feed_clauses(engine, f.clauses.clauses(), &mut numbers)
+    feed_clauses(alloc, engine, f.clauses.clauses())
+}
+
+// The same of a formula whose clauses move in, so that they stand once.
+pub(crate) fn feed_whole(engine: &mut Engine, f: Formula) -> Result<(), FrameRefusal>
+    requires empty { HoldsFormula [] [] engine.old }
+    requires formed { IsFormed f }
+    ensures ok { OnOk result (HoldsFormula f.prefix f.clauses engine.new) }
+    ensures memory { IsOkUnless result FrameRefusal.NoMemory }
+{
+    feed_scopes(engine, &f.prefix)?;
+    move_clauses(engine, f.clauses.into_vec())
 }
 
 // Gives the scopes with their variables.
@@ -61,12 +70,8 @@ fn feed_scope(engine: &mut Engine, quant: Quant, vars: &BTreeSet<Var>) -> Result
     Ok(())
 }
 
-// Gives the clauses, the numbers of each in the same buffer.
-fn feed_clauses(
-    engine: &mut Engine,
-    clauses: &[LitList],
-    numbers: &mut Vec<i64>,
-) -> Result<(), FrameRefusal>
+// Gives the clauses, copied.
+fn feed_clauses(alloc: Global, engine: &mut Engine, clauses: &[LitList]) -> Result<(), FrameRefusal>
     requires holds { HoldsFormula engine.old.formula.scopes [] engine.old }
     requires valid { IsPrefix engine.old.formula.scopes }
     requires rows { AllByRecursion (IsClauseOver engine.old.formula.scopes) clauses.now }
@@ -76,19 +81,33 @@ fn feed_clauses(
     ensures memory { IsOkUnless result FrameRefusal.NoMemory }
 {
     for clause in clauses {
-        put_numbers(numbers, clause.lits())?;
-        engine.clause(numbers)?;
+        let row = copied(alloc, clause)?;
+        engine.row(row)?;
     }
     Ok(())
 }
 
-// Puts the numbers of these literals in the place of others.
-fn put_numbers(numbers: &mut Vec<i64>, lits: &[Lit]) -> Result<(), AllocError>
-    ensures { OnOk result (numbers.new.items ≡ map signed_number lits.now) }
+// Gives the clauses, which move in.
+fn move_clauses(engine: &mut Engine, clauses: Vec<LitList>) -> Result<(), FrameRefusal>
+    requires holds { HoldsFormula engine.old.formula.scopes [] engine.old }
+    requires valid { IsPrefix engine.old.formula.scopes }
+    requires rows { AllByRecursion (IsClauseOver engine.old.formula.scopes) clauses.items }
+    requires count { length clauses.items ≤ 2 ^ 24 }
+    requires amount { literals_in clauses.items ≤ 2 ^ 28 }
+    ensures ok { OnOk result (HoldsFormula engine.old.formula.scopes clauses.items engine.new) }
+    ensures memory { IsOkUnless result FrameRefusal.NoMemory }
 {
-    numbers.clear();
-    for lit in lits {
-        numbers.push(lit.number() as i64)?;
+    for clause in clauses {
+        engine.row(clause)?;
     }
     Ok(())
+}
+
+// A copy of a clause.
+fn copied(alloc: Global, clause: &LitList) -> Result<LitList, AllocError>
+    ensures { IfOk result (λ row. row ≡ clause.now) }
+{
+    let mut lits = Vec::with_capacity(alloc, clause.lits().len())?;
+    lits.extend_from_slice(clause.lits())?;
+    Ok(LitList::from_vec(lits))
 }

@@ -11,7 +11,7 @@ ghost use Rattle.solve.specs.Terms.{Terms, terms_of};
 
 use crate::answer::Answer;
 use crate::decision::Decision;
-use crate::feed::feed;
+use crate::feed::{feed, feed_whole};
 use engine::{Engine, SolveStop, Verdict};
 use memory::NoMemory;
 use std::alloc::Global;
@@ -26,6 +26,19 @@ pub fn engine_with(alloc: Global, f: &Formula) -> Result<Engine, NoMemory>
     let mut engine = Engine::new(alloc)?;
     // What is formed is refused for want of memory alone.
     match feed(alloc, &mut engine, f) {
+        Ok(()) => Ok(engine),
+        Err(_) => Err(NoMemory),
+    }
+}
+
+/// An engine that holds a formula whose clauses move in: those of a large one then stand once.
+pub fn engine_of(alloc: Global, f: Formula) -> Result<Engine, NoMemory>
+    requires { IsFormed f }
+    ensures { IfOk result (HoldsFormula f.prefix f.clauses) }
+{
+    let mut engine = Engine::new(alloc)?;
+    // What is formed is refused for want of memory alone.
+    match feed_whole(&mut engine, f) {
         Ok(()) => Ok(engine),
         Err(_) => Err(NoMemory),
     }

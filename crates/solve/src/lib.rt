@@ -17,6 +17,6 @@ mod worked;
 pub use answer::Answer;
 pub use decision::{Decision, put_told};
 pub use ending::Ending;
-pub use formula::{decide, decide_formula, engine_with};
+pub use formula::{decide, decide_formula, engine_of, engine_with};
 pub use lines::{write, write_answer, write_circuit, write_core};
 pub use worked::{worked_answers, worked_certificates, worked_decisions, worked_traces};

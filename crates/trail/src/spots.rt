@@ -1,5 +1,5 @@
 //! Where the variables stand, with their values apart from their places.
-ghost use Rattle.std.specs.Prelude.{◌≡◌, ◌++◌, ◌-◌, ◌<◌, ◌≤◌, [], None, Some, OnErr, OnOk, length, replicate, slice_index_or, slice_set, take};
+ghost use Rattle.std.specs.Prelude.{◌≡◌, ◌++◌, ◌-◌, ◌<◌, ◌≤◌, ◌^◌, [], None, Some, OnErr, OnOk, length, replicate, slice_index_or, slice_set, take};
 ghost use Rattle.std.specs.Option.{option_map};
 ghost use Rattle.trail.specs.Spots.{value_of};
 
@@ -43,7 +43,8 @@ impl Spots {
     // How many variables have a spot.
     #[tactic(auto, using(crate::proofs::Spotting::spots_length))]
     pub(crate) fn len(&self) -> usize
-        ensures { result ≡ length self.now }
+        ensures value { result ≡ length self.now }
+        ensures small { result < 2 ^ 32 }
     {
         self.values.len()
     }
@@ -104,7 +105,8 @@ impl Spots {
     pub(crate) fn set(&mut self, index: usize, spot: Spot)
         requires within { index < length self.old }
         requires place { spot.place < length self.old }
-        ensures { self.new ≡ slice_set self.old index (Some spot) }
+        ensures value { self.new ≡ slice_set self.old index (Some spot) }
+        ensures small { length self.old < 2 ^ 32 }
     {
         self.values[index] = Some(spot.value);
         self.places[index] = spot.place as u32;

@@ -7,11 +7,12 @@ use std::alloc::AllocError;
 
 // Makes places up to this number of them, and counts the entries of their scopes.
 pub(crate) fn widen(
-    tallies: &mut Vec<usize>,
+    tallies: &mut Vec<u32>,
     entries: &[Entry],
     scopes: usize,
 ) -> Result<(), AllocError>
-    requires { AreCounted entries.now tallies.old.items }
+    requires counted { AreCounted entries.now tallies.old.items }
+    requires few { length entries.now < 2 ^ 32 }
     ensures counted { AreCounted entries.now tallies.new.items }
     ensures long { OnOk result (scopes ≤ length tallies.new.items) }
     ensures grown { length tallies.old.items ≤ length tallies.new.items }
@@ -29,8 +30,8 @@ pub(crate) fn widen(
 }
 
 // Counts one more of a scope that has a place in the table.
-pub(crate) fn count_up(tallies: &mut Vec<usize>, scope: usize)
-    requires { slice_index tallies.old.items scope < 2 ^ 63 }
+pub(crate) fn count_up(tallies: &mut Vec<u32>, scope: usize)
+    requires { slice_index tallies.old.items scope + 1 < 2 ^ 32 }
     ensures { tallies.new.items ≡ slice_set tallies.old.items scope (slice_index tallies.old.items scope + 1) }
 {
     if scope < tallies.len() {
@@ -39,7 +40,7 @@ pub(crate) fn count_up(tallies: &mut Vec<usize>, scope: usize)
 }
 
 // Counts one less of a scope that has a place in the table.
-pub(crate) fn count_down(tallies: &mut Vec<usize>, scope: usize)
+pub(crate) fn count_down(tallies: &mut Vec<u32>, scope: usize)
     requires { scope < length tallies.old.items → 1 ≤ slice_index tallies.old.items scope }
     ensures { tallies.new.items ≡ slice_set tallies.old.items scope (slice_index tallies.old.items scope - 1) }
 {

@@ -41,7 +41,7 @@ pub struct Trail {
     spots: Spots,
     // How many entries are of each scope, at its number less 1; scopes of greater numbers than its length aren't
     // counted.
-    tallies: Vec<usize>,
+    tallies: Vec<u32>,
     // The scopes that are known to be all assigned, of those that are counted.
     finished: Finished,
     assigned: u64,
@@ -439,7 +439,7 @@ impl Trail {
         ensures { result ≡ count_by (is_assigned self.now.placed) (variables_at prefix.now scope) }
     {
         if scope <= self.tallies.len() {
-            self.tallies[scope - 1]
+            self.tallies[scope - 1] as usize
         } else {
             self.count_assigned(prefix.vars_of(scope))
         }

@@ -26,14 +26,6 @@ level_after-requires c =
 pub last_floor-requires : goal.last_floor-requires
 last_floor-requires c = rw c.deref.ensures.value c.self.invariant.1.floored
 
-pub count_up-requires : goal.count_up-requires
-count_up-requires c =
-    let few = count_few c.self.inside.entries.items c.self.inside.tallies.items c.args.scope
-    c.self.invariant.1.tallied in
-    let fits = c.self.inside.entries.ok in
-    let small = c.self.inside.entries.small in
-    omega arith
-
 pub set-requires-clause-place : goal.set-requires-clause-place
 set-requires-clause-place c =
     let items = c.self.inside.entries.items in
@@ -50,6 +42,25 @@ set-requires-clause-place c =
     let left =
     spots_left items spots (vec_capacity c.self.inside.entries) c.index.result c.self.invariant.0 within free in
     let place : c.len-place.result ≡ length items = c.len-place.ensures ∙ c.self.inside.entries.ok.0 in
+    omega arith
+
+pub count_up-requires : goal.count_up-requires
+count_up-requires c =
+    let items = c.self.inside.entries.items in
+    let spots = c.self.inside.spots in
+    let next : c.args.lit.variable ≡ suc c.index.result =
+    sym c.var.ensures ∙ (let place = c.index.ensures.place in omega arith) in
+    let room : c.args.lit.variable ≤ length spots = rw (← c.self.view_is) at c.requires.room in
+    let within : c.index.result < length spots = omega arith in
+    let fresh : value_on (trail_of items) c.args.lit.variable ≡ None =
+    ap (λ (t : TrailState). value_on t.placed c.args.lit.variable) c.self.view_is ∙ c.requires.unassigned in
+    let free : spot_at spots (suc c.index.result) ≡ None =
+    ap (spot_at spots) (sym next)
+    ∙ (c.self.invariant.0.found c.args.lit.variable ∙ spot_none (trail_of items) c.args.lit.variable fresh) in
+    let left =
+    spots_left items spots (vec_capacity c.self.inside.entries) c.index.result c.self.invariant.0 within free in
+    let few = count_few items c.self.inside.tallies.items c.args.scope c.self.invariant.1.tallied in
+    let small = c.set.ensures.small in
     omega arith
 
 abbrev entry : (c : goal.After-self-2-1) → Entry
@@ -127,9 +138,9 @@ places c =
 pub invariant_of-self : goal.invariant_of-self
 invariant_of-self c =
     let b = c in (
-      rw c.set.ensures (table b),
+      rw c.set.ensures.value (table b),
       rw c.count_up.ensures (tallied b),
-      rw (c.set.ensures, c.count_up.ensures) (places b),
+      rw (c.set.ensures.value, c.count_up.ensures) (places b),
     )
 
 pub returns : goal.returns
@@ -143,7 +154,7 @@ returns c =
     let marks : marks_of c.push.new.self.items ≡ marks_of items ++ false ∷ [] =
     ap marks_of (grown b) ∙ map-append (λ (e : Entry). e.clean) items (entry b ∷ []) in
     let room : length c.set.new.self ≡ length c.self.inside.spots =
-    ap length c.set.ensures ∙ length-set c.self.inside.spots c.index.result (Some (spot b)) in
+    ap length c.set.ensures.value ∙ length-set c.self.inside.spots c.index.result (Some (spot b)) in
     rw (← c.self.view_is) (λ i. record {
       placed = placed i;
       depths = depths i;

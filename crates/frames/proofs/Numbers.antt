@@ -1,5 +1,5 @@
 -- The numbers of a clause's row: their row is the row itself.
-use Rattle.std.proofs.Common.{◌≡◌, ℕ, ◌-◌, ◌<◌, ◌≤◌, ℤ, pos, negsuc, nat_abs, Bool, true, false, not, ◌&&◌, ◌||◌, List, [], ◌∷◌, length, map, Some, refl, ap, ◌∙◌, arith, zero, suc}
+use Rattle.std.proofs.Common.{◌≡◌, ℕ, ◌-◌, ◌<◌, ◌≤◌, ℤ, pos, negsuc, nat_abs, Bool, true, false, not, ◌&&◌, ◌||◌, List, [], ◌∷◌, length, map, Some, Contains, inl, inr, refl, ap, subst, ◌∙◌, arith, zero, suc}
 use Rattle.std.specs.Prelude.{◌==◌, nat_lt, if◌then◌else◌, is_some, neg_ℤ}
 use Rattle.std.specs.List.{AllByRecursion, list_all, list_any}
 use Rattle.std.specs.Ordering.{int_eq}
@@ -13,6 +13,9 @@ use Rattle.truth.specs.Matrix.{is_true_of, same}
 use Rattle.truth.specs.Truth.{assumed_value}
 use Rattle.clauses.specs.Clause.{as_row, ascending, has_literal, is_tautology, put, variables_of}
 use Rattle.clauses.proofs.Ascending.{below_all}
+use Rattle.truth.specs.Formed.{IsClauseOver}
+use Rattle.calculus.specs.Rows.{IsRow}
+use Rattle.calculus.proofs.Lists.{among_at, contains_cons, contains_nil}
 use Rattle.frames.specs.Commands.{is_known}
 
 -- the variables of a row, and the number of each literal
@@ -199,3 +202,31 @@ known_in scopes (l ∷ ls) some all =
     let first : is_known scopes (signed_number l) ≡ true = ap (λ v. is_some (level_of scopes v))
     (number_variable l some.0) ∙ level_found scopes l.variable ∙ all.0 in
     ap (λ b. b && list_all (is_known scopes) (numbers ls)) first ∙ known_in scopes ls some.1 all.1
+
+-- what refuses the numbers of a row over the prefix
+pub row_refused : (scopes : List Scope) (row : List Literal) → IsPrefix scopes → IsClauseOver scopes row
+    → (list_all (is_known scopes) (numbers row) ≡ true) × (is_tautology (numbers row) ≡ false)
+    × (length (variables_of (numbers row)) ≡ length row) × (as_row (numbers row) ≡ row)
+row_refused scopes row valid over =
+    let positive = positive_in scopes row valid over.1 in (
+      known_in scopes row positive over.1,
+      no_tautology row positive over.0,
+      amount row positive over.0,
+      same_row row positive over.0,
+    )
+
+each_over : (scopes : List Scope) (ls : List Literal)
+    → AllByRecursion (λ (l : Literal). is_among l.variable (all_variables scopes) ≡ true) ls → (l : Literal)
+    → Contains ls l → is_among l.variable (all_variables scopes) ≡ true
+each_over scopes [] all l c = absurd (contains_nil l c)
+each_over scopes (x ∷ xs) all l c = elim (contains_cons x xs l c) [
+  | inl e ↦ subst (λ (m : Literal). is_among m.variable (all_variables scopes) ≡ true) e all.0
+  | inr d ↦ each_over scopes xs all.1 l d
+]
+
+-- what ascends over a prefix is a row
+pub row_over : (scopes : List Scope) (row : List Literal) → IsClauseOver scopes row → IsRow scopes row
+row_over scopes row over = record {
+  ascending = over.0;
+  over_prefix = λ l c. among_at (all_variables scopes) l.variable (each_over scopes row over.1 l c);
+}

@@ -7,12 +7,13 @@ use Rattle.search.specs.Counting.{size_of}
 use Rattle.search.proofs.Reducing.{reductions_same}
 use Rattle.engine.specs.declared.counts.Counts.{Counts}
 use Rattle.search.specs.State.{SearchState}
+use Rattle.engine.specs.Given.{numbers_of}
 use Rattle.engine.specs.State.{EngineState, VerdictState}
 use Rattle.engine.specs.Verdicts.{told}
 use Rattle.engine.proofs.Bounding.{clause_counted}
 use Rattle.engine.proofs.Changing.{fewer_long, finishes_kept, held_kept, verdict_kept}
 use Rattle.engine.proofs.Marked.{clause_marked, older_marked}
-use Rattle.engine.proofs.engine.Engine.clause.Goals as goal
+use Rattle.engine.proofs.engine.Engine.put.Goals as goal
 
 pub invariant_of-self : goal.invariant_of-self
 invariant_of-self c =
@@ -95,9 +96,9 @@ invariant_of-self-2 c = record {
       let f = c.self.inside.frames.formula in
       older_marked c.put_clause.new.frames.formula c.self.inside.marks.items c.put_clause.new.search.derivation
       c.forget_outcome.new.search.derivation c.forget_outcome.ensures.older
-      (rw c.in_ok-put_clause.ensures.ok (older_marked (formula_after f (AddClause c.args.lits.now))
+      (rw c.in_ok-put_clause.ensures.ok (older_marked (formula_after f (AddClause (numbers_of c.args.clause)))
       c.self.inside.marks.items c.self.inside.search.derivation c.put_clause.new.search.derivation
       c.put_clause.ensures.older
-      (clause_marked f c.args.lits.now c.self.inside.marks.items c.self.inside.search.derivation
+      (clause_marked f (numbers_of c.args.clause) c.self.inside.marks.items c.self.inside.search.derivation
       c.self.invariant.marked)));
 }
