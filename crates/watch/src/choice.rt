@@ -1,9 +1,9 @@
 //! What to do with a row whose literals have these values.
-ghost use Rattle.std.specs.Prelude.{◌≡◌, ℕ, ◌+◌, ◌-◌, ◌<◌, ◌≤◌};
+ghost use Rattle.std.specs.Prelude.{◌≡◌, ◌≤◌, Contains, IfSome, IsTrue, None, length};
 ghost use Rattle.std.specs.Option.{option_map};
 ghost use Rattle.calculus.specs.Rows.{same_literal};
 ghost use Rattle.calculus.specs.Search.{is_bad_now, value_on};
-ghost use Rattle.watch.specs.Pairs.{IsFound, is_free_pivot, is_good_now, is_partner, joins};
+ghost use Rattle.watch.specs.Pairs.{FailBetween, IsFound, is_free_pivot, is_good_now, is_partner, joins};
 ghost use Rattle.watch.specs.Events.{IsChoice};
 
 use prefix::{Lit, Prefix, Side};
@@ -53,29 +53,34 @@ fn is_same(a: Lit, b: Lit) -> bool
     a.var().number() == b.var().number() && a.is_positive() == b.is_positive()
 }
 
-// The place that is so many steps behind another one, where a row is gone round; past the row's end that one counts as
-// the first.
-fn place_round(start: usize, step: usize, len: usize) -> usize
-    requires { step < len }
-    ensures within { result < len }
-    ensures early { step < len - start → result ≡ start + step }
-    ensures late { len - start ≤ step → result + (len - start) ≡ step }
-{
-    let tail = len.saturating_sub(start);
-    if step < tail {
-        start + step
-    } else {
-        step - tail
-    }
-}
-
 // A pivot-type literal that isn't bad, with its place: the first one from a place on, round the row.
 fn free_pivot<S: Side>(prefix: &Prefix, trail: &Trail, lits: &[Lit], start: usize) -> Option<Found>
     ensures { IsFound (is_free_pivot S.PIVOT prefix.now (value_on trail.now.placed)) lits.now
         (option_map (λ found. found.lit) result) }
 {
-    for step in 0..lits.len() {
-        let place = place_round(start, step, lits.len());
+    let start = start.min(lits.len());
+    match free_between::<S>(prefix, trail, lits, start, lits.len()) {
+        Some(found) => Some(found),
+        None => free_between::<S>(prefix, trail, lits, 0, start),
+    }
+}
+
+// The first pivot-type literal that isn't bad of those from one place on and before another one.
+#[inline]
+fn free_between<S: Side>(
+    prefix: &Prefix,
+    trail: &Trail,
+    lits: &[Lit],
+    from: usize,
+    to: usize,
+) -> Option<Found>
+    requires { to ≤ length lits.now }
+    ensures some { IfSome result (λ f. Contains lits.now f.lit
+        × IsTrue (is_free_pivot S.PIVOT prefix.now (value_on trail.now.placed) f.lit)) }
+    ensures none { result ≡ None →
+        FailBetween (is_free_pivot S.PIVOT prefix.now (value_on trail.now.placed)) lits.now from to }
+{
+    for place in from..to {
         if is_free::<S>(prefix, trail, lits[place]) {
             return Some(Found {
                 lit: lits[place],
@@ -105,8 +110,30 @@ fn partner<S: Side>(
     ensures { IsFound (is_partner S.PIVOT prefix.now (value_on trail.now.placed) first) lits.now
         (option_map (λ found. found.lit) result) }
 {
-    for step in 0..lits.len() {
-        let place = place_round(start, step, lits.len());
+    let start = start.min(lits.len());
+    match partner_between::<S>(prefix, trail, lits, first, start, lits.len()) {
+        Some(found) => Some(found),
+        None => partner_between::<S>(prefix, trail, lits, first, 0, start),
+    }
+}
+
+// The first such literal of those from one place on and before another one.
+#[inline]
+fn partner_between<S: Side>(
+    prefix: &Prefix,
+    trail: &Trail,
+    lits: &[Lit],
+    first: Lit,
+    from: usize,
+    to: usize,
+) -> Option<Found>
+    requires { to ≤ length lits.now }
+    ensures some { IfSome result (λ f. Contains lits.now f.lit
+        × IsTrue (is_partner S.PIVOT prefix.now (value_on trail.now.placed) first f.lit)) }
+    ensures none { result ≡ None →
+        FailBetween (is_partner S.PIVOT prefix.now (value_on trail.now.placed) first) lits.now from to }
+{
+    for place in from..to {
         if is_match::<S>(prefix, trail, lits[place], first) {
             return Some(Found {
                 lit: lits[place],
