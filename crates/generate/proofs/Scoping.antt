@@ -9,7 +9,7 @@ use Rattle.prefix.specs.declared.refusal.PrefixRefusal.{PrefixRefusal}
 use Rattle.prefix.specs.declared.refusal.PrefixRefusal.TheVariants.{NoMemory}
 use Rattle.prefix.specs.Refusals.{variable_refusal}
 use Rattle.prefix.specs.Scopes.{Scope, all_variables, is_among, level_of, with_variable_at}
-use Rattle.qdimacs.proofs.Building.{last_none, variable_last, variable_memory}
+use Rattle.builder.proofs.Scoping.{last_none, variable_last, variable_memory}
 use Rattle.generate.specs.Made.{scope_from}
 use Rattle.generate.proofs.Ranges.{range_apart, range_below, range_put}
 
