@@ -36,14 +36,14 @@ pub scope_last : (ss : List Scope) (q : Quant)
 scope_last [] q = refl
 scope_last (s ∷ ss) q = ap (λ r. s ∷ r) (scope_last ss q)
 
-variable_last : (ss : List Scope) (q : Quant) (us : List ℕ) (v : ℕ)
+pub variable_last : (ss : List Scope) (q : Quant) (us : List ℕ) (v : ℕ)
     → with_variable_at (ss ++ record { quantifier = q; variables = us } ∷ []) (length ss) v
     ≡ ss ++ record { quantifier = q; variables = insert_ascending v us } ∷ []
 variable_last [] q us v = refl
 variable_last (s ∷ ss) q us v = ap (λ r. s ∷ r) (variable_last ss q us v)
 
 -- a variable stands in no scope where it stands neither in these nor in the last
-last_none : (ss : List Scope) (q : Quant) (us : List ℕ) (v : ℕ) → level_of ss v ≡ None → is_among v us ≡ false
+pub last_none : (ss : List Scope) (q : Quant) (us : List ℕ) (v : ℕ) → level_of ss v ≡ None → is_among v us ≡ false
     → level_of (ss ++ record { quantifier = q; variables = us } ∷ []) v ≡ None
 last_none [] q us v h e = ap (λ b. if b then Some 1 else None) e
 last_none (s ∷ ss) q us v h e =
@@ -52,7 +52,7 @@ last_none (s ∷ ss) q us v h e =
     ap (λ b. if b then Some 1 else option_map (λ n. n + 1) (level_of more v)) parts.0
     ∙ ap (option_map (λ n. n + 1)) (last_none ss q us v parts.1 e)
 
-taken_new : (vs : List ℕ) (i : ℕ) → i < length vs → AreDistinct vs → is_among (get_or vs i 0) (take i vs) ≡ false
+pub taken_new : (vs : List ℕ) (i : ℕ) → i < length vs → AreDistinct vs → is_among (get_or vs i 0) (take i vs) ≡ false
 taken_new [] i low d = absurd (omega arith)
 taken_new (x ∷ xs) zero low d = refl
 taken_new (x ∷ xs) (suc i) low d =
@@ -73,7 +73,7 @@ scope_memory ss r room h = by (nat_eq (length ss) 65536) refl h
     by false e h = h
 
 -- a variable that is new is refused for want of memory alone
-variable_memory : (ss : List Scope) (v n : ℕ) (r : Result (Unit {0}) PrefixRefusal) → 1 ≤ v → v ≤ 1048576
+pub variable_memory : (ss : List Scope) (v n : ℕ) (r : Result (Unit {0}) PrefixRefusal) → 1 ≤ v → v ≤ 1048576
     → level_of ss v ≡ None → 1 ≤ n → n ≤ length ss
     → MatchOption (variable_refusal ss v n) (IsOkUnless r NoMemory) (λ e. r ≡ Err e) → IsOkUnless r NoMemory
 variable_memory ss v n r low high new first last h =

@@ -3,16 +3,11 @@ use Rattle.std.specs.Prelude.{◌≡◌, ℕ, ◌+◌, ◌-◌, ◌^◌, ◌<◌
 use Rattle.prefix.specs.declared.quant.Quant.TheVariants.{Exists, Forall}
 use Rattle.prefix.specs.Literal.{Literal}
 use Rattle.prefix.specs.Scopes.{Scope}
+use Rattle.clauses.specs.Worked.{minus, plus}
 use Rattle.builder.specs.declared.beyond.Beyond.TheVariants.{Clauses, Literals}
 use Rattle.builder.specs.Building.{AreFew, Builds, IsCounted, IsFinish, amount_of, beyond_of, capped, has_one, no_rows, row_of_sorted}
 use Rattle.builder.specs.NewScope.{AreNew, IsBegun, scope_of}
 use Rattle.builder.specs.Rows.{as_row, flipped, is_left_out, rows_of}
-
-abbrev pub plus : ℕ → Literal
-plus v = record { variable = v; positive = true }
-
-abbrev pub minus : ℕ → Literal
-minus v = record { variable = v; positive = false }
 
 -- 5 -2 5 with the constant false, 2 with -2 and 3, 3 with the constant true, and no literal
 abbrev pub clauses : List (List ℕ)

@@ -8,9 +8,9 @@ use Rattle.truth.specs.Truth.{assumed_value}
 use Rattle.calculus.specs.Search.{Placed, Trail, value_on, cause_on, literals_on, cut_trail, level_after, level_from_start, decision_level_on, is_decision, IsOrderedTrail, IsOrderedAfter, AreTheAssumptions, assumed}
 use Rattle.calculus.specs.Rows.{variables_in}
 use Rattle.calculus.specs.Verdicts.{AreOuter}
-use Rattle.calculus.proofs.Levels.{contains_map_of, level_in_prefix}
+use Rattle.calculus.proofs.Levels.{level_in_prefix}
 use Rattle.calculus.specs.Search.Cause.{Assumed}
-use Rattle.calculus.proofs.Lists.{among_from, contains_cons, contains_head, contains_nil, contains_tail}
+use Rattle.calculus.proofs.Lists.{among_from, contains_cons, contains_head, contains_nil, contains_tail, contains_map_of}
 use Rattle.calculus.proofs.Trails.{value_here, value_past, cause_here, cause_past, level_here, level_past, assumed_after}
 use Rattle.calculus.proofs.TrailMoves.{value_front}
 use Rattle.calculus.proofs.TrailLaws.{cut_value_from}

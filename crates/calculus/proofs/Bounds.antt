@@ -1,5 +1,5 @@
 -- The steps of a search, and the step limit.
-use Rattle.std.proofs.Common.{◌≡◌, ℕ, suc, ◌+◌, ◌*◌, ◌^◌, ◌≤◌, arith, ◌<◌, le_refl, mul-le-mul}
+use Rattle.std.proofs.Common.{ℕ, ◌+◌, ◌*◌, ◌≤◌, arith, ◌<◌, le_refl, mul-le-mul}
 use Rattle.steps.specs.Counter.{step_limit}
 use Rattle.calculus.specs.Limits.{assignment_limit, steps_for, HasFewSteps}
 

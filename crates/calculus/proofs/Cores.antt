@@ -14,8 +14,7 @@ use Rattle.calculus.specs.Derivations.{Reason, Inference, Step, Why, IsInference
 use Rattle.calculus.specs.Derivations.Reason.{Input, One, Two}
 use Rattle.calculus.specs.Derivations.Why.{Given, ReducedFrom, ResolvedFrom, FinishedFrom}
 use Rattle.calculus.specs.Verdicts.{IsEndRow, IsProofStep, EndsInFinish, core_proof, last_reason, IsAntecedent, IsUsedIn, AreUsed, is_assumed, finish_of, finish_steps}
-use Rattle.calculus.proofs.Lists.{contains_cons, contains_nil, contains_head, contains_tail, filter_all, filter_at, filter_from, all_at, all_from, pairs_head, pairs_tail, pairs_nil, pairs_cons}
-use Rattle.calculus.proofs.Levels.{contains_map_of}
+use Rattle.calculus.proofs.Lists.{contains_cons, contains_nil, contains_head, contains_tail, filter_all, filter_at, filter_from, all_at, all_from, pairs_head, pairs_tail, pairs_nil, pairs_cons, contains_map_of}
 use Rattle.calculus.proofs.RowLemmas.{some_from}
 use Rattle.calculus.proofs.EndRows.{filter_row}
 use Rattle.calculus.proofs.CoreOrder.{core_order_legal}

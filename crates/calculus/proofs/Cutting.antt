@@ -19,11 +19,11 @@ level_least before (p ∷ trail) =
 
 module _ (before b : ℕ) (p : Placed) (trail : Trail) where
   -- the first literal stays, or all go
-  cut_here : level_after before p ≤ b → cut_from before b (p ∷ trail) ≡ p ∷ cut_from (level_after before p) b trail
+  pub cut_here : level_after before p ≤ b → cut_from before b (p ∷ trail) ≡ p ∷ cut_from (level_after before p) b trail
   cut_here low = cond-true (nat_le (level_after before p) b) (p ∷ cut_from (level_after before p) b trail) []
       (le-leb (level_after before p) b low)
 
-  cut_none : b < level_after before p → cut_from before b (p ∷ trail) ≡ []
+  pub cut_none : b < level_after before p → cut_from before b (p ∷ trail) ≡ []
   cut_none high = cond-false (nat_le (level_after before p) b) (p ∷ cut_from (level_after before p) b trail) []
       (lt-leb (level_after before p) b high)
 

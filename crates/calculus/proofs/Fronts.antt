@@ -176,7 +176,7 @@ ordered_front scopes earlier [] back ordered = tt
 ordered_front scopes earlier (p ∷ front) back ordered =
     (ordered.0, ordered.1, ordered.2, ordered_front scopes (earlier ++ p ∷ []) front back ordered.3)
 
-some_not_none : (o : Option Bool) → is_some o ≡ true → is_none o ≡ true → ⊥
+pub some_not_none : (o : Option Bool) → is_some o ≡ true → is_none o ≡ true → ⊥
 some_not_none None a b = false≢true a
 some_not_none (Some x) a b = false≢true b
 

@@ -13,6 +13,7 @@ use Rattle.truth.specs.Truth.{assumed_value}
 use Rattle.calculus.specs.Rows.{depth_of}
 use Rattle.calculus.specs.Verdicts.{AreOuter}
 use Rattle.calculus.proofs.Lists.{contains_cons, contains_nil, contains_head, contains_tail, among_at, among_from}
+pub use Rattle.calculus.proofs.Lists.{contains_map_of}
 use Rattle.calculus.proofs.Strategy.{IsOrdered}
 
 -- the number of a scope by a count, past the last scope for a variable without one
@@ -154,13 +155,13 @@ pub distinct_from : (xs : List ℕ) → AreDistinct xs → IsDistinct xs
 distinct_from [] d = tt
 distinct_from (x ∷ xs) d = ((λ i. true≢false (sym (among_from xs x i) ∙ d.0)), distinct_from xs d.1)
 
-distinct_apart : (xs ys : List ℕ) → IsDistinct (xs ++ ys) → (x : ℕ) → Contains xs x → Contains ys x → ⊥
+pub distinct_apart : (xs ys : List ℕ) → IsDistinct (xs ++ ys) → (x : ℕ) → Contains xs x → Contains ys x → ⊥
 distinct_apart [] ys d x i j = contains_nil x i
 distinct_apart (z ∷ xs) ys d x i j =
     ⊎_elim (λ e. d.0 (Contains-append_right xs ys z (rw (← e) at j))) (λ k. distinct_apart xs ys d.1 x k j)
     (contains_cons z xs x i)
 
-distinct_right : (xs ys : List ℕ) → IsDistinct (xs ++ ys) → IsDistinct ys
+pub distinct_right : (xs ys : List ℕ) → IsDistinct (xs ++ ys) → IsDistinct ys
 distinct_right [] ys d = d
 distinct_right (x ∷ xs) ys d = distinct_right xs ys d.1
 
@@ -263,11 +264,6 @@ outer_level scopes assumptions outer x b e =
     (level_in_prefix scopes x 1 one, first_depth scopes x one)
 
 -- each bound variable of the prefix has its quantifier
-pub contains_map_of : {X Y : Type 0} (f : X → Y) (xs : List X) (x : X) → Contains xs x → Contains (map f xs) (f x)
-contains_map_of f [] x i = absurd (contains_nil x i)
-contains_map_of f (y ∷ ys) x i = ⊎_elim (λ e. rw (← e) (contains_head (f y) (map f ys)))
-    (λ j. contains_tail (f y) (map f ys) (f x) (contains_map_of f ys x j)) (contains_cons y ys x i)
-
 bound_at : (q : Quant) (xs : List ℕ) (b : BoundVariable) → Contains (map (bound_by q) xs) b → Contains xs b.variable
     × (b.quantifier ≡ q)
 bound_at q [] b i = absurd (contains_nil b i)

@@ -1,6 +1,6 @@
 -- Membership and tests over lists, by cases on the list.
-use Rattle.std.proofs.Common.{◌≡◌, ℕ, suc, zero, ◌<◌, ◌⊎◌, Bool, true, ◌||◌, cond, List, [], ◌∷◌, length, get_or, Contains, AllPairs, filter, sym, refl, ap, ap₂, ◌∙◌, inl, inr, ⊎_elim, arith, nat_eq}
-use Rattle.std.specs.List.{list_any, list_all}
+use Rattle.std.proofs.Common.{◌≡◌, ℕ, suc, zero, ◌<◌, ◌⊎◌, Bool, true, false, ◌||◌, cond, List, [], ◌∷◌, ◌++◌, length, map, take, subst, get_or, Contains, AllPairs, filter, sym, refl, ap, ap₂, ◌∙◌, inl, inr, ⊎_elim, arith, nat_eq}
+use Rattle.std.specs.List.{AllByRecursion, list_any, list_all}
 use Rattle.std.proofs.lemmas.Bool.{cases_Bool, and_parts, or_cases, and_from, or_left, or_right, eqb-true, eq-eqb, true≢false, false≢true, cond-true, cond-false}
 use Rattle.std.proofs.lemmas.List.Elements.{Contains-get_or}
 use Rattle.prefix.specs.Scopes.{is_among}
@@ -24,7 +24,67 @@ contains_head x xs = (zero, omega arith, refl)
 pub contains_tail : {X : Type 0} (y : X) (ys : List X) (x : X) → Contains ys x → Contains (y ∷ ys) x
 contains_tail y ys x h = let below : h.0 < length ys = h.1 in (suc h.0, omega arith, h.2)
 
+pub contains_map_of : {X Y : Type 0} (f : X → Y) (xs : List X) (x : X) → Contains xs x → Contains (map f xs) (f x)
+contains_map_of f [] x i = absurd (contains_nil x i)
+contains_map_of f (y ∷ ys) x i = ⊎_elim (λ e. rw (← e) (contains_head (f y) (map f ys)))
+    (λ j. contains_tail (f y) (map f ys) (f x) (contains_map_of f ys x j)) (contains_cons y ys x i)
+
+pub contains_map : {X Y : Type 0} (f : X → Y) (xs : List X) (y : Y) → Contains (map f xs) y → (x : X) × Contains xs x
+    × (f x ≡ y)
+contains_map f [] y i = absurd (contains_nil y i)
+contains_map f (x ∷ xs) y i =
+    ⊎_elim (λ e. (x, contains_head x xs, e))
+    (λ j. let r = contains_map f xs y j in (r.0, contains_tail x xs r.0 r.1, r.2))
+    (contains_cons (f x) (map f xs) y i)
+
+-- what holds of each element
+
+pub all_of : {X : Type 0} (P : X → Type 0) (xs : List X) (x : X) → AllByRecursion P xs → Contains xs x → P x
+all_of P [] x all c = absurd (contains_nil x c)
+all_of P (y ∷ ys) x all c =
+    ⊎_elim (λ e. subst P e all.0) (λ d. all_of P ys x all.1 d) (contains_cons y ys x c)
+
+pub all_map : {X : Type 0} (P Q : X → Type 0) (xs : List X) → ((x : X) → P x → Q x) → AllByRecursion P xs
+    → AllByRecursion Q xs
+all_map P Q [] h all = tt
+all_map P Q (x ∷ xs) h all = (h x all.0, all_map P Q xs h all.1)
+
+pub all_more : {X : Type 0} (P : X → Type 0) (xs : List X) (x : X) → AllByRecursion P xs → P x
+    → AllByRecursion P (xs ++ x ∷ [])
+all_more P [] x all p = (p, tt)
+all_more P (y ∷ ys) x all p = (all.0, all_more P ys x all.1 p)
+
+pub all_taken : {X : Type 0} (P : X → Type 0) (n : ℕ) (xs : List X) → AllByRecursion P xs
+    → AllByRecursion P (take n xs)
+all_taken P zero xs all = tt
+all_taken P (suc n) [] all = tt
+all_taken P (suc n) (x ∷ xs) all = (all.0, all_taken P n xs all.1)
+
+pub all_front : {X : Type 0} (P : X → Type 0) (xs ys : List X) → AllByRecursion P (xs ++ ys) → AllByRecursion P xs
+all_front P [] ys all = tt
+all_front P (x ∷ xs) ys all = (all.0, all_front P xs ys all.1)
+
+pub all_behind : {X : Type 0} (P : X → Type 0) (xs ys : List X) → AllByRecursion P (xs ++ ys) → AllByRecursion P ys
+all_behind P [] ys all = all
+all_behind P (x ∷ xs) ys all = all_behind P xs ys all.1
+
+pub all_append : {X : Type 0} (P : X → Type 0) (xs ys : List X) → AllByRecursion P xs → AllByRecursion P ys
+    → AllByRecursion P (xs ++ ys)
+all_append P [] ys all more = more
+all_append P (x ∷ xs) ys all more = (all.0, all_append P xs ys all.1 more)
+
+-- maps that agree on the elements
+
+pub map_same : {X Y : Type 0} (f g : X → Y) (xs : List X) → ((x : X) → Contains xs x → f x ≡ g x) → map f xs ≡ map g xs
+map_same f g [] same = refl
+map_same f g (x ∷ xs) same =
+    ap₂ (λ y ys. y ∷ ys) (same x (contains_head x xs)) (map_same f g xs (λ z i. same z (contains_tail x xs z i)))
+
 -- tests
+
+pub or_none : (b : Bool) → (b || false) ≡ b
+or_none true = refl
+or_none false = refl
 
 pub all_at : {X : Type 0} (p : X → Bool) (xs : List X) → list_all p xs ≡ true → (x : X) → Contains xs x → p x ≡ true
 all_at p [] h x c = absurd (contains_nil x c)

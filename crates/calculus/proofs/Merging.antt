@@ -17,6 +17,10 @@ pub beq_refl : (a : Bool) → same_bool a a ≡ true
 beq_refl true = refl
 beq_refl false = refl
 
+pub beq_yes : (a : Bool) → same_bool a true ≡ a
+beq_yes true = refl
+beq_yes false = refl
+
 pub same_literal_true : (a b : Literal) → same_literal a b ≡ true → a ≡ b
 same_literal_true a b t = let parts = and_parts (nat_eq a.variable b.variable) (same_bool a.positive b.positive) t in
     let v : a.variable ≡ b.variable = eqb-true a.variable b.variable parts.0 in let p : a.positive ≡ b.positive =

@@ -12,14 +12,14 @@ use Rattle.calculus.proofs.RowLemmas.{same_from, same_true}
 use Rattle.calculus.proofs.StepLemmas.{kept_derivation, of_side_derivation, one_step}
 
 -- the test and the relation
-rests_true : (why : Why) (id : ℕ) → RestsOn why id → rests_on why id ≡ true
+pub rests_true : (why : Why) (id : ℕ) → RestsOn why id → rests_on why id ≡ true
 rests_true Given id h = absurd h
 rests_true (ReducedFrom a) id h = eq-eqb a id h
 rests_true (ResolvedFrom a b x) id h = ⊎_elim (λ e. or_left (nat_eq a id) (nat_eq b id) (eq-eqb a id e))
     (λ e. or_right (nat_eq a id) (nat_eq b id) (eq-eqb b id e)) h
 rests_true (FinishedFrom a) id h = eq-eqb a id h
 
-rests_from : (why : Why) (id : ℕ) → rests_on why id ≡ true → RestsOn why id
+pub rests_from : (why : Why) (id : ℕ) → rests_on why id ≡ true → RestsOn why id
 rests_from Given id h = false≢true h
 rests_from (ReducedFrom a) id h = eqb-true a id h
 rests_from (ResolvedFrom a b x) id h = ⊎_elim (λ t. inl (eqb-true a id t)) (λ t. inr (eqb-true b id t))
@@ -72,7 +72,7 @@ needed_closed (h ∷ rest) end up earlier s id i n r =
     (contains_cons h rest s i)
 
 -- what is needed is the end, or some needed step rests on it
-needed_used : (steps : List Step) (end id : ℕ) → needed steps end id ≡ true → (id ≡ end)
+pub needed_used : (steps : List Step) (end id : ℕ) → needed steps end id ≡ true → (id ≡ end)
     ⊎ ((t : Step) × Contains steps t × (needed steps end t.id ≡ true) × (rests_on t.why id ≡ true))
 needed_used [] end id n = inl (eqb-true id end n)
 needed_used (h ∷ rest) end id n =

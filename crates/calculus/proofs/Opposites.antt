@@ -6,7 +6,7 @@ use Rattle.prefix.specs.declared.quant.Quant.{Quant}
 use Rattle.prefix.specs.declared.quant.Quant.TheVariants.{Exists, Forall}
 use Rattle.prefix.specs.Literal.{Literal, negation}
 use Rattle.prefix.specs.Scopes.{Scope, all_variables}
-use Rattle.prefix.specs.Sides.{bad_of}
+use Rattle.prefix.specs.Sides.{bad_of, same_quantifier}
 use Rattle.truth.specs.Matrix.{Values, literal_true, is_true_of, clause_true, same}
 use Rattle.calculus.specs.Rows.{Row, IsRow, reduce, is_bad_at, is_pivot, is_blocked, stays}
 use Rattle.calculus.specs.Search.{is_bad_if, IsBadRow, IsUnitIn}
@@ -51,6 +51,11 @@ pub opposite : (pivot : Quant) (b : Bool) (l m : Literal) → l.variable ≡ m.v
     → is_bad_at pivot b m ≡ false → m ≡ negation l
 opposite pivot b l m e t f = let s = signs pivot b l.positive m.positive l.variable t f in
     λ i. record { variable = (sym e) i; positive = s i }
+
+-- a side is itself
+pub side_itself : (q : Quant) → same_quantifier q q ≡ true
+side_itself Exists = refl
+side_itself Forall = refl
 
 -- of a variable's two literals one is bad, and its opposite isn't
 pub bad_there : (q : Quant) (b : Bool) → same (same b (same b (bad_of q))) (bad_of q) ≡ true

@@ -6,7 +6,7 @@ use Rattle.prefix.specs.declared.quant.Quant.{Quant}
 use Rattle.calculus.specs.Derivations.{AgreeOn, AreInputs, StandsIn, IsDerivation, IsLegalStep, Step, Why}
 use Rattle.calculus.specs.Derivations.Why.{FinishedFrom, Given, ReducedFrom, ResolvedFrom}
 use Rattle.calculus.specs.Rows.{Row, reduce}
-use Rattle.calculus.proofs.Levels.{contains_map_of}
+use Rattle.calculus.proofs.Lists.{contains_map_of}
 use Rattle.calculus.proofs.RowLaws.{reduce_reads}
 
 module _ (old new : List Scope) (before after : List Row) (steps : List Step) (agree : AgreeOn old new (StandsIn steps))

@@ -14,18 +14,10 @@ use Rattle.calculus.specs.Limits.{gate_weight, gates_of, is_removal, removals_of
 use Rattle.calculus.specs.Rows.{IsRow, Row}
 use Rattle.calculus.proofs.Ascending.{rises}
 use Rattle.calculus.proofs.Sound.{AreSoundSteps, IsSoundStep}
-use Rattle.calculus.proofs.Lists.{contains_cons, contains_nil, contains_head, contains_tail, any_at, any_from}
+use Rattle.calculus.proofs.Lists.{contains_cons, contains_map, any_at, any_from}
 use Rattle.calculus.specs.Search.{Trail, Placed, IsOrderedTrail}
 use Rattle.calculus.specs.Search.Cause.{Assumed}
 use Rattle.calculus.proofs.TrailLaws.{ordered_apart, ordered_in}
-
-contains_map : {X Y : Type 0} (f : X → Y) (xs : List X) (y : Y) → Contains (map f xs) y → (x : X) × Contains xs x
-    × (f x ≡ y)
-contains_map f [] y i = absurd (contains_nil y i)
-contains_map f (x ∷ xs) y i =
-    ⊎_elim (λ e. (x, contains_head x xs, e))
-    (λ j. let r = contains_map f xs y j in (r.0, contains_tail x xs r.0 r.1, r.2))
-    (contains_cons (f x) (map f xs) y i)
 
 -- a row has at most one literal for each variable of the prefix
 pub row_length : (scopes : List Scope) (row : Row) → IsRow scopes row → length row ≤ length (all_variables scopes)

@@ -13,6 +13,7 @@ use Rattle.calculus.specs.Search.{IsBadRow, IsKept, IsLater, IsUnitIn, Trail, cu
 use Rattle.calculus.specs.Worked.{plus, minus}
 use Rattle.calculus.specs.WorkedSearch.{WorkedCleanRows, WorkedUnits, alternating, bad, good, three, with_last}
 use Rattle.calculus.proofs.Lists.{contains_cons, contains_nil}
+use Rattle.calculus.proofs.Opposites.{side_itself}
 
 -- what each side has alike
 bad_is : (q : Quant) (x : ℕ) → is_bad_at q (bad_of q) (plus x) ≡ true
@@ -22,10 +23,6 @@ bad_is Forall x = refl
 good_not : (q : Quant) (x : ℕ) → is_bad_at q (not (bad_of q)) (plus x) ≡ false
 good_not Exists x = refl
 good_not Forall x = refl
-
-ours : (q : Quant) → same_quantifier q q ≡ true
-ours Exists = refl
-ours Forall = refl
 
 theirs : (q : Quant) → same_quantifier (opposite q) q ≡ false
 theirs Exists = refl
@@ -70,7 +67,7 @@ module _ (pivot : Quant) where
       → IsUnitIn pivot (alternating pivot) values three (plus 3)
   unit_in_last values a b n = record {
     stands = third;
-    pivot_type = ours pivot;
+    pivot_type = side_itself pivot;
     open_yet = ap is_none n;
     others = each (Stays values (Some (plus 3)))
         (inr (inl (ap (λ o. is_bad_if pivot o (plus 1)) a ∙ bad_is pivot 1)))
@@ -81,7 +78,7 @@ module _ (pivot : Quant) where
   with_later : IsUnitIn pivot (alternating pivot) (assumed_value (bad pivot 3 ∷ [])) three (plus 1)
   with_later = record {
     stands = first;
-    pivot_type = ours pivot;
+    pivot_type = side_itself pivot;
     open_yet = refl;
     others = each (Stays (assumed_value (bad pivot 3 ∷ [])) (Some (plus 1))) (inl refl)
         (inr (inr (refl, theirs pivot, (let h : 1 < 2 = omega arith in h)))) (inr (inl (bad_is pivot 3)));
@@ -101,7 +98,7 @@ module _ (pivot : Quant) where
   not_bad values n bad_row =
       ⊎_elim (λ k. k)
       (λ r. ⊎_elim (λ b. false≢true (ap (λ o. is_bad_if pivot o (plus 3)) (sym n) ∙ b))
-      (λ o. true≢false (sym (ours pivot) ∙ o.1)) r)
+      (λ o. true≢false (sym (side_itself pivot) ∙ o.1)) r)
       (bad_row (plus 3) third)
 
   not_unit : (l : Literal) → Contains three l → IsUnitIn pivot (alternating pivot) (assumed_value (bad pivot 1 ∷ []))
@@ -177,7 +174,7 @@ module _ (pivot : Quant) where
           (value_on (cut_trail 1 (with_last pivot (bad pivot 3)))) refl refl refl;
     };
     not_at_none = λ makes. ⊎_elim one_not_three
-        (λ r. ⊎_elim (λ b. false≢true b) (λ o. true≢false (sym (ours pivot) ∙ o.1)) r)
+        (λ r. ⊎_elim (λ b. false≢true b) (λ o. true≢false (sym (side_itself pivot) ∙ o.1)) r)
         (makes.unit.others (plus 1) first);
     not_at_its_own = λ makes. let h : 1 < 1 = makes.below in omega arith;
   }

@@ -1,5 +1,5 @@
 -- Theorems on weights, limits and numbers of steps, as statements for contracts.
-use Rattle.std.specs.Prelude.{◌≡◌, ℕ, ◌+◌, ◌*◌, ◌^◌, ◌<◌, ◌≤◌, suc, Bool, true, false, List, [], ◌∷◌, ◌++◌, length}
+use Rattle.std.specs.Prelude.{ℕ, ◌+◌, ◌^◌, ◌<◌, ◌≤◌, suc, Bool, true, false, List, [], ◌∷◌, ◌++◌, length}
 use Rattle.steps.specs.Counter.{step_limit}
 use Rattle.calculus.specs.Limits.{assignment_limit, steps_for, HasFewSteps}
 use Rattle.calculus.specs.Weights.{Search, trail_weight}

@@ -7,7 +7,7 @@ use Rattle.prefix.specs.declared.quant.Quant.TheVariants.{Exists, Forall}
 use Rattle.prefix.specs.Literal.{Literal}
 use Rattle.truth.specs.Truth.{assumed_value}
 use Rattle.calculus.specs.Rows.{Row}
-use Rattle.calculus.proofs.Lists.{contains_cons, contains_nil, contains_head, contains_tail}
+use Rattle.calculus.proofs.Lists.{contains_cons, contains_nil, contains_head, contains_tail, contains_map}
 use Rattle.aig.specs.Circuits.{IsNode, IsEdge, IsGate, AreGates, edge_number, node_number}
 use Rattle.aig.specs.Strategies.{IsStrategy}
 use Rattle.aig.specs.declared.edge.Edge.{Edge}
@@ -20,7 +20,6 @@ use Rattle.aig.proofs.Values.{edge_node}
 use Rattle.builder.specs.Rows.{flipped}
 use Rattle.certcheck.specs.Check.{Named, named_inputs, named_outputs, named_output, names, number_in, number_of, number_when, numbered, given_of, given, given_outputs, units, conjunction, gate_clauses, falsified, satisfied, lost, lost_count, selectors, greatest, variable_count, check_clauses}
 use Rattle.certcheck.proofs.Numbers.{flipped_below, when_below}
-use Rattle.certcheck.proofs.Rows.{map_at}
 
 -- all literals are below twice this
 abbrev pub AreBelow : ℕ → List (List ℕ) → Type 0
@@ -86,7 +85,7 @@ edge_below inputs gates m e h le =
 pub outputs_below : (m : ℕ) (s : Strategy) → IsStrategy s → greatest s < m
     → AreNamesBelow m (named_outputs s.aig.inputs s.outputs)
 outputs_below m s is h n i =
-    let r = map_at (named_output s.aig.inputs) s.outputs n i in
+    let r = contains_map (named_output s.aig.inputs) s.outputs n i in
     subst (λ (k : Named). k.number < 2 * m) r.2
     (edge_below s.aig.inputs (length s.aig.gates) m r.0.edge
     (edge_node s.aig r.0.edge (All-contains (λ (o : Output). IsEdge s.aig o.edge) s.outputs r.0 is.outputs r.1))
@@ -118,8 +117,8 @@ number_in_below m (n ∷ ns) x some h =
 numbered_below : (m : ℕ) (ns : List Named) (clauses : List Row) → 0 < m → AreNamesBelow m ns
     → AreBelow m (numbered ns clauses)
 numbered_below m ns clauses some h c n i j =
-    let r = map_at (map (number_of ns)) clauses c i in
-    let k = map_at (number_of ns) r.0 n (subst (λ d. Contains d n) (sym r.2) j) in
+    let r = contains_map (map (number_of ns)) clauses c i in
+    let k = contains_map (number_of ns) r.0 n (subst (λ d. Contains d n) (sym r.2) j) in
     subst (λ x. x < 2 * m) k.2
     (when_below k.0.positive (number_in ns k.0.variable) m (number_in_below m ns k.0.variable some h))
 
@@ -167,14 +166,14 @@ falsified_below m first [] h are = are_nil m
 falsified_below m first (c ∷ cs) h are =
     are_more m (map (λ n. flipped (2 * first) ∷ flipped n ∷ []) c) (falsified (suc first) cs)
     (λ d n i j.
-    let r = map_at (λ n. flipped (2 * first) ∷ flipped n ∷ []) c d i in
+    let r = contains_map (λ n. flipped (2 * first) ∷ flipped n ∷ []) c d i in
     let own : 2 * first < 2 * m = omega (arith, h) in
     pair_below m (2 * first) r.0 own (are c r.0 (contains_head c cs) r.1) n (subst (λ e. Contains e n) (sym r.2) j))
     (falsified_below m (suc first) cs (omega (arith, h)) (λ d n i j. are d n (contains_tail c cs d i) j))
 
 satisfied_below : (m first : ℕ) (cs : List (List ℕ)) → first < m → AreBelow m cs → AreBelow m (satisfied first cs)
 satisfied_below m first cs h are d n i j =
-    let r = map_at (λ c. flipped (2 * first) ∷ c) cs d i in
+    let r = contains_map (λ c. flipped (2 * first) ∷ c) cs d i in
     let own : 2 * first < 2 * m = omega (arith, h) in
     below_cons m (flipped (2 * first)) r.0 (flipped_below (2 * first) m own) (λ k l. are r.0 k r.1 l) n
     (subst (λ e. Contains e n) (sym r.2) j)

@@ -14,8 +14,8 @@ use Rattle.truth.specs.Matrix.{clause_true, matrix_true}
 use Rattle.truth.specs.Truth.{assumed_value, truth}
 use Rattle.calculus.specs.Rows.{Row, Assignment, is_of}
 use Rattle.calculus.specs.Plays.{total, IsAllowed, Wins}
-use Rattle.calculus.proofs.Lists.{contains_cons, contains_nil, filter_at, filter_from, among_at, among_from}
-use Rattle.calculus.proofs.Levels.{outer_level, has_quantifier, contains_map_of}
+use Rattle.calculus.proofs.Lists.{contains_cons, contains_nil, filter_at, filter_from, among_at, among_from, contains_map_of, contains_map}
+use Rattle.calculus.proofs.Levels.{outer_level, has_quantifier}
 use Rattle.calculus.proofs.RowLemmas.{same_true, same_from, some_from}
 use Rattle.aig.specs.Circuits.{IsEdge, IsNode, AreGates, value_of, edge_value, edge_number, gate_values}
 use Rattle.aig.specs.Strategies.{output_of, output_vars, value_or, values_of}
@@ -26,7 +26,7 @@ use Rattle.builder.specs.Rows.{rows_of}
 use Rattle.certcheck.specs.Check.{Named, named_inputs, named_output, named_outputs, names, number_in, numbered, given, given_outputs, units, gate_clauses, falsified, lost, lost_count, selectors, all_selectors, greatest, variable_count, check_clauses, scopes_to}
 use Rattle.certcheck.specs.Theorems.{IsFor, ChecksWinning}
 use Rattle.certcheck.proofs.Numbers.{value_suc, number_true, even_true, holds, all_hold, units_hold, unit_holds}
-use Rattle.certcheck.proofs.Rows.{map_at, rows_hold}
+use Rattle.certcheck.proofs.Rows.{rows_hold}
 use Rattle.certcheck.proofs.Gates.{Carries, edge_true, gates_give, listed, listed_length, listed_at, value_is, values_many, carried_gates}
 use Rattle.certcheck.proofs.Naming.{AreFaithful, IsNamed, numbered_are, numbered_hold, given_gives, given_from, given_agree}
 use Rattle.certcheck.proofs.Losing.{Selects, selects_from, falsified_gives, falsified_from, unselected_hold, count_of, lost_gives, lost_values, lost_from, unselected_won}
@@ -253,13 +253,13 @@ module _ (scopes : List Scope) (clauses : List Row) (assumptions : List Literal)
       let f : Named → ℕ = λ (n : Named). n.variable in
       ⊎_elim
       (λ t.
-      let o = map_at (λ (p : Output). p.var) s.outputs x (to_output x i t) in
+      let o = contains_map (λ (p : Output). p.var) s.outputs x (to_output x i t) in
       subst (λ y. Contains (map f (names s)) y) o.2
       (contains_map_of f (names s) (named_output s.aig.inputs o.0)
       (Contains-append_right (named_inputs 0 s.inputs) (named_outputs s.aig.inputs s.outputs)
       (named_output s.aig.inputs o.0) (contains_map_of (named_output s.aig.inputs) s.outputs o.0 o.1))))
       (λ t.
-      let n = map_at f (named_inputs 0 s.inputs) x
+      let n = contains_map f (named_inputs 0 s.inputs) x
       (subst (λ xs. Contains xs x) (sym (named_variables 0 s.inputs)) (to_input x i t)) in
       subst (λ y. Contains (map f (names s)) y) n.2
       (contains_map_of f (names s) n.0
@@ -281,7 +281,7 @@ module _ (scopes : List Scope) (clauses : List Row) (assumptions : List Literal)
       → AreFaithful σ (values_of s values) (named_outputs s.aig.inputs s.outputs)
   unfolding IsEdge
   faithful_outputs σ values vs carries many edges n i =
-      let r = map_at (named_output s.aig.inputs) s.outputs n i in
+      let r = contains_map (named_output s.aig.inputs) s.outputs n i in
       let o = r.0 in
       let stands : IsEdge s.aig o.edge =
       All-contains (λ (p : Output). IsEdge s.aig p.edge) s.outputs o is.strategy.outputs r.1 in
@@ -298,7 +298,7 @@ module _ (scopes : List Scope) (clauses : List Row) (assumptions : List Literal)
   faithful σ values vs carries many edges n i =
       ⊎_elim
       (λ j.
-      let r = map_at (λ (m : Named). m.variable) (named_inputs 0 s.inputs) n.variable
+      let r = contains_map (λ (m : Named). m.variable) (named_inputs 0 s.inputs) n.variable
       (contains_map_of (λ (m : Named). m.variable) (named_inputs 0 s.inputs) n j) in
       let listed_there : Contains s.inputs n.variable = subst (λ xs. Contains xs n.variable)
       (named_variables 0 s.inputs) (contains_map_of (λ (m : Named). m.variable) (named_inputs 0 s.inputs) n j) in
@@ -336,7 +336,7 @@ module _ (scopes : List Scope) (clauses : List Row) (assumptions : List Literal)
   output_named : (n : Named) → Contains (named_outputs s.aig.inputs s.outputs) n
       → Contains (output_vars s.outputs) n.variable
   output_named n i =
-      let r = map_at (named_output s.aig.inputs) s.outputs n i in
+      let r = contains_map (named_output s.aig.inputs) s.outputs n i in
       subst (λ (k : Named). Contains (output_vars s.outputs) k.variable) r.2
       (contains_map_of (λ (p : Output). p.var) s.outputs r.0 r.1)
 
@@ -406,7 +406,7 @@ module _ (scopes : List Scope) (clauses : List Row) (assumptions : List Literal)
 
   read_allowed : (σ : Assignment) → Groups σ → IsAllowed pivot scopes assumptions (read_values σ)
   read_allowed σ parts x b e q =
-      let n = map_at (λ (m : Named). m.variable) (named_inputs 0 s.inputs) x
+      let n = contains_map (λ (m : Named). m.variable) (named_inputs 0 s.inputs) x
       (subst (λ xs. Contains xs x) (sym (named_variables 0 s.inputs)) (assumed_input x b e q)) in
       subst (λ y. read_values σ y ≡ b) n.2
       (given_gives σ (read_values σ) assumptions (named_inputs 0 s.inputs)
@@ -615,7 +615,7 @@ module _ (scopes : List Scope) (clauses : List Row) (assumptions : List Literal)
       → (x : ℕ) (b : Bool) → assumed_value assumptions x ≡ Some b → quantifier_of scopes x ≢ Some pivot
       → values_of s values x ≡ b
   outputs_won values right x b e ne =
-      let o = map_at (λ (p : Output). p.var) s.outputs x (assumed_output x b e ne) in
+      let o = contains_map (λ (p : Output). p.var) s.outputs x (assumed_output x b e ne) in
       subst (λ z. values_of s values z ≡ b) o.2
       (given_gives (witness values) (values_of s values) assumptions (named_outputs s.aig.inputs s.outputs)
       (witness_outputs values) right (named_output s.aig.inputs o.0)

@@ -9,12 +9,12 @@ use Rattle.truth.specs.Matrix.{Values, no_values, with_value, matrix_true}
 use Rattle.truth.specs.Truth.{truth, truth_under, truth_from, truth_under_from, joined}
 use Rattle.calculus.specs.Rows.{Row, Assignment, AreOverPrefix}
 use Rattle.calculus.specs.Plays.{total}
-use Rattle.calculus.proofs.Lists.{contains_nil, contains_head, contains_tail, among_from, filter_at}
+use Rattle.calculus.proofs.Lists.{contains_nil, contains_head, contains_tail, among_from, filter_at, contains_map}
 use Rattle.calculus.proofs.Winning.{winning_decides}
 use Rattle.std.specs.List.{range_with_len}
 use Rattle.builder.specs.Rows.{as_row, is_left_out, literal_of, rows_of}
 use Rattle.certcheck.specs.Check.{scopes_to}
-use Rattle.certcheck.proofs.Rows.{map_at, kept_at, none_there}
+use Rattle.certcheck.proofs.Rows.{kept_at, none_there}
 
 -- the truth under no assumptions is the truth
 no_assumptions_from : (xs : List BoundVariable) (cs : List Row) (σ : Values)
@@ -107,11 +107,11 @@ pub rows_over : (k : ℕ) (cs : List (List ℕ))
     → ((c : List ℕ) (n : ℕ) → Contains cs c → Contains c n → n < 2 * (k + 1))
     → AreOverPrefix (scopes_to k) (rows_of cs)
 rows_over k cs below clause literal i j =
-    let r = map_at as_row (filter (λ c. not (is_left_out c)) cs) clause i in
+    let r = contains_map as_row (filter (λ c. not (is_left_out c)) cs) clause i in
     let f = filter_at (λ c. not (is_left_out c)) cs r.0 r.1 in
     let none : is_among 1 r.0 ≡ false = (or_parts (is_among 1 r.0) _ (not-true (is_left_out r.0) f.1)).0 in
     let inside : Contains (as_row r.0) literal = subst (λ row. Contains row literal) (sym r.2) j in
-    let m = map_at literal_of _ literal inside in
+    let m = contains_map literal_of _ literal inside in
     let kept = kept_at r.0 m.0 m.1 in
     let other : m.0 ≡ 1 → ⊥ = none_there r.0 none m.0 kept.0 in
     let some : m.0 ≡ 0 → ⊥ = kept.1 in

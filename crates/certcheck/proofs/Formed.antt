@@ -9,12 +9,12 @@ use Rattle.truth.specs.Formed.{IsClauseOver}
 use Rattle.clauses.specs.Codes.{has_pair}
 use Rattle.clauses.proofs.Ascending.{ascending_is}
 use Rattle.clauses.proofs.Rows.{halves_ascend, pair_witness}
-use Rattle.calculus.proofs.Lists.{contains_head, contains_tail, any_from, among_at, among_from, filter_at}
+use Rattle.calculus.proofs.Lists.{contains_head, contains_tail, any_from, among_at, among_from, filter_at, contains_map}
 use Rattle.builder.specs.Rows.{as_row, flipped, is_left_out, literal_of, rows_of}
 use Rattle.certcheck.specs.Check.{scopes_to, variable_count, check_clauses}
 use Rattle.certcheck.specs.Theorems.{RowsAreFormed}
 use Rattle.builder.proofs.Opposites.{flip_even}
-use Rattle.certcheck.proofs.Rows.{kept_at, map_at}
+use Rattle.certcheck.proofs.Rows.{kept_at}
 use Rattle.certcheck.proofs.Deciding.{rows_over}
 use Rattle.certcheck.proofs.Bounds.{check_below}
 
@@ -62,7 +62,7 @@ rows_are_formed clauses assumptions s is gates =
     let cs = check_clauses clauses assumptions s in
     let over = rows_over k cs (check_below clauses assumptions s is gates) in
     all_rows (scopes_to k) (rows_of cs) (λ row i.
-    let r = map_at as_row (filter (λ c. not (is_left_out c)) cs) row i in
+    let r = contains_map as_row (filter (λ c. not (is_left_out c)) cs) row i in
     let f = filter_at (λ c. not (is_left_out c)) cs r.0 r.1 in (
       subst (λ (x : List Literal). IsAscending (map (λ (l : Literal). l.variable) x)) r.2
           (row_ascends r.0 (not-true (is_left_out r.0) f.1)),

@@ -9,6 +9,7 @@ use Rattle.truth.specs.Truth.{assumed_value}
 use Rattle.calculus.specs.Rows.{Assignment, Row}
 use Rattle.calculus.specs.Plays.{total}
 use Rattle.calculus.proofs.Lists.{contains_cons, contains_nil, contains_head, contains_tail, any_same}
+use Rattle.calculus.proofs.Merging.{beq_true}
 use Rattle.certcheck.specs.Check.{Named, number_in, number_when, number_of, numbered, given_of, given}
 use Rattle.certcheck.proofs.Numbers.{number_true, when_true, holds, all_hold}
 use Rattle.certcheck.proofs.Rows.{any_map}
@@ -20,12 +21,6 @@ AreFaithful σ v ns = (n : Named) → Contains ns n → number_true σ n.number 
 -- each variable of the clauses is named
 abbrev pub IsNamed : List Named → ℕ → Type 0
 IsNamed ns x = Contains (map (λ (n : Named). n.variable) ns) x
-
-pub same_gives : (a b : Bool) → same a b ≡ true → a ≡ b
-same_gives true true e = refl
-same_gives true false e = sym e
-same_gives false true e = e
-same_gives false false e = refl
 
 pub same_from : (a b : Bool) → a ≡ b → same a b ≡ true
 same_from true true e = refl
@@ -87,7 +82,7 @@ of_gives σ n None b h e = cc
 of_gives σ n (Some c) b h e =
     let first : number_true σ (number_when c n) ≡ true = (and_parts (number_true σ (number_when c n)) true h).0 in
     let equal : c ≡ b = cc in
-    same_gives (number_true σ n) c (sym (when_true σ c n) ∙ first) ∙ equal
+    beq_true (number_true σ n) c (sym (when_true σ c n) ∙ first) ∙ equal
 
 of_from : (σ : Assignment) (n : ℕ) (o : Option Bool) → ((b : Bool) → o ≡ Some b → number_true σ n ≡ b)
     → list_all (number_true σ) (given_of n o) ≡ true

@@ -6,7 +6,8 @@ use Rattle.prefix.specs.Scopes.{is_among}
 use Rattle.truth.specs.Matrix.{same, literal_true, clause_true, matrix_true}
 use Rattle.calculus.specs.Rows.{Assignment}
 use Rattle.calculus.specs.Plays.{total}
-use Rattle.calculus.proofs.Lists.{any_at, any_from, among_at, among_from, contains_cons, contains_nil, contains_head, contains_tail, filter_at, filter_from}
+use Rattle.calculus.proofs.Lists.{any_at, any_from, among_at, among_from, filter_at, filter_from}
+use Rattle.calculus.proofs.Merging.{beq_yes}
 use Rattle.clauses.specs.Clause.{ascending}
 use Rattle.clauses.proofs.Ascending.{ascending_among}
 use Rattle.builder.specs.Rows.{as_row, flipped, is_left_out, literal_of, rows_of}
@@ -18,13 +19,6 @@ pub any_map : {X Y : Type 0} (p : Y → Bool) (f : X → Y) (xs : List X)
     → list_any p (map f xs) ≡ list_any (λ x. p (f x)) xs
 any_map p f [] = refl
 any_map p f (x ∷ xs) = ap (λ b. p (f x) || b) (any_map p f xs)
-
-pub map_at : {X Y : Type 0} (f : X → Y) (xs : List X) (y : Y) → Contains (map f xs) y → (x : X) × Contains xs x
-    × (f x ≡ y)
-map_at f [] y c = absurd (contains_nil y c)
-map_at f (x ∷ xs) y c =
-    ⊎_elim (λ e. (x, contains_head x xs, e)) (λ d. let r = map_at f xs y d in (r.0, contains_tail x xs r.0 r.1, r.2))
-    (contains_cons (f x) (map f xs) y c)
 
 -- the constant true
 one_true : (σ : Assignment) → number_true σ 1 ≡ true
@@ -44,10 +38,6 @@ left_out_holds σ ns e =
     (cases_Bool (number_true σ r.0)))
     (or_cases (is_among 1 ns) (list_any (λ n. is_among (flipped n) ns) ns) e)
 
-same_yes : (b : Bool) → same b true ≡ b
-same_yes true = refl
-same_yes false = refl
-
 same_no : (b : Bool) → same b false ≡ not b
 same_no true = refl
 same_no false = refl
@@ -64,7 +54,7 @@ literal_is σ n ne ne1 =
     ⊎_elim
     (λ (e : n ≡ 2 * (n / 2)).
     let even : n % 2 ≡ 0 = omega (arith, e) in
-    ap (λ r. same (σ (n / 2)) (nat_eq r 0)) even ∙ same_yes (σ (n / 2)) ∙ sym (value_some σ (n / 2) some)
+    ap (λ r. same (σ (n / 2)) (nat_eq r 0)) even ∙ beq_yes (σ (n / 2)) ∙ sym (value_some σ (n / 2) some)
     ∙ sym (even_true σ n (n / 2) e))
     (λ (o : n ≡ 2 * (n / 2) + 1).
     let odd : n % 2 ≡ 1 = omega (arith, o) in

@@ -6,12 +6,11 @@ use Rattle.std.proofs.lemmas.Bool.{eq-eqb, eqb-true}
 use Rattle.std.proofs.lemmas.List.{append-nil}
 use Rattle.std.proofs.lemmas.Grind.{flat_map-append}
 use Rattle.calculus.specs.Rows.{Row}
+use Rattle.calculus.proofs.Lists.{all_append, all_behind, all_front, all_more, all_taken}
 use Rattle.frames.specs.Groups.{AreRising, Group, active_in, clauses_at, group_at, grouped_in, grown, inactive_in, new_group, with_clause_at, with_group, with_mark}
 use Rattle.frames.specs.Places.{joined, shortened, shrunk}
 use Rattle.frames.specs.State.{literals_in}
 use Rattle.frames.proofs.Grouping.{AreOthers, grown_one, grown_others}
-use Rattle.frames.proofs.Leaving.{all_append, all_behind, all_front}
-use Rattle.frames.proofs.Starts.{all_more, all_taken}
 
 pub literals_append : (xs ys : List Row) → literals_in (xs ++ ys) ≡ literals_in xs + literals_in ys
 literals_append xs ys =

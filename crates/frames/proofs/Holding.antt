@@ -6,6 +6,7 @@ use Rattle.std.proofs.lemmas.Bool.{cond-true, cond-false, eq-eqb, eqb-true, ltb-
 use Rattle.std.proofs.lemmas.List.{take-append-drop}
 use Rattle.prefix.specs.Scopes.{Scope, level_of}
 use Rattle.calculus.specs.Rows.{Row, IsRow}
+use Rattle.calculus.proofs.Lists.{all_map}
 use Rattle.versions.specs.declared.version.Version.{Version}
 use Rattle.frames.specs.declared.frames.Latest.{Latest}
 use Rattle.frames.specs.declared.frames.Latest.TheVariants.{Kept, Other}
@@ -21,7 +22,7 @@ use Rattle.frames.specs.State.{clauses_in, leaves_in, literals_in, top_variables
 use Rattle.frames.proofs.Counting.{all_joined, all_shortened, length_all, length_grown, literals_all, literals_append, literals_grown}
 use Rattle.frames.proofs.Grouping.{grown_one, grown_others}
 use Rattle.frames.proofs.Knowing.{rows_kept}
-use Rattle.frames.proofs.Leaving.{all_map, all_nothing, names_both, names_front, names_back, new_to_rows, rows_left}
+use Rattle.frames.proofs.Leaving.{all_nothing, names_both, names_front, names_back, new_to_rows, rows_left}
 use Rattle.frames.proofs.Starts.{frames_clauses, frames_top, literals_more}
 
 -- groups

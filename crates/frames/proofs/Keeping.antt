@@ -15,6 +15,7 @@ use Rattle.frames.specs.declared.frames.Latest.TheVariants.{Other, LeftOut, Kept
 use Rattle.frames.specs.declared.frames.Start.{Start}
 use Rattle.prefix.specs.Scopes.{IsAscending}
 use Rattle.calculus.specs.Rows.{variables_in}
+use Rattle.calculus.proofs.Lists.{all_more, all_taken}
 use Rattle.clauses.specs.Clause.{as_row}
 use Rattle.frames.specs.State.{Frame, OpenFormula, put_assumption, settled, pushed, popped, depth, top_variables, with_row, with_leaving, with_variable, leaves_in, without_variables, without_assumed}
 use Rattle.frames.specs.Commands.{Pop, formula_after, max_pushed, with_row_at}
@@ -22,7 +23,7 @@ use Rattle.frames.specs.Groups.{Group}
 use Rattle.frames.specs.Kept.{at_first, AreStarts, AreFrames, AreAssumptions, formula_of, state_of, frames_from, outside, rows_before, rows_with}
 use Rattle.frames.specs.Places.{GroupsState, joined, with_joined, without_last}
 use Rattle.frames.specs.Leaving.{AreLeaving, NamesNone}
-use Rattle.frames.proofs.Starts.{frame, starts_more, starts_pushed, starts_popped, all_more, all_taken, all_but_last, frames_clauses, frames_popped, frames_pushed, frames_with_leaving, frames_with_row, last_frame, depth_is}
+use Rattle.frames.proofs.Starts.{frame, starts_more, starts_pushed, starts_popped, all_but_last, frames_clauses, frames_popped, frames_pushed, frames_with_leaving, frames_with_row, last_frame, depth_is}
 use Rattle.frames.proofs.Grouping.{joined_back}
 use Rattle.frames.proofs.Knowing.{rows_kept}
 use Rattle.frames.proofs.Leaving.{below_top, leave_back, leave_popped, leave_pushed, leave_row, leave_variable, rows_left, top_is}

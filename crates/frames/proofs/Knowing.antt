@@ -8,8 +8,8 @@ use Rattle.prefix.specs.Literal.{Literal}
 use Rattle.prefix.specs.Scopes.{Scope, is_among, level_of, all_variables, IsPrefix}
 use Rattle.prefix.proofs.InsertionLemmas.{level_found}
 use Rattle.calculus.specs.Rows.{Row, IsRow, variables_in}
-use Rattle.calculus.proofs.Levels.{contains_map_of, has_level}
-use Rattle.calculus.proofs.Lists.{among_from, among_at}
+use Rattle.calculus.proofs.Levels.{has_level}
+use Rattle.calculus.proofs.Lists.{among_from, among_at, contains_map_of}
 use Rattle.clauses.specs.Clause.{as_row, variables_of, has_literal}
 use Rattle.clauses.specs.Codes.{IsInRange}
 use Rattle.clauses.proofs.Ascending.{ascending_is, ascending_among}

@@ -1,5 +1,5 @@
 -- Variables that come and go with frames.
-use Rattle.std.proofs.Common.{◌≡◌, ℕ, ◌-◌, Bool, true, false, cond, not, ◌||◌, List, [], ◌∷◌, ◌++◌, length, Some, None, refl, sym, ap, ap₂, ◌∙◌, subst, append_assoc, arith, ⊎_elim}
+use Rattle.std.proofs.Common.{◌≡◌, ℕ, ◌-◌, Bool, true, false, cond, not, ◌||◌, List, [], ◌∷◌, ◌++◌, length, Some, None, refl, sym, ap, ap₂, ◌∙◌, subst, append_assoc, arith}
 use Rattle.std.specs.Prelude.{◌==◌, if◌then◌else◌, is_some, Contains, nat_lt}
 use Rattle.std.specs.List.{AllByRecursion}
 use Rattle.std.proofs.lemmas.Bool.{eqb-true, or_parts, true≢false}
@@ -14,39 +14,16 @@ use Rattle.calculus.specs.Derivations.{Extends}
 use Rattle.calculus.specs.Rows.{Row, IsRow, without}
 use Rattle.calculus.proofs.Changes.{extends_itself}
 use Rattle.calculus.proofs.Growing.{extends_twice, kept_extends}
-use Rattle.calculus.proofs.Lists.{contains_cons, contains_head, contains_nil, contains_tail}
+use Rattle.calculus.proofs.Lists.{contains_head, contains_tail, all_append, all_behind, all_front, all_map, all_more, all_of}
 use Rattle.calculus.proofs.Levels.{has_level}
 use Rattle.versions.specs.declared.version.Version.{Version}
 use Rattle.versions.specs.declared.version.Version.TheVariants.{One, Two, Three}
 use Rattle.frames.specs.State.{Frame, with_row, with_leaving, popped, pushed, clauses_in, depth, top_variables, with_variable, without_variables, without_assumed}
 use Rattle.frames.specs.Leaving.{AreLeaving, ClausesOutlast, FirstKeeps, NamesNone, leaving}
-use Rattle.frames.proofs.Starts.{all_but_last, all_more}
+use Rattle.frames.proofs.Starts.{all_but_last}
 use Rattle.frames.proofs.Knowing.{in_prefix}
 
 -- lists
-
-all_of : {X : Type 0} (P : X → Type 0) (xs : List X) (x : X) → AllByRecursion P xs → Contains xs x → P x
-all_of P [] x all c = absurd (contains_nil x c)
-all_of P (y ∷ ys) x all c =
-    ⊎_elim (λ e. subst P e all.0) (λ d. all_of P ys x all.1 d) (contains_cons y ys x c)
-
-pub all_map : {X : Type 0} (P Q : X → Type 0) (xs : List X) → ((x : X) → P x → Q x) → AllByRecursion P xs
-    → AllByRecursion Q xs
-all_map P Q [] h all = tt
-all_map P Q (x ∷ xs) h all = (h x all.0, all_map P Q xs h all.1)
-
-pub all_front : {X : Type 0} (P : X → Type 0) (xs ys : List X) → AllByRecursion P (xs ++ ys) → AllByRecursion P xs
-all_front P [] ys all = tt
-all_front P (x ∷ xs) ys all = (all.0, all_front P xs ys all.1)
-
-pub all_behind : {X : Type 0} (P : X → Type 0) (xs ys : List X) → AllByRecursion P (xs ++ ys) → AllByRecursion P ys
-all_behind P [] ys all = all
-all_behind P (x ∷ xs) ys all = all_behind P xs ys all.1
-
-pub all_append : {X : Type 0} (P : X → Type 0) (xs ys : List X) → AllByRecursion P xs → AllByRecursion P ys
-    → AllByRecursion P (xs ++ ys)
-all_append P [] ys all more = more
-all_append P (x ∷ xs) ys all more = (all.0, all_append P xs ys all.1 more)
 
 distinct_front : (xs ys : List ℕ) → AreDistinct (xs ++ ys) → AreDistinct xs
 distinct_front [] ys d = tt

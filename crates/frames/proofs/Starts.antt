@@ -1,6 +1,6 @@
 -- Frames, from the places where they start.
 use Rattle.std.proofs.Common.{◌≡◌, ℕ, zero, suc, ◌+◌, ◌-◌, ◌≤◌, List, [], ◌∷◌, ◌++◌, length, take, drop, refl, sym, ap, ap₂, ◌∙◌, arith, length-append, length-drop}
-use Rattle.std.specs.List.{AllByRecursion, flat_map}
+use Rattle.std.specs.List.{flat_map}
 use Rattle.std.proofs.lemmas.List.{take-append-le, drop-append-le, take-append-drop, take-take, take_all, drop-take, drop-drop, append-nil}
 use Rattle.std.proofs.Math.Seq.{take-append_seam}
 use Rattle.std.proofs.lemmas.Grind.{flat_map-append}
@@ -248,14 +248,3 @@ literals_more rows r =
     ap length (flat_map-append (λ (row : Row). row) rows (r ∷ []))
     ∙ length-append (flat_map (λ (row : Row). row) rows) (r ++ [])
     ∙ ap (λ x. literals_in rows + length x) (append-nil r)
-
-pub all_more : {X : Type 0} (P : X → Type 0) (xs : List X) (x : X) → AllByRecursion P xs → P x
-    → AllByRecursion P (xs ++ x ∷ [])
-all_more P [] x all p = (p, tt)
-all_more P (y ∷ ys) x all p = (all.0, all_more P ys x all.1 p)
-
-pub all_taken : {X : Type 0} (P : X → Type 0) (n : ℕ) (xs : List X) → AllByRecursion P xs
-    → AllByRecursion P (take n xs)
-all_taken P zero xs all = tt
-all_taken P (suc n) [] all = tt
-all_taken P (suc n) (x ∷ xs) all = (all.0, all_taken P n xs all.1)

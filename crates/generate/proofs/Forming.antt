@@ -6,14 +6,15 @@ use Rattle.std.proofs.lemmas.Bool.{ne_eqb}
 use Rattle.std.proofs.lemmas.List.{append-nil}
 use Rattle.std.proofs.lemmas.List.FromFn.{length-map-range_with_len, length-range_with_len}
 use Rattle.prefix.specs.Literal.{Literal}
-use Rattle.prefix.specs.Scopes.{AreDistinct, IsAscending, IsPrefix, all_variables, is_among}
+use Rattle.prefix.specs.Scopes.{AreDistinct, IsPrefix, all_variables, is_among}
 use Rattle.truth.specs.Formed.{IsClauseOver, IsFormed}
-use Rattle.clauses.proofs.Ascending.{below_all, all_from}
+use Rattle.clauses.proofs.Ascending.{all_from}
 use Rattle.generate.specs.Draws.{start_of}
 use Rattle.generate.specs.Made.{by_variable, clause_at, first_place, literals_drawn, made, put, scopes_over, second_place, third_place}
 use Rattle.generate.proofs.Places.{first_below, second_below, second_differs, third_below, third_differs}
 use Rattle.generate.proofs.Ranges.{range_among, range_ascends, range_joined, range_within}
 use Rattle.generate.proofs.Sorting.{ordered_ascends}
+use Rattle.qdimacs.proofs.Lists.{ascending_distinct}
 
 -- what holds of each value of a function
 pub all_mapped : {X : Type 0} (P : X → Type 0) (f : ℕ → X) (ns : List ℕ) → ((n : ℕ) → P (f n))
@@ -32,10 +33,6 @@ variables_are v =
     ∙ ap (λ vs. range_with_len 1 k ++ vs) (range_joined (k + 1) k (2 * k + 1) (v - 2 * k) (omega arith))
     ∙ range_joined 1 k (k + 1) (k + (v - 2 * k)) (omega arith)
     ∙ ap (range_with_len 1) enough
-
-pub ascending_distinct : (xs : List ℕ) → IsAscending xs → AreDistinct xs
-ascending_distinct [] h = tt
-ascending_distinct (x ∷ xs) h = (below_all x xs h.0, ascending_distinct xs h.1)
 
 pub prefix_is : (v : ℕ) → 3 ≤ v → v ≤ 32000 → IsPrefix (scopes_over v)
 prefix_is v low high = record {

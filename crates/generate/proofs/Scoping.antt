@@ -9,24 +9,12 @@ use Rattle.prefix.specs.declared.refusal.PrefixRefusal.{PrefixRefusal}
 use Rattle.prefix.specs.declared.refusal.PrefixRefusal.TheVariants.{NoMemory}
 use Rattle.prefix.specs.Refusals.{variable_refusal}
 use Rattle.prefix.specs.Scopes.{Scope, all_variables, is_among, level_of, with_variable_at}
-use Rattle.qdimacs.proofs.Building.{last_none, variable_last, variable_memory}
+use Rattle.qdimacs.proofs.Lists.{all_first, all_joined, all_second}
 use Rattle.generate.specs.Made.{scope_from}
 use Rattle.generate.proofs.Ranges.{range_apart, range_below, range_put}
+use Rattle.builder.proofs.Scoping.{last_none, variable_last, variable_memory}
 
 -- what holds of two lists holds of both joined, and the other way round
-pub all_joined : (P : ℕ → Type 0) (xs ys : List ℕ) → AllByRecursion P xs → AllByRecursion P ys
-    → AllByRecursion P (xs ++ ys)
-all_joined P [] ys h k = k
-all_joined P (x ∷ xs) ys h k = (h.0, all_joined P xs ys h.1 k)
-
-pub all_first : (P : ℕ → Type 0) (xs ys : List ℕ) → AllByRecursion P (xs ++ ys) → AllByRecursion P xs
-all_first P [] ys h = tt
-all_first P (x ∷ xs) ys h = (h.0, all_first P xs ys h.1)
-
-pub all_second : (P : ℕ → Type 0) (xs ys : List ℕ) → AllByRecursion P (xs ++ ys) → AllByRecursion P ys
-all_second P [] ys h = h
-all_second P (x ∷ xs) ys h = all_second P xs ys h.1
-
 below_apart : (v first : ℕ) (xs : List ℕ) → first ≤ v → AllByRecursion (λ u. u < first) xs → is_among v xs ≡ false
 below_apart v first [] le h = refl
 below_apart v first (x ∷ xs) le h = grind (arith, h.0, below_apart v first xs le h.1)

@@ -1,18 +1,10 @@
 -- Worked values of the generator.
-use Rattle.std.specs.Prelude.{◌≡◌, ℕ, ◌/◌, [], ◌∷◌, map, true, false}
+use Rattle.std.specs.Prelude.{◌≡◌, ◌/◌, [], ◌∷◌, map}
 use Rattle.std.specs.List.{range_with_len}
-use Rattle.prefix.specs.declared.quant.Quant.TheVariants.{Exists, Forall}
-use Rattle.prefix.specs.Literal.{Literal}
-use Rattle.truth.specs.declared.formula.Formula.{Formula}
+use Rattle.clauses.specs.Worked.{minus, plus}
+use Rattle.qdimacs.specs.Worked.{smallest, two_clauses}
 use Rattle.generate.specs.Draws.{drawn, start_of, state_at}
 use Rattle.generate.specs.Made.{by_variable, first_place, literals_drawn, made, past, second_from, second_place, third_from, third_place}
-
--- a variable, and its negation
-abbrev pub plus : ℕ → Literal
-plus v = record { variable = v; positive = true }
-
-abbrev pub minus : ℕ → Literal
-minus v = record { variable = v; positive = false }
 
 -- the first states and quotients of seed 0, and seeds that begin with one state
 pub record WorkedStates : Type 0 where
@@ -39,30 +31,7 @@ pub record WorkedPlaces : Type 0 where
   pub past_itself : past 2 2 ≡ 3
   pub sorted : by_variable (plus 3 ∷ minus 1 ∷ plus 2 ∷ []) ≡ minus 1 ∷ plus 2 ∷ plus 3 ∷ []
 
--- the formula of seed 0 with three variables and one clause
-abbrev pub smallest : Formula
-smallest = record {
-  prefix = record { quantifier = Exists; variables = 1 ∷ [] }
-      ∷ record { quantifier = Forall; variables = 2 ∷ [] }
-      ∷ record { quantifier = Exists; variables = 3 ∷ [] }
-      ∷ [];
-  clauses = (minus 1 ∷ plus 2 ∷ minus 3 ∷ []) ∷ [];
-  declared_vars = 3;
-  declared_clauses = 1;
-}
-
--- the formula of seed 1 with four variables and two clauses
-abbrev pub two_clauses : Formula
-two_clauses = record {
-  prefix = record { quantifier = Exists; variables = 1 ∷ [] }
-      ∷ record { quantifier = Forall; variables = 2 ∷ [] }
-      ∷ record { quantifier = Exists; variables = 3 ∷ 4 ∷ [] }
-      ∷ [];
-  clauses = (minus 1 ∷ minus 3 ∷ minus 4 ∷ []) ∷ (minus 1 ∷ plus 3 ∷ minus 4 ∷ []) ∷ [];
-  declared_vars = 4;
-  declared_clauses = 2;
-}
-
+-- two whole formulas
 pub record WorkedFormulas : Type 0 where
   pub of_seed_0 : made 0 3 1 ≡ smallest
   pub of_seed_1 : made 1 4 2 ≡ two_clauses

@@ -8,7 +8,7 @@ use Rattle.prefix.specs.declared.quant.Quant.TheVariants.{Exists}
 use Rattle.prefix.specs.Scopes.{Scope, AreDistinct, all_variables, is_among, variables_at}
 use Rattle.prefix.proofs.ScopeLemmas.{is_among-append}
 use Rattle.clauses.specs.Clause.{ascending}
-use Rattle.qdimacs.specs.Kept.{AreNew}
+use Rattle.builder.specs.NewScope.{AreNew}
 use Rattle.qcir.specs.declared.circuit.Circuit.{Circuit}
 use Rattle.qcir.specs.declared.circuit.Gate.{Gate}
 use Rattle.qcir.specs.Building.{ends_existential}

@@ -1,5 +1,5 @@
 -- The scopes of a prefix one after another, and a last one behind them.
-use Rattle.std.proofs.Common.{◌≡◌, ℕ, zero, suc, ◌+◌, ◌-◌, ◌<◌, ◌≤◌, true, false, List, [], ◌∷◌, ◌++◌, length, take, drop, get_or, max, Option, Some, None, Result, Ok, Err, refl, sym, ap, subst, ◌∙◌, ⊎_elim, append_assoc, append-nil, arith, nat_eq}
+use Rattle.std.proofs.Common.{◌≡◌, ℕ, zero, suc, ◌+◌, ◌-◌, ◌<◌, ◌≤◌, true, false, List, [], ◌∷◌, ◌++◌, length, take, drop, get_or, max, Option, Some, None, Result, Err, refl, sym, ap, subst, ◌∙◌, ⊎_elim, append_assoc, append-nil, arith, nat_eq}
 use Rattle.std.specs.Prelude.{is_some, slice_get, unwrap_or, if◌then◌else◌, IsOkUnless, MatchOption}
 use Rattle.std.specs.Option.{option_map}
 use Rattle.std.specs.List.{AllByRecursion}
@@ -18,8 +18,8 @@ use Rattle.prefix.proofs.ScopeLemmas.{is_among-append}
 use Rattle.truth.proofs.OrderLemmas.{has_quantifier}
 use Rattle.clauses.specs.Clause.{ascending}
 use Rattle.clauses.proofs.Ascending.{ascending_of, ascending_same, permuted_among}
-use Rattle.qdimacs.specs.Kept.{AreNew}
-use Rattle.qdimacs.proofs.Building.{inserted, last_grows, next_memory}
+use Rattle.builder.specs.NewScope.{AreNew}
+use Rattle.builder.proofs.Scoping.{next_memory, scope_grows as one_grows}
 use Rattle.qdimacs.proofs.Fitting.{distinct_apart, distinct_parts, permuted_distinct}
 use Rattle.qcir.specs.Building.{ends_existential}
 use Rattle.qcir.specs.Translation.{greatest_of, joined_last, own_scope, scopes_with}
@@ -31,26 +31,18 @@ and_scope scopes q vs = scopes ++ record { quantifier = q; variables = vs } ∷ 
 
 -- Variables one after another.
 
--- one more variable in the last scope
-pub scope_grows : (old new : List Scope) (q : Quant) (vs : List ℕ) (i n v : ℕ) (r : Result (Unit {0}) PrefixRefusal)
-    (x : Unit {0}) (ss : List Scope) → i < length vs → v ≡ get_or vs i 0 → r ≡ Ok x
-    → MatchOption (variable_refusal old v n) (IsOkUnless r NoMemory) (λ e. r ≡ Err e)
-    → n - 1 ≡ length ss → new ≡ with_variable_at old (n - 1) v
-    → old ≡ and_scope ss q (inserted (take i vs) []) → IsAscending (inserted (take i vs) [])
-    → (new ≡ and_scope ss q (inserted (take (i + 1) vs) [])) × IsAscending (inserted (take (i + 1) vs) [])
-scope_grows old new q vs i n v r x ss low is ok refused place grown built rising =
-    last_grows old new q vs i n r x ss low ok
-    (subst (λ u. MatchOption (variable_refusal old u n) (IsOkUnless r NoMemory) (λ e. r ≡ Err e)) is refused) place
-    (grown ∙ ap (with_variable_at old (n - 1)) is) built rising
+module _ (ss now : List Scope) (q : Quant) (vs : List ℕ) (i n v : ℕ) (low : i < length vs) (is : v ≡ get_or vs i 0)
+    (new : AreNew ss vs) (number : n ≡ length ss + 1) (built : now ≡ and_scope ss q (ascending (take i vs))) where
+  -- one more variable in the last scope
+  pub scope_grows : with_variable_at now (n - 1) v ≡ and_scope ss q (ascending (take (i + 1) vs))
+  scope_grows = ap (with_variable_at now (n - 1)) is ∙ one_grows ss now q vs i n low new number built
 
--- the next variable is refused for want of memory alone
-pub variable_memory : (ss now : List Scope) (q : Quant) (vs : List ℕ) (i n v : ℕ)
-    (r : Result (Unit {0}) PrefixRefusal) → i < length vs → v ≡ get_or vs i 0 → AreNew ss vs → n ≡ length ss + 1
-    → now ≡ and_scope ss q (inserted (take i vs) [])
-    → MatchOption (variable_refusal now v n) (IsOkUnless r NoMemory) (λ e. r ≡ Err e) → IsOkUnless r NoMemory
-variable_memory ss now q vs i n v r low is new number built refused =
-    next_memory ss now q vs i n r low new number built
-    (subst (λ u. MatchOption (variable_refusal now u n) (IsOkUnless r NoMemory) (λ e. r ≡ Err e)) is refused)
+  -- the next variable is refused for want of memory alone
+  pub variable_memory : (r : Result (Unit {0}) PrefixRefusal)
+      → MatchOption (variable_refusal now v n) (IsOkUnless r NoMemory) (λ e. r ≡ Err e) → IsOkUnless r NoMemory
+  variable_memory r refused =
+      next_memory ss now q vs i n low new number built r
+      (subst (λ u. MatchOption (variable_refusal now u n) (IsOkUnless r NoMemory) (λ e. r ≡ Err e)) is refused)
 
 pub ascending_kept : (vs : List ℕ) → IsAscending vs → ascending vs ≡ vs
 ascending_kept vs up = sym (ascending_of vs vs up (λ v. refl))

@@ -3,7 +3,7 @@ ghost use Rattle.std.specs.Prelude.{◌≡◌, ◌<◌, ◌≤◌, ◌++◌, ◌
 ghost use Rattle.prefix.specs.declared.quant.Quant.TheVariants.{Exists};
 ghost use Rattle.prefix.specs.Scopes.{IsPrefix, all_variables};
 ghost use Rattle.clauses.specs.Clause.{ascending};
-ghost use Rattle.qdimacs.specs.Kept.{AreNew};
+ghost use Rattle.builder.specs.NewScope.{AreNew};
 ghost use Rattle.qcir.specs.Truth.{gate_names};
 ghost use Rattle.qcir.specs.Translation.{IsCircuit, greatest_of, scopes_with};
 ghost use Rattle.qcir.specs.Building.{ends_existential as is_last_existential};

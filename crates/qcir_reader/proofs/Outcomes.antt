@@ -1,7 +1,7 @@
 -- The computed outcome is one by the grammar, and there is always one.
 use Rattle.std.proofs.Common.{◌≡◌, ℕ, Bool, true, false, List, [], ◌∷◌, ◌++◌, length, map, take, Option, None, Some, refl, sym, ap, ◌∙◌, arith}
 use Rattle.std.specs.Prelude.{nat_le, if◌then◌else◌, is_none, unwrap_or, not}
-use Rattle.std.proofs.lemmas.List.{map-append, append_assoc}
+use Rattle.std.proofs.lemmas.List.{map-append}
 use Rattle.lexer.specs.declared.token.Token.{Token}
 use Rattle.lexer.specs.declared.token.Comments.TheVariants.{Hash}
 use Rattle.lexer.specs.Words.{Item, word, bad_byte, number_range, too_long, the_end, items, items_of_lines, lines_of, seen, ending, max_bytes, last_line}
@@ -15,6 +15,7 @@ use Rattle.qcir_reader.specs.Reads.{Spells, IsAllowed, Decides, Reads, signs_of,
 use Rattle.qcir_reader.proofs.Tests.{none_refuses}
 use Rattle.qcir_reader.proofs.Allowed.{GoesTo, goes}
 use Rattle.qcir_reader.proofs.Spelled.{WritesTo, writes, LinesTo, lines}
+use Rattle.qdimacs.proofs.Outcomes.{moved as read_more}
 
 pub nothing_allowed : IsAllowed Between nothing
 nothing_allowed = record {
@@ -91,12 +92,6 @@ decided_here all rest item stage f read o p e s a v same = record {
   allowed = a;
   decides = v ∙ same;
 }
-
--- one more word has been read
-read_more : (all : List Item) (read : List Token) (t : Token) (rest : List Item) → all ≡ map word read ++ word t ∷ rest
-    → all ≡ map word (read ++ t ∷ []) ++ rest
-read_more all read t rest e = e ∙ sym (append_assoc (map word read) (word t ∷ []) rest) ∙ ap (λ r. r ++ rest)
-    (sym (map-append word read (t ∷ [])))
 
 by_item : (all rest : List Item) (item : Item) (stage : Stage) (f : Front) (read : List Token) (o : Outcome)
     (found : Option Outcome) → verdict stage f item ≡ found → all ≡ map word read ++ item ∷ rest → Spells stage f read

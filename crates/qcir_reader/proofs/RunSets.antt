@@ -10,6 +10,7 @@ use Rattle.reading.specs.declared.refusal.Quantity.TheVariants.{Scopes}
 use Rattle.qdimacs.specs.Formula.{QuantSet, merged, declared}
 use Rattle.qdimacs.proofs.Grown.{declared_more}
 use Rattle.qdimacs.proofs.Shorter.{all_less, distinct_less}
+use Rattle.qdimacs.proofs.Lists.{all_first}
 use Rattle.qcir_reader.specs.declared.sign.Place.{Place}
 use Rattle.qcir_reader.specs.declared.sign.Place.TheVariants.{Before, Opened, Behind, Continued}
 use Rattle.qcir_reader.specs.declared.sign.Stage.TheVariants.{Between, InSet}
@@ -18,7 +19,7 @@ use Rattle.qcir_reader.specs.Rules.{Front, first_of, refused, limit, is_known, i
 use Rattle.truth.specs.Limits.{max_scopes}
 use Rattle.qcir_reader.specs.Run.{nothing}
 use Rattle.qcir_reader.specs.Reads.{IsName, listed_more, set_signs, begun, IsPlaced}
-use Rattle.qcir_reader.proofs.Runs.{Runs, runs_none, runs_one, runs_on, runs_to, none_with, name_is, all_front, distinct_front, merged_vars, merged_sets}
+use Rattle.qcir_reader.proofs.Runs.{Runs, runs_none, runs_one, runs_on, runs_to, none_with, name_is, distinct_front, merged_vars, merged_sets}
 
 -- what quantifier statements keep to
 pub record AreSets (sets : List QuantSet) : Type 0 where
@@ -42,7 +43,7 @@ split_vars sets q us vs = declared_more sets q (us ++ vs) ∙ sym (append_assoc 
 pub fewer_vars : (sets : List QuantSet) (q : Quant) (us vs : List ℕ) → AreSets (sets ++ (q, us ++ vs) ∷ [])
     → AreSets (sets ++ (q, us) ∷ [])
 fewer_vars sets q us vs a = record {
-  names = all_front IsName (declared (sets ++ (q, us) ∷ [])) vs
+  names = all_first IsName (declared (sets ++ (q, us) ∷ [])) vs
       (subst (λ ds. AllByRecursion IsName ds) (split_vars sets q us vs) a.names);
   distinct = distinct_front (declared (sets ++ (q, us) ∷ [])) vs
       (subst AreDistinct (split_vars sets q us vs) a.distinct);
@@ -57,7 +58,7 @@ split_sets (x ∷ xs) ys = ap (λ r. x.1 ++ r) (split_sets xs ys) ∙ sym (appen
 
 pub fewer_sets : (xs ys : List QuantSet) → AreSets (xs ++ ys) → AreSets xs
 fewer_sets xs ys a = record {
-  names = all_front IsName (declared xs) (declared ys)
+  names = all_first IsName (declared xs) (declared ys)
       (subst (λ ds. AllByRecursion IsName ds) (split_sets xs ys) a.names);
   distinct = distinct_front (declared xs) (declared ys) (subst AreDistinct (split_sets xs ys) a.distinct);
   scopes = (let le : length (merged xs) ≤ length (merged (xs ++ ys)) = merged_sets xs ys in let top :

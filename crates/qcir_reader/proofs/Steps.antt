@@ -20,6 +20,7 @@ use Rattle.qcir_reader.specs.Answers.{IsAnswer, Is, refusal_for, Closes, Remains
 use Rattle.qcir_reader.proofs.Outcomes.{computed_reads}
 use Rattle.std.specs.Io.KnownBytes.{prepend_known, IsAtEnd}
 use Rattle.lexer.specs.State.{State, upcoming}
+use Rattle.qdimacs.proofs.Steps.{ends_begins, given_begins, no_answer}
 
 pub at_start : (all : Option (List Item)) → Remains all Between nothing all
 at_start None = tt
@@ -55,10 +56,6 @@ decides None now stage front item o r b v = tt
 decides (Some text) None stage front item o r b v = absurd r
 decides (Some text) (Some is) stage front item o r b v = decides_first text stage front is item b.0 o r b.1 v
 
-no_answer : (left : Option (List ℕ)) → IfSome left (λ text. Unit {0})
-no_answer None = tt
-no_answer (Some text) = tt
-
 -- a rule refused the first item
 pub refused_by : (left : Option (List ℕ)) (now : Option (List Item)) (stage : Stage) (front : Front) (item : Item)
     (e : QcirRefusal) → Remains (option_map (items Hash) left) stage front now → Begins now item
@@ -69,10 +66,6 @@ refused_by left now stage front item (Limit quantity line) r b v = decides left 
     (limit quantity line) r b v
 refused_by left now stage front item ReadFault r b v = absurd v
 refused_by left now stage front item NoMemory r b v = no_answer left
-
-given_begins : (now after : Option (List Item)) (t : Token) → Gives t now after → Begins now (word t)
-given_begins None after t g = tt
-given_begins (Some is) after t g = (g.0, g.1)
 
 pub word_refused : (left : Option (List ℕ)) (now after : Option (List Item)) (stage : Stage) (front : Front) (t : Token)
     (e : QcirRefusal) → Remains (option_map (items Hash) left) stage front now → Gives t now after
@@ -88,10 +81,6 @@ lexer_refused left now stage front LexFault r b = no_answer left
 lexer_refused left now stage front (TooLong line) r b = decides left now stage front (too_long line) _ r b refl
 lexer_refused left now stage front (BadByte line) r b = decides left now stage front (bad_byte line) _ r b refl
 lexer_refused left now stage front (NumberRange line) r b = decides left now stage front (number_range line) _ r b refl
-
-ends_begins : (now after : Option (List Item)) (line : ℕ) → Ends line now after → Begins now (the_end line)
-ends_begins None after line e = tt
-ends_begins (Some is) after line e = ([], e.0)
 
 -- the end came
 pub closed : (left : Option (List ℕ)) (now after : Option (List Item)) (stage : Stage) (front : Front) (line : ℕ)

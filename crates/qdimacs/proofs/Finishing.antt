@@ -1,5 +1,5 @@
 -- The formula at the end of the text.
-use Rattle.std.proofs.Common.{◌≡◌, ℕ, zero, suc, ◌+◌, ◌<◌, ◌≤◌, ℤ, nat_abs, Bool, true, false, not, ◌&&◌, ◌||◌, List, [], ◌∷◌, ◌++◌, length, map, Some, refl, sym, ap, ◌∙◌, arith}
+use Rattle.std.proofs.Common.{◌≡◌, ℕ, zero, suc, ◌+◌, ◌<◌, ◌≤◌, ℤ, nat_abs, Bool, true, false, not, ◌&&◌, ◌||◌, List, [], ◌∷◌, ◌++◌, length, map, Some, refl, sym, ap, ap₂, ◌∙◌, arith}
 use Rattle.std.specs.Prelude.{◌==◌, nat_lt, if◌then◌else◌, filter, slice_index_or}
 use Rattle.std.proofs.lemmas.Bool.{eq-eqb, eqb-true, lt-ltb, le-ltb, or_left}
 use Rattle.std.proofs.lemmas.List.{append-nil}
@@ -45,6 +45,14 @@ free_found sets clauses found occur marks o m h v =
     ∙ ap (λ b. is_among v (occurring clauses) && not b) (m v)
     ∙ sym (filter_among v (λ v. not (is_among v (declared sets))) (occurring clauses))
 
+-- marks that were read are the marks
+pub found_by : (occur marks seen known : List Bool) (found : List ℕ)
+    → ((v : ℕ) → is_among v found ≡ (slice_index_or seen v false && not (slice_index_or known v false)))
+    → seen ≡ occur → known ≡ marks
+    → (v : ℕ) → is_among v found ≡ (slice_index_or occur v false && not (slice_index_or marks v false))
+found_by occur marks seen known found those is_seen is_known v =
+    those v ∙ ap₂ (λ (a b : List Bool). slice_index_or a v false && not (slice_index_or b v false)) is_seen is_known
+
 or_turned : (a b : Bool) → (a || b) ≡ (b || a)
 or_turned true true = refl
 or_turned true false = refl
@@ -71,6 +79,17 @@ front_same (f ∷ fs) [] scopes same = true_is_not (sym (or_left (f == f) (is_am
 front_same (f ∷ fs) (g ∷ gs) [] same = ap (λ vs. record { quantifier = Exists; variables = vs } ∷ [])
     (ascending_same (f ∷ fs) (g ∷ gs) same)
 front_same (f ∷ fs) (g ∷ gs) (x ∷ rest) same = at_first f g fs gs x.0 x.1 rest same
+
+-- the scopes in front of which the variables stand that were found by marks
+pub scopes_are : (sets : List QuantSet) (clauses : List (List ℤ)) (found : List ℕ) (occur marks seen known : List Bool)
+    (old new : List QuantSet) → AreMarks occur (map nat_abs (literals_of clauses ++ [])) → AreMarks marks (declared sets)
+    → ((v : ℕ) → is_among v found ≡ (slice_index_or seen v false && not (slice_index_or known v false)))
+    → seen ≡ occur → known ≡ marks → new ≡ put_front found old → old ≡ merged sets
+    → map in_order new ≡ map in_order (scopes_of sets clauses)
+scopes_are sets clauses found occur marks seen known old new o m those is_seen is_known put is_merged =
+    ap (map in_order) (put ∙ ap (put_front found) is_merged)
+    ∙ front_same found (free sets clauses) (merged sets)
+    (free_found sets clauses found occur marks o m (found_by occur marks seen known found those is_seen is_known))
 
 in_order_length : (xs : List QuantSet) → length (map in_order xs) ≡ length xs
 in_order_length [] = refl

@@ -1,14 +1,39 @@
--- One more element of a list.
+-- What holds of each element of a list, and one more element.
 use Rattle.std.proofs.Common.{◌≡◌, ℕ, zero, suc, ◌<◌, false, ◌||◌, List, [], ◌∷◌, ◌++◌, length, take, drop, refl, sym, ap, ◌∙◌, arith}
 use Rattle.std.specs.Prelude.{◌==◌}
 use Rattle.std.specs.List.{AllByRecursion}
 use Rattle.std.proofs.lemmas.Bool.{eqb-false, ne_eqb, or_parts}
-use Rattle.prefix.specs.Scopes.{is_among, AreDistinct}
+use Rattle.prefix.specs.Scopes.{is_among, AreDistinct, IsAscending}
+use Rattle.clauses.proofs.Ascending.{below_all}
 
 pub all_more : {X : Type 0} (P : X → Type 0) (xs : List X) (x : X) → AllByRecursion P xs → P x → AllByRecursion P
     (xs ++ x ∷ [])
 all_more P [] x all h = (h, tt)
 all_more P (y ∷ ys) x all h = (all.0, all_more P ys x all.1 h)
+
+pub all_joined : {X : Type 0} (P : X → Type 0) (xs ys : List X) → AllByRecursion P xs → AllByRecursion P ys
+    → AllByRecursion P (xs ++ ys)
+all_joined P [] ys h k = k
+all_joined P (x ∷ xs) ys h k = (h.0, all_joined P xs ys h.1 k)
+
+pub all_kept : {X : Type 0} (P Q : X → Type 0) (xs : List X) → ((x : X) → P x → Q x) → AllByRecursion P xs
+    → AllByRecursion Q xs
+all_kept P Q [] f h = tt
+all_kept P Q (x ∷ xs) f h = (f x h.0, all_kept P Q xs f h.1)
+
+pub all_taken : {X : Type 0} (P : X → Type 0) (n : ℕ) (xs : List X) → AllByRecursion P xs
+    → AllByRecursion P (take n xs)
+all_taken P zero xs h = tt
+all_taken P (suc n) [] h = tt
+all_taken P (suc n) (x ∷ xs) h = (h.0, all_taken P n xs h.1)
+
+pub all_first : {X : Type 0} (P : X → Type 0) (xs ys : List X) → AllByRecursion P (xs ++ ys) → AllByRecursion P xs
+all_first P [] ys h = tt
+all_first P (x ∷ xs) ys h = (h.0, all_first P xs ys h.1)
+
+pub all_second : {X : Type 0} (P : X → Type 0) (xs ys : List X) → AllByRecursion P (xs ++ ys) → AllByRecursion P ys
+all_second P [] ys h = h
+all_second P (x ∷ xs) ys h = all_second P xs ys h.1
 
 none_taken : {X : Type 0} (P : X → Type 0) (n : ℕ) → AllByRecursion P (take n [])
 none_taken P zero = tt
@@ -38,3 +63,7 @@ distinct_more [] v all h = (refl, tt)
 distinct_more (u ∷ us) v all h =
     let parts : ((u == v) ≡ false) × (is_among v us ≡ false) = or_parts (u == v) (is_among v us) h in
     (new_last u us v all.0 parts.0, distinct_more us v all.1 parts.1)
+
+pub ascending_distinct : (xs : List ℕ) → IsAscending xs → AreDistinct xs
+ascending_distinct [] h = tt
+ascending_distinct (x ∷ xs) h = (below_all x xs h.0, ascending_distinct xs h.1)

@@ -30,7 +30,7 @@ decided_here all rest item front read o p e s a v same = record {
 }
 
 -- one more word has been read
-moved : (all : List Item) (read : List Token) (t : Token) (rest : List Item) → all ≡ map word read ++ word t ∷ rest
+pub moved : (all : List Item) (read : List Token) (t : Token) (rest : List Item) → all ≡ map word read ++ word t ∷ rest
     → all ≡ map word (read ++ t ∷ []) ++ rest
 moved all read t rest e = e ∙ sym (append_assoc (map word read) (word t ∷ []) rest) ∙ ap (λ r. r ++ rest)
     (sym (map-append word read (t ∷ [])))

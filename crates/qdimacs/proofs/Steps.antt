@@ -48,7 +48,7 @@ decides None now front item o r b v = tt
 decides (Some text) None front item o r b v = absurd r
 decides (Some text) (Some is) front item o r b v = decides_first text front is item b.0 o r b.1 v
 
-no_answer : (left : Option (List ℕ)) → IfSome left (λ text. Unit {0})
+pub no_answer : (left : Option (List ℕ)) → IfSome left (λ text. Unit {0})
 no_answer None = tt
 no_answer (Some text) = tt
 
@@ -61,7 +61,7 @@ refused_by left now front item (Limit quantity line) r b v = decides left now fr
 refused_by left now front item ReadFault r b v = absurd v
 refused_by left now front item NoMemory r b v = no_answer left
 
-given_begins : (now after : Option (List Item)) (t : Token) → Gives t now after → Begins now (word t)
+pub given_begins : (now after : Option (List Item)) (t : Token) → Gives t now after → Begins now (word t)
 given_begins None after t g = tt
 given_begins (Some is) after t g = (g.0, g.1)
 
@@ -79,7 +79,7 @@ lexer_refused left now front (TooLong line) r b = decides left now front (too_lo
 lexer_refused left now front (BadByte line) r b = decides left now front (bad_byte line) _ r b refl
 lexer_refused left now front (NumberRange line) r b = decides left now front (number_range line) _ r b refl
 
-ends_begins : (now after : Option (List Item)) (line : ℕ) → Ends line now after → Begins now (the_end line)
+pub ends_begins : (now after : Option (List Item)) (line : ℕ) → Ends line now after → Begins now (the_end line)
 ends_begins None after line e = tt
 ends_begins (Some is) after line e = ([], e.0)
 

@@ -3,13 +3,14 @@ use Rattle.std.specs.Prelude.{◌≡◌, ℕ, ◌≤◌, ℤ, nat_abs, Bool, tru
 use Rattle.prefix.specs.Literal.{Literal}
 use Rattle.prefix.specs.declared.quant.Quant.{Quant}
 use Rattle.prefix.specs.declared.quant.Quant.TheVariants.{Exists}
-use Rattle.prefix.specs.Scopes.{Scope, is_among, level_of, AreDistinct}
+use Rattle.prefix.specs.Scopes.{is_among, AreDistinct}
 use Rattle.lexer.specs.declared.token.Word.TheVariants.{Num}
 use Rattle.reading.specs.declared.refusal.ReadRefusal.{ReadRefusal}
 use Rattle.reading.specs.declared.refusal.Quantity.TheVariants.{Scopes, Literals}
 use Rattle.qdimacs.specs.declared.sets.Row.{Row}
 use Rattle.qdimacs.specs.Formula.{QuantSet, same_quant, declared}
 use Rattle.clauses.specs.Clause.{is_tautology, as_row}
+pub use Rattle.builder.specs.NewScope.{AreNew}
 use Rattle.qdimacs.specs.Rules.{Outcome, refused, limit}
 use Rattle.truth.specs.Limits.{max_scopes, max_literals}
 use Rattle.reading.specs.Words.{is_natural}
@@ -71,11 +72,6 @@ Checks (Err e) found = Is e found
 -- The matrix with one more clause, unless it is a tautology.
 abbrev pub with_clause : List ℤ → List (List Literal) → List (List Literal)
 with_clause clause rows = if is_tautology clause then rows else rows ++ as_row clause ∷ []
-
--- Variables that may be put into one more scope behind these.
-pub record AreNew (scopes : List Scope) (vs : List ℕ) : Type 0 where
-  pub distinct : AreDistinct vs
-  pub each : (v : ℕ) → is_among v vs ≡ true → (1 ≤ v) × (v ≤ 1048576) × (level_of scopes v ≡ None)
 
 -- Sets that a prefix takes as its scopes.
 pub record AreScopes (sets : List QuantSet) : Type 0 where

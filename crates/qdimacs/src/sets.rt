@@ -1,10 +1,11 @@
 //! The scopes while the sets come.
 ghost use Rattle.std.specs.Prelude.{◌≡◌, ◌<◌, ◌≤◌, ◌+◌, ◌^◌, [], ◌∷◌, ◌++◌, set, length, true, OnOk, IfOk, IsOkUnless, map};
-ghost use Rattle.qdimacs.specs.Kept.{sets_of, with_last, put_last, last_differs, variable_rules_kept, put_front, Checks, AreNew, AreScopes};
+ghost use Rattle.qdimacs.specs.Kept.{sets_of, with_last, put_last, last_differs, variable_rules_kept, put_front, Checks, AreScopes};
 ghost use Rattle.qdimacs.specs.Rules.{first_of};
 ghost use Rattle.qdimacs.specs.Formula.{in_order, same_quant};
 
 use crate::refusal::{VARIABLE_RANGE, VARIABLE_TWICE, beyond, refused};
+use builder::add_scope;
 use prefix::{Prefix, PrefixRefusal, Quant};
 use reading::{Quantity, ReadRefusal};
 use std::alloc::{AllocError, Global};
@@ -142,21 +143,6 @@ fn join_last(rows: &mut Vec<Row>, v: u32) -> Result<(), AllocError>
     let last = rows.len() - 1;
     let row = &mut rows[last];
     row.vars.push(v)?;
-    Ok(())
-}
-
-// Puts in a scope as the last.
-fn add_scope(prefix: &mut Prefix, quant: Quant, vars: &[u32]) -> Result<(), PrefixRefusal>
-    requires room { length prefix.old < 65536 }
-    requires new { AreNew prefix.old vars.now }
-    ensures ok { OnOk result (prefix.new ≡ prefix.old ++ in_order (quant, vars.now) ∷ []) }
-    ensures memory { IsOkUnless result PrefixRefusal.NoMemory }
-{
-    prefix.add_scope(quant, None)?;
-    let number = prefix.scopes() as u64;
-    for v in vars {
-        prefix.add_var(*v as u64, number)?;
-    }
     Ok(())
 }
 

@@ -1,30 +1,15 @@
 -- What holds of each element of a list.
-use Rattle.std.proofs.Common.{◌≡◌, ℕ, zero, suc, true, List, [], ◌∷◌, ◌++◌, map, take, refl, ap, subst, ⊎_elim}
+use Rattle.std.proofs.Common.{◌≡◌, ℕ, true, List, [], ◌∷◌, ◌++◌, map, refl, ap, subst, ⊎_elim}
 use Rattle.std.specs.Prelude.{◌==◌, flat_map}
 use Rattle.std.specs.List.{AllByRecursion, AllZip}
 use Rattle.std.proofs.lemmas.Bool.{eq-eqb, eqb-true, or_cases, or_left, or_right, false≢true}
 use Rattle.prefix.specs.Scopes.{is_among}
-
-pub all_joined : {X : Type 0} (P : X → Type 0) (xs ys : List X) → AllByRecursion P xs → AllByRecursion P ys
-    → AllByRecursion P (xs ++ ys)
-all_joined P [] ys h k = k
-all_joined P (x ∷ xs) ys h k = (h.0, all_joined P xs ys h.1 k)
-
-pub all_kept : {X : Type 0} (P Q : X → Type 0) (xs : List X) → ((x : X) → P x → Q x) → AllByRecursion P xs
-    → AllByRecursion Q xs
-all_kept P Q [] f h = tt
-all_kept P Q (x ∷ xs) f h = (f x h.0, all_kept P Q xs f h.1)
+use Rattle.qdimacs.proofs.Lists.{all_first, all_joined, all_second}
 
 pub all_mapped : {X Y : Type 0} (P : Y → Type 0) (f : X → Y) (xs : List X) → AllByRecursion (λ x. P (f x)) xs
     → AllByRecursion P (map f xs)
 all_mapped P f [] h = tt
 all_mapped P f (x ∷ xs) h = (h.0, all_mapped P f xs h.1)
-
-pub all_taken : {X : Type 0} (P : X → Type 0) (n : ℕ) (xs : List X) → AllByRecursion P xs
-    → AllByRecursion P (take n xs)
-all_taken P zero xs h = tt
-all_taken P (suc n) [] h = tt
-all_taken P (suc n) (x ∷ xs) h = (h.0, all_taken P n xs h.1)
 
 pub all_flat : {X Y : Type 0} (P : Y → Type 0) (f : X → List Y) (xs : List X)
     → AllByRecursion (λ x. AllByRecursion P (f x)) xs → AllByRecursion P (flat_map f xs)
@@ -58,14 +43,6 @@ from_among P (x ∷ xs) f = (
   f x (or_left (x == x) (is_among x xs) (eq-eqb x x refl)),
   from_among P xs (λ v there. f v (or_right (x == v) (is_among v xs) there)),
 )
-
-pub all_first : {X : Type 0} (P : X → Type 0) (xs ys : List X) → AllByRecursion P (xs ++ ys) → AllByRecursion P xs
-all_first P [] ys h = tt
-all_first P (x ∷ xs) ys h = (h.0, all_first P xs ys h.1)
-
-pub all_second : {X : Type 0} (P : X → Type 0) (xs ys : List X) → AllByRecursion P (xs ++ ys) → AllByRecursion P ys
-all_second P [] ys h = h
-all_second P (x ∷ xs) ys h = all_second P xs ys h.1
 
 pub all_parts : {X Y : Type 0} (P : Y → Type 0) (f : X → List Y) (xs : List X) → AllByRecursion P (flat_map f xs)
     → AllByRecursion (λ x. AllByRecursion P (f x)) xs

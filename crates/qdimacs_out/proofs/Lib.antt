@@ -10,4 +10,3 @@ pub mod Merging
 pub mod ReadBack
 pub mod Readable
 pub mod Lengths
-pub mod MadeTexts

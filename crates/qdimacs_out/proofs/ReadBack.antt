@@ -20,16 +20,18 @@ use Rattle.qdimacs.specs.Formula.{QuantSet, declared as declared_in, formula_of,
 use Rattle.qdimacs.specs.Reads.{AreAllowed, IsAllowed, Reads, Spells as SpellsFront, clause_words, header_words, line_of, set_words, variable_words, whole_words, words_of}
 use Rattle.reading.specs.Words.{quant_word}
 use Rattle.qdimacs.specs.Rules.{Front, Header, Outcome, between, end_rules, first_of, headed, limit, parsed, refused, whole_rules}
+use Rattle.qdimacs.proofs.Lists.{all_joined, all_kept, all_taken}
+use Rattle.qdimacs.proofs.Codes.{number_abs}
 use Rattle.truth.specs.Limits.{max_clauses, max_scopes, max_vars}
 use Rattle.reading.specs.declared.refusal.Quantity.TheVariants.{Clauses, Scopes, Variables}
 use Rattle.qdimacs_out.specs.Texts.{clause_line, formula_lines, formula_text, header_line, literal_word, quantifier_word, scope_line}
 use Rattle.blocks.specs.Lines.{Line}
 use Rattle.qdimacs_out.specs.Theorems.{IsShort}
 use Rattle.qdimacs_out.specs.Writable.{IsWritable}
-use Rattle.qdimacs_out.proofs.All.{all_flat, all_joined, all_kept, all_mapped, all_parts, all_taken, at_among, flat_over, zip_joined, zip_mapped}
+use Rattle.qdimacs_out.proofs.All.{all_flat, all_mapped, all_parts, at_among, flat_over, zip_joined, zip_mapped}
 use Rattle.qdimacs_out.proofs.Items.{IsOpen, IsRow, text_items, token, tokens}
 use Rattle.qdimacs_out.proofs.Merging.{declared_variables, merged_back, none_kept, ordered_back, set_of}
-use Rattle.qdimacs_out.proofs.Rows.{IsRowOf, matrix_back, number_abs, numbers}
+use Rattle.qdimacs_out.proofs.Rows.{IsRowOf, matrix_back, numbers}
 use Rattle.qdimacs_out.proofs.Spelling.{Spells, a_spells, cnf_spells, decimal_spells, e_spells, p_spells, signed_begins, signed_spells, zero_spells}
 
 -- the words of the lines

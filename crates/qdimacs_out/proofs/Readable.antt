@@ -25,7 +25,7 @@ use Rattle.qdimacs.proofs.Finishing.{filter_among}
 use Rattle.qdimacs.proofs.Fitting.{distinct_apart, distinct_append, distinct_parts}
 use Rattle.qdimacs.proofs.Formed.{formed_of, ordered_among, rows_few}
 use Rattle.qdimacs.proofs.Merged.{merged_declared, same_is}
-use Rattle.generate.proofs.Forming.{ascending_distinct}
+use Rattle.qdimacs.proofs.Lists.{ascending_distinct}
 use Rattle.qdimacs_out.specs.Writable.{IsWritable, TakeTurns}
 use Rattle.qdimacs_out.proofs.All.{all_mapped, at_among, from_among}
 

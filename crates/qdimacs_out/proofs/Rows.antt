@@ -1,5 +1,5 @@
 -- The clause of the numbers of a row is the row.
-use Rattle.std.proofs.Common.{◌≡◌, ℕ, suc, ◌+◌, ◌-◌, ◌*◌, ◌/◌, ◌≤◌, ◌<◌, ℤ, pos, negsuc, nat_abs, Bool, true, false, not, ◌||◌, List, [], ◌∷◌, map, refl, sym, ap, ap₂, ◌∙◌, arith}
+use Rattle.std.proofs.Common.{◌≡◌, ℕ, ◌+◌, ◌-◌, ◌*◌, ◌/◌, ◌≤◌, ◌<◌, ℤ, pos, negsuc, nat_abs, Bool, true, false, not, ◌||◌, List, [], ◌∷◌, map, refl, sym, ap, ap₂, ◌∙◌, arith}
 use Rattle.std.specs.Prelude.{filter, if◌then◌else◌}
 use Rattle.std.specs.List.{AllByRecursion}
 use Rattle.std.proofs.lemmas.Bool.{ne_eqb}
@@ -7,10 +7,10 @@ use Rattle.prefix.specs.Code.{code_of as literal_code}
 use Rattle.prefix.specs.Literal.{Literal, signed_number}
 use Rattle.prefix.specs.Scopes.{IsAscending}
 use Rattle.qdimacs.specs.Formula.{matrix_of}
+use Rattle.qdimacs.proofs.Codes.{codes, codes_ascend, literals_back, variables, number_abs}
 use Rattle.clauses.specs.Clause.{as_row, is_tautology}
 use Rattle.clauses.specs.Codes.{code_of, codes_of, has_pair, literal_of}
 use Rattle.clauses.proofs.Rows.{not_taut, row_is}
-use Rattle.generate.proofs.Sorting.{codes, codes_ascend, literals_back, variables}
 
 -- the numbers of literals
 abbrev pub numbers : List Literal → List ℤ
@@ -30,13 +30,6 @@ number_code l h = by l.positive
 number_codes : (ls : List Literal) → ArePositive ls → codes_of (numbers ls) ≡ codes ls
 number_codes [] h = refl
 number_codes (l ∷ ls) h = ap₂ (λ (c : ℕ) cs. c ∷ cs) (number_code l h.0) (number_codes ls h.1)
-
-pub number_abs : (l : Literal) → 1 ≤ l.variable → nat_abs (signed_number l) ≡ l.variable
-number_abs l h = by l.positive
-  where
-    by : (s : Bool) → nat_abs (if s then pos l.variable else negsuc (l.variable - 1)) ≡ l.variable
-    by true = refl
-    by false = let e : suc (l.variable - 1) ≡ l.variable = omega (arith, h) in e
 
 numbers_some : (ls : List Literal) → ArePositive ls → AllByRecursion (λ n. 0 < nat_abs n) (numbers ls)
 numbers_some [] h = tt

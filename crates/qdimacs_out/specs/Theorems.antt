@@ -3,7 +3,6 @@ use Rattle.std.specs.Prelude.{◌≡◌, ℕ, ◌+◌, ◌*◌, ◌<◌, ◌≤�
 use Rattle.lexer.specs.Words.{max_bytes}
 use Rattle.prefix.specs.Scopes.{all_variables}
 use Rattle.truth.specs.declared.formula.Formula.{Formula}
-use Rattle.generate.specs.Made.{made}
 use Rattle.qdimacs.specs.Reads.{Reads}
 use Rattle.qdimacs.specs.Rules.{parsed, refused}
 use Rattle.qdimacs_out.specs.Texts.{formula_text}
@@ -22,11 +21,6 @@ ReadAgain = (text : List ℕ) (f : Formula) → Reads text (parsed f) → length
 abbrev pub FewerRefused : Type 0
 FewerRefused = (text : List ℕ) (f : Formula) → Reads text (parsed f) → length f.clauses < f.declared_clauses
     → IsShort f → Reads (formula_text f) (refused 16 (length f.prefix + length f.clauses + 2))
-
--- a made formula is read from its text
-abbrev pub MadeRead : Type 0
-MadeRead = (seed v m : ℕ) → 3 ≤ v → v ≤ 32000 → m ≤ 1000000
-    → Reads (formula_text (made seed v m)) (parsed (made seed v m))
 
 -- what is read has the form in which it is written
 abbrev pub ReadWritable : Type 0

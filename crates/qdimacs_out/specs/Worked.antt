@@ -3,7 +3,8 @@ use Rattle.std.specs.Prelude.{◌≡◌, ℕ, List, [], ◌∷◌, codes}
 use Rattle.prefix.specs.declared.quant.Quant.{Quant}
 use Rattle.prefix.specs.declared.quant.Quant.TheVariants.{Exists, Forall}
 use Rattle.truth.specs.declared.formula.Formula.{Formula}
-use Rattle.generate.specs.Worked.{minus, plus, smallest, two_clauses}
+use Rattle.clauses.specs.Worked.{minus, plus}
+use Rattle.qdimacs.specs.Worked.{smallest, two_clauses}
 use Rattle.prefix.specs.Scopes.{Scope}
 use Rattle.qdimacs.specs.Reads.{Reads}
 use Rattle.qdimacs.specs.Rules.{parsed, refused}

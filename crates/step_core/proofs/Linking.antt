@@ -18,8 +18,10 @@ use Rattle.calculus.specs.Derivations.Reason.{Input as ByInput, One as ByOne, Tw
 use Rattle.calculus.specs.Derivations.Why.{Given, ReducedFrom, ResolvedFrom, FinishedFrom}
 use Rattle.calculus.specs.Verdicts.{IsProof, finish_of, finish_steps, finished, is_assumed, proof_of}
 use Rattle.calculus.specs.VerdictTheorems.{EndRowsGiveProofs}
-use Rattle.calculus.proofs.Lists.{all_at, all_from, contains_cons, contains_nil, contains_head, contains_tail, filter_all, filter_at, filter_from, filter_same}
+use Rattle.calculus.proofs.Lists.{all_at, all_from, contains_cons, contains_nil, contains_head, contains_tail, filter_all, filter_at, filter_from, filter_same, map_same, or_none}
 use Rattle.calculus.proofs.StepLemmas.{of_side_derivation, row_at_step}
+use Rattle.calculus.proofs.Needed.{rests_from, needed_used}
+use Rattle.calculus.proofs.Opposites.{side_itself}
 use Rattle.derive.specs.State.{IsLegalFor, Note, State, is_finish, is_live, is_step, may_be_antecedent, next_id, note_at, open_clauses, row_of, side_at, step_at, steps_of, why_at, why_in}
 use Rattle.derive.specs.Antecedents.{IsAntecedentIn}
 use Rattle.derive.specs.Theorems.{StepsAreListed}
@@ -27,16 +29,10 @@ use Rattle.derive.proofs.Ids.{listed_push}
 use Rattle.step_core.specs.declared.listing.Line.{Line}
 use Rattle.step_core.specs.Cores.{IsFinishAt, core_ids, core_rows, end_row_in, in_core_order, inference_from, inferences_of, is_given, is_needed, kept_at, line_at, lines_at, number_in, numbered_by, proof_at, reason_by, row_numbered, step_under, steps_below}
 use Rattle.step_core.specs.Gathering.{AreNeeded}
-use Rattle.step_core.proofs.Told.{rests_from}
 use Rattle.step_core.proofs.Ordering.{below_at, below_from, below_push, core_closed, kept_from}
-use Rattle.step_core.proofs.Used.{Rises, below_rises, needed_used}
+use Rattle.step_core.proofs.Used.{Rises, below_rises}
 
 -- lists
-
-map_same : {X Y : Type 0} (f g : X → Y) (xs : List X) → ((x : X) → Contains xs x → f x ≡ g x) → map f xs ≡ map g xs
-map_same f g [] same = refl
-map_same f g (x ∷ xs) same =
-    ap₂ (λ y ys. y ∷ ys) (same x (contains_head x xs)) (map_same f g xs (λ z i. same z (contains_tail x xs z i)))
 
 map-map : {X Y Z : Type 0} (g : Y → Z) (f : X → Y) (xs : List X) → map g (map f xs) ≡ map (λ x. g (f x)) xs
 map-map g f [] = refl
@@ -200,10 +196,6 @@ needed_filter p (h ∷ rest) end within x =
     (sym (within h (contains_head h rest) (or_left (later h.id) (later h.id && rests_on h.why h.id) t)) ∙ f)) in
     rw (f, out) (further x ∙ sym (or_none (later x))))
     (cases_Bool (p h))
-  where
-    or_none : (b : Bool) → (b || false) ≡ b
-    or_none true = refl
-    or_none false = refl
 
 pub core_filter : (p : Step → Bool) (steps : List Step) (end : ℕ)
     → ((s : Step) → Contains steps s → needed steps end s.id ≡ true → p s ≡ true)
@@ -248,10 +240,6 @@ may side s = not (is_finish s.why) && same_quantifier s.side side
 
 abbrev low : ℕ → Step → Bool
 low n s = nat_lt s.id n
-
-side_itself : (q : Quant) → same_quantifier q q ≡ true
-side_itself Exists = refl
-side_itself Forall = refl
 
 one_more_with : (d : State) (n k : ℕ) (side : Quant) (note : Note) (why : Why) (b : Bool) → note.why ≡ why
     → note_at d k ≡ Some note → same_quantifier note.side side ≡ b → nat_lt k n ≡ true
@@ -495,10 +483,6 @@ last_core xs f before end is rests small =
     (λ s i. at s.id ∙ ap (λ b. needed xs before s.id || b) (ne_eqb s.id end (λ e. let l = small s i in omega arith))
     ∙ or_none (needed xs before s.id)))
     (cond-true (n f) (f ∷ []) [] there)
-  where
-    or_none : (b : Bool) → (b || false) ≡ b
-    or_none true = refl
-    or_none false = refl
 
 in_order_last : (xs : List Step) (f : Step) → is_given f.why ≡ false → in_core_order (xs ++ f ∷ []) ≡ in_core_order xs
     ++ f ∷ []
@@ -512,7 +496,7 @@ in_order_last xs f other =
     ap₂ (λ (a b : List Step). a ++ b) first second ∙ sym (append_assoc (filter g xs) (filter o xs) (f ∷ []))
 
 -- the end row of a step that is no finish is its own
-end_row_of_step : (note : Option Note) (id : ℕ) → may_be_antecedent note ≡ true → end_row_in (why_in note) id ≡ id
+pub end_row_of_step : (note : Option Note) (id : ℕ) → may_be_antecedent note ≡ true → end_row_in (why_in note) id ≡ id
 end_row_of_step None id step = refl
 end_row_of_step (Some note) id step = by note.why refl
   where

@@ -3,11 +3,12 @@ use Rattle.std.proofs.Common.{◌≡◌, ℕ, zero, suc, ◌+◌, ◌-◌, ◌<�
 use Rattle.std.specs.List.{filter_map, range_with_len, cons_option}
 use Rattle.std.proofs.lemmas.Bool.{false≢true, true≢false, or_left, or_right, or_cases, and_from, and_parts}
 use Rattle.calculus.specs.Derivations.{RestsOn, Step, needed, rests_on}
+use Rattle.calculus.proofs.Needed.{rests_true, rests_from}
+use Rattle.calculus.proofs.Lists.{or_none}
 use Rattle.derive.specs.State.{Note, State, is_live, note_at, side_at, why_at}
 use Rattle.derive.specs.Antecedents.{IsAntecedentIn}
 use Rattle.step_core.specs.Cores.{kept_at}
 use Rattle.step_core.specs.Gathering.{AreMarks, AreNeeded, IsMarkedAntecedent, is_marked}
-use Rattle.step_core.proofs.Told.{rests_true, rests_from}
 
 -- the live steps of some ids
 abbrev pub steps_in : State → ℕ → ℕ → List Step
@@ -19,10 +20,6 @@ pub record AreMarked (d : State) (end distance : ℕ) (table : List Bool) : Type
   pub value : (id : ℕ) → id ≤ end → is_marked end table id ≡ needed (steps_in d (end + 1 - distance) distance) end id
   pub closed : (id on : ℕ) → id ≤ end → end - id < distance → is_marked end table id ≡ true → RestsOn (why_at d id) on
       → IsMarkedAntecedent d end table id on
-
-or_none : (b : Bool) → (b || false) ≡ b
-or_none true = refl
-or_none false = refl
 
 pub get_past : (xs : List Bool) (i : ℕ) → length xs ≤ i → get_or xs i false ≡ false
 get_past [] i h = refl

@@ -2,15 +2,11 @@
 use Rattle.std.proofs.Common.{◌≡◌, ℕ, zero, suc, ◌+◌, ◌-◌, ◌<◌, ◌≤◌, ◌==◌, ⊎_elim, List, [], ◌∷◌, length, drop, get_or, set, Contains, refl, sym, ap, ap₂, ◌∙◌, arith, subst, get_or-set_same, get_or-set_other}
 use Rattle.std.proofs.lemmas.Bool.{cases_Bool, cond-true, cond-false, eqb-true, eq-eqb, true≢false}
 use Rattle.std.proofs.lemmas.List.{get_or-map}
-use Rattle.calculus.proofs.Lists.{contains_cons, contains_nil, contains_head, contains_tail}
+use Rattle.std.proofs.lemmas.List.Elements.{Contains-get_or}
+use Rattle.calculus.proofs.Lists.{contains_cons, contains_nil, contains_tail}
 use Rattle.step_core.specs.declared.listing.CoreStep.TheVariants.{Input}
 use Rattle.step_core.specs.declared.listing.Line.{Line}
 use Rattle.step_core.specs.Cores.{number_in, step_numbered}
-
-pub contains_at : {X : Type 0} (xs : List X) (i : ℕ) (d : X) → i < length xs → Contains xs (get_or xs i d)
-contains_at [] i d below = absurd (omega arith)
-contains_at (x ∷ xs) zero d below = contains_head x xs
-contains_at (x ∷ xs) (suc i) d below = contains_tail x xs (get_or xs i d) (contains_at xs i d (omega arith))
 
 pub drop_inside : (xs : List ℕ) (i x : ℕ) → Contains (drop i xs) x → Contains xs x
 drop_inside xs zero x h = h
@@ -35,7 +31,7 @@ numbers_more end ids numbers new left id some within inside is writes are x i =
     let next : suc (left - 1) ≡ left = omega arith in
     let split : drop (left - 1) ids ≡ id ∷ drop left ids = drop_at ids (left - 1) at
     ∙ ap₂ (λ (h n : ℕ). h ∷ drop n ids) (sym is) next in
-    let here : Contains ids id = subst (Contains ids) (sym is) (contains_at ids (left - 1) 0 at) in
+    let here : Contains ids id = subst (Contains ids) (sym is) (Contains-get_or ids (left - 1) 0 at) in
     let low = inside id here in
     let low_in : end - id < length numbers = low.1 in
     ⊎_elim

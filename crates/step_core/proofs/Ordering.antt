@@ -5,8 +5,8 @@ use Rattle.std.proofs.lemmas.Bool.{cases_Bool, false≢true, true≢false, false
 use Rattle.std.proofs.lemmas.List.{map-append}
 use Rattle.std.proofs.lemmas.List.Elements.{Contains-append_left, Contains-append_right, Contains-append_cases, filter-append}
 use Rattle.calculus.specs.Derivations.{Step, core_of, needed}
-use Rattle.calculus.proofs.Lists.{contains_cons, contains_nil, contains_head, contains_tail, filter_at, filter_from}
-use Rattle.calculus.proofs.Levels.{contains_map_of}
+use Rattle.calculus.proofs.Lists.{filter_at, filter_from, contains_map_of, contains_map}
+pub use Rattle.calculus.proofs.Lists.{contains_map as map_contains}
 use Rattle.derive.specs.State.{Note, State, is_live, note_at, row_of, side_at, why_at}
 use Rattle.derive.proofs.Ids.{listed_at, listed_from, listed_push}
 use Rattle.step_core.specs.Cores.{core_ids, core_steps, in_core_order, is_given, is_needed, kept_at, kept_with, steps_below}
@@ -62,15 +62,6 @@ below_from d n id low live =
 -- one id more
 pub below_push : (d : State) (n : ℕ) → steps_below d (suc n) ≡ steps_below d n ++ cons_option (kept_at d n) []
 below_push d n = listed_push (kept_at d) (kept_at d) n (kept_at d n) (λ k low. refl) refl
-
--- lists
-
-pub map_contains : {X Y : Type 0} (f : X → Y) (xs : List X) (y : Y) → Contains (map f xs) y
-    → (x : X) × Contains xs x × (f x ≡ y)
-map_contains f [] y i = absurd (contains_nil y i)
-map_contains f (x ∷ xs) y i =
-    ⊎_elim (λ e. (x, contains_head x xs, e))
-    (λ j. let p = map_contains f xs y j in (p.0, contains_tail x xs p.0 p.1, p.2)) (contains_cons (f x) (map f xs) y i)
 
 -- the marked steps of a part, below an id
 
@@ -189,7 +180,7 @@ pub record IsInCore (d : State) (end id : ℕ) : Type 0 where
 pub core_at : (d : State) (end id : ℕ) → Contains (core_ids d end) id → IsInCore d end id
 core_at d end id i =
     let all = steps_below d (end + 1) in
-    let p = map_contains (λ (r : Step). r.id) (core_steps d end) id i in
+    let p = contains_map (λ (r : Step). r.id) (core_steps d end) id i in
     let q = filter_at (λ (r : Step). needed all end r.id) all p.0 (in_order_at (core_of all end) p.0 p.1) in
     let b = below_at d (end + 1) p.0 q.0 in
     subst (IsInCore d end) p.2 (let l = b.low in record { low = omega arith; live = b.live; need = q.1 })

@@ -1,21 +1,20 @@
 -- The numbers of a core: each step rests on earlier ones, and each but the last is one that a later one rests on.
-use Rattle.std.proofs.Common.{◌≡◌, ℕ, zero, suc, ◌+◌, ◌-◌, ◌<◌, ◌≤◌, ◌==◌, ◌⊎◌, inl, inr, ⊎_elim, Bool, true, false, not, ◌&&◌, List, [], ◌∷◌, ◌++◌, length, map, filter, get_or, Contains, AllPairs, Option, Some, None, is_some, refl, sym, ap, ◌∙◌, arith, subst}
+use Rattle.std.proofs.Common.{◌≡◌, ℕ, zero, suc, ◌+◌, ◌-◌, ◌<◌, ◌≤◌, ◌==◌, ◌⊎◌, inl, inr, ⊎_elim, Bool, true, false, not, List, [], ◌∷◌, ◌++◌, length, map, filter, get_or, Contains, AllPairs, Option, Some, None, is_some, refl, sym, ap, ◌∙◌, arith, subst}
 use Rattle.std.specs.List.{cons_option}
-use Rattle.std.proofs.lemmas.Bool.{cases_Bool, cond-true, cond-false, eqb-true, eq-eqb, true≢false, or_left, or_cases, and_parts, not-true}
+use Rattle.std.proofs.lemmas.Bool.{cases_Bool, cond-true, cond-false, eqb-true, eq-eqb, true≢false, not-true}
 use Rattle.std.proofs.lemmas.List.{get_or-map, length-map}
 use Rattle.std.proofs.lemmas.List.Kept.{AllPairs-filter}
-use Rattle.std.proofs.lemmas.List.Elements.{Contains-append_cases}
-use Rattle.calculus.specs.Derivations.{RestsOn, Step, Why, core_of, needed, rests_on}
+use Rattle.std.proofs.lemmas.List.Elements.{Contains-append_cases, Contains-get_or}
+use Rattle.calculus.specs.Derivations.{RestsOn, Step, Why, core_of, needed}
 use Rattle.calculus.specs.Derivations.Why.{Given, ReducedFrom, ResolvedFrom, FinishedFrom}
-use Rattle.calculus.proofs.Lists.{contains_cons, contains_nil, contains_head, contains_tail, filter_at, pairs_head, pairs_tail, pairs_nil, pairs_cons}
+use Rattle.calculus.proofs.Lists.{contains_cons, contains_nil, contains_head, contains_tail, filter_at, pairs_head, pairs_tail, pairs_nil, pairs_cons, contains_map}
+use Rattle.calculus.proofs.Needed.{rests_from, needed_used}
 use Rattle.derive.specs.State.{State, note_at, why_at}
 use Rattle.step_core.specs.declared.listing.CoreStep.TheVariants.{Input}
 use Rattle.step_core.specs.declared.listing.Line.{Line}
 use Rattle.step_core.specs.Cores.{IsNumbered, IsUsedLater, RestsOnNumber, core_ids, core_steps, is_given, is_needed, kept_at, line_at, lines_at, number_in, numbered_by, step_numbered, steps_below}
 use Rattle.step_core.specs.Gathering.{AreNeeded}
-use Rattle.step_core.proofs.Told.{rests_from}
-use Rattle.step_core.proofs.Numbering.{contains_at}
-use Rattle.step_core.proofs.Ordering.{below_at, below_push, core_at, core_from, kept_is, map_contains}
+use Rattle.step_core.proofs.Ordering.{below_at, below_push, core_at, core_from, kept_is}
 
 -- pairs
 
@@ -31,7 +30,7 @@ pairs_append R (x ∷ xs) ys first second across =
 pub pairs_weaker : {X : Type 0} (R S : X → X → Type 0) (xs : List X) → AllPairs R xs
     → ((x y : X) → Contains xs x → Contains xs y → R x y → S x y) → AllPairs S xs
 pairs_weaker R S xs pairs weaker i j d below fits =
-    weaker (get_or xs i d) (get_or xs j d) (contains_at xs i d (omega arith)) (contains_at xs j d fits)
+    weaker (get_or xs i d) (get_or xs j d) (Contains-get_or xs i d (omega arith)) (Contains-get_or xs j d fits)
     (pairs i j d below fits)
 
 pub pairs_map : {X Y : Type 0} (R : Y → Y → Type 0) (f : X → Y) (xs : List X) → AllPairs (λ x y. R (f x) (f y)) xs
@@ -39,7 +38,7 @@ pub pairs_map : {X Y : Type 0} (R : Y → Y → Type 0) (f : X → Y) (xs : List
 pairs_map R f [] pairs = pairs_nil R
 pairs_map R f (x ∷ xs) pairs =
     pairs_cons R (f x) (map f xs)
-    (λ y i. let p = map_contains f xs y i in subst (R (f x)) p.2 (pairs_head (λ a b. R (f a) (f b)) x xs pairs p.0 p.1))
+    (λ y i. let p = contains_map f xs y i in subst (R (f x)) p.2 (pairs_head (λ a b. R (f a) (f b)) x xs pairs p.0 p.1))
     (pairs_map R f xs (pairs_tail (λ a b. R (f a) (f b)) x xs pairs))
 
 -- ids ascend
@@ -151,7 +150,7 @@ has_place (x ∷ xs) a i =
 pub number_at : (R : ℕ → ℕ → Type 0) (ids : List ℕ) → AllPairs R ids → ((x : ℕ) → R x x → ⊥) → (p : ℕ)
     → p < length ids → number_in ids (get_or ids p 0) ≡ p + 1
 number_at R ids pairs never p below =
-    let q = has_place ids (get_or ids p 0) (contains_at ids p 0 below) in
+    let q = has_place ids (get_or ids p 0) (Contains-get_or ids p 0 below) in
     q.number ∙ ap (λ n. n + 1) (same q.place p q.within below q.there)
   where
     same : (a b : ℕ) → a < length ids → b < length ids → get_or ids a 0 ≡ get_or ids b 0 → a ≡ b
@@ -199,25 +198,6 @@ step_is d ids i below =
     let inside : i - 1 < length (lines_at d ids) = rw (lines_length d ids) below in
     get_or-map (λ (l : Line). l.step) (lines_at d ids) (i - 1) (line_at d ids 0) Input inside
     ∙ ap (λ (l : Line). l.step) (get_or-map (line_at d ids) ids (i - 1) 0 (line_at d ids 0) below)
-
--- what is needed is the end, or some needed step rests on it
-
-pub needed_used : (steps : List Step) (end id : ℕ) → needed steps end id ≡ true
-    → (id ≡ end) ⊎ ((t : Step) × Contains steps t × (needed steps end t.id ≡ true) × (rests_on t.why id ≡ true))
-needed_used [] end id n = inl (eqb-true id end n)
-needed_used (h ∷ rest) end id n =
-    let later = needed rest end in
-    ⊎_elim
-    (λ l. ⊎_elim inl (λ r. inr (
-      r.0,
-      contains_tail h rest r.0 r.1,
-      or_left (later r.0.id)
-          (later h.id && rests_on h.why r.0.id) r.2,
-      r.3,
-    )) (needed_used rest end id l))
-    (λ b. let both = and_parts (later h.id) (rests_on h.why id) b in
-    inr (h, contains_head h rest, or_left (later h.id) (later h.id && rests_on h.why h.id) both.0, both.1))
-    (or_cases (later id) (later h.id && rests_on h.why id) n)
 
 module _ (d : State) (end : ℕ) (table : List Bool) (are : AreNeeded d end table) where
   abbrev ids : List ℕ
@@ -284,7 +264,7 @@ module _ (d : State) (end : ℕ) (table : List Bool) (are : AreNeeded d end tabl
   end_is_last p below is =
       let q = length ids - 1 in
       let inside : q < length ids = omega arith in
-      let c = core_at d end (get_or ids q 0) (contains_at ids q 0 inside) in
+      let c = core_at d end (get_or ids q 0) (Contains-get_or ids q 0 inside) in
       ⊎_elim
       (λ h.
       let given : is_given (why_at d end) ≡ true = ap (λ n. is_given (why_at d n)) (sym is) ∙ h.0 in
@@ -299,7 +279,7 @@ module _ (d : State) (end : ℕ) (table : List Bool) (are : AreNeeded d end tabl
         let last' : i ≤ length ids = rw (← lines_length d ids) last in
         let below : i - 1 < length ids = omega arith in
         let id = get_or ids (i - 1) 0 in
-        let c = core_at d end id (contains_at ids (i - 1) 0 below) in
+        let c = core_at d end id (Contains-get_or ids (i - 1) 0 below) in
         let r = rests_number ids (why_at d id) k (rw (step_is d ids i below) at rests) in
         let m = are.closed id r.0 c.low (are.value id c.low ∙ c.need) r.1 in
         let e = m.stands.earlier in
@@ -343,7 +323,7 @@ module _ (d : State) (end : ℕ) (table : List Bool) (are : AreNeeded d end tabl
       used_at : (k : ℕ) → 1 ≤ k → k < length ids → IsUsedLater (lines_at d ids) k
       used_at k first last =
           let below : k - 1 < length ids = omega arith in
-          let c = core_at d end (get_or ids (k - 1) 0) (contains_at ids (k - 1) 0 below) in
+          let c = core_at d end (get_or ids (k - 1) 0) (Contains-get_or ids (k - 1) 0 below) in
           ⊎_elim
           (λ e. absurd (end_is_last (k - 1) (omega arith) e))
           (λ u. used_by k first last u)

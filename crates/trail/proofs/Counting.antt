@@ -7,7 +7,7 @@ use Rattle.std.proofs.lemmas.List.Sums.{sum_by-cons, count_by-le-length}
 use Rattle.prefix.specs.Scopes.{Scope, all_variables, variables_at, is_among, AreDistinct}
 use Rattle.calculus.specs.Rows.{depth_of}
 use Rattle.calculus.specs.Search.{Placed, Trail, IsOrderedAfter, IsOrderedTrail, value_on}
-use Rattle.calculus.proofs.Levels.{IsDistinct, distinct_from, level_from, level_at_least, depth_counted}
+use Rattle.calculus.proofs.Levels.{IsDistinct, distinct_apart, distinct_from, distinct_right, level_from, level_at_least, depth_counted}
 use Rattle.calculus.proofs.Lists.{among_at, among_from, contains_cons, contains_nil, contains_head, contains_tail}
 use Rattle.calculus.proofs.TrailMoves.{value_new}
 use Rattle.trail.specs.declared.entry.Entry.{Entry}
@@ -21,16 +21,6 @@ use Rattle.trail.proofs.Placing.{value_other}
 pub distinct_left : (xs ys : List ℕ) → IsDistinct (xs ++ ys) → IsDistinct xs
 distinct_left [] ys d = tt
 distinct_left (x ∷ xs) ys d = ((λ i. d.0 (Contains-append_left xs ys x i)), distinct_left xs ys d.1)
-
-pub distinct_right : (xs ys : List ℕ) → IsDistinct (xs ++ ys) → IsDistinct ys
-distinct_right [] ys d = d
-distinct_right (x ∷ xs) ys d = distinct_right xs ys d.1
-
-distinct_apart : (xs ys : List ℕ) → IsDistinct (xs ++ ys) → (x : ℕ) → Contains xs x → Contains ys x → ⊥
-distinct_apart [] ys d x i j = contains_nil x i
-distinct_apart (z ∷ xs) ys d x i j =
-    ⊎_elim (λ e. d.0 (Contains-append_right xs ys z (rw (← e) at j))) (λ k. distinct_apart xs ys d.1 x k j)
-    (contains_cons z xs x i)
 
 -- the variables of a scope, by its number less 1
 abbrev pub variables_in : List Scope → ℕ → List ℕ

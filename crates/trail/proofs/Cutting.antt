@@ -1,43 +1,12 @@
 -- A trail that is cut to a decision level, literal by literal.
-use Rattle.std.proofs.Common.{Bool, false, drop, set, ◌≡◌, ℕ, zero, suc, ◌+◌, ◌-◌, ◌<◌, ◌≤◌, true, List, [], ◌∷◌, ◌++◌, length, take, refl, sym, ap, ◌∙◌, ⊎_elim, arith, nat_le}
-use Rattle.std.proofs.lemmas.Bool.{cond_both, cond-true, cond-false, cases_lt, le-leb, lt-leb, cases_Bool}
+use Rattle.std.proofs.Common.{Bool, false, drop, set, ◌≡◌, ℕ, zero, suc, ◌+◌, ◌-◌, ◌<◌, ◌≤◌, List, [], ◌∷◌, ◌++◌, length, take, refl, sym, ap, ◌∙◌, ⊎_elim, arith, nat_le}
+use Rattle.std.proofs.lemmas.Bool.{cond_both, cond-true, cond-false, cases_lt, le-leb, lt-leb}
 use Rattle.std.proofs.lemmas.List.{length_push}
-use Rattle.calculus.specs.Search.{Placed, Trail, cut_from, cut_trail, is_decision, last_level, last_level_from, level_after}
+use Rattle.calculus.specs.Search.{Placed, Trail, cut_from, cut_trail, last_level, last_level_from, level_after}
+use Rattle.calculus.proofs.Cutting.{cut_all, cut_here, cut_none}
 use Rattle.trail.specs.declared.allowed.Allowed.TheVariants.{NoDecision}
 use Rattle.trail.specs.Open.{finished_without}
 use Rattle.trail.specs.State.{TrailState, undone_to, with_front, without_last}
-
--- levels don't fall
-pub after_least : (before : ℕ) (p : Placed) → before ≤ level_after before p
-after_least before p = cond_both (is_decision p.cause) (suc before) before (λ n. before ≤ n) (λ t. omega arith)
-    (λ f. omega arith)
-
-pub level_least : (before : ℕ) (trail : Trail) → before ≤ last_level_from before trail
-level_least before [] = omega arith
-level_least before (p ∷ trail) =
-    let now = level_after before p in
-    let first : before ≤ now = after_least before p in
-    let later : now ≤ last_level_from now trail = level_least now trail in
-    omega arith
-
-module _ (before b : ℕ) (p : Placed) (trail : Trail) where
-  -- the first literal stays, or all go
-  cut_here : level_after before p ≤ b → cut_from before b (p ∷ trail) ≡ p ∷ cut_from (level_after before p) b trail
-  cut_here low = cond-true (nat_le (level_after before p) b) (p ∷ cut_from (level_after before p) b trail) []
-      (le-leb (level_after before p) b low)
-
-  cut_none : b < level_after before p → cut_from before b (p ∷ trail) ≡ []
-  cut_none high = cond-false (nat_le (level_after before p) b) (p ∷ cut_from (level_after before p) b trail) []
-      (lt-leb (level_after before p) b high)
-
--- a cut at no lower level changes nothing
-pub cut_all : (before b : ℕ) (trail : Trail) → last_level_from before trail ≤ b → cut_from before b trail ≡ trail
-cut_all before b [] low = refl
-cut_all before b (p ∷ trail) low =
-    let now = level_after before p in
-    let later : now ≤ last_level_from now trail = level_least now trail in
-    let rest : last_level_from now trail ≤ b = low in
-    cut_here before b p trail (omega arith) ∙ ap (λ t. p ∷ t) (cut_all now b trail rest)
 
 -- a last literal above the level goes
 pub cut_more : (before b : ℕ) (trail : Trail) (p : Placed) → b < last_level_from before (trail ++ p ∷ [])
@@ -49,38 +18,6 @@ cut_more before b (q ∷ trail) p high =
     (λ (above : b < now). cut_none before b q (trail ++ p ∷ []) above ∙ sym (cut_none before b q trail above))
     (λ (low : now ≤ b). cut_here before b q (trail ++ p ∷ []) low
     ∙ (ap (λ t. q ∷ t) (cut_more now b trail p high) ∙ sym (cut_here before b q trail low)))
-    (cases_lt b now)
-
--- a cut that takes literals off takes a decision off first
-pub record IsCutAt (b : ℕ) (front : Trail) (trail : Trail) : Type 0 where
-  pub decision : Placed
-  pub back : Trail
-  pub is_decision : is_decision decision.cause ≡ true
-  pub parts : trail ≡ front ++ decision ∷ back
-
-pub cut_at : (before b : ℕ) (trail : Trail) → before ≤ b → b < last_level_from before trail
-    → IsCutAt b (cut_from before b trail) trail
-cut_at before b [] least high = absurd (let h : b < before = high in omega arith)
-cut_at before b (p ∷ trail) least high =
-    let now = level_after before p in
-    ⊎_elim
-    (λ (above : b < now). record {
-      decision = p;
-      back = trail;
-      is_decision = ⊎_elim (λ t. t)
-          (λ f. absurd (let same : now ≡ before = cond-false (is_decision p.cause) (suc before) before f in
-          omega arith)) (cases_Bool (is_decision p.cause));
-      parts = ap (λ t. t ++ p ∷ trail) (sym (cut_none before b p trail above));
-    })
-    (λ (low : now ≤ b).
-    let later = cut_at now b trail low high in
-    record {
-      decision = later.decision;
-      back = later.back;
-      is_decision = later.is_decision;
-      parts = ap (λ t. p ∷ t) later.parts ∙ ap (λ t. t ++ later.decision ∷ later.back)
-          (sym (cut_here before b p trail low));
-    })
     (cases_lt b now)
 
 -- the last literal of a list

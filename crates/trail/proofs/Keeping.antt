@@ -23,7 +23,8 @@ use Rattle.trail.specs.Finished.{emptied, is_in}
 use Rattle.trail.specs.Open.{AreAssignedBefore, AreFinished, finished_without, is_finished, placed_with}
 use Rattle.trail.proofs.Finishing.{finished_longer, finished_none, finished_shorter, finished_then}
 use Rattle.trail.proofs.Opening.{still_assigned}
-use Rattle.trail.proofs.Cutting.{IsCutAt, cut_all, cut_at, cut_short, undone_low, undone_high}
+use Rattle.calculus.proofs.Cutting.{IsCutAt, cut_all, cut_at}
+use Rattle.trail.proofs.Cutting.{cut_short, undone_low, undone_high}
 
 decisions_length : (trail : Trail) → length (decisions_on trail) ≡ length trail
 decisions_length trail = length-map trail (λ (p : Placed). is_decision p.cause)

@@ -1,5 +1,5 @@
 -- The first scope with an unassigned variable.
-use Rattle.std.proofs.Common.{◌≡◌, ℕ, suc, ◌+◌, ◌-◌, ◌<◌, ◌≤◌, Bool, true, false, List, [], ◌∷◌, ◌++◌, length, Contains, Option, Some, None, is_some, refl, sym, ap, ◌∙◌, ⊎_elim, arith, nat_eq, append_assoc, append-nil}
+use Rattle.std.proofs.Common.{◌≡◌, ℕ, suc, ◌+◌, ◌-◌, ◌<◌, ◌≤◌, Bool, true, false, List, [], ◌∷◌, ◌++◌, length, Contains, is_some, refl, sym, ap, ◌∙◌, ⊎_elim, arith, nat_eq, append_assoc, append-nil}
 use Rattle.std.specs.Prelude.{count_by}
 use Rattle.std.proofs.lemmas.Bool.{cases_lt, cond-false, cond-true, eq-eqb, eqb-true, true≢false}
 use Rattle.std.proofs.lemmas.List.Sums.{count_by-le-length}
@@ -13,6 +13,7 @@ use Rattle.trail.specs.declared.entry.Entry.{Entry}
 use Rattle.trail.specs.Causes.{cause_of}
 use Rattle.trail.specs.Open.{is_assigned, is_finished, AreAssigned, AreAssignedBefore, IsFirstOpen}
 use Rattle.trail.specs.Table.{IsTallied, floor_after, floor_from, placed_of, scopes_in, trail_of}
+use Rattle.calculus.proofs.RowLemmas.{none_from}
 use Rattle.trail.proofs.Counting.{AreNumbered, all_pass, count_scope, depth_at, depth_most, depth_stands, one_fails, variables_before, variables_in, variables_within}
 
 -- the floor
@@ -95,10 +96,6 @@ full_scope scopes trail scope full = let all = eqb-true (count_by (is_assigned t
     (length (variables_at scopes scope)) full in omega arith
 
 -- a scope with an unassigned variable
-none_from : (o : Option Bool) → is_some o ≡ false → o ≡ None
-none_from None e = refl
-none_from (Some b) e = absurd (true≢false e)
-
 pub open_here : (scopes : List Scope) (trail : Trail) (scope : ℕ) → 1 ≤ scope → scope ≤ length scopes
     → AreAssignedBefore scopes trail scope → is_finished scopes trail scope ≡ false → IsFirstOpen scopes trail scope
 open_here scopes trail scope first last known unfinished =

@@ -12,7 +12,8 @@ use Rattle.trail.specs.declared.entry.Entry.{Entry}
 use Rattle.trail.specs.declared.entry.Spot.{Spot}
 use Rattle.trail.specs.Causes.{cause_of}
 use Rattle.trail.specs.Table.{placed_of, trail_of, AreLeveled, spot_at, spot_on, IsTable}
-use Rattle.trail.proofs.Cutting.{cut_all, cut_more}
+use Rattle.calculus.proofs.Cutting.{cut_all}
+use Rattle.trail.proofs.Cutting.{cut_more}
 use Rattle.trail.proofs.Placing.{spot_other, spot_last, spot_none, IsOnce, once_more, once_less, last_new}
 
 -- levels

@@ -1,9 +1,9 @@
 use Rattle.std.proofs.Common.{◌≡◌, ◌+◌, ◌-◌, ◌++◌, ◌∷◌, [], length, Err, ap, ◌∙◌, arith, length-append}
 use Rattle.std.proofs.lemmas.Result.{err_from_is_err_and}
-use Rattle.qdimacs.proofs.Building.{scope_last}
 use Rattle.generate.specs.Made.{scope_from}
 use Rattle.generate.proofs.Scoping.{next_memory, scope_grows}
 use Rattle.generate.proofs.formulas.add_scope.Goals as goal
+use Rattle.builder.proofs.Scoping.{scope_last}
 
 pub returns-in_err-add_var-clause-memory : goal.returns-in_err-add_var-clause-memory
 returns-in_err-add_var-clause-memory c =

@@ -1,12 +1,7 @@
 use Rattle.std.proofs.Common.{◌≡◌, ◌∷◌, ◌++◌, [], take}
-use Rattle.prefix.specs.Scopes.{IsAscending}
-use Rattle.qdimacs.proofs.Building.{inserted}
+use Rattle.builder.specs.NewScope.{scope_of}
 use Rattle.qcir.proofs.scopes.add_scope.Given as goal
 
 -- the variables so far stand in the last scope
 abbrev pub invariant-loop-v : goal.invariant-loop-v
-invariant-loop-v l = record {
-  built : l.prefix
-      ≡ l.fn.prefix ++ record { quantifier = l.fn.quant; variables = inserted (take l.v-index l.vars) [] } ∷ [];
-  ascending : IsAscending (inserted (take l.v-index l.vars) []);
-}
+invariant-loop-v l = l.prefix ≡ l.fn.prefix ++ scope_of l.fn.quant (take l.v-index l.vars) ∷ []

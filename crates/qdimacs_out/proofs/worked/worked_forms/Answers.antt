@@ -1,7 +1,7 @@
 use Rattle.std.proofs.Common.{◌≢◌, ◌≤◌, ◌<◌, List, ℕ, [], ◌∷◌, refl, arith}
 use Rattle.std.proofs.lemmas.Bool.{false≢true}
 use Rattle.prefix.specs.declared.quant.Quant.TheVariants.{Exists, Forall}
-use Rattle.generate.specs.Worked.{smallest}
+use Rattle.qdimacs.specs.Worked.{smallest}
 use Rattle.qdimacs_out.specs.Worked.{nothing}
 use Rattle.qdimacs_out.specs.Writable.{IsWritable}
 use Rattle.qdimacs_out.proofs.worked.worked_forms.Goals as goal

@@ -1,6 +1,6 @@
 use Rattle.std.proofs.Common.{refl}
 use Rattle.std.specs.Fmt.{digits}
-use Rattle.generate.specs.Worked.{smallest, two_clauses}
+use Rattle.qdimacs.specs.Worked.{smallest, two_clauses}
 use Rattle.qdimacs.proofs.Outcomes.{computed_reads}
 use Rattle.qdimacs_out.specs.Texts.{formula_text}
 use Rattle.qdimacs_out.specs.Worked.{falling_clause, hollow, neighbours, nothing, too_many, undeclared}

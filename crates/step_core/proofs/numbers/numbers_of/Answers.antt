@@ -1,12 +1,13 @@
 use Rattle.std.proofs.Common.{◌-◌, ◌+◌, arith, get_or, refl, length-set, ◌∙◌}
-use Rattle.step_core.proofs.Numbering.{contains_at, numbers_more}
+use Rattle.std.proofs.lemmas.List.Elements.{Contains-get_or}
+use Rattle.step_core.proofs.Numbering.{numbers_more}
 use Rattle.step_core.proofs.numbers.numbers_of.Goals as goal
 
 pub overflow_sub-end : goal.overflow_sub-end
 overflow_sub-end c =
     let within = c.loop-left.invariant.0 in
     (c.requires (get_or c.args.ids.now (c.loop-left.left - 1) 0)
-    (contains_at c.args.ids.now (c.loop-left.left - 1) 0 (omega arith))).0
+    (Contains-get_or c.args.ids.now (c.loop-left.left - 1) 0 (omega arith))).0
 
 pub loop-left-preserved : goal.loop-left-preserved
 loop-left-preserved c =

@@ -1,9 +1,9 @@
 use Rattle.std.proofs.Common.{◌∙◌, ◌++◌, List, ap}
 use Rattle.calculus.specs.Rows.{Row, IsRow}
+use Rattle.calculus.proofs.Lists.{all_append}
 use Rattle.frames.specs.Groups.{active_in}
 use Rattle.frames.specs.Kept.{at_first}
 use Rattle.frames.proofs.Counting.{all_active}
-use Rattle.frames.proofs.Leaving.{all_append}
 use Rattle.frames.proofs.Starts.{frames_clauses}
 use Rattle.frames.proofs.frames.Frames.open_clauses.Goals as goal
 

@@ -1,14 +1,12 @@
-use Rattle.std.proofs.Common.{◌≡◌, ◌++◌, [], nat_abs, ◌&&◌, not, false, ℕ, ap, subst, ◌∙◌, arith, length, length-append, map}
-use Rattle.std.specs.Prelude.{slice_index_or}
+use Rattle.std.proofs.Common.{◌≡◌, ◌++◌, [], nat_abs, ap, subst, ◌∙◌, arith, length, length-append, map}
 use Rattle.std.proofs.lemmas.List.{length-map}
-use Rattle.prefix.specs.Scopes.{is_among}
 use Rattle.qdimacs.specs.Represents.{Stands, header_of}
 use Rattle.qdimacs.specs.Kept.{sets_of, put_front}
-use Rattle.qdimacs.specs.Formula.{in_order, scopes_of, free, merged, matrix_of, literals_of}
+use Rattle.qdimacs.specs.Formula.{in_order, scopes_of, matrix_of, literals_of}
 use Rattle.qdimacs.specs.declared.sets.Row.{Row}
 use Rattle.qdimacs.specs.declared.reader.Stage.TheVariants.{Between}
 use Rattle.qdimacs.proofs.Formed.{formed_of}
-use Rattle.qdimacs.proofs.Finishing.{whole_fits, free_found, front_same, scopes_length, too_many, formula_read}
+use Rattle.qdimacs.proofs.Finishing.{whole_fits, found_by, scopes_are, scopes_length, too_many, formula_read}
 use Rattle.qdimacs.proofs.reader.Reader.finish.Goals as goal
 
 pub returns-then-len-gt-MAX_SCOPES-clause-closing : goal.returns-then-len-gt-MAX_SCOPES-clause-closing
@@ -16,19 +14,11 @@ returns-then-len-gt-MAX_SCOPES-clause-closing c = λ front stands.
     let r = c.args.self.now in
     let st : Stands Between r front = subst (λ s. Stands s r front) c.requires.stage stands in
     let k = st.3 in
-    let free_items = c.in_ok-free.free.items in
     let new = c.put_in_front.new.self.rows in
-    let found : (v : ℕ) → is_among v free_items ≡
-    (slice_index_or r.clauses.marks.items v false && not (slice_index_or r.sets.marks.items v false)) = λ v.
-    c.in_ok-free.ensures.those v
-    ∙ ap (λ m. slice_index_or m v false && not (slice_index_or c.deref-2.result.now v false)) c.deref.ensures.value
-    ∙ ap (λ m. slice_index_or r.clauses.marks.items v false && not (slice_index_or m v false))
-    c.deref-2.ensures.value in
-    let whole : map in_order (sets_of new.items) ≡ map in_order (scopes_of st.0 st.1) =
-    ap (map in_order) (c.in_ok-put_in_front.ensures ∙ ap (put_front free_items) k.of_sets.scopes)
-    ∙ front_same free_items (free st.0 st.1) (merged st.0)
-    (free_found st.0 st.1 free_items r.clauses.marks.items r.sets.marks.items k.of_clauses.marks k.of_sets.marks
-    found) in
+    let whole = scopes_are st.0 st.1 c.in_ok-free.free.items r.clauses.marks.items r.sets.marks.items
+    c.deref.result.now c.deref-2.result.now (sets_of r.sets.rows.items) (sets_of new.items) k.of_clauses.marks
+    k.of_sets.marks c.in_ok-free.ensures.those c.deref.ensures.value c.deref-2.ensures.value
+    c.in_ok-put_in_front.ensures k.of_sets.scopes in
     let rows_len : length (sets_of new.items) ≡ length new.items = length-map new.items
     (λ (x : Row). (x.quant, x.vars.items)) in
     let amount : c.len.result ≡ length (scopes_of st.0 st.1) =
@@ -42,19 +32,11 @@ returns-clause-closing c = λ front stands.
     let r = c.args.self.now in
     let st : Stands Between r front = subst (λ s. Stands s r front) c.requires.stage stands in
     let k = st.3 in
-    let free_items = c.in_ok-free.free.items in
     let new = c.put_in_front.new.self.rows in
-    let found : (v : ℕ) → is_among v free_items ≡
-    (slice_index_or r.clauses.marks.items v false && not (slice_index_or r.sets.marks.items v false)) = λ v.
-    c.in_ok-free.ensures.those v
-    ∙ ap (λ m. slice_index_or m v false && not (slice_index_or c.deref-2.result.now v false)) c.deref.ensures.value
-    ∙ ap (λ m. slice_index_or r.clauses.marks.items v false && not (slice_index_or m v false))
-    c.deref-2.ensures.value in
-    let whole : map in_order (sets_of new.items) ≡ map in_order (scopes_of st.0 st.1) =
-    ap (map in_order) (c.in_ok-put_in_front.ensures ∙ ap (put_front free_items) k.of_sets.scopes)
-    ∙ front_same free_items (free st.0 st.1) (merged st.0)
-    (free_found st.0 st.1 free_items r.clauses.marks.items r.sets.marks.items k.of_clauses.marks k.of_sets.marks
-    found) in
+    let whole = scopes_are st.0 st.1 c.in_ok-free.free.items r.clauses.marks.items r.sets.marks.items
+    c.deref.result.now c.deref-2.result.now (sets_of r.sets.rows.items) (sets_of new.items) k.of_clauses.marks
+    k.of_sets.marks c.in_ok-free.ensures.those c.deref.ensures.value c.deref-2.ensures.value
+    c.in_ok-put_in_front.ensures k.of_sets.scopes in
     let rows_len : length (sets_of new.items) ≡ length new.items = length-map new.items
     (λ (x : Row). (x.quant, x.vars.items)) in
     let amount : c.len.result ≡ length (scopes_of st.0 st.1) =
@@ -80,19 +62,11 @@ returns-clause-formed c =
     let st : Stands Between r c.requires.stood.front = subst (λ s. Stands s r c.requires.stood.front) c.requires.stage
     c.requires.stood.represents in
     let k = st.3 in
-    let free_items = c.in_ok-free.free.items in
     let new = c.put_in_front.new.self.rows in
-    let found : (v : ℕ) → is_among v free_items ≡
-    (slice_index_or r.clauses.marks.items v false && not (slice_index_or r.sets.marks.items v false)) = λ v.
-    c.in_ok-free.ensures.those v
-    ∙ ap (λ m. slice_index_or m v false && not (slice_index_or c.deref-2.result.now v false)) c.deref.ensures.value
-    ∙ ap (λ m. slice_index_or r.clauses.marks.items v false && not (slice_index_or m v false))
-    c.deref-2.ensures.value in
-    let whole : map in_order (sets_of new.items) ≡ map in_order (scopes_of st.0 st.1) =
-    ap (map in_order) (c.in_ok-put_in_front.ensures ∙ ap (put_front free_items) k.of_sets.scopes)
-    ∙ front_same free_items (free st.0 st.1) (merged st.0)
-    (free_found st.0 st.1 free_items r.clauses.marks.items r.sets.marks.items k.of_clauses.marks k.of_sets.marks
-    found) in
+    let whole = scopes_are st.0 st.1 c.in_ok-free.free.items r.clauses.marks.items r.sets.marks.items
+    c.deref.result.now c.deref-2.result.now (sets_of r.sets.rows.items) (sets_of new.items) k.of_clauses.marks
+    k.of_sets.marks c.in_ok-free.ensures.those c.deref.ensures.value c.deref-2.ensures.value
+    c.in_ok-put_in_front.ensures k.of_sets.scopes in
     let prefix_is : c.in-Ok.prefix ≡ map in_order (scopes_of st.0 st.1) = c.in-Ok.ensures.scopes ∙ whole in
     let rows_are : c.from_vec.result ≡ matrix_of st.1 = c.from_vec.ensures
     ∙ ap (λ v. v.items) c.replace-rows.ensures.value ∙ k.of_clauses.rows in
@@ -115,12 +89,8 @@ prefix-requires c =
     let k = st.3 in
     let free_items = c.in_ok-free.free.items in
     let new = c.put_in_front.new.self.rows in
-    let found : (v : ℕ) → is_among v free_items ≡
-    (slice_index_or r.clauses.marks.items v false && not (slice_index_or r.sets.marks.items v false)) = λ v.
-    c.in_ok-free.ensures.those v
-    ∙ ap (λ m. slice_index_or m v false && not (slice_index_or c.deref-2.result.now v false)) c.deref.ensures.value
-    ∙ ap (λ m. slice_index_or r.clauses.marks.items v false && not (slice_index_or m v false))
-    c.deref-2.ensures.value in
+    let found = found_by r.clauses.marks.items r.sets.marks.items c.deref.result.now c.deref-2.result.now free_items
+    c.in_ok-free.ensures.those c.deref.ensures.value c.deref-2.ensures.value in
     let rows_len : length (sets_of new.items) ≡ length new.items = length-map new.items
     (λ (x : Row). (x.quant, x.vars.items)) in
     whole_fits free_items st.0 r.clauses.marks.items r.sets.marks.items (map nat_abs (literals_of st.1 ++ []))

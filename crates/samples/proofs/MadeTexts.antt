@@ -9,10 +9,10 @@ use Rattle.generate.proofs.Forming.{clauses_long, made_formed, prefix_is, variab
 use Rattle.generate.proofs.Ranges.{range_within}
 use Rattle.qdimacs.specs.Reads.{Reads}
 use Rattle.qdimacs.specs.Rules.{parsed}
+use Rattle.qdimacs.proofs.Lists.{all_kept}
 use Rattle.qdimacs_out.specs.Texts.{formula_text}
 use Rattle.qdimacs_out.specs.Theorems.{IsShort}
 use Rattle.qdimacs_out.specs.Writable.{IsWritable}
-use Rattle.qdimacs_out.proofs.All.{all_kept}
 use Rattle.qdimacs_out.proofs.Lengths.{text_long}
 use Rattle.qdimacs_out.proofs.ReadBack.{written_read}
 
