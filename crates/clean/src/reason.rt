@@ -11,6 +11,7 @@ ghost use Rattle.trail.specs.State.{is_marked, IsPropagated, IsTrailFor};
 ghost use Rattle.clean.specs.Reasons.{HaveReasons, IsOnTheWay};
 ghost use Rattle.clean.specs.Turns.{StopsAfter};
 ghost use Rattle.derive.specs.Growing.{GainsSteps};
+ghost use Rattle.clean.specs.Cleanable.{IsCleanable, StaysCleanable};
 ghost use Rattle.clean.specs.Marks.{CleansReasons, IsReasonBlocked, KeepsReasons, StopsCleaning, marks_left};
 ghost use Rattle.clean.specs.Frames.{AreFrames, AreMarkedOn, IsDue, IsFirstBlocked, IsLook, IsTurn};
 ghost use Rattle.prefix.specs.Literal.{Literal};
@@ -77,10 +78,7 @@ fn clean_marked<S: Side>(
     v: Var,
     steps: &mut Steps,
 ) -> Result<StepId, Stop>
-    requires rows { IsTrue (has_rows derivation.old) }
-    requires legal { IsLegalFor prefix.now derivation.old }
-    requires trail { IsTrailFor prefix.now trail.old }
-    requires reasons { HaveReasons S.PIVOT prefix.now derivation.old trail.old }
+    requires cleanable { IsCleanable S.PIVOT prefix.now derivation.old trail.old }
     requires propagated { IsPropagated trail.old.placed v }
     requires pivot { quantifier_of prefix.now v ≡ Some S.PIVOT }
     ensures ok { IfOk result (λ id. IsTrue (is_marked trail.new v)
@@ -94,10 +92,7 @@ fn clean_marked<S: Side>(
     ensures due { result ≡ Err spent → IsReasonBlocked S.PIVOT prefix.now derivation.old trail.old v }
     ensures spent { result ≡ Err spent → (steps.new.spent ≡ steps.new.budget)
         × (left steps.old < 2 * (marks_left trail.old * length trail.old.placed)) }
-    ensures reasons { KeepsReasons prefix.now derivation.old derivation.new trail.old trail.new }
-    ensures trail { IsTrailFor prefix.now trail.new }
-    ensures legal { IsLegalFor prefix.now derivation.new }
-    ensures rows { IsTrue (has_rows derivation.new) }
+    ensures cleanable { StaysCleanable prefix.now derivation.old derivation.new trail.old trail.new }
 {
     make_clean::<S>(derivation, trail, prefix, v, steps)?;
     match reason_of(trail, v) {
@@ -114,10 +109,7 @@ fn make_clean<S: Side>(
     v: Var,
     steps: &mut Steps,
 ) -> Result<(), Stop>
-    requires rows { IsTrue (has_rows derivation.old) }
-    requires legal { IsLegalFor prefix.now derivation.old }
-    requires trail { IsTrailFor prefix.now trail.old }
-    requires reasons { HaveReasons S.PIVOT prefix.now derivation.old trail.old }
+    requires cleanable { IsCleanable S.PIVOT prefix.now derivation.old trail.old }
     requires propagated { IsPropagated trail.old.placed v }
     requires pivot { quantifier_of prefix.now v ≡ Some S.PIVOT }
     ensures marked { OnOk result (IsTrue (is_marked trail.new v)) }
@@ -130,10 +122,7 @@ fn make_clean<S: Side>(
         steps.old steps.new (marks_left trail.old * length trail.old.placed)) }
     ensures spent { result ≡ Err spent → (steps.new.spent ≡ steps.new.budget)
         × (left steps.old < 2 * (marks_left trail.old * length trail.old.placed)) }
-    ensures reasons { KeepsReasons prefix.now derivation.old derivation.new trail.old trail.new }
-    ensures trail { IsTrailFor prefix.now trail.new }
-    ensures legal { IsLegalFor prefix.now derivation.new }
-    ensures rows { IsTrue (has_rows derivation.new) }
+    ensures cleanable { StaysCleanable prefix.now derivation.old derivation.new trail.old trail.new }
 {
     if trail.is_clean(v) {
         return Ok(());
@@ -151,10 +140,7 @@ fn clean_all<S: Side>(
     stack: &mut Vec<Frame>,
     steps: &mut Steps,
 ) -> Result<(), Stop>
-    requires rows { IsTrue (has_rows derivation.old) }
-    requires legal { IsLegalFor prefix.now derivation.old }
-    requires trail { IsTrailFor prefix.now trail.old }
-    requires reasons { HaveReasons S.PIVOT prefix.now derivation.old trail.old }
+    requires cleanable { IsCleanable S.PIVOT prefix.now derivation.old trail.old }
     requires frames { AreFrames S.PIVOT prefix.now derivation.old trail.old (length trail.old.placed)
         stack.old.items }
     requires one { length stack.old.items ≡ 1 }
@@ -166,10 +152,7 @@ fn clean_all<S: Side>(
         steps.old steps.new (marks_left trail.old * length trail.old.placed)) }
     ensures spent { result ≡ Err spent → (steps.new.spent ≡ steps.new.budget)
         × (left steps.old < 2 * (marks_left trail.old * length trail.old.placed)) }
-    ensures reasons { KeepsReasons prefix.now derivation.old derivation.new trail.old trail.new }
-    ensures trail { IsTrailFor prefix.now trail.new }
-    ensures legal { IsLegalFor prefix.now derivation.new }
-    ensures rows { IsTrue (has_rows derivation.new) }
+    ensures cleanable { StaysCleanable prefix.now derivation.old derivation.new trail.old trail.new }
 {
     while !stack.is_empty() {
         turn::<S>(derivation, trail, prefix, stack, steps)?;
@@ -185,10 +168,7 @@ fn turn<S: Side>(
     stack: &mut Vec<Frame>,
     steps: &mut Steps,
 ) -> Result<(), Stop>
-    requires rows { IsTrue (has_rows derivation.old) }
-    requires legal { IsLegalFor prefix.now derivation.old }
-    requires trail { IsTrailFor prefix.now trail.old }
-    requires reasons { HaveReasons S.PIVOT prefix.now derivation.old trail.old }
+    requires cleanable { IsCleanable S.PIVOT prefix.now derivation.old trail.old }
     requires frames { AreFrames S.PIVOT prefix.now derivation.old trail.old (length trail.old.placed)
         stack.old.items }
     requires some { 0 < length stack.old.items }
@@ -200,10 +180,7 @@ fn turn<S: Side>(
     ensures err { OnErr result (StopsAfter prefix.now 1 derivation.old derivation.new steps.old steps.new) }
     ensures due { OnErr result (IsDue S.PIVOT prefix.now derivation.old trail.old stack.old.items) }
     ensures spent { result ≡ Err spent → (steps.new.spent ≡ steps.new.budget) × (left steps.old < 2) }
-    ensures reasons { KeepsReasons prefix.now derivation.old derivation.new trail.old trail.new }
-    ensures trail { IsTrailFor prefix.now trail.new }
-    ensures legal { IsLegalFor prefix.now derivation.new }
-    ensures rows { IsTrue (has_rows derivation.new) }
+    ensures cleanable { StaysCleanable prefix.now derivation.old derivation.new trail.old trail.new }
 {
     match stack.pop() {
         None => unreachable!(),

@@ -1,4 +1,4 @@
-use Rattle.std.proofs.Common.{ap, Err, length, ◌*◌}
+use Rattle.std.proofs.Common.{ap, Err, length, ◌*◌, rules}
 use Rattle.std.proofs.lemmas.Result.{err_from_is_err_and}
 use Rattle.steps.specs.declared.stop.Stop.TheVariants.{Spent as spent}
 use Rattle.clean.specs.Marks.{marks_left}
@@ -8,7 +8,8 @@ use Rattle.clean.proofs.reason.clean_all.Goals as goal
 
 pub loop-derivation-init : goal.loop-derivation-init
 loop-derivation-init g c = starts_under_way g.S.Side.PIVOT c.args.prefix.now c.args.derivation.now c.args.trail.now
-    c.args.steps.now c.args.stack.now.items c.requires.rows c.requires.legal c.requires.trail c.requires.reasons
+    c.args.steps.now c.args.stack.now.items c.requires.cleanable.rows c.requires.cleanable.legal
+    c.requires.cleanable.trail c.requires.cleanable.reasons
     c.requires.frames c.requires.one
 
 pub loop-derivation-smaller : goal.loop-derivation-smaller
@@ -17,7 +18,8 @@ loop-derivation-smaller g c =
     c.turn.new.derivation c.args.trail.now c.loop-derivation.trail c.turn.new.trail c.args.steps.now
     c.loop-derivation.steps c.turn.new.steps c.args.stack.now.items c.loop-derivation.stack.items
     c.turn.new.stack.items
-    c.loop-derivation.invariant c.in_ok-turn.ensures.reasons c.in_ok-turn.ensures.legal c.in_ok-turn.ensures.trail
+    c.loop-derivation.invariant c.in_ok-turn.ensures.cleanable.reasons c.in_ok-turn.ensures.cleanable.legal
+    c.in_ok-turn.ensures.cleanable.trail
     c.in_ok-turn.ensures.frames c.in_ok-turn.ensures.ok).1
 
 pub loop-derivation-preserved : goal.loop-derivation-preserved
@@ -26,7 +28,8 @@ loop-derivation-preserved g c =
     c.turn.new.derivation c.args.trail.now c.loop-derivation.trail c.turn.new.trail c.args.steps.now
     c.loop-derivation.steps c.turn.new.steps c.args.stack.now.items c.loop-derivation.stack.items
     c.turn.new.stack.items
-    c.loop-derivation.invariant c.in_ok-turn.ensures.reasons c.in_ok-turn.ensures.legal c.in_ok-turn.ensures.trail
+    c.loop-derivation.invariant c.in_ok-turn.ensures.cleanable.reasons c.in_ok-turn.ensures.cleanable.legal
+    c.in_ok-turn.ensures.cleanable.trail
     c.in_ok-turn.ensures.frames c.in_ok-turn.ensures.ok).0
 
 pub returns-in_err-turn-clause-err : goal.returns-in_err-turn-clause-err
@@ -37,9 +40,14 @@ returns-in_err-turn-clause-err g c =
     c.loop-derivation.steps c.turn.new.steps c.args.stack.now.items c.loop-derivation.stack.items
     c.loop-derivation.invariant c.in_err-turn.ensures.due c.in_err-turn.ensures.stays c.in_err-turn.ensures.err)
 
-pub returns-in_err-turn-clause-reasons : goal.returns-in_err-turn-clause-reasons
-returns-in_err-turn-clause-reasons g c =
-    λ side have. c.in_err-turn.ensures.reasons side (c.loop-derivation.invariant.reasons side have)
+pub returns-in_err-turn-clause-cleanable : goal.returns-in_err-turn-clause-cleanable
+returns-in_err-turn-clause-cleanable g c = record {
+  rows = search rules;
+  legal = search rules;
+  trail = search rules;
+  reasons =
+      λ side have. c.in_err-turn.ensures.cleanable.reasons side (c.loop-derivation.invariant.reasons side have);
+}
 
 pub returns-in_err-turn-clause-spent : goal.returns-in_err-turn-clause-spent
 returns-in_err-turn-clause-spent g c =
