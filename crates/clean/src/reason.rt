@@ -1,5 +1,5 @@
 //! Cleaning of reasons.
-ghost use Rattle.std.specs.Prelude.{◌≡◌, ◌<◌, ◌≤◌, ◌+◌, ◌*◌, IsTrue, IsFalse, IsOk, IfOk, OnErr, OnOk, Err, Some, [], List, take, length};
+ghost use Rattle.std.specs.Prelude.{◌≡◌, ◌<◌, ◌≤◌, ◌+◌, ◌*◌, IsTrue, IsFalse, IsOk, IfOk, OnErr, OnOk, Err, Some, ◌∷◌, ◌++◌, [], List, take, length};
 ghost use Rattle.prefix.specs.Scopes.{quantifier_of};
 ghost use Rattle.steps.specs.Counter.{left};
 ghost use Rattle.steps.specs.declared.stop.Stop.TheVariants.{Spent as spent};
@@ -95,10 +95,7 @@ fn clean_marked<S: Side>(
     ensures cleanable { StaysCleanable prefix.now derivation.old derivation.new trail.old trail.new }
 {
     make_clean::<S>(derivation, trail, prefix, v, steps)?;
-    match reason_of(trail, v) {
-        None => unreachable!(),
-        Some(reason) => Ok(reason),
-    }
+    Ok(reason_of(trail, v))
 }
 
 // The same, without the answer.
@@ -154,62 +151,56 @@ fn clean_all<S: Side>(
         × (left steps.old < 2 * (marks_left trail.old * length trail.old.placed)) }
     ensures cleanable { StaysCleanable prefix.now derivation.old derivation.new trail.old trail.new }
 {
-    while !stack.is_empty() {
-        turn::<S>(derivation, trail, prefix, stack, steps)?;
+    while let Some(frame) = stack.pop() {
+        turn::<S>(derivation, trail, prefix, frame, stack, steps)?;
     }
     Ok(())
 }
 
-// One turn of the list: its last reason is marked and taken off, or waits for another one, or is resolved once.
+// One turn of the list, off which its last reason was taken: that is marked, or waits for another one, or is resolved
+// once.
 fn turn<S: Side>(
     derivation: &mut Derivation,
     trail: &mut Trail,
     prefix: &Prefix,
+    frame: Frame,
     stack: &mut Vec<Frame>,
     steps: &mut Steps,
 ) -> Result<(), Stop>
     requires cleanable { IsCleanable S.PIVOT prefix.now derivation.old trail.old }
     requires frames { AreFrames S.PIVOT prefix.now derivation.old trail.old (length trail.old.placed)
-        stack.old.items }
-    requires some { 0 < length stack.old.items }
+        (stack.old.items ++ frame ∷ []) }
     ensures ok { OnOk result (IsTurn S.PIVOT prefix.now derivation.old derivation.new trail.old trail.new
-        stack.old.items stack.new.items steps.old steps.new) }
+        (stack.old.items ++ frame ∷ []) stack.new.items steps.old steps.new) }
     ensures frames { OnOk result (AreFrames S.PIVOT prefix.now derivation.new trail.new (length trail.new.placed)
         stack.new.items) }
     ensures stays { OnErr result (trail.new ≡ trail.old) }
     ensures err { OnErr result (StopsAfter prefix.now 1 derivation.old derivation.new steps.old steps.new) }
-    ensures due { OnErr result (IsDue S.PIVOT prefix.now derivation.old trail.old stack.old.items) }
+    ensures due { OnErr result (IsDue S.PIVOT prefix.now derivation.old trail.old (stack.old.items ++ frame ∷ [])) }
     ensures spent { result ≡ Err spent → (steps.new.spent ≡ steps.new.budget) × (left steps.old < 2) }
     ensures cleanable { StaysCleanable prefix.now derivation.old derivation.new trail.old trail.new }
 {
-    match stack.pop() {
-        None => unreachable!(),
-        Some(frame) => {
-            let end = place_of(trail, frame.var);
-            match look::<S>(trail, prefix, derivation.lits(frame.row), end) {
-                Look::Ends => {
-                    trail.set_clean(frame.var, frame.row);
-                    Ok(())
-                }
-                Look::Waits { var } => {
-                    let next = frame_of(trail, var);
-                    stack.push(frame)?;
-                    stack.push(next)?;
-                    Ok(())
-                }
-                Look::Turns { lit, reason } => {
-                    let row = resolve_with_reason::<S>(
-                        derivation, prefix, frame.row, lit, reason, steps,
-                    )?;
-                    let left = place_of(trail, lit.var());
-                    stack.push(Frame {
-                        var: frame.var,
-                        row,
-                        left,
-                    })?;
-                    Ok(())
-                }
-            }
+    let end = place_of(trail, frame.var);
+    match look::<S>(trail, prefix, derivation.lits(frame.row), end) {
+        Look::Ends => {
+            trail.set_clean(frame.var, frame.row);
+            Ok(())
+        }
+        Look::Waits { var } => {
+            let next = frame_of(trail, var);
+            stack.push(frame)?;
+            stack.push(next)?;
+            Ok(())
+        }
+        Look::Turns { lit, reason } => {
+            let row = resolve_with_reason::<S>(derivation, prefix, frame.row, lit, reason, steps)?;
+            let left = place_of(trail, lit.var());
+            stack.push(Frame {
+                var: frame.var,
+                row,
+                left,
+            })?;
+            Ok(())
         }
     }
 }
@@ -224,17 +215,15 @@ fn look<S: Side>(trail: &Trail, prefix: &Prefix, row: &[Lit], end: usize) -> Loo
 {
     match latest_blocker::<S>(trail, prefix, row, end) {
         None => Look::Ends,
-        Some(lit) => match reason_of(trail, lit.var()) {
-            None => unreachable!(),
-            Some(reason) => {
-                let waiting = lit.var();
-                if trail.is_clean(waiting) {
-                    Look::Turns { lit, reason }
-                } else {
-                    Look::Waits { var: waiting }
-                }
+        Some(lit) => {
+            let waiting = lit.var();
+            if trail.is_clean(waiting) {
+                let reason = reason_of(trail, waiting);
+                Look::Turns { lit, reason }
+            } else {
+                Look::Waits { var: waiting }
             }
-        },
+        }
     }
 }
 
@@ -253,12 +242,9 @@ fn frame_of(trail: &Trail, v: Var) -> Frame
     ensures row { cause_on trail.now.placed v ≡ Some (propagated result.row) }
     ensures whole { result.left ≡ place_on trail.now.placed v }
 {
-    match reason_of(trail, v) {
-        None => unreachable!(),
-        Some(row) => Frame {
-            var: v,
-            row,
-            left: place_of(trail, v),
-        },
+    Frame {
+        var: v,
+        row: reason_of(trail, v),
+        left: place_of(trail, v),
     }
 }
