@@ -1,12 +1,11 @@
 -- What analysis gives.
-use Rattle.std.specs.Prelude.{◌≡◌, ℕ, List, Some}
+use Rattle.std.specs.Prelude.{ℕ, List}
 use Rattle.prefix.specs.declared.quant.Quant.{Quant}
 use Rattle.prefix.specs.Literal.{Literal}
 use Rattle.prefix.specs.Scopes.{Scope}
 use Rattle.steps.specs.Counter.{Counter}
 use Rattle.calculus.specs.Rows.{Row}
-use Rattle.calculus.specs.Search.{Trail, AreTheAssumptions, IsLast, MakesUnitAt, cause_on}
-use Rattle.calculus.specs.Search.Cause.{Propagated}
+use Rattle.calculus.specs.Search.{Trail, AreTheAssumptions, IsLast, MakesUnitAt}
 use Rattle.calculus.specs.Verdicts.{IsEndRow}
 use Rattle.trail.specs.State.{TrailState, IsPropagated}
 use Rattle.derive.specs.State.{State, row_of}
@@ -43,9 +42,9 @@ pub record NeedsResolution (pivot : Quant) (scopes : List Scope) (trail : Trail)
 abbrev pub IsNext : Quant → List Scope → Trail → Row → Next → Type 0
 IsNext pivot scopes trail row Ends = EndsOn pivot scopes trail row
 IsNext pivot scopes trail row (Makes literal level) = MakesUnitFirstAt pivot scopes trail row literal level
-IsNext pivot scopes trail row (resolves_on literal reason) =
+IsNext pivot scopes trail row (resolves_on literal) =
     IsLast pivot scopes trail row literal
-    × (cause_on trail literal.variable ≡ Some (Propagated reason))
+    × IsPropagated trail literal.variable
     × ((b : ℕ) → MakesUnitAt pivot scopes trail row literal b → ⊥)
 
 -- a lesson came in, on the trail as it is then, after at most that many resolutions beside those of reasons made clean

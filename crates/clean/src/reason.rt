@@ -1,5 +1,5 @@
 //! Cleaning of reasons.
-ghost use Rattle.std.specs.Prelude.{◌≡◌, ◌<◌, ◌≤◌, ◌+◌, ◌*◌, IsTrue, IsFalse, IsOk, IfOk, OnErr, OnOk, Err, Some, [], List, take, length};
+ghost use Rattle.std.specs.Prelude.{◌≡◌, ◌<◌, ◌≤◌, ◌+◌, ◌*◌, IsTrue, IsFalse, IsOk, IfOk, OnErr, OnOk, Err, Some, ◌∷◌, ◌++◌, [], List, take, length};
 ghost use Rattle.prefix.specs.Scopes.{quantifier_of};
 ghost use Rattle.steps.specs.Counter.{left};
 ghost use Rattle.steps.specs.declared.stop.Stop.TheVariants.{Spent as spent};
@@ -11,6 +11,7 @@ ghost use Rattle.trail.specs.State.{is_marked, IsPropagated, IsTrailFor};
 ghost use Rattle.clean.specs.Reasons.{HaveReasons, IsOnTheWay};
 ghost use Rattle.clean.specs.Turns.{StopsAfter};
 ghost use Rattle.derive.specs.Growing.{GainsSteps};
+ghost use Rattle.clean.specs.Cleanable.{IsCleanable, StaysCleanable};
 ghost use Rattle.clean.specs.Marks.{CleansReasons, IsReasonBlocked, KeepsReasons, StopsCleaning, marks_left};
 ghost use Rattle.clean.specs.Frames.{AreFrames, AreMarkedOn, IsDue, IsFirstBlocked, IsLook, IsTurn};
 ghost use Rattle.prefix.specs.Literal.{Literal};
@@ -77,10 +78,7 @@ fn clean_marked<S: Side>(
     v: Var,
     steps: &mut Steps,
 ) -> Result<StepId, Stop>
-    requires rows { IsTrue (has_rows derivation.old) }
-    requires legal { IsLegalFor prefix.now derivation.old }
-    requires trail { IsTrailFor prefix.now trail.old }
-    requires reasons { HaveReasons S.PIVOT prefix.now derivation.old trail.old }
+    requires cleanable { IsCleanable S.PIVOT prefix.now derivation.old trail.old }
     requires propagated { IsPropagated trail.old.placed v }
     requires pivot { quantifier_of prefix.now v ≡ Some S.PIVOT }
     ensures ok { IfOk result (λ id. IsTrue (is_marked trail.new v)
@@ -94,16 +92,10 @@ fn clean_marked<S: Side>(
     ensures due { result ≡ Err spent → IsReasonBlocked S.PIVOT prefix.now derivation.old trail.old v }
     ensures spent { result ≡ Err spent → (steps.new.spent ≡ steps.new.budget)
         × (left steps.old < 2 * (marks_left trail.old * length trail.old.placed)) }
-    ensures reasons { KeepsReasons prefix.now derivation.old derivation.new trail.old trail.new }
-    ensures trail { IsTrailFor prefix.now trail.new }
-    ensures legal { IsLegalFor prefix.now derivation.new }
-    ensures rows { IsTrue (has_rows derivation.new) }
+    ensures cleanable { StaysCleanable prefix.now derivation.old derivation.new trail.old trail.new }
 {
     make_clean::<S>(derivation, trail, prefix, v, steps)?;
-    match reason_of(trail, v) {
-        None => unreachable!(),
-        Some(reason) => Ok(reason),
-    }
+    Ok(reason_of(trail, v))
 }
 
 // The same, without the answer.
@@ -114,10 +106,7 @@ fn make_clean<S: Side>(
     v: Var,
     steps: &mut Steps,
 ) -> Result<(), Stop>
-    requires rows { IsTrue (has_rows derivation.old) }
-    requires legal { IsLegalFor prefix.now derivation.old }
-    requires trail { IsTrailFor prefix.now trail.old }
-    requires reasons { HaveReasons S.PIVOT prefix.now derivation.old trail.old }
+    requires cleanable { IsCleanable S.PIVOT prefix.now derivation.old trail.old }
     requires propagated { IsPropagated trail.old.placed v }
     requires pivot { quantifier_of prefix.now v ≡ Some S.PIVOT }
     ensures marked { OnOk result (IsTrue (is_marked trail.new v)) }
@@ -130,10 +119,7 @@ fn make_clean<S: Side>(
         steps.old steps.new (marks_left trail.old * length trail.old.placed)) }
     ensures spent { result ≡ Err spent → (steps.new.spent ≡ steps.new.budget)
         × (left steps.old < 2 * (marks_left trail.old * length trail.old.placed)) }
-    ensures reasons { KeepsReasons prefix.now derivation.old derivation.new trail.old trail.new }
-    ensures trail { IsTrailFor prefix.now trail.new }
-    ensures legal { IsLegalFor prefix.now derivation.new }
-    ensures rows { IsTrue (has_rows derivation.new) }
+    ensures cleanable { StaysCleanable prefix.now derivation.old derivation.new trail.old trail.new }
 {
     if trail.is_clean(v) {
         return Ok(());
@@ -151,10 +137,7 @@ fn clean_all<S: Side>(
     stack: &mut Vec<Frame>,
     steps: &mut Steps,
 ) -> Result<(), Stop>
-    requires rows { IsTrue (has_rows derivation.old) }
-    requires legal { IsLegalFor prefix.now derivation.old }
-    requires trail { IsTrailFor prefix.now trail.old }
-    requires reasons { HaveReasons S.PIVOT prefix.now derivation.old trail.old }
+    requires cleanable { IsCleanable S.PIVOT prefix.now derivation.old trail.old }
     requires frames { AreFrames S.PIVOT prefix.now derivation.old trail.old (length trail.old.placed)
         stack.old.items }
     requires one { length stack.old.items ≡ 1 }
@@ -166,73 +149,58 @@ fn clean_all<S: Side>(
         steps.old steps.new (marks_left trail.old * length trail.old.placed)) }
     ensures spent { result ≡ Err spent → (steps.new.spent ≡ steps.new.budget)
         × (left steps.old < 2 * (marks_left trail.old * length trail.old.placed)) }
-    ensures reasons { KeepsReasons prefix.now derivation.old derivation.new trail.old trail.new }
-    ensures trail { IsTrailFor prefix.now trail.new }
-    ensures legal { IsLegalFor prefix.now derivation.new }
-    ensures rows { IsTrue (has_rows derivation.new) }
+    ensures cleanable { StaysCleanable prefix.now derivation.old derivation.new trail.old trail.new }
 {
-    while !stack.is_empty() {
-        turn::<S>(derivation, trail, prefix, stack, steps)?;
+    while let Some(frame) = stack.pop() {
+        turn::<S>(derivation, trail, prefix, frame, stack, steps)?;
     }
     Ok(())
 }
 
-// One turn of the list: its last reason is marked and taken off, or waits for another one, or is resolved once.
+// One turn of the list, off which its last reason was taken: that is marked, or waits for another one, or is resolved
+// once.
 fn turn<S: Side>(
     derivation: &mut Derivation,
     trail: &mut Trail,
     prefix: &Prefix,
+    frame: Frame,
     stack: &mut Vec<Frame>,
     steps: &mut Steps,
 ) -> Result<(), Stop>
-    requires rows { IsTrue (has_rows derivation.old) }
-    requires legal { IsLegalFor prefix.now derivation.old }
-    requires trail { IsTrailFor prefix.now trail.old }
-    requires reasons { HaveReasons S.PIVOT prefix.now derivation.old trail.old }
+    requires cleanable { IsCleanable S.PIVOT prefix.now derivation.old trail.old }
     requires frames { AreFrames S.PIVOT prefix.now derivation.old trail.old (length trail.old.placed)
-        stack.old.items }
-    requires some { 0 < length stack.old.items }
+        (stack.old.items ++ frame ∷ []) }
     ensures ok { OnOk result (IsTurn S.PIVOT prefix.now derivation.old derivation.new trail.old trail.new
-        stack.old.items stack.new.items steps.old steps.new) }
+        (stack.old.items ++ frame ∷ []) stack.new.items steps.old steps.new) }
     ensures frames { OnOk result (AreFrames S.PIVOT prefix.now derivation.new trail.new (length trail.new.placed)
         stack.new.items) }
     ensures stays { OnErr result (trail.new ≡ trail.old) }
     ensures err { OnErr result (StopsAfter prefix.now 1 derivation.old derivation.new steps.old steps.new) }
-    ensures due { OnErr result (IsDue S.PIVOT prefix.now derivation.old trail.old stack.old.items) }
+    ensures due { OnErr result (IsDue S.PIVOT prefix.now derivation.old trail.old (stack.old.items ++ frame ∷ [])) }
     ensures spent { result ≡ Err spent → (steps.new.spent ≡ steps.new.budget) × (left steps.old < 2) }
-    ensures reasons { KeepsReasons prefix.now derivation.old derivation.new trail.old trail.new }
-    ensures trail { IsTrailFor prefix.now trail.new }
-    ensures legal { IsLegalFor prefix.now derivation.new }
-    ensures rows { IsTrue (has_rows derivation.new) }
+    ensures cleanable { StaysCleanable prefix.now derivation.old derivation.new trail.old trail.new }
 {
-    match stack.pop() {
-        None => unreachable!(),
-        Some(frame) => {
-            let end = place_of(trail, frame.var);
-            match look::<S>(trail, prefix, derivation.lits(frame.row), end) {
-                Look::Ends => {
-                    trail.set_clean(frame.var, frame.row);
-                    Ok(())
-                }
-                Look::Waits { var } => {
-                    let next = frame_of(trail, var);
-                    stack.push(frame)?;
-                    stack.push(next)?;
-                    Ok(())
-                }
-                Look::Turns { lit, reason } => {
-                    let row = resolve_with_reason::<S>(
-                        derivation, prefix, frame.row, lit, reason, steps,
-                    )?;
-                    let left = place_of(trail, lit.var());
-                    stack.push(Frame {
-                        var: frame.var,
-                        row,
-                        left,
-                    })?;
-                    Ok(())
-                }
-            }
+    let end = place_of(trail, frame.var);
+    match look::<S>(trail, prefix, derivation.lits(frame.row), end) {
+        Look::Ends => {
+            trail.set_clean(frame.var, frame.row);
+            Ok(())
+        }
+        Look::Waits { var } => {
+            let next = frame_of(trail, var);
+            stack.push(frame)?;
+            stack.push(next)?;
+            Ok(())
+        }
+        Look::Turns { lit, reason } => {
+            let row = resolve_with_reason::<S>(derivation, prefix, frame.row, lit, reason, steps)?;
+            let left = place_of(trail, lit.var());
+            stack.push(Frame {
+                var: frame.var,
+                row,
+                left,
+            })?;
+            Ok(())
         }
     }
 }
@@ -247,17 +215,15 @@ fn look<S: Side>(trail: &Trail, prefix: &Prefix, row: &[Lit], end: usize) -> Loo
 {
     match latest_blocker::<S>(trail, prefix, row, end) {
         None => Look::Ends,
-        Some(lit) => match reason_of(trail, lit.var()) {
-            None => unreachable!(),
-            Some(reason) => {
-                let waiting = lit.var();
-                if trail.is_clean(waiting) {
-                    Look::Turns { lit, reason }
-                } else {
-                    Look::Waits { var: waiting }
-                }
+        Some(lit) => {
+            let waiting = lit.var();
+            if trail.is_clean(waiting) {
+                let reason = reason_of(trail, waiting);
+                Look::Turns { lit, reason }
+            } else {
+                Look::Waits { var: waiting }
             }
-        },
+        }
     }
 }
 
@@ -276,12 +242,9 @@ fn frame_of(trail: &Trail, v: Var) -> Frame
     ensures row { cause_on trail.now.placed v ≡ Some (propagated result.row) }
     ensures whole { result.left ≡ place_on trail.now.placed v }
 {
-    match reason_of(trail, v) {
-        None => unreachable!(),
-        Some(row) => Frame {
-            var: v,
-            row,
-            left: place_of(trail, v),
-        },
+    Frame {
+        var: v,
+        row: reason_of(trail, v),
+        left: place_of(trail, v),
     }
 }

@@ -46,15 +46,11 @@ pub fn resolve_by_reason<S: Side>(
     ensures legal { IsLegalFor prefix.now derivation.new }
     ensures rows { IsTrue (has_rows derivation.new) }
 {
-    match reason_of(trail, lit.var()) {
-        None => unreachable!(),
-        Some(reason) => {
-            if has_clash(derivation.lits(row), derivation.lits(reason), lit) {
-                return resolve_away::<S>(derivation, trail, prefix, row, lit, steps);
-            }
-            resolve_with_reason::<S>(derivation, prefix, row, lit, reason, steps)
-        }
+    let reason = reason_of(trail, lit.var());
+    if has_clash(derivation.lits(row), derivation.lits(reason), lit) {
+        return resolve_away::<S>(derivation, trail, prefix, row, lit, steps);
     }
+    resolve_with_reason::<S>(derivation, prefix, row, lit, reason, steps)
 }
 
 // Whether a variable other than that of the literal stands with opposite signs in a row and a reason of the literal.

@@ -1,5 +1,5 @@
 -- Searches at rest into which clauses come at once.
-use Rattle.std.proofs.Common.{◌≡◌, ℕ, ◌+◌, ◌-◌, ◌<◌, ◌≤◌, ◌⊎◌, true, List, [], ◌∷◌, ◌++◌, drop, Option, Some, None, Contains, IsTrue, is_some, length, get_or, refl, sym, ap, subst, ◌∙◌, inl, inr, ⊎_elim, arith}
+use Rattle.std.proofs.Common.{◌≡◌, ℕ, ◌+◌, ◌-◌, ◌<◌, ◌≤◌, ◌⊎◌, true, List, drop, Option, Some, None, Contains, IsTrue, is_some, length, get_or, refl, sym, ap, subst, ◌∙◌, inl, inr, ⊎_elim, arith}
 use Rattle.std.proofs.lemmas.Bool.{cases_Bool, cases_lt, cond-false, false≢true}
 use Rattle.std.proofs.lemmas.List.{drop_at, get_or-drop, length-drop}
 use Rattle.std.proofs.lemmas.List.Elements.{Contains-append_cases, Contains-append_left, Contains-append_right, Contains-get_or}
@@ -29,7 +29,7 @@ use Rattle.search.proofs.Aging.{older_dropped, older_grown, older_then}
 use Rattle.search.proofs.Dropping.{intact_rederived, rederived}
 use Rattle.search.proofs.Listing.{each_by_place}
 use Rattle.search.proofs.Tallying.{antecedent_live, kept_detached, kept_same, kept_unlinked, same_count}
-use Rattle.search.proofs.Marks.{live_same, marked_as_was, not_attached, note_same, same_mark, reduced_by, reduction_by, step_live, steps_then}
+use Rattle.search.proofs.Marks.{live_same, marked_as_was, not_attached, same_mark, reduced_by, reduction_by, step_live, steps_then}
 
 -- clauses came in
 pub record Enters (scopes : List Scope) (frame : ℕ) (old new : State) (rows : List Row) (listed now : List ℕ)

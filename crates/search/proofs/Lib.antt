@@ -29,3 +29,4 @@ pub mod Working
 pub mod WorkingForgetting
 pub mod WorkingLeaving
 pub mod WorkingStops
+mod Laws

@@ -6,6 +6,7 @@ pub mod Forgetting
 pub mod Leaving
 pub mod Long
 pub mod Moves
+pub mod Parts
 pub mod State
 pub mod Stops
 pub mod Watching

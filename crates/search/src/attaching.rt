@@ -17,7 +17,6 @@ use crate::watching::{attach_to, detach_from, has_row};
 use derive::{Derivation, StepId};
 use memory::NoMemory;
 use prefix::{Prefix, Quant};
-use watch::holding_laws;
 
 impl Search {
     // Attaches a row to watch to the watch of its side, unless it is attached.
@@ -28,7 +27,6 @@ impl Search {
         ensures joins { Joins prefix.now self.old self.new id }
         ensures long { self.new.long ≡ self.old.long }
     {
-        holding_laws();
         match self.derivation.side(id) {
             Quant::Exists => attach_to(
                 &mut self.clauses,
@@ -54,7 +52,6 @@ impl Search {
         ensures parts { Parts self.old self.new id }
         ensures long { self.new.long ≡ self.old.long }
     {
-        holding_laws();
         match self.derivation.side(id) {
             Quant::Exists => detach_from(&mut self.clauses, &mut self.derivation, id),
             Quant::Forall => detach_from(&mut self.cubes, &mut self.derivation, id),

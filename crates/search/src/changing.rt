@@ -18,14 +18,10 @@ ghost use Rattle.search.specs.Changing.{AddsClause, AddsClauses, IsRoomy, Restin
 
 use crate::leaving::Leaving;
 use crate::search::Search;
-use calculus::reductions_stay;
 use decide::Decider;
-use derive::{
-    Derivation, StepId, clauses_are_listed, growth_laws, prefixes_may_change, prefixes_may_grow,
-};
+use derive::{Derivation, StepId};
 use memory::NoMemory;
 use prefix::{Lit, LitList, Prefix, Var};
-use watch::{agreeing_laws, holding_laws};
 
 impl Search {
     /// The derivation: what was put in, what was learned, and the finish of the last outcome.
@@ -106,9 +102,6 @@ impl Search {
         ensures reductions { reductions_in self.new.derivation ≤ reductions_in self.old.derivation + 1 }
         ensures older { KeepsOlder self.old.derivation self.new.derivation }
     {
-        holding_laws();
-        agreeing_laws();
-        growth_laws();
         self.watched.reserve(1)?;
         let (_, id) = self.derivation.input_clause(prefix, lits, frame)?;
         self.decider.count(lits);
@@ -170,9 +163,6 @@ impl Search {
             + length clauses.now }
         ensures older { KeepsOlder self.old.derivation self.new.derivation }
     {
-        holding_laws();
-        agreeing_laws();
-        growth_laws();
         let place = self.watched.len();
         self.derivation
             .input_clauses(prefix, clauses, frame, &mut self.watched)?;
@@ -195,9 +185,6 @@ impl Search {
     {
         let from = self.derivation.frame_from(frame);
         self.part_from(from, &Leaving::Frame(frame));
-        holding_laws();
-        agreeing_laws();
-        clauses_are_listed();
         self.derivation.drop_frame(frame);
     }
 
@@ -240,11 +227,6 @@ impl Search {
         ensures reductions { reductions_in self.new.derivation ≤ reductions_in self.old.derivation }
     {
         self.part_outside(prefix, from);
-        holding_laws();
-        agreeing_laws();
-        clauses_are_listed();
-        prefixes_may_change();
-        reductions_stay();
         self.derivation.drop_outside(from, prefix);
     }
 
@@ -263,8 +245,6 @@ impl Search {
         ensures cubes { HasNoCubes self.old → HasNoCubes self.new }
         ensures older { KeepsOlder self.old.derivation self.new.derivation }
     {
-        holding_laws();
-        agreeing_laws();
         self.derivation.drop_finish();
     }
 }
@@ -281,9 +261,4 @@ fn count_all(decider: &mut Decider, clauses: &[LitList])
 /// A search at rest is so under a larger prefix, where there is room for its variables.
 pub fn resting_grows()
     ensures { RestingGrows }
-{
-    holding_laws();
-    prefixes_may_grow();
-    clauses_are_listed();
-    reductions_stay();
-}
+{}

@@ -12,12 +12,11 @@ ghost use Rattle.search.specs.Forgetting.{AreLive, Clears, Forgets, HaveAllReaso
 ghost use Rattle.search.specs.State.{IsIntact, IsResting, IsSearching, IsTallied};
 
 use crate::search::Search;
-use derive::{Derivation, Step, StepId, clauses_are_listed};
+use derive::{Derivation, Step, StepId};
 use memory::NoMemory;
 use prefix::{Prefix, Var};
 use rows::Rows;
 use trail::{Trail, Why};
-use watch::{agreeing_laws, holding_laws};
 
 // Where more long learned rows than these are no reasons, some are forgotten.
 pub(crate) const MOST: usize = 512;
@@ -89,7 +88,6 @@ impl Search {
         ensures ok { OnOk result (Forgets prefix.now self.old self.new) }
         ensures err { OnErr result (self.new ≡ self.old) }
     {
-        clauses_are_listed();
         if self.derivation.next_id() < self.sweep_at {
             self.thin(prefix, most);
             self.leave_out();
@@ -162,8 +160,6 @@ impl Search {
         ensures { Clears prefix.now self.old self.new }
     {
         let next = self.derivation.next_id();
-        holding_laws();
-        agreeing_laws();
         let _ = keep.extend_from_slice(&self.watched);
         self.derivation.sweep(keep);
         let live = self.derivation.live_steps();

@@ -18,19 +18,18 @@ ghost use Rattle.analyse.specs.Lessons.{IsLesson, NeedsResolution};
 ghost use Rattle.search.specs.Forgetting.{HasFewLong};
 ghost use Rattle.search.specs.State.{IsSearching};
 ghost use Rattle.search.specs.Counting.{ReducesFew, lesson_cost, size_of};
+ghost use Rattle.search.specs.Parts.{GoesOn, StopsWhenDue};
 ghost use Rattle.search.specs.Moves.{Advances, Analyses, BeginsAnew, Ends, Halts, Pushes, Undoes, WasDue};
 
 use crate::outcome::EndRow;
 use crate::search::{LESSONS, Search};
 use analyse::{Lesson, analyse};
-use clean::reason_laws;
 use decide::Decider;
 use derive::{Derivation, Step, StepId};
 use memory::NoMemory;
 use prefix::{Clauses, Cubes, Lit, Prefix, Quant};
 use steps::{Spent, Steps, Stop};
 use trail::{Trail, Why};
-use watch::{agreeing_laws, holding_laws, looking_laws};
 
 impl Search {
     // Learns from a bad row of a side: the search goes on, or ends with an end row.
@@ -45,15 +44,8 @@ impl Search {
         requires searching { IsSearching prefix.now self.old }
         requires row { IsReducedStep side prefix.now self.old.derivation row }
         requires bad { IsBadRow side prefix.now (value_on self.old.trail.placed) (row_of self.old.derivation row) }
-        ensures go { result ≡ Ok None → Advances prefix.now 1 self.old self.new steps.old steps.new }
-        ensures end { IfOk result (λ end. IfSome end (λ e.
-            Ends prefix.now 1 self.old self.new steps.old steps.new e.side e.row)) }
-        ensures err { OnErr result (Halts prefix.now 1 self.old self.new steps.old steps.new) }
-        ensures spent { result ≡ Err spent → steps.new.spent ≡ steps.new.budget }
-        ensures due { result ≡ Err spent → WasDue prefix.now self.old self.new }
-        ensures reductions { ReducesFew self.old.derivation self.new.derivation steps.old steps.new }
-        ensures restarts { self.old.trail.restarts ≤ restarts → self.new.trail.restarts ≤ restarts }
-        ensures long { HasFewLong prefix.now self.old → OnOk result (HasFewLong prefix.now self.new) }
+        ensures goes { GoesOn prefix.now 1 restarts self.old self.new steps.old steps.new result }
+        ensures stops { StopsWhenDue prefix.now 1 self.old self.new steps.old steps.new result }
         ensures ends { last_level self.old.trail.placed ≡ 0 → result ≢ Ok None }
         ensures few { last_level self.old.trail.placed ≡ 0 → result ≡ Err spent → left steps.old
             < 2 * (marks_left self.old.trail * length self.old.trail.placed + length self.old.trail.placed) }
@@ -114,9 +106,6 @@ impl Search {
         requires below { 0 < last_level self.old.trail.placed }
         ensures { BeginsAnew prefix.now self.old self.new }
     {
-        holding_laws();
-        looking_laws();
-        reason_laws();
         let front = self.trail.len_to(0);
         self.decider.undoing(&self.trail, prefix, front);
         self.trail.restart();
@@ -140,15 +129,10 @@ impl Search {
         ensures long { self.new.long ≡ self.old.long }
         ensures lesson { IfOk result (λ lesson.
             IsLesson side prefix.now self.new.trail.placed self.new.derivation lesson) }
-        ensures err { OnErr result (Halts prefix.now 1 self.old self.new steps.old steps.new) }
-        ensures spent { result ≡ Err spent → steps.new.spent ≡ steps.new.budget }
-        ensures due { result ≡ Err spent → WasDue prefix.now self.old self.new }
-        ensures reductions { ReducesFew self.old.derivation self.new.derivation steps.old steps.new }
+        ensures stops { StopsWhenDue prefix.now 1 self.old self.new steps.old steps.new result }
         ensures few { result ≡ Err spent → left steps.old
             < 2 * (marks_left self.old.trail * length self.old.trail.placed + length self.old.trail.placed) }
     {
-        holding_laws();
-        agreeing_laws();
         bump(&mut self.decider, self.derivation.lits(row));
         self.decider.decay();
         let first = self.derivation.next_id();
@@ -201,9 +185,6 @@ impl Search {
         requires below { level < last_level self.old.trail.placed }
         ensures { Undoes prefix.now level self.old self.new }
     {
-        holding_laws();
-        looking_laws();
-        reason_laws();
         let keep = self.trail.len_to(level);
         self.decider.undoing(&self.trail, prefix, keep);
         self.trail.undo_to(level);
@@ -233,8 +214,6 @@ impl Search {
         ensures uncounted { OnErr result (steps.new ≡ steps.old) }
         ensures spent { OnErr result (steps.new.spent ≡ steps.new.budget) }
     {
-        reason_laws();
-        looking_laws();
         let value = good(side, lit);
         self.trail
             .assign(prefix, value, Why::Propagated(row), steps)?;
@@ -259,8 +238,6 @@ impl Search {
         ensures uncounted { OnErr result (steps.new ≡ steps.old) }
         ensures spent { OnErr result (steps.new.spent ≡ steps.new.budget) }
     {
-        reason_laws();
-        looking_laws();
         self.trail.assign(prefix, lit, Why::Decided, steps)?;
         Ok(())
     }

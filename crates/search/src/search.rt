@@ -11,7 +11,7 @@ use prefix::{Clauses, Cubes};
 use std::alloc::Global;
 use std::marker::Model;
 use trail::Trail;
-use watch::{Watch, holding_laws};
+use watch::Watch;
 
 // A restart is due with each such lesson of a solve.
 pub(crate) const LESSONS: u8 = 64;
@@ -71,7 +71,6 @@ impl Search {
         ensures finishes { HasNoFinish result.derivation }
         ensures reductions { reductions_in result.derivation ≡ 0 }
     {
-        holding_laws();
         Self {
             derivation: Derivation::new(alloc),
             trail: Trail::new(alloc),

@@ -24,15 +24,12 @@ ghost use Rattle.search.specs.Stops.{IsOutcome, IsQuickStop, IsStop, WasSpentWhe
 
 use crate::outcome::{EndRow, Outcome, SolveStop};
 use crate::search::{LESSONS, Search};
-use calculus::{end_rows_give_proofs, proofs_decide};
-use derive::{StepId, same_clauses_serve, steps_are_listed};
+use derive::StepId;
 use matrix::Matrix;
 use memory::NoMemory;
 use prefix::{Lit, Prefix};
-use step_core::finishes_end_proofs;
 use steps::{Spent, Steps, Stop};
 use trail::Stopped;
-use watch::{agreeing_laws, holding_laws, looking_laws};
 
 impl Search {
     /// Decides the formula of the prefix and the clauses of the matrix, which are the open clauses, under assumptions
@@ -196,7 +193,7 @@ impl Search {
         ensures budget { steps.new.budget ≡ steps.old.budget }
         ensures rises { steps.old.spent ≤ steps.new.spent }
     {
-        looking_laws();
+        // The counter is within its budget.
         let _budget = steps.budget();
         self.trail.assume_all(prefix, assumptions, steps)?;
         Ok(())
@@ -260,14 +257,8 @@ impl Search {
         ensures finishes { IfOk result (λ end. (id : ℕ) → IsFinishId self.new.derivation id → id ≡ end) }
         ensures unfinished { OnErr result (HasNoFinish self.new.derivation) }
     {
+        // The prefix is a valid one.
         let _valid = prefix.scopes();
-        steps_are_listed();
-        same_clauses_serve();
-        end_rows_give_proofs();
-        proofs_decide();
-        finishes_end_proofs();
-        holding_laws();
-        agreeing_laws();
         self.derivation.finish(prefix, end.row, assumptions)
     }
 
@@ -278,8 +269,6 @@ impl Search {
         ensures derivation { self.new.derivation ≡ self.old.derivation }
         ensures long { self.new.long ≡ self.old.long }
     {
-        holding_laws();
-        looking_laws();
         self.decider.undoing(&self.trail, prefix, 0);
         self.trail.clear();
         self.clauses.undone(0);
@@ -301,8 +290,6 @@ impl Search {
         ensures reductions { reductions_in self.new.derivation ≡ reductions_in self.old.derivation }
         ensures stopped { result ≡ account_of prefix.now self.old.trail steps.now.budget }
     {
-        holding_laws();
-        looking_laws();
         self.decider.undoing(&self.trail, prefix, 0);
         let stopped = self.trail.stop(prefix, steps);
         self.clauses.undone(0);

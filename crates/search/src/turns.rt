@@ -15,19 +15,19 @@ ghost use Rattle.search.specs.State.{IsSearching, rows_of};
 ghost use Rattle.search.specs.Counting.{ReducesFew, size_of};
 ghost use Rattle.search.specs.Forgetting.{HasFewLong};
 ghost use Rattle.search.specs.Forcing.{IsRefuting};
+ghost use Rattle.search.specs.Parts.{GoesOn, StopsWhenDue};
 ghost use Rattle.search.specs.Moves.{Advances, Covers, Ends, Halts, IsFound, IsMatrix, SameSteps, WasDue};
 ghost use Rattle.search.specs.Watching.{Looks};
 
 use crate::outcome::{EndRow, Found};
 use crate::search::Search;
 use crate::watching::next_of;
-use calculus::{reductions_keep_unit, row_laws, value_laws};
 use cover::cover;
 use derive::StepId;
 use matrix::Matrix;
 use prefix::{Prefix, Quant};
 use steps::{Steps, Stop};
-use watch::{Event, agreeing_laws, holding_laws};
+use watch::Event;
 
 impl Search {
     // One turn: a literal is propagated, a bad row teaches, a variable is decided, or a solution teaches.
@@ -41,15 +41,8 @@ impl Search {
         requires searching { IsSearching prefix.now self.old }
         requires allowed { self.old.trail.allowed ≡ Anything }
         requires matrix { IsMatrix self.old.derivation matrix.now }
-        ensures go { result ≡ Ok None → Advances prefix.now 0 self.old self.new steps.old steps.new }
-        ensures end { IfOk result (λ end. IfSome end (λ e.
-            Ends prefix.now 0 self.old self.new steps.old steps.new e.side e.row)) }
-        ensures err { OnErr result (Halts prefix.now 0 self.old self.new steps.old steps.new) }
-        ensures spent { result ≡ Err spent → steps.new.spent ≡ steps.new.budget }
-        ensures due { result ≡ Err spent → WasDue prefix.now self.old self.new }
-        ensures restarts { self.old.trail.restarts ≤ restarts → self.new.trail.restarts ≤ restarts }
-        ensures long { HasFewLong prefix.now self.old → OnOk result (HasFewLong prefix.now self.new) }
-        ensures reductions { ReducesFew self.old.derivation self.new.derivation steps.old steps.new }
+        ensures goes { GoesOn prefix.now 0 restarts self.old self.new steps.old steps.new result }
+        ensures stops { StopsWhenDue prefix.now 0 self.old self.new steps.old steps.new result }
         ensures forced { (start : ℕ) → IsRefuting prefix.now matrix.now start self.old steps.old → result ≡ Ok None →
             IsRefuting prefix.now matrix.now start self.new steps.new }
         ensures refuted { (start : ℕ) → IsRefuting prefix.now matrix.now start self.old steps.old →
@@ -88,7 +81,6 @@ impl Search {
         ensures looks { Looks prefix.now self.old self.new }
         ensures event { IsEvent exists prefix.now (value_on self.new.trail.placed) (rows_of self.new) result }
     {
-        holding_laws();
         next_of(&mut self.clauses, &mut self.derivation, &self.trail, prefix)
     }
 
@@ -98,7 +90,6 @@ impl Search {
         ensures looks { Looks prefix.now self.old self.new }
         ensures event { IsEvent forall prefix.now (value_on self.new.trail.placed) (rows_of self.new) result }
     {
-        holding_laws();
         next_of(&mut self.cubes, &mut self.derivation, &self.trail, prefix)
     }
 
@@ -114,15 +105,8 @@ impl Search {
         requires quiet { AreQuiet exists prefix.now (value_on self.old.trail.placed) (rows_of self.old) }
         requires allowed { self.old.trail.allowed ≡ Anything }
         requires matrix { IsMatrix self.old.derivation matrix.now }
-        ensures go { result ≡ Ok None → Advances prefix.now 0 self.old self.new steps.old steps.new }
-        ensures end { IfOk result (λ end. IfSome end (λ e.
-            Ends prefix.now 0 self.old self.new steps.old steps.new e.side e.row)) }
-        ensures err { OnErr result (Halts prefix.now 0 self.old self.new steps.old steps.new) }
-        ensures spent { result ≡ Err spent → steps.new.spent ≡ steps.new.budget }
-        ensures due { result ≡ Err spent → WasDue prefix.now self.old self.new }
-        ensures restarts { self.old.trail.restarts ≤ restarts → self.new.trail.restarts ≤ restarts }
-        ensures long { HasFewLong prefix.now self.old → OnOk result (HasFewLong prefix.now self.new) }
-        ensures reductions { ReducesFew self.old.derivation self.new.derivation steps.old steps.new }
+        ensures goes { GoesOn prefix.now 0 restarts self.old self.new steps.old steps.new result }
+        ensures stops { StopsWhenDue prefix.now 0 self.old self.new steps.old steps.new result }
     {
         self.was_quiet = true;
         let Some(lit) = self.decider.next_decision(&self.trail, prefix) else {
@@ -145,21 +129,13 @@ impl Search {
         requires assigned { AreAssigned prefix.now self.old.trail.placed }
         requires matrix { IsMatrix self.old.derivation matrix.now }
         ensures ok { OnOk result (Covers prefix.now self.old self.new steps.old steps.new) }
-        ensures err { OnErr result (Halts prefix.now 0 self.old self.new steps.old steps.new) }
-        ensures spent { result ≡ Err spent → steps.new.spent ≡ steps.new.budget }
-        ensures due { result ≡ Err spent → WasDue prefix.now self.old self.new }
-        ensures reductions { ReducesFew self.old.derivation self.new.derivation steps.old steps.new }
+        ensures stops { StopsWhenDue prefix.now 0 self.old self.new steps.old steps.new result }
         ensures trail { self.new.trail ≡ self.old.trail }
         ensures long { self.new.long ≡ self.old.long }
         ensures row { IfOk result (λ id. IsReducedStep forall prefix.now self.new.derivation id) }
         ensures bad { IfOk result (λ id. IsBadRow forall prefix.now (value_on self.new.trail.placed)
             (row_of self.new.derivation id)) }
     {
-        value_laws();
-        reductions_keep_unit();
-        row_laws();
-        holding_laws();
-        agreeing_laws();
         let cube = cover(&mut self.derivation, &self.trail, prefix, matrix)?;
         let reduced = self.derivation.reduce_counted(prefix, cube, steps);
         // The counter is within its budget.

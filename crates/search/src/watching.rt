@@ -32,7 +32,8 @@ pub(crate) fn next_of<S: Side>(
     ensures room { watch.new.room ≡ watch.old.room }
     ensures marks { KeepsMarks (arena_of derivation.old) (arena_of derivation.new) }
 {
-    // The room tells that it is enough for the trail.
+    // The room tells that it is enough for the trail, a law that the watch's, which is no smaller, is so too; another
+    // one that the rows of the other watch are as they were.
     let _room = trail.room();
     looking_laws();
     agreeing_laws();
@@ -84,6 +85,7 @@ fn attach_unless<S: Side>(
     ensures attached { Attaches S.PIVOT rows.old rows.new id (Some (mark_of S.PIVOT)) }
     ensures agrees { AgreesElsewhere S.PIVOT rows.old rows.new }
 {
+    // The rows that are attached to the other watch are as they were.
     agreeing_laws();
     if !watch.has(rows, id) {
         watch.attach(rows, trail, prefix, id);
@@ -115,6 +117,7 @@ fn detach_if<S: Side>(watch: &mut Watch<S>, rows: &mut Rows, id: RowId)
     ensures detached { Unmarks S.PIVOT rows.old rows.new id }
     ensures agrees { AgreesElsewhere S.PIVOT rows.old rows.new }
 {
+    // The rows that are attached to the other watch are as they were.
     agreeing_laws();
     if watch.has(rows, id) {
         watch.detach(rows, id);

@@ -2,7 +2,7 @@ use Rattle.calculus.specs.Search.{Trail}
 use Rattle.derive.specs.State.{row_of}
 use Rattle.clean.specs.Blockers.{IsBlocked}
 use Rattle.clean.specs.Cleaning.{IsDoneIfBlocked}
-use Rattle.std.proofs.Common.{sym, subst, ap, Err, length, ◌*◌, ◌+◌, ◌≤◌, arith}
+use Rattle.std.proofs.Common.{sym, subst, ap, Err, length, ◌*◌, ◌+◌, ◌≤◌, arith, rules}
 use Rattle.std.proofs.lemmas.Result.{err_from_is_err_and}
 use Rattle.steps.specs.declared.stop.Stop.TheVariants.{Spent as spent}
 use Rattle.clean.specs.Marks.{marks_left}
@@ -13,8 +13,9 @@ use Rattle.clean.proofs.cleaning.clean_row.Goals as goal
 
 pub loop-taken-init : goal.loop-taken-init
 loop-taken-init g c = cleaning_starts g.S.Side.PIVOT c.args.prefix.now c.args.kept c.end_before-end.result
-    c.args.derivation.now c.args.trail.now c.args.steps.now c.end_before-end.ensures.within c.args.row c.requires.rows
-    c.requires.legal c.requires.trail c.requires.row c.end_before-end.ensures.front c.requires.may
+    c.args.derivation.now c.args.trail.now c.args.steps.now c.end_before-end.ensures.within c.args.row
+    c.requires.cleanable.rows
+    c.requires.cleanable.legal c.requires.cleanable.trail c.requires.row c.end_before-end.ensures.front c.requires.may
 
 pub returns-in-None-clause-ok : goal.returns-in-None-clause-ok
 returns-in-None-clause-ok g c =
@@ -25,7 +26,7 @@ returns-in-None-clause-ok g c =
     (omega arith) c.end_before-end.ensures.front (rw c.lits.ensures at c.in-None.ensures)
 
 pub resolve_away-requires-clause-reasons : goal.resolve_away-requires-clause-reasons
-resolve_away-requires-clause-reasons g c = c.loop-taken.invariant.reasons g.S.Side.PIVOT c.requires.reasons
+resolve_away-requires-clause-reasons g c = c.loop-taken.invariant.reasons g.S.Side.PIVOT c.requires.cleanable.reasons
 
 pub resolve_away-requires-clause-may : goal.resolve_away-requires-clause-may
 resolve_away-requires-clause-may g c = cleaning_may g.S.Side.PIVOT c.args.prefix.now c.args.kept
@@ -44,7 +45,7 @@ returns-in_err-row-in-Some-clause-err g c =
     (marks_left c.args.trail.now * length c.args.trail.now.placed + length c.args.trail.now.placed) (omega arith)
     (stops_more c.args.prefix.now c.args.derivation.now c.loop-taken.derivation c.resolve_away.new.derivation
     c.args.trail.now c.loop-taken.trail c.resolve_away.new.trail c.args.steps.now c.loop-taken.steps
-    c.resolve_away.new.steps c.loop-taken._taken 1 c.loop-taken.invariant.cleans c.requires.trail.marked
+    c.resolve_away.new.steps c.loop-taken._taken 1 c.loop-taken.invariant.cleans c.requires.cleanable.trail.marked
     c.in_err-row-in-Some.ensures.err))
 
 pub returns-in_err-row-in-Some-clause-spent : goal.returns-in_err-row-in-Some-clause-spent
@@ -57,12 +58,18 @@ returns-in_err-row-in-Some-clause-spent g c =
     let within = c.end_before-end.ensures.within in
     let few = spent_more c.args.prefix.now c.args.derivation.now c.loop-taken.derivation c.resolve_away.new.derivation
     c.args.trail.now c.loop-taken.trail c.resolve_away.new.trail c.args.steps.now c.loop-taken.steps
-    c.resolve_away.new.steps c.loop-taken._taken 1 c.loop-taken.invariant.cleans c.requires.trail.marked own.1 in
+    c.resolve_away.new.steps c.loop-taken._taken 1 c.loop-taken.invariant.cleans c.requires.cleanable.trail.marked
+    own.1 in
     (own.0, omega arith)
 
-pub returns-in_err-row-in-Some-clause-reasons : goal.returns-in_err-row-in-Some-clause-reasons
-returns-in_err-row-in-Some-clause-reasons g c =
-    λ side have. c.in_err-row-in-Some.ensures.reasons side (c.loop-taken.invariant.reasons side have)
+pub returns-in_err-row-in-Some-clause-cleanable : goal.returns-in_err-row-in-Some-clause-cleanable
+returns-in_err-row-in-Some-clause-cleanable g c = record {
+  rows = search rules;
+  legal = search rules;
+  trail = search rules;
+  reasons =
+      λ side have. c.in_err-row-in-Some.ensures.reasons side (c.loop-taken.invariant.reasons side have);
+}
 
 pub returns-in_err-row-in-Some-clause-due : goal.returns-in_err-row-in-Some-clause-due
 returns-in_err-row-in-Some-clause-due g c =

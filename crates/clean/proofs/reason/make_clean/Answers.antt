@@ -7,7 +7,7 @@ use Rattle.clean.proofs.reason.make_clean.Goals as goal
 
 pub returns-then-is_clean-clause-cleans : goal.returns-then-is_clean-clause-cleans
 returns-then-is_clean-clause-cleans g c =
-    cleans_none c.args.prefix.now c.args.derivation.now c.args.trail.now c.args.steps.now c.requires.rows
+    cleans_none c.args.prefix.now c.args.derivation.now c.args.trail.now c.args.steps.now c.requires.cleanable.rows
 
 pub returns-clause-done : goal.returns-clause-done
 returns-clause-done g c = λ marked. absurd (false≢true (sym c.if-is_clean.false ∙ (c.is_clean.ensures ∙ marked)))
@@ -15,7 +15,7 @@ returns-clause-done g c = λ marked. absurd (false≢true (sym c.if-is_clean.fal
 pub clean_all-requires-clause-frames : goal.clean_all-requires-clause-frames
 clean_all-requires-clause-frames g c =
     first_frames g.S.Side.PIVOT c.args.prefix.now c.args.derivation.now c.args.trail.now c.frame_of.result c.args.v
-    c.new-stack.result.items c.push.new.self.items c.requires.reasons c.requires.pivot (sym c.is_clean.ensures
+    c.new-stack.result.items c.push.new.self.items c.requires.cleanable.reasons c.requires.pivot (sym c.is_clean.ensures
     ∙ c.if-is_clean.false) c.frame_of.ensures.variable c.frame_of.ensures.row c.frame_of.ensures.whole
     c.new-stack.ensures.items c.in_ok-push.ensures.items
 

@@ -11,12 +11,12 @@ use Rattle.clean.proofs.Standing.{replaced_before, standing, standing_replaces, 
 use Rattle.derive.specs.State.{note_at}
 use Rattle.clean.proofs.resolving.resolve_by_reason.Goals as goal
 
-pub lits-requires-in-Some-clause-live : goal.lits-requires-in-Some-clause-live
-lits-requires-in-Some-clause-live g c =
-    step_lives (note_at c.args.derivation.now c.in-Some.reason)
+pub lits-requires-2-clause-live : goal.lits-requires-2-clause-live
+lits-requires-2-clause-live g c =
+    step_lives (note_at c.args.derivation.now c.reason_of-reason.result)
     (standing g.S.Side.PIVOT c.args.prefix.now c.args.derivation.now c.args.trail.now c.args.row c.args.lit
-    c.requires.may c.requires.reasons c.in-Some.reason
-    (ap (cause_on c.args.trail.now.placed) (sym c.var.ensures) ∙ c.in-Some.ensures.some)).step.step
+    c.requires.may c.requires.reasons c.reason_of-reason.result
+    (ap (cause_on c.args.trail.now.placed) (sym c.var.ensures) ∙ c.reason_of-reason.ensures)).step.step
 
 pub has_clash-requires-clause-row_ascends : goal.has_clash-requires-clause-row_ascends
 has_clash-requires-clause-row_ascends g c =
@@ -25,11 +25,11 @@ has_clash-requires-clause-row_ascends g c =
 
 pub has_clash-requires-clause-reason_ascends : goal.has_clash-requires-clause-reason_ascends
 has_clash-requires-clause-reason_ascends g c =
-    subst (λ (r : Row). IsAscending (variables_in r)) (sym c.lits-in-Some.ensures)
-    (step_row c.args.prefix.now c.args.derivation.now c.in-Some.reason c.requires.legal
+    subst (λ (r : Row). IsAscending (variables_in r)) (sym c.lits-2.ensures)
+    (step_row c.args.prefix.now c.args.derivation.now c.reason_of-reason.result c.requires.legal
     (standing g.S.Side.PIVOT c.args.prefix.now c.args.derivation.now c.args.trail.now c.args.row c.args.lit
-    c.requires.may c.requires.reasons c.in-Some.reason
-    (ap (cause_on c.args.trail.now.placed) (sym c.var.ensures) ∙ c.in-Some.ensures.some)).step.step).ascending
+    c.requires.may c.requires.reasons c.reason_of-reason.result
+    (ap (cause_on c.args.trail.now.placed) (sym c.var.ensures) ∙ c.reason_of-reason.ensures)).step.step).ascending
 
 pub returns-then-has_clash-clause-ok : goal.returns-then-has_clash-clause-ok
 returns-then-has_clash-clause-ok g c =
@@ -42,16 +42,16 @@ returns-then-has_clash-clause-ok g c =
 pub resolve_with_reason-requires-clause-resolvable : goal.resolve_with_reason-requires-clause-resolvable
 resolve_with_reason-requires-clause-resolvable g c =
     standing_resolvable g.S.Side.PIVOT c.args.prefix.now c.args.derivation.now c.args.trail.now c.args.row c.args.lit
-    c.requires.may c.requires.reasons c.in-Some.reason
-    (ap (cause_on c.args.trail.now.placed) (sym c.var.ensures) ∙ c.in-Some.ensures.some)
-    ((rw (c.lits.ensures, c.lits-in-Some.ensures) at (sym c.has_clash.ensures)) ∙ c.if-has_clash.false)
+    c.requires.may c.requires.reasons c.reason_of-reason.result
+    (ap (cause_on c.args.trail.now.placed) (sym c.var.ensures) ∙ c.reason_of-reason.ensures)
+    ((rw (c.lits.ensures, c.lits-2.ensures) at (sym c.has_clash.ensures)) ∙ c.if-has_clash.false)
 
 pub returns-clause-ok : goal.returns-clause-ok
 returns-clause-ok g c =
     IfOk-weaker c.resolve_with_reason.result _ _
     (λ id turned. standing_replaces g.S.Side.PIVOT c.args.prefix.now c.args.derivation.now c.args.trail.now c.args.row
-    c.args.lit c.requires.may c.requires.reasons c.in-Some.reason
-    (ap (cause_on c.args.trail.now.placed) (sym c.var.ensures) ∙ c.in-Some.ensures.some) c.requires.legal
+    c.args.lit c.requires.may c.requires.reasons c.reason_of-reason.result
+    (ap (cause_on c.args.trail.now.placed) (sym c.var.ensures) ∙ c.reason_of-reason.ensures) c.requires.legal
     c.resolve_with_reason.new.derivation c.args.steps.now c.resolve_with_reason.new.steps id turned)
     c.resolve_with_reason.ensures.ok
 

@@ -1,4 +1,4 @@
-use Rattle.std.proofs.Common.{◌≡◌, ℕ, OnErr, OnOk, refl, sym, subst, ◌∙◌}
+use Rattle.std.proofs.Common.{◌≡◌, ℕ, OnErr, OnOk, refl, sym, subst, ◌∙◌, rules}
 use Rattle.steps.specs.declared.stop.Stop.TheVariants.{Spent as spent}
 use Rattle.clean.specs.Marks.{MarksMore}
 use Rattle.clean.specs.Reasons.{HaveReasons, IsReducedStep}
@@ -8,6 +8,7 @@ use Rattle.search.specs.State.{IsSearching, SearchState}
 use Rattle.search.specs.Moves.{Analyses, Halts, WasDue}
 use Rattle.search.proofs.Aging.{older_grown}
 use Rattle.search.proofs.Learning.{either_way, analyses, due_analysis, halts_analysis, on_err, on_err_with, on_ok, searching_analysed}
+use Rattle.search.proofs.Laws.{agreeing_laws, holding_laws}
 use Rattle.search.proofs.search.Search.analysed.Goals as goal
 
 pub lesson_of-lesson-requires-clause-reasons : goal.lesson_of-lesson-requires-clause-reasons
@@ -50,7 +51,7 @@ searching_new : (c : goal.After-budget-budget) (made : ℕ) → MarksMore (old c
     → IsSearching c.args.prefix.now (new c)
 searching_new c made marks =
     let e = c.lesson_of-lesson.ensures in
-    searching_analysed c.args.prefix.now (old c) (new c) made c.holding_laws.ensures c.agreeing_laws.ensures
+    searching_analysed c.args.prefix.now (old c) (new c) made holding_laws agreeing_laws
     (searching_old c) e.gains e.legal refl refl refl (c.bump_resolved.ensures ∙ (c.decay.ensures ∙ c.bump.ensures)) refl
     e.trail marks e.reasons
 
@@ -65,32 +66,35 @@ returns-clause-ok c =
     e.gains.clauses (older_grown _ _ e.gains.grows))
     e.counted)
 
-pub returns-clause-err : goal.returns-clause-err
-returns-clause-err c =
-    let e = c.lesson_of-lesson.ensures in
-    subst (λ (s : SearchState). OnErr c.lesson_of-lesson.result
-    (Halts c.args.prefix.now 1 s (new c) c.args.steps.now c.lesson_of-lesson.new.steps)) c.self.view_is
-    (on_err c.lesson_of-lesson.result
-    (halts_analysis c.args.prefix.now (old c)
-    (new c) c.args.steps.now c.lesson_of-lesson.new.steps c.budget-budget.ensures.within (searching_old c)
-    (searching_new c)
-    e.gains.clauses (older_grown _ _ e.gains.grows))
-    e.err)
-
-pub returns-clause-due : goal.returns-clause-due
-returns-clause-due c = λ is.
-    let e = c.lesson_of-lesson.ensures in
-    let step = subst (λ (s : SearchState). IsReducedStep c.args.side c.args.prefix.now s.derivation c.args.row)
-    (sym c.self.view_is) c.requires.row in
-    let is_bad = subst (λ (s : SearchState). IsBadRow c.args.side c.args.prefix.now (value_on s.trail.placed)
-    (row_of s.derivation c.args.row)) (sym c.self.view_is) c.requires.bad in
-    subst (λ (s : SearchState). WasDue c.args.prefix.now s (new c)) c.self.view_is
-    (on_err_with c.lesson_of-lesson.result spent is
-    (λ stops needs.
-    due_analysis c.args.prefix.now (old c) (new c) c.args.steps.now c.lesson_of-lesson.new.steps
-    c.budget-budget.ensures.within (searching_old c) (searching_new c)
-    c.args.side c.args.row stops.made step is_bad needs stops.marks)
-    e.err e.due)
+pub returns-clause-stops : goal.returns-clause-stops
+returns-clause-stops c = record {
+  err =
+      let e = c.lesson_of-lesson.ensures in
+      subst (λ (s : SearchState). OnErr c.lesson_of-lesson.result
+      (Halts c.args.prefix.now 1 s (new c) c.args.steps.now c.lesson_of-lesson.new.steps)) c.self.view_is
+      (on_err c.lesson_of-lesson.result
+      (halts_analysis c.args.prefix.now (old c)
+      (new c) c.args.steps.now c.lesson_of-lesson.new.steps c.budget-budget.ensures.within (searching_old c)
+      (searching_new c)
+      e.gains.clauses (older_grown _ _ e.gains.grows))
+      e.err);
+  spent = search rules;
+  due =
+      λ is.
+      let e = c.lesson_of-lesson.ensures in
+      let step = subst (λ (s : SearchState). IsReducedStep c.args.side c.args.prefix.now s.derivation c.args.row)
+      (sym c.self.view_is) c.requires.row in
+      let is_bad = subst (λ (s : SearchState). IsBadRow c.args.side c.args.prefix.now (value_on s.trail.placed)
+      (row_of s.derivation c.args.row)) (sym c.self.view_is) c.requires.bad in
+      subst (λ (s : SearchState). WasDue c.args.prefix.now s (new c)) c.self.view_is
+      (on_err_with c.lesson_of-lesson.result spent is
+      (λ stops needs.
+      due_analysis c.args.prefix.now (old c) (new c) c.args.steps.now c.lesson_of-lesson.new.steps
+      c.budget-budget.ensures.within (searching_old c) (searching_new c)
+      c.args.side c.args.row stops.made step is_bad needs stops.marks)
+      e.err e.due);
+  reductions = search rules;
+}
 
 pub returns-clause-restarts : goal.returns-clause-restarts
 returns-clause-restarts c =

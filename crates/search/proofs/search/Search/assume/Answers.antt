@@ -9,6 +9,7 @@ use Rattle.search.specs.Forcing.{NoCubeAttached}
 use Rattle.search.proofs.Forcing.{forced_start}
 use Rattle.search.proofs.Starting.{assumed_room, distinct, starts, starts_paused}
 use Rattle.search.proofs.Turning.{changes_of}
+use Rattle.search.proofs.Laws.{looking_laws}
 use Rattle.search.proofs.search.Search.assume.Goals as goal
 
 pub assume_all-requires-clause-different : goal.assume_all-requires-clause-different
@@ -22,7 +23,7 @@ assume_all-requires-clause-room c =
 
 pub returns-in_err-assume_all-clause-paused : goal.returns-in_err-assume_all-clause-paused
 returns-in_err-assume_all-clause-paused c =
-    starts_paused c.args.prefix.now c.args.self.now _ c.looking_laws.ensures
+    starts_paused c.args.prefix.now c.args.self.now _ looking_laws
     (changes_of _ c.args.self.now c.assume_all.new.self c.self.view_is
     (ap (λ (t : TrailState). t.room) c.in_err-assume_all.ensures.err)) c.requires.paused c.requires.rest.empty
     c.assume_all.ensures.kept
@@ -30,7 +31,7 @@ returns-in_err-assume_all-clause-paused c =
 pub returns-clause-searching : goal.returns-clause-searching
 returns-clause-searching c =
     let ok = c.in_ok-assume_all.ensures.ok in
-    starts c.args.prefix.now c.args.self.now _ c.looking_laws.ensures
+    starts c.args.prefix.now c.args.self.now _ looking_laws
     (changes_of _ c.args.self.now c.assume_all.new.self c.self.view_is (ap (λ (t : TrailState). t.room) ok))
     c.requires.paused c.requires.rest.empty c.assume_all.ensures.kept c.args.assumptions.now
     (ap (λ (t : TrailState). t.placed) ok)
@@ -42,7 +43,7 @@ returns-clause-assumed c =
 
 pub returns-clause-paused : goal.returns-clause-paused
 returns-clause-paused c =
-    starts_paused c.args.prefix.now c.args.self.now _ c.looking_laws.ensures
+    starts_paused c.args.prefix.now c.args.self.now _ looking_laws
     (changes_of _ c.args.self.now c.assume_all.new.self c.self.view_is
     (ap (λ (t : TrailState). t.room) c.in_ok-assume_all.ensures.ok)) c.requires.paused c.requires.rest.empty
     c.assume_all.ensures.kept

@@ -4,6 +4,7 @@ use Rattle.search.specs.State.{IsIntact, SearchState, watch_of}
 use Rattle.search.specs.Watching.{Joins}
 use Rattle.search.specs.contracts.search.Search.{the_view}
 use Rattle.search.proofs.Joining.{joins, row_known}
+use Rattle.search.proofs.Laws.{holding_laws}
 use Rattle.search.proofs.search.Search.attach.Goals as goal
 
 pub attach_to-requires-clause-holds : goal.attach_to-requires-clause-holds
@@ -34,7 +35,7 @@ returns-in-Exists-clause-joins c =
       long = c.self.inside.long;
     } in
     subst (λ (s : SearchState). Joins c.args.prefix.now s new c.args.id) c.self.view_is (
-    joins c.holding_laws.ensures Exists c.args.prefix.now old new (record {
+    joins holding_laws Exists c.args.prefix.now old new (record {
       trail = refl;
       signs = refl;
       watched = refl;
@@ -83,7 +84,7 @@ returns-in-Forall-clause-joins c =
       long = c.self.inside.long;
     } in
     subst (λ (s : SearchState). Joins c.args.prefix.now s new c.args.id) c.self.view_is (
-    joins c.holding_laws.ensures Forall c.args.prefix.now old new (record {
+    joins holding_laws Forall c.args.prefix.now old new (record {
       trail = refl;
       signs = refl;
       watched = refl;

@@ -4,6 +4,7 @@ use Rattle.search.specs.Forgetting.{AreLive, Clears, HaveAllReasons}
 use Rattle.search.specs.State.{IsSearching, SearchState}
 use Rattle.search.specs.contracts.search.Search.{the_view}
 use Rattle.search.proofs.Clearing.{cleared, extended}
+use Rattle.search.proofs.Laws.{agreeing_laws, holding_laws}
 use Rattle.search.proofs.search.Search.clear.Goals as goal
 
 pub sweep-requires-clause-live : goal.sweep-requires-clause-live
@@ -34,7 +35,7 @@ returns c =
     (c.extend_from_slice.ensures.succeeds (omega (arith, same, room, have, kept))) c.deref.ensures.value in
     let searching = subst (IsSearching c.args.prefix.now) (sym c.self.view_is) c.requires.searching in
     subst (λ (t : SearchState). Clears c.args.prefix.now t (record s { derivation = c.sweep.new.self })) c.self.view_is
-    (cleared c.holding_laws.ensures c.agreeing_laws.ensures c.args.prefix.now s c.sweep.new.self
+    (cleared holding_laws agreeing_laws c.args.prefix.now s c.sweep.new.self
     c.args.keep.now.items c.deref-2.result.now searching
     (subst (λ (t : SearchState). AreLive t.derivation t.watched) (sym c.self.view_is) c.requires.watched)
     (c.deref-2.ensures.value ∙ is)

@@ -4,6 +4,7 @@ use Rattle.calculus.specs.Search.Cause.{Assumed, Decided, Propagated}
 use Rattle.trail.specs.State.{TrailState, with_literal}
 use Rattle.search.specs.State.{SearchState}
 use Rattle.search.proofs.Turning.{advances, changes_of}
+use Rattle.search.proofs.Laws.{looking_laws}
 use Rattle.search.proofs.search.Search.decide.Goals as goal
 
 pub assign-requires-clause-room : goal.assign-requires-clause-room
@@ -17,7 +18,7 @@ returns-clause-ok c =
     let v = c.in_ok-assign.ensures in
     let literal : c.assign.new.self ≡ with_literal c.args.prefix.now s.trail c.args.lit Decided =
     v.ok ∙ ap (λ (x : SearchState). with_literal c.args.prefix.now x.trail c.args.lit Decided) c.self.view_is in
-    rw v.counted (advances c.args.prefix.now s _ c.args.lit Decided c.args.steps.now c.looking_laws.ensures
+    rw v.counted (advances c.args.prefix.now s _ c.args.lit Decided c.args.steps.now looking_laws
     c.requires.searching
     (changes_of _ s c.assign.new.self c.self.view_is (ap (λ (t : TrailState). t.room) v.ok))
     literal

@@ -4,6 +4,7 @@ use Rattle.search.specs.State.{IsIntact, SearchState, watch_of}
 use Rattle.search.specs.Watching.{Parts}
 use Rattle.search.specs.contracts.search.Search.{the_view}
 use Rattle.search.proofs.Joining.{parts}
+use Rattle.search.proofs.Laws.{holding_laws}
 use Rattle.search.proofs.search.Search.detach.Goals as goal
 
 pub detach_from-requires-clause-threaded : goal.detach_from-requires-clause-threaded
@@ -27,7 +28,7 @@ returns-in-Exists-clause-parts c =
       long = c.self.inside.long;
     } in
     subst (λ (s : SearchState). Parts s new c.args.id) c.self.view_is (
-    parts c.holding_laws.ensures Exists c.requires.intact.0 old new (record {
+    parts holding_laws Exists c.requires.intact.0 old new (record {
       trail = refl;
       signs = refl;
       watched = refl;
@@ -65,7 +66,7 @@ returns-in-Forall-clause-parts c =
       long = c.self.inside.long;
     } in
     subst (λ (s : SearchState). Parts s new c.args.id) c.self.view_is (
-    parts c.holding_laws.ensures Forall c.requires.intact.0 old new (record {
+    parts holding_laws Forall c.requires.intact.0 old new (record {
       trail = refl;
       signs = refl;
       watched = refl;

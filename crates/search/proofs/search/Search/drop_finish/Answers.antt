@@ -10,6 +10,7 @@ use Rattle.search.specs.Moves.{KeepsOlder}
 use Rattle.search.proofs.Aging.{older_dropped}
 use Rattle.search.proofs.Dropping.{no_cubes_left, resting_left, stays_live, step_unfinished, input_unfinished}
 use Rattle.search.proofs.Reducing.{reductions_alike}
+use Rattle.search.proofs.Laws.{agreeing_laws, holding_laws}
 use Rattle.search.proofs.search.Search.drop_finish.Goals as goal
 
 pub returns-clause-resting : goal.returns-clause-resting
@@ -24,7 +25,7 @@ returns-clause-resting c =
       λ id i r.
           step_unfinished s.derivation d c.drop_finish.ensures.exactly id r.step,
     ))
-    c.holding_laws.ensures c.agreeing_laws.ensures resting.rest resting.intact resting.tallied
+    holding_laws agreeing_laws resting.rest resting.intact resting.tallied
     (c.drop_finish.ensures.legal scopes resting.intact.legal)
     (λ side id a. step_unfinished s.derivation d c.drop_finish.ensures.exactly id
     (resting.intact.watched.sides side id a).step)

@@ -11,6 +11,7 @@ use Rattle.search.proofs.Marks.{note_same}
 use Rattle.search.proofs.Popping.{loses_shed, older_lost}
 use Rattle.search.proofs.Reducing.{reductions_left, reductions_same}
 use Rattle.search.proofs.Shedding.{frame_falls_before, none_reached}
+use Rattle.search.proofs.Laws.{agreeing_laws, clauses_are_listed, holding_laws}
 use Rattle.search.proofs.search.Search.drop_frame.Goals as goal
 
 sheds : (c : goal.After-drop_frame)
@@ -54,9 +55,9 @@ returns-clause-resting c = λ scopes resting.
     let known = resting.intact in
     let intact = shed.intact scopes known in
     resting_left scopes s d (has_tag frame) drops
-    (λ k at. let r = clauses_left scopes s.derivation d (has_tag frame) _ c.clauses_are_listed.ensures drops
+    (λ k at. let r = clauses_left scopes s.derivation d (has_tag frame) _ clauses_are_listed drops
     c.drop_frame.ensures.clauses (no_frame_root scopes s.derivation frame) k at in (r.0, λ id i. r.1 id))
-    c.holding_laws.ensures c.agreeing_laws.ensures (subst IsAtRest (sym shed.trail) resting.rest) intact
+    holding_laws agreeing_laws (subst IsAtRest (sym shed.trail) resting.rest) intact
     shed.tallied (c.drop_frame.ensures.legal scopes intact.legal)
     (shed_stay scopes start s d (has_tag frame) drops _ shed known (none c))
     (shed_inputs scopes start s d (has_tag frame) drops _ shed known (none c))

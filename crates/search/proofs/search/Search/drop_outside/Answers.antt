@@ -9,6 +9,7 @@ use Rattle.search.proofs.Dropping.{clauses_left, named_falls, no_named_root, red
 use Rattle.search.proofs.Popping.{loses_shed, resting_moves}
 use Rattle.search.proofs.Reducing.{reductions_left, reductions_same}
 use Rattle.search.proofs.Shedding.{names_alike, none_below_same}
+use Rattle.search.proofs.Laws.{agreeing_laws, clauses_are_listed, holding_laws, prefixes_may_change, reductions_stay}
 use Rattle.search.proofs.search.Search.drop_outside.Goals as goal
 
 pub part_outside-requires-clause-intact : goal.part_outside-requires-clause-intact
@@ -59,13 +60,13 @@ returns-clause-resting c =
     let shed = sheds c in
     let known = resting.intact in
     let intact = shed.intact scopes known in
-    resting_moves c.prefixes_may_change.ensures c.clauses_are_listed.ensures c.reductions_stay.ensures
-    c.holding_laws.ensures scopes c.args.prefix.now (rederived s d s.watched) extends c.drop_outside.ensures.left
+    resting_moves prefixes_may_change clauses_are_listed reductions_stay
+    holding_laws scopes c.args.prefix.now (rederived s d s.watched) extends c.drop_outside.ensures.left
     (resting_left scopes s d roots drops
-    (λ k at. let r = clauses_left scopes s.derivation d roots _ c.clauses_are_listed.ensures drops
+    (λ k at. let r = clauses_left scopes s.derivation d roots _ clauses_are_listed drops
     c.drop_outside.ensures.clauses (no_named_root scopes s.derivation (is_outside c.args.prefix.now)) k at in
     (r.0, λ id i. r.1 id))
-    c.holding_laws.ensures c.agreeing_laws.ensures (subst IsAtRest (sym shed.trail) resting.rest) intact
+    holding_laws agreeing_laws (subst IsAtRest (sym shed.trail) resting.rest) intact
     shed.tallied (c.drop_outside.ensures.legal scopes intact.legal)
     (shed_stay scopes start s d roots drops _ shed known (none c))
     (shed_inputs scopes start s d roots drops _ shed known (none c))

@@ -9,14 +9,15 @@ use Rattle.search.specs.contracts.search.Search.{the_view}
 use Rattle.search.proofs.Ending.{is_outcome}
 use Rattle.search.proofs.Finishing.{one_finish}
 use Rattle.search.proofs.Learning.{either_way, if_ok, on_err, on_ok_with, resting_gained}
+use Rattle.search.proofs.Laws.{agreeing_laws, end_rows_give_proofs, finishes_end_proofs, holding_laws, proofs_decide, same_clauses_serve, steps_are_listed}
 use Rattle.search.proofs.search.Search.finish.Goals as goal
 
 pub returns-clause-outcome : goal.returns-clause-outcome
 returns-clause-outcome c =
     if_ok c.finish.result
     (λ id removes. is_outcome c.args.prefix.now c.args.matrix.now c.args.assumptions.now c.self.inside.derivation
-    c.finish.new.self c.args.end.side c.args.end.row id c.steps_are_listed.ensures c.same_clauses_serve.ensures
-    c.end_rows_give_proofs.ensures c.proofs_decide.ensures c.finishes_end_proofs.ensures c.scopes-valid.ensures.valid
+    c.finish.new.self c.args.end.side c.args.end.row id steps_are_listed same_clauses_serve
+    end_rows_give_proofs proofs_decide finishes_end_proofs c.scopes-valid.ensures.valid
     (subst (λ (s : SearchState). IsLegalFor c.args.prefix.now s.derivation)
     (sym c.self.view_is) c.requires.resting.intact.legal)
     (subst (λ (s : SearchState). IsMatrix s.derivation c.args.matrix.now) (sym c.self.view_is) c.requires.matrix)
@@ -35,7 +36,7 @@ returns-clause-resting c =
     either_way c.finish.result
     (on_ok_with c.finish.result
     (λ gains legal. resting_gained c.args.prefix.now s
-    (record s { derivation = c.finish.new.self }) c.holding_laws.ensures c.agreeing_laws.ensures resting gains
+    (record s { derivation = c.finish.new.self }) holding_laws agreeing_laws resting gains
     (legal c.args.prefix.now resting.intact.legal) refl refl refl refl refl refl refl)
     c.finish.ensures.gains c.finish.ensures.legal)
     c.finish.ensures.err

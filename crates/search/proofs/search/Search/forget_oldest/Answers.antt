@@ -4,13 +4,14 @@ use Rattle.search.specs.Forgetting.{AreLive, Clears, is_held, without_detached}
 use Rattle.search.specs.State.{IsSearching, SearchState, rows_of}
 use Rattle.search.proofs.Clearing.{clears_none, forgets}
 use Rattle.search.proofs.Thinning.{left_live, left_searching}
+use Rattle.search.proofs.Laws.{clauses_are_listed}
 use Rattle.search.proofs.search.Search.forget_oldest.Goals as goal
 
 pub returns-then-next_id-self-clause-ok : goal.returns-then-next_id-self-clause-ok
 returns-then-next_id-self-clause-ok c =
     let least = c.requires.least in
     let left = c.thin.ensures.enough c.requires.more in
-    let searching = left_searching c.args.prefix.now c.args.self.now c.thin.new.self c.clauses_are_listed.ensures
+    let searching = left_searching c.args.prefix.now c.args.self.now c.thin.new.self clauses_are_listed
     c.requires.searching c.thin.ensures.thins in
     forgets c.args.prefix.now c.args.self.now c.thin.new.self c.leave_out.new.self c.args.most c.requires.searching
     c.thin.ensures.thins c.thin.ensures.few c.requires.most (omega (arith, least, left))
@@ -20,13 +21,13 @@ returns-then-next_id-self-clause-ok c =
 pub clear-requires-clause-searching : goal.clear-requires-clause-searching
 clear-requires-clause-searching c =
     subst (IsSearching c.args.prefix.now) (sym c.leave_out-2.ensures)
-    (left_searching c.args.prefix.now c.args.self.now c.thin-2.new.self c.clauses_are_listed.ensures
+    (left_searching c.args.prefix.now c.args.self.now c.thin-2.new.self clauses_are_listed
     c.requires.searching c.thin-2.ensures.thins)
 
 pub clear-requires-clause-watched : goal.clear-requires-clause-watched
 clear-requires-clause-watched c =
     subst (λ (s : SearchState). AreLive s.derivation s.watched) (sym c.leave_out-2.ensures)
-    (left_live c.args.prefix.now c.args.self.now c.thin-2.new.self c.clauses_are_listed.ensures
+    (left_live c.args.prefix.now c.args.self.now c.thin-2.new.self clauses_are_listed
     c.requires.searching c.thin-2.ensures.thins)
 
 pub clear-requires-clause-room : goal.clear-requires-clause-room

@@ -13,6 +13,7 @@ use Rattle.search.proofs.Finishing.{finishes_input}
 use Rattle.search.proofs.Reducing.{reductions_input}
 use Rattle.clean.specs.Turns.{reductions_in}
 use Rattle.search.proofs.Inputs.{Inputs, no_cubes_input, takes_input}
+use Rattle.search.proofs.Laws.{agreeing_laws, growth_laws, holding_laws}
 use Rattle.search.proofs.search.Search.input.Goals as goal
 
 more : (c : goal.After-push) → c.push.new.self.items ≡ c.self.inside.watched.items ++ c.in_ok-id.id ∷ []
@@ -62,10 +63,10 @@ returns-clause-takes c =
       joined = s.joined;
       long = s.long;
     }) c.in_ok-id.id) (sym c.count.ensures)
-    (takes_input c.growth_laws.ensures scopes s c.input_clause.new.self c.in_ok-id.field-0-0 c.in_ok-id.id
+    (takes_input growth_laws scopes s c.input_clause.new.self c.in_ok-id.field-0-0 c.in_ok-id.id
     c.args.frame c.args.lits.now (inputs c) c.push.new.self.items (more c) intact.watched intact
     (subst (λ (t : SearchState). NoneFalls (misses c.args.lits.now (rows_of t)) t) (sym c.self.view_is) c.requires.none)
-    c.holding_laws.ensures c.agreeing_laws.ensures
+    holding_laws agreeing_laws
     (subst IsTallied (sym c.self.view_is) c.requires.tallied)
     c.input_clause.ensures.rows
     (c.in_ok-id.ensures.legal c.requires.row intact.legal)))
@@ -75,7 +76,7 @@ returns-clause-cubes c = λ none.
     let s = the_view c.self.inside in
     let scopes = c.args.prefix.now in
     let intact = subst (IsIntact scopes) (sym c.self.view_is) c.requires.intact in
-    no_cubes_input c.growth_laws.ensures scopes s c.input_clause.new.self c.in_ok-id.field-0-0 c.in_ok-id.id
+    no_cubes_input growth_laws scopes s c.input_clause.new.self c.in_ok-id.field-0-0 c.in_ok-id.id
     c.args.frame c.args.lits.now (inputs c) c.push.new.self.items (more c) intact.watched
     (subst HasNoCubes (sym c.self.view_is) none)
 

@@ -1,4 +1,4 @@
-use Rattle.std.proofs.Common.{◌≡◌, ◌≤◌, ◌+◌, ℕ, List, drop, length, sym, ap, subst, ◌∙◌, arith}
+use Rattle.std.proofs.Common.{◌≤◌, ◌+◌, drop, length, sym, subst, ◌∙◌}
 use Rattle.clean.specs.Turns.{reductions_in}
 use Rattle.decide.specs.Memory.{Memory}
 use Rattle.derive.specs.Cubes.{misses_one}
@@ -13,6 +13,7 @@ use Rattle.search.specs.contracts.search.Search.{the_view}
 use Rattle.search.proofs.Entering.{Enters, no_cubes_entered, older_entered, takes_entered}
 use Rattle.search.proofs.Finishing.{finishes_inputs}
 use Rattle.search.proofs.Reducing.{reductions_inputs}
+use Rattle.search.proofs.Laws.{agreeing_laws, holding_laws}
 use Rattle.search.proofs.search.Search.input_all.Goals as goal
 
 enters : (c : goal.After-count_all)
@@ -71,7 +72,7 @@ returns-clause-takes c =
     (enters c) intact.watched intact
     (subst (λ (t : SearchState). NoneFalls (misses_one c.args.clauses.now (rows_of t)) t) (sym c.self.view_is)
     c.requires.none)
-    c.holding_laws.ensures c.agreeing_laws.ensures
+    holding_laws agreeing_laws
     (subst IsTallied (sym c.self.view_is) c.requires.tallied)
     c.input_clauses.ensures.rows
     (c.in_ok-input_clauses.ensures.legal c.requires.rows intact.legal)

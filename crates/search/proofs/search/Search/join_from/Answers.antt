@@ -1,4 +1,4 @@
-use Rattle.std.proofs.Common.{◌≡◌, ◌<◌, ◌≤◌, ℕ, Contains, List, drop, length, get_or, true, ap, sym, subst, ◌∙◌, arith}
+use Rattle.std.proofs.Common.{◌≡◌, ◌<◌, ℕ, List, length, get_or, true, ap, sym, subst, ◌∙◌, arith}
 use Rattle.derive.specs.State.{is_live}
 use Rattle.search.specs.State.{SearchState}
 use Rattle.search.proofs.Entering.{joined_to_end, joined_to_next, joined_to_none, stands_behind}

@@ -4,6 +4,7 @@ use Rattle.search.specs.State.{IsSearching, SearchState, watch_of}
 use Rattle.search.specs.Watching.{Looks}
 use Rattle.search.specs.contracts.search.Search.{the_view}
 use Rattle.search.proofs.Looking.{looks_on}
+use Rattle.search.proofs.Laws.{holding_laws}
 use Rattle.search.proofs.search.Search.next_clause.Goals as goal
 
 pub next_of-requires-clause-rows : goal.next_of-requires-clause-rows
@@ -41,7 +42,7 @@ returns-clause-looks c =
       long = c.self.inside.long;
     } in
     subst (λ (s : SearchState). Looks c.args.prefix.now s new) c.self.view_is (
-    looks_on c.holding_laws.ensures Exists c.args.prefix.now old new (record {
+    looks_on holding_laws Exists c.args.prefix.now old new (record {
       trail = refl;
       signs = refl;
       watched = refl;

@@ -10,6 +10,7 @@ use Rattle.clean.specs.Laws.{HasReason}
 use Rattle.clean.proofs.Keeping.{step_row}
 use Rattle.search.specs.State.{SearchState}
 use Rattle.search.proofs.Turning.{advances, asked_over, changes_of, none_open, reason_asked}
+use Rattle.search.proofs.Laws.{looking_laws}
 use Rattle.search.proofs.search.Search.propagate.Goals as goal
 
 known : (c : goal.After-assign-arg-2-1) → Contains (all_variables c.args.prefix.now) c.good-value.result.variable
@@ -39,7 +40,7 @@ returns-clause-ok c =
     ∙ asked_over c.args.side c.args.lit)
     ∙ none_open (value_on s.trail.placed c.args.lit.variable) c.requires.unit.open_yet in
     rw v.counted (advances c.args.prefix.now s _ c.good-value.result
-    (Propagated c.args.row) c.args.steps.now c.looking_laws.ensures c.requires.searching
+    (Propagated c.args.row) c.args.steps.now looking_laws c.requires.searching
     (changes_of _ s c.assign.new.self c.self.view_is (ap (λ (t : TrailState). t.room) v.ok))
     literal
     c.assign.ensures.kept

@@ -3,13 +3,14 @@ use Rattle.calculus.specs.Search.{cut_trail, literals_on}
 use Rattle.trail.specs.State.{restarted}
 use Rattle.search.specs.State.{SearchState}
 use Rattle.search.proofs.Undoing.{anew, cut_changes, saved_length}
+use Rattle.search.proofs.Laws.{holding_laws, looking_laws}
 use Rattle.search.proofs.search.Search.restart.Goals as goal
 
 pub returns : goal.returns
 returns c =
     let s = c.args.self.now in
     let e = c.self.view_is in
-    anew c.args.prefix.now c.len_to-front.result s _ c.holding_laws.ensures c.looking_laws.ensures
+    anew c.args.prefix.now c.len_to-front.result s _ holding_laws looking_laws
     c.requires.searching c.requires.below
     (cut_changes _ s c.restart.new.self c.len_to-front.result c.undone.new.self c.undone-2.new.self c.undoing.new.self
     e c.restart.ensures.room c.undone.ensures c.undone-2.ensures

@@ -16,10 +16,11 @@ use Rattle.search.proofs.search.Search.run.Goals as goal
 pub turns-smaller : goal.turns-smaller
 turns-smaller c =
     let adv : Advances c.args.prefix.now 0 c.turns.self c.turn.new.self c.turns.steps c.turn.new.steps =
-    c.in_ok-end.ensures.go (ap Ok c.in_default.is) in
+    c.in_ok-end.ensures.goes.go (ap Ok c.in_default.is) in
     let more : Proceeds c.turns.self.trail c.turn.new.self.trail =
     (adv.counted c.args.steps.now.spent c.turns.invariant.counted).1 in
-    let most : c.turn.new.self.trail.restarts ≤ c.args.restarts = c.turn.ensures.restarts c.turns.invariant.restarts in
+    let most : c.turn.new.self.trail.restarts ≤ c.args.restarts = c.turn.ensures.goes.restarts
+    c.turns.invariant.restarts in
     let few : c.turn.new.self.trail.assigned + 1 < assignment_limit c.turn.new.self.trail.restarts
     (size_of c.args.prefix.now) =
     assigned_few c.args.prefix.now c.turn.new.self.trail adv.searching.paused.intact.trail in
@@ -33,7 +34,7 @@ turns-smaller c =
 pub turns-preserved : goal.turns-preserved
 turns-preserved c =
     let adv : Advances c.args.prefix.now 0 c.turns.self c.turn.new.self c.turns.steps c.turn.new.steps =
-    c.in_ok-end.ensures.go (ap Ok c.in_default.is) in
+    c.in_ok-end.ensures.goes.go (ap Ok c.in_default.is) in
     let i = c.turns.invariant in
     let one = i.rises in
     let two = adv.rises in
@@ -49,9 +50,9 @@ turns-preserved c =
       rises = omega arith;
       forced = λ none refuted. c.in_ok-end.ensures.forced c.args.steps.now.spent (i.forced none refuted)
           (ap Ok c.in_default.is);
-      restarts = c.turn.ensures.restarts i.restarts;
-      long = c.in_ok-end.ensures.long i.long;
-      reductions = let more = i.reductions in let paid = c.turn.ensures.reductions in
+      restarts = c.turn.ensures.goes.restarts i.restarts;
+      long = c.in_ok-end.ensures.goes.long i.long;
+      reductions = let more = i.reductions in let paid = c.turn.ensures.stops.reductions in
           omega arith;
       matrix = matrix_moves c.turns.self.derivation c.turn.new.self.derivation c.args.matrix.now adv.clauses i.matrix;
     }
@@ -65,7 +66,7 @@ returns-in_err-assume-clause-refuted c = λ none refuted is.
 
 pub returns-in_err-end-clause-bounded : goal.returns-in_err-end-clause-bounded
 returns-in_err-end-clause-bounded c =
-    c.in_err-end.ensures.err.bounded c.args.steps.now.spent c.turns.invariant.counted
+    c.in_err-end.ensures.stops.err.bounded c.args.steps.now.spent c.turns.invariant.counted
 
 pub returns-in_err-end-clause-due : goal.returns-in_err-end-clause-due
 returns-in_err-end-clause-due c = λ is.
@@ -73,16 +74,16 @@ returns-in_err-end-clause-due c = λ is.
     let same : p.0 ≡ spent = (let g = sym p.1 ∙ is in cc) in
     let i = c.turns.invariant in
     due_at_stop c.args.prefix.now c.args.self.now.derivation c.turns.self c.turn.new.self c.args.assumptions.now
-    c.args.steps.now i.clauses i.assumed (c.in_err-end.ensures.due (ap Err (sym p.2 ∙ same)))
+    c.args.steps.now i.clauses i.assumed (c.in_err-end.ensures.stops.due (ap Err (sym p.2 ∙ same)))
 
 pub returns-in_err-end-clause-reductions : goal.returns-in_err-end-clause-reductions
 returns-in_err-end-clause-reductions c =
     let i = c.turns.invariant in
     let before = i.reductions in
     let one = i.rises in
-    let halts = c.in_err-end.ensures.err in
+    let halts = c.in_err-end.ensures.stops.err in
     let two = halts.rises in
-    let more = c.in_err-end.ensures.reductions in
+    let more = c.in_err-end.ensures.stops.reductions in
     omega arith
 
 pub returns-in-Some-clause-reductions : goal.returns-in-Some-clause-reductions
@@ -90,7 +91,7 @@ returns-in-Some-clause-reductions c =
     let i = c.turns.invariant in
     let before = i.reductions in
     let one = i.rises in
-    let ends = rw c.in-Some.is at c.in_ok-end.ensures.end in
+    let ends = rw c.in-Some.is at c.in_ok-end.ensures.goes.end in
     let two = ends.rises in
-    let more = c.in_ok-end.ensures.reductions in
+    let more = c.in_ok-end.ensures.stops.reductions in
     omega arith

@@ -2,12 +2,13 @@ use Rattle.std.proofs.Common.{true, length, drop, ap, ◌∙◌}
 use Rattle.calculus.specs.Search.{literals_on}
 use Rattle.trail.specs.State.{TrailState}
 use Rattle.search.proofs.Undoing.{cut_changes, saved_length, rests}
+use Rattle.search.proofs.Laws.{holding_laws, looking_laws}
 use Rattle.search.proofs.search.Search.settle.Goals as goal
 
 pub returns-clause-resting : goal.returns-clause-resting
 returns-clause-resting c =
     let is = c.clear.ensures.cleared in
-    rests c.args.prefix.now c.args.self.now _ c.holding_laws.ensures c.looking_laws.ensures c.requires.paused
+    rests c.args.prefix.now c.args.self.now _ holding_laws looking_laws c.requires.paused
     (cut_changes _ c.args.self.now c.clear.new.self 0 c.undone.new.self c.undone-2.new.self c.undoing.new.self
     c.self.view_is (ap (λ (t : TrailState). t.room) is) c.undone.ensures c.undone-2.ensures
     (ap length c.undoing.ensures

@@ -1,4 +1,4 @@
-use Rattle.std.proofs.Common.{◌≡◌, arith, IsTrue, List, map, Contains, OnErr, OnOk, refl, sym, ap, subst, ◌∙◌}
+use Rattle.std.proofs.Common.{◌≡◌, arith, IsTrue, List, map, Contains, OnErr, OnOk, refl, sym, ap, subst, ◌∙◌, rules}
 use Rattle.prefix.specs.declared.quant.Quant.TheVariants.{Forall}
 use Rattle.prefix.specs.declared.quant.Quant.{Quant}
 use Rattle.calculus.specs.Rows.{Row, reduce}
@@ -17,12 +17,13 @@ use Rattle.search.proofs.Reducing.{few_reduced, reductions_added}
 use Rattle.search.proofs.Following.{covers_counted, halts_reduction}
 use Rattle.search.proofs.Aging.{older_grown}
 use Rattle.search.proofs.Learning.{either_way, if_ok, on_err_both, on_ok_by, on_ok_with, searching_gained}
+use Rattle.search.proofs.Laws.{agreeing_laws, holding_laws, reductions_keep_unit, row_laws, value_laws}
 use Rattle.search.proofs.search.Search.solution.Goals as goal
 
 pub cover-requires-clause-satisfied : goal.cover-requires-clause-satisfied
 cover-requires-clause-satisfied c clause i =
     subst (λ (s : SearchState). IsTrue (clause_true (value_on s.trail.placed) clause)) (sym c.self.view_is)
-    (quiet_true c.args.prefix.now c.args.self.now clause c.value_laws.ensures c.requires.searching.paused
+    (quiet_true c.args.prefix.now c.args.self.now clause value_laws c.requires.searching.paused
     c.requires.quiet c.requires.assigned (c.requires.matrix.none_else clause i))
 
 abbrev with_derivation : (c : goal.After-budget-budget) → State → SearchState
@@ -43,7 +44,7 @@ covered : (c : goal.After-budget-budget) → IsSearching c.args.prefix.now (with
 covered c =
     let searching = subst (IsSearching c.args.prefix.now) (sym c.self.view_is) c.requires.searching in
     searching_gained c.args.prefix.now (with_derivation c c.self.inside.derivation)
-    (with_derivation c c.cover.new.derivation) c.holding_laws.ensures c.agreeing_laws.ensures searching
+    (with_derivation c c.cover.new.derivation) holding_laws agreeing_laws searching
     c.in_ok-cube.ensures.gains (c.cover.ensures.legal searching.paused.intact.legal) refl refl refl refl refl refl
 
 after_it : (c : goal.After-budget-budget)
@@ -53,7 +54,7 @@ after_it c =
     either_way c.reduce_counted-reduced.result
     (on_ok_with c.reduce_counted-reduced.result
     (λ gains legal. searching_gained c.args.prefix.now (with_derivation c c.cover.new.derivation)
-    (with_derivation c c.reduce_counted-reduced.new.self) c.holding_laws.ensures c.agreeing_laws.ensures searching gains
+    (with_derivation c c.reduce_counted-reduced.new.self) holding_laws agreeing_laws searching gains
     (legal searching.paused.intact.legal) refl refl refl refl refl refl)
     c.reduce_counted-reduced.ensures.gains c.reduce_counted-reduced.ensures.legal)
     c.reduce_counted-reduced.ensures.err
@@ -73,18 +74,71 @@ returns-clause-ok c =
     c.in_ok-cube.cube _ (after_it c) removes counts)
     c.reduce_counted-reduced.ensures.ok c.reduce_counted-reduced.ensures.counted)
 
-pub returns-clause-err : goal.returns-clause-err
-returns-clause-err c =
-    subst (λ (s : SearchState). OnErr c.reduce_counted-reduced.result (Halts c.args.prefix.now 0 s
-    (with_derivation c c.reduce_counted-reduced.new.self) c.args.steps.now c.reduce_counted-reduced.new.steps))
-    c.self.view_is
-    (on_err_both c.reduce_counted-reduced.result
-    (λ same tried. halts_reduction c.args.prefix.now (with_derivation c c.self.inside.derivation)
-    (with_derivation c c.cover.new.derivation) (with_derivation c c.reduce_counted-reduced.new.self) c.args.steps.now
-    c.reduce_counted-reduced.new.steps c.budget-budget.ensures.within c.in_ok-cube.ensures.gains.clauses
-    (older_grown _ _ c.in_ok-cube.ensures.gains.grows) refl
-    (after_it c).paused same tried)
-    c.reduce_counted-reduced.ensures.err c.reduce_counted-reduced.ensures.tried)
+pub returns-clause-stops : goal.returns-clause-stops
+returns-clause-stops c = record {
+  err =
+      subst (λ (s : SearchState). OnErr c.reduce_counted-reduced.result (Halts c.args.prefix.now 0 s
+      (with_derivation c c.reduce_counted-reduced.new.self) c.args.steps.now c.reduce_counted-reduced.new.steps))
+      c.self.view_is
+      (on_err_both c.reduce_counted-reduced.result
+      (λ same tried. halts_reduction c.args.prefix.now (with_derivation c c.self.inside.derivation)
+      (with_derivation c c.cover.new.derivation) (with_derivation c c.reduce_counted-reduced.new.self) c.args.steps.now
+      c.reduce_counted-reduced.new.steps c.budget-budget.ensures.within c.in_ok-cube.ensures.gains.clauses
+      (older_grown _ _ c.in_ok-cube.ensures.gains.grows) refl
+      (after_it c).paused same tried)
+      c.reduce_counted-reduced.ensures.err c.reduce_counted-reduced.ensures.tried);
+  spent = search rules;
+  due =
+      λ is.
+      let own = c.reduce_counted-reduced.ensures.spent is in
+      let covers = c.in_ok-cube.ensures.ok in
+      let step = covers.step in
+      let middle = c.cover.new.derivation in
+      let clauses : clauses_of middle ≡ clauses_of c.args.self.now.derivation = c.in_ok-cube.ensures.gains.clauses
+      ∙ ap (λ (s : SearchState). clauses_of s.derivation) c.self.view_is in
+      let now = c.reduce_counted-reduced.new.self in
+      subst (λ (s : SearchState). WasDue c.args.prefix.now s (with_derivation c now)) c.self.view_is
+      (record {
+        at = with_derivation c middle;
+        searching = covered c;
+        clauses = c.in_ok-cube.ensures.gains.clauses;
+        assumed = λ assumptions a. a;
+        assigned = refl;
+        due = cube c.in_ok-cube.cube
+            (record {
+              assigned = subst (λ (s : SearchState). AreAssigned c.args.prefix.now s.trail.placed) (sym c.self.view_is)
+                  c.requires.assigned;
+              step = step.step;
+              of_side = step.has_side;
+              why = ap why_in covers.adds.there;
+              literals = λ l i.
+                  let m = covers.cover.literals l (subst (λ (r : Row). Contains r l) step.has_row i) in
+                  record {
+                    is_true = m.is_true;
+                    clause = m.clause;
+                    stands = subst (λ (cs : List OpenClause). Contains (map (λ (o : OpenClause). o.row) cs) m.clause)
+                        (sym clauses) (c.requires.matrix.none_else m.clause m.stands);
+                    holds = m.holds;
+                    latest = m.latest;
+                    alone = m.alone;
+                  };
+            })
+            (λ e. own.0 (ap (λ (q : Quant). reduce q c.args.prefix.now (row_of middle c.in_ok-cube.cube)) step.has_side
+            ∙ e));
+      });
+  reductions =
+      let covers = c.in_ok-cube.ensures.ok in
+      let added = reductions_added c.self.inside.derivation c.cover.new.derivation c.in_ok-cube.cube cube_note
+      covers.row
+      covers.adds in
+      let same : reductions_in c.cover.new.derivation ≡ reductions_in c.self.inside.derivation = omega (arith, added) in
+      subst (λ (s : SearchState). ReducesFew s.derivation c.reduce_counted-reduced.new.self c.args.steps.now
+      c.reduce_counted-reduced.new.steps) c.self.view_is
+      (few_reduced c.reduce_counted-reduced.result c.args.prefix.now c.self.inside.derivation c.cover.new.derivation
+      c.reduce_counted-reduced.new.self c.args.steps.now c.reduce_counted-reduced.new.steps c.in_ok-cube.cube _ same
+      c.reduce_counted-reduced.ensures.ok c.reduce_counted-reduced.ensures.counted
+      c.reduce_counted-reduced.ensures.err);
+}
 
 reduced_is : (c : goal.After-budget-budget)
     → reduce (side_at c.cover.new.derivation c.in_ok-cube.cube) c.args.prefix.now
@@ -100,7 +154,7 @@ returns-clause-bad c =
     let values = value_on c.self.inside.trail.placed in
     if_ok c.reduce_counted-reduced.result
     (λ id is. subst (IsBadRow Forall c.args.prefix.now values) (sym (is.has_row ∙ reduced_is c))
-    (bad_reduced c.args.prefix.now values covers.row c.reductions_keep_unit.ensures covers.cover.bad))
+    (bad_reduced c.args.prefix.now values covers.row reductions_keep_unit covers.cover.bad))
     c.reduce_counted-reduced.ensures.step
 
 pub returns-clause-row : goal.returns-clause-row
@@ -113,57 +167,6 @@ returns-clause-row c =
     record {
       step = is.step;
       of_side = is.has_side ∙ covers.step.has_side;
-      reduced = rw row (c.row_laws.ensures.reduce_twice Forall c.args.prefix.now covers.row);
+      reduced = rw row (row_laws.reduce_twice Forall c.args.prefix.now covers.row);
     })
     c.reduce_counted-reduced.ensures.step
-
-pub returns-clause-reductions : goal.returns-clause-reductions
-returns-clause-reductions c =
-    let covers = c.in_ok-cube.ensures.ok in
-    let added = reductions_added c.self.inside.derivation c.cover.new.derivation c.in_ok-cube.cube cube_note covers.row
-    covers.adds in
-    let same : reductions_in c.cover.new.derivation ≡ reductions_in c.self.inside.derivation = omega (arith, added) in
-    subst (λ (s : SearchState). ReducesFew s.derivation c.reduce_counted-reduced.new.self c.args.steps.now
-    c.reduce_counted-reduced.new.steps) c.self.view_is
-    (few_reduced c.reduce_counted-reduced.result c.args.prefix.now c.self.inside.derivation c.cover.new.derivation
-    c.reduce_counted-reduced.new.self c.args.steps.now c.reduce_counted-reduced.new.steps c.in_ok-cube.cube _ same
-    c.reduce_counted-reduced.ensures.ok c.reduce_counted-reduced.ensures.counted c.reduce_counted-reduced.ensures.err)
-
-pub returns-clause-due : goal.returns-clause-due
-returns-clause-due c = λ is.
-    let own = c.reduce_counted-reduced.ensures.spent is in
-    let covers = c.in_ok-cube.ensures.ok in
-    let step = covers.step in
-    let middle = c.cover.new.derivation in
-    let clauses : clauses_of middle ≡ clauses_of c.args.self.now.derivation = c.in_ok-cube.ensures.gains.clauses
-    ∙ ap (λ (s : SearchState). clauses_of s.derivation) c.self.view_is in
-    let now = c.reduce_counted-reduced.new.self in
-    subst (λ (s : SearchState). WasDue c.args.prefix.now s (with_derivation c now)) c.self.view_is
-    (record {
-      at = with_derivation c middle;
-      searching = covered c;
-      clauses = c.in_ok-cube.ensures.gains.clauses;
-      assumed = λ assumptions a. a;
-      assigned = refl;
-      due = cube c.in_ok-cube.cube
-          (record {
-            assigned = subst (λ (s : SearchState). AreAssigned c.args.prefix.now s.trail.placed) (sym c.self.view_is)
-                c.requires.assigned;
-            step = step.step;
-            of_side = step.has_side;
-            why = ap why_in covers.adds.there;
-            literals = λ l i.
-                let m = covers.cover.literals l (subst (λ (r : Row). Contains r l) step.has_row i) in
-                record {
-                  is_true = m.is_true;
-                  clause = m.clause;
-                  stands = subst (λ (cs : List OpenClause). Contains (map (λ (o : OpenClause). o.row) cs) m.clause)
-                      (sym clauses) (c.requires.matrix.none_else m.clause m.stands);
-                  holds = m.holds;
-                  latest = m.latest;
-                  alone = m.alone;
-                };
-          })
-          (λ e. own.0 (ap (λ (q : Quant). reduce q c.args.prefix.now (row_of middle c.in_ok-cube.cube)) step.has_side
-          ∙ e));
-    })

@@ -1,4 +1,4 @@
-use Rattle.std.proofs.Common.{◌≡◌, ap, arith, subst}
+use Rattle.std.proofs.Common.{◌≡◌, ap, arith, subst, rules}
 use Rattle.prefix.specs.declared.quant.Quant.TheVariants.{Exists}
 use Rattle.steps.specs.Counter.{Counter}
 use Rattle.steps.specs.declared.stop.Stop.TheVariants.{Spent as spent}
@@ -12,14 +12,24 @@ use Rattle.search.proofs.Forcing.{few_analysis, few_assignment, forced_level, ne
 use Rattle.search.proofs.Reducing.{reductions_same}
 use Rattle.search.proofs.search.Search.turn.Goals as goal
 
-pub returns-in_err-propagate-in-Unit-clause-due : goal.returns-in_err-propagate-in-Unit-clause-due
-returns-in_err-propagate-in-Unit-clause-due c = λ is.
-    let e = c.in-Unit.ensures in
-    let between = c.next_found.new.self in
-    due_between c.args.prefix.now c.args.self.now between c.propagate.new.self e.looks.steps.clauses e.looks.trail
-    (due_now c.args.prefix.now between c.propagate.new.self c.in-Unit.side c.in-Unit.row c.in-Unit.lit
-    e.looks.searching (e.looks.searching.paused.intact.watched.sides c.in-Unit.side c.in-Unit.row e.found.0) e.found.1
-    c.in_err-propagate-in-Unit.ensures.same)
+pub returns-in_err-propagate-in-Unit-clause-stops : goal.returns-in_err-propagate-in-Unit-clause-stops
+returns-in_err-propagate-in-Unit-clause-stops c = record {
+  err = search rules;
+  spent = search rules;
+  due =
+      λ is.
+      let e = c.in-Unit.ensures in
+      let between = c.next_found.new.self in
+      due_between c.args.prefix.now c.args.self.now between c.propagate.new.self e.looks.steps.clauses e.looks.trail
+      (due_now c.args.prefix.now between c.propagate.new.self c.in-Unit.side c.in-Unit.row c.in-Unit.lit
+      e.looks.searching (e.looks.searching.paused.intact.watched.sides c.in-Unit.side c.in-Unit.row e.found.0) e.found.1
+      c.in_err-propagate-in-Unit.ensures.same);
+  reductions =
+      let between = c.next_found.new.self in
+      let looked = reductions_same c.args.self.now.derivation between.derivation c.in-Unit.ensures.looks.steps in
+      let same = ap (λ (s : SearchState). reductions_in s.derivation) c.in_err-propagate-in-Unit.ensures.same in
+      omega (arith, looked, same);
+}
 
 pub returns-in_err-propagate-in-Unit-clause-refuted : goal.returns-in_err-propagate-in-Unit-clause-refuted
 returns-in_err-propagate-in-Unit-clause-refuted c = λ start refuting is.
@@ -51,10 +61,23 @@ returns-in_ok-propagate-in-Unit-clause-forced c = λ start refuting is.
     c.in-Unit.lit c.args.steps.now c.propagate.new.steps now e.found.0 e.found.1
     c.in_ok-propagate-in-Unit.ensures.ok.assumed c.in_ok-propagate-in-Unit.ensures.pushes
 
-pub returns-in-Bad-clause-due : goal.returns-in-Bad-clause-due
-returns-in-Bad-clause-due c = λ is.
-    due_between c.args.prefix.now c.args.self.now c.next_found.new.self c.learn.new.self
-    c.next_found.ensures.looks.steps.clauses c.next_found.ensures.looks.trail (c.learn.ensures.due is)
+pub returns-in-Bad-clause-stops : goal.returns-in-Bad-clause-stops
+returns-in-Bad-clause-stops c = record {
+  err =
+      on_err c.learn.result
+      (halts_covered c.args.prefix.now c.args.self.now c.next_found.new.self c.learn.new.self c.args.steps.now
+      c.args.steps.now c.learn.new.steps (covers_looked c.args.prefix.now c.args.self.now c.next_found.new.self
+      c.args.steps.now c.next_found.ensures.looks)) c.learn.ensures.stops.err;
+  spent = search rules;
+  due =
+      λ is.
+      due_between c.args.prefix.now c.args.self.now c.next_found.new.self c.learn.new.self
+      c.next_found.ensures.looks.steps.clauses c.next_found.ensures.looks.trail (c.learn.ensures.stops.due is);
+  reductions =
+      let same = reductions_same c.args.self.now.derivation c.next_found.new.self.derivation
+      c.next_found.ensures.looks.steps in
+      rw (← same) c.learn.ensures.stops.reductions;
+}
 
 pub returns-in-Bad-clause-forced : goal.returns-in-Bad-clause-forced
 returns-in-Bad-clause-forced c = λ start refuting is.
@@ -70,13 +93,25 @@ returns-in-Bad-clause-refuted c = λ start refuting is.
     let few = few_analysis c.args.prefix.now start c.next_found.new.self c.args.steps.now
     c.next_found.ensures.looks.searching now.forced
     (c.learn.ensures.few (forced_level c.args.prefix.now start c.next_found.new.self c.args.steps.now now.forced) is) in
-    let halts = on_err_at c.learn.result spent is (λ h. h) c.learn.ensures.err in
+    let halts = on_err_at c.learn.result spent is (λ h. h) c.learn.ensures.stops.err in
     rw halts.budget few
 
-pub returns-in-Quiet-clause-due : goal.returns-in-Quiet-clause-due
-returns-in-Quiet-clause-due c = λ is.
-    due_between c.args.prefix.now c.args.self.now c.next_found.new.self c.quiet.new.self
-    c.next_found.ensures.looks.steps.clauses c.next_found.ensures.looks.trail (c.quiet.ensures.due is)
+pub returns-in-Quiet-clause-stops : goal.returns-in-Quiet-clause-stops
+returns-in-Quiet-clause-stops c = record {
+  err =
+      on_err c.quiet.result
+      (halts_looked c.args.prefix.now 0 c.args.self.now c.next_found.new.self c.quiet.new.self c.args.steps.now
+      c.quiet.new.steps c.next_found.ensures.looks) c.quiet.ensures.stops.err;
+  spent = search rules;
+  due =
+      λ is.
+      due_between c.args.prefix.now c.args.self.now c.next_found.new.self c.quiet.new.self
+      c.next_found.ensures.looks.steps.clauses c.next_found.ensures.looks.trail (c.quiet.ensures.stops.due is);
+  reductions =
+      let same = reductions_same c.args.self.now.derivation c.next_found.new.self.derivation
+      c.next_found.ensures.looks.steps in
+      rw (← same) c.quiet.ensures.stops.reductions;
+}
 
 pub returns-in-Quiet-clause-forced : goal.returns-in-Quiet-clause-forced
 returns-in-Quiet-clause-forced c = λ start refuting is.
@@ -98,54 +133,30 @@ returns-in-Quiet-clause-refuted c = λ start refuting is.
     (matrix_moves c.args.self.now.derivation between.derivation c.args.matrix.now e.looks.steps.clauses
     c.requires.matrix) now (e.found Exists))
 
-pub returns-in-Bad-clause-go : goal.returns-in-Bad-clause-go
-returns-in-Bad-clause-go c = λ is.
-    advances_covered c.args.prefix.now c.args.self.now c.next_found.new.self c.learn.new.self c.args.steps.now
-    c.args.steps.now c.learn.new.steps (covers_looked c.args.prefix.now c.args.self.now c.next_found.new.self
-    c.args.steps.now c.next_found.ensures.looks) (c.learn.ensures.go is)
+pub returns-in-Bad-clause-goes : goal.returns-in-Bad-clause-goes
+returns-in-Bad-clause-goes c = record {
+  go =
+      λ is.
+      advances_covered c.args.prefix.now c.args.self.now c.next_found.new.self c.learn.new.self c.args.steps.now
+      c.args.steps.now c.learn.new.steps (covers_looked c.args.prefix.now c.args.self.now c.next_found.new.self
+      c.args.steps.now c.next_found.ensures.looks) (c.learn.ensures.goes.go is);
+  end =
+      ends_within c.learn.result _ _
+      (λ e. ends_covered c.args.prefix.now c.args.self.now c.next_found.new.self c.learn.new.self c.args.steps.now
+      c.args.steps.now c.learn.new.steps (covers_looked c.args.prefix.now c.args.self.now c.next_found.new.self
+      c.args.steps.now c.next_found.ensures.looks) e.side e.row) c.learn.ensures.goes.end;
+  restarts = search rules;
+  long = search rules;
+}
 
-pub returns-in-Bad-clause-end : goal.returns-in-Bad-clause-end
-returns-in-Bad-clause-end c =
-    ends_within c.learn.result _ _
-    (λ e. ends_covered c.args.prefix.now c.args.self.now c.next_found.new.self c.learn.new.self c.args.steps.now
-    c.args.steps.now c.learn.new.steps (covers_looked c.args.prefix.now c.args.self.now c.next_found.new.self
-    c.args.steps.now c.next_found.ensures.looks) e.side e.row) c.learn.ensures.end
-
-pub returns-in-Bad-clause-err : goal.returns-in-Bad-clause-err
-returns-in-Bad-clause-err c =
-    on_err c.learn.result
-    (halts_covered c.args.prefix.now c.args.self.now c.next_found.new.self c.learn.new.self c.args.steps.now
-    c.args.steps.now c.learn.new.steps (covers_looked c.args.prefix.now c.args.self.now c.next_found.new.self
-    c.args.steps.now c.next_found.ensures.looks)) c.learn.ensures.err
-
-pub returns-in-Quiet-clause-err : goal.returns-in-Quiet-clause-err
-returns-in-Quiet-clause-err c =
-    on_err c.quiet.result
-    (halts_looked c.args.prefix.now 0 c.args.self.now c.next_found.new.self c.quiet.new.self c.args.steps.now
-    c.quiet.new.steps c.next_found.ensures.looks) c.quiet.ensures.err
-
-pub returns-in-Bad-clause-reductions : goal.returns-in-Bad-clause-reductions
-returns-in-Bad-clause-reductions c =
-    let same = reductions_same c.args.self.now.derivation c.next_found.new.self.derivation
-    c.next_found.ensures.looks.steps in
-    rw (← same) c.learn.ensures.reductions
-
-pub returns-in-Quiet-clause-reductions : goal.returns-in-Quiet-clause-reductions
-returns-in-Quiet-clause-reductions c =
-    let same = reductions_same c.args.self.now.derivation c.next_found.new.self.derivation
-    c.next_found.ensures.looks.steps in
-    rw (← same) c.quiet.ensures.reductions
-
-pub returns-in_err-propagate-in-Unit-clause-reductions : goal.returns-in_err-propagate-in-Unit-clause-reductions
-returns-in_err-propagate-in-Unit-clause-reductions c =
-    let between = c.next_found.new.self in
-    let looked = reductions_same c.args.self.now.derivation between.derivation c.in-Unit.ensures.looks.steps in
-    let same = ap (λ (s : SearchState). reductions_in s.derivation) c.in_err-propagate-in-Unit.ensures.same in
-    omega (arith, looked, same)
-
-pub returns-in_ok-propagate-in-Unit-clause-reductions : goal.returns-in_ok-propagate-in-Unit-clause-reductions
-returns-in_ok-propagate-in-Unit-clause-reductions c =
-    let between = c.next_found.new.self in
-    let looked = reductions_same c.args.self.now.derivation between.derivation c.in-Unit.ensures.looks.steps in
-    let same = ap reductions_in c.in_ok-propagate-in-Unit.ensures.pushes.derivation in
-    omega (arith, looked, same)
+pub returns-in_ok-propagate-in-Unit-clause-stops : goal.returns-in_ok-propagate-in-Unit-clause-stops
+returns-in_ok-propagate-in-Unit-clause-stops c = record {
+  err = search rules;
+  spent = search rules;
+  due = search rules;
+  reductions =
+      let between = c.next_found.new.self in
+      let looked = reductions_same c.args.self.now.derivation between.derivation c.in-Unit.ensures.looks.steps in
+      let same = ap reductions_in c.in_ok-propagate-in-Unit.ensures.pushes.derivation in
+      omega (arith, looked, same);
+}

@@ -3,13 +3,14 @@ use Rattle.calculus.specs.Search.{cut_trail, literals_on}
 use Rattle.trail.specs.State.{undone_to}
 use Rattle.search.specs.State.{SearchState}
 use Rattle.search.proofs.Undoing.{cut_changes, saved_length, undoes}
+use Rattle.search.proofs.Laws.{holding_laws, looking_laws}
 use Rattle.search.proofs.search.Search.undo.Goals as goal
 
 pub returns : goal.returns
 returns c =
     let s = c.args.self.now in
     let e = c.self.view_is in
-    undoes c.args.prefix.now c.args.level c.len_to-keep.result s _ c.holding_laws.ensures c.looking_laws.ensures
+    undoes c.args.prefix.now c.args.level c.len_to-keep.result s _ holding_laws looking_laws
     c.requires.searching c.requires.below
     (cut_changes _ s c.undo_to.new.self c.len_to-keep.result c.undone.new.self c.undone-2.new.self c.undoing.new.self
     e c.undo_to.ensures.room c.undone.ensures c.undone-2.ensures
