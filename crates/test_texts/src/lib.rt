@@ -1,4 +1,4 @@
-//! Tests of the crates that read and write texts: words, formulas, scripts, circuits and the command line.
+//! Tests of the crates that read and write texts: words, formulas, scripts and circuits.
 //!
 //! They stand here and not in those crates since a crate with tests is proved twice.
 #![tactic(auto)]
@@ -7,8 +7,6 @@
 mod aiger_out_tests;
 #[cfg(test)]
 mod build;
-#[cfg(test)]
-mod command_tests;
 #[cfg(test)]
 mod generate_tests;
 #[cfg(test)]

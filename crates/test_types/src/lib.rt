@@ -1,4 +1,4 @@
-//! Tests of the crates below the solver: prefixes, counters, ports, truth, clauses, frames and circuits.
+//! Tests of the crates below the solver: prefixes, counters, ports, truth, clauses and circuits.
 //!
 //! They stand here and not in those crates since a crate with tests is proved twice.
 #![tactic(auto)]
@@ -9,10 +9,6 @@ mod aig_tests;
 mod build;
 #[cfg(test)]
 mod clauses_tests;
-#[cfg(test)]
-mod frames_tests;
-#[cfg(test)]
-mod limits_tests;
 #[cfg(test)]
 mod ports_tests;
 #[cfg(test)]
