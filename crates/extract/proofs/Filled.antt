@@ -3,15 +3,16 @@ use Rattle.std.proofs.Common.{◌≡◌, ℕ, suc, zero, ◌+◌, ◌-◌, ◌<�
 use Rattle.std.specs.Prelude.{slice_get}
 use Rattle.std.specs.Option.{option_map}
 use Rattle.std.proofs.lemmas.Bool.{cases_Bool, cond-true, cond-false, true≢false, false≢true, eqb-true, eq-eqb}
-use Rattle.std.proofs.lemmas.List.{append-nil, get_or-map, take_more, get_or_default, map-append}
+use Rattle.std.proofs.lemmas.List.{append-nil, get_or-map, take_more, map-append}
 use Rattle.std.proofs.lemmas.Grind.{flat_map-append}
 use Rattle.prefix.specs.declared.quant.Quant.TheVariants.{Exists}
 use Rattle.std.specs.List.{All}
-use Rattle.std.proofs.lemmas.List.Elements.{All-append, Contains-append_cases}
+use Rattle.std.proofs.lemmas.List.Elements.{All-append, Contains-append_cases, Contains-get_or}
 use Rattle.prefix.specs.declared.quant.Quant.{Quant}
 use Rattle.prefix.specs.Literal.{Literal}
 use Rattle.prefix.specs.Scopes.{Scope, all_variables, variables_at, is_among}
 use Rattle.truth.specs.Truth.{assumed_value}
+use Rattle.truth.proofs.OrderLemmas.{slice_get_in}
 use Rattle.calculus.specs.Rows.{Row, Assignment}
 use Rattle.calculus.proofs.Lists.{contains_head, contains_tail, contains_cons, contains_nil, among_at}
 use Rattle.aig.specs.Circuits.{Circuit, value_of, IsEdge, Grows}
@@ -31,9 +32,6 @@ pub contains_more : {X : Type 0} (xs : List X) (i : ℕ) (d x : X) → i < lengt
 contains_more xs i d x below h =
     ⊎_elim inl (λ j. ⊎_elim inr (λ k. absurd (contains_nil x k)) (contains_cons (get_or xs i d) [] x j))
     (Contains-append_cases (take i xs) (get_or xs i d ∷ []) x (rw (take_more xs i d below) at h))
-
-pub contains_at : {X : Type 0} (xs : List X) (i : ℕ) (d : X) → i < length xs → Contains xs (get_or xs i d)
-contains_at xs i d below = (i, below, get_or_default xs i (get_or xs i d) d below)
 
 pub take_inside : {X : Type 0} (xs : List X) (i : ℕ) (x : X) → Contains (take i xs) x → Contains xs x
 take_inside xs zero x h = absurd (contains_nil x h)
@@ -95,7 +93,7 @@ pub inputs_more : (circuit : Circuit) (inputs : List ℕ) (i : ℕ) (old new : L
 inputs_more circuit inputs i old new e below before puts value stands = record {
   edges = λ x f is. ⊎_elim
       (λ p. rw (← p.0, ← p.1) (record {
-        listed = contains_at inputs i 0 below;
+        listed = Contains-get_or inputs i 0 below;
         stands = stands;
         value = λ given. value (map given inputs) ∙ get_or-map given inputs i 0 false below;
       }))
@@ -264,7 +262,7 @@ ruled_more pivot rows index vars i first start old new before table below was tu
               (agrees_fewer old new before table inputs values turn.grows was.stand turn.keeps agrees);
         },
       )) (was.edges x e b))
-      (λ r. inr (not_there first before x was.keeps r.0, rw r.1 (contains_at vars i 0 below), r.2))
+      (λ r. inr (not_there first before x was.keeps r.0, rw r.1 (Contains-get_or vars i 0 below), r.2))
       (turn.edges x e is);
   keeps = λ x e is. turn.keeps x e (was.keeps x e is);
   covers = λ x h. ⊎_elim
@@ -432,11 +430,6 @@ outputs_more winners i table outputs o below covers before var edge = record {
     joined x false p false q = refl
 
 -- scopes
-
-slice_get_in : {X : Type 0} (xs : List X) (k : ℕ) (d : X) → k < length xs → slice_get xs k ≡ Some (get_or xs k d)
-slice_get_in [] k d h = absurd (omega arith)
-slice_get_in (x ∷ xs) zero d h = refl
-slice_get_in (x ∷ xs) (suc k) d h = slice_get_in xs k d (omega arith)
 
 pub variables_more : (scopes : List Scope) (s : ℕ) → s < length scopes
     → all_variables (take (s + 1) scopes) ≡ all_variables (take s scopes) ++ variables_at scopes (s + 1)

@@ -14,9 +14,9 @@ use Rattle.calculus.specs.Derivations.Reason.{Input, One, Two}
 use Rattle.calculus.specs.Verdicts.{AreOuter, IsProof}
 use Rattle.calculus.specs.Plays.{first_forced, first_of_two, forced, KeepsInputs, FollowsProof}
 use Rattle.calculus.proofs.Sound.{AreSoundSteps, IsSoundStep, sound}
-use Rattle.calculus.proofs.Lists.{contains_head, contains_tail, contains_cons, contains_nil, filter_at, filter_from, any_from, among_from, among_at}
+use Rattle.calculus.proofs.Lists.{contains_head, contains_tail, contains_cons, contains_nil, filter_at, filter_from, any_from, among_from, among_at, contains_map_of}
 use Rattle.calculus.proofs.RowLemmas.{step_removes, same_from, same_true, some_from}
-use Rattle.calculus.proofs.Levels.{outer_level, order_ordered, contains_map_of, has_quantifier}
+use Rattle.calculus.proofs.Levels.{outer_level, order_ordered, has_quantifier}
 use Rattle.calculus.proofs.Strategy.{IsOrdered}
 use Rattle.aig.specs.Circuits.{IsEdge, Circuit, value_of, Grows}
 use Rattle.aig.specs.Strategies.{output_of, value_or}

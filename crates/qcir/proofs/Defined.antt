@@ -7,13 +7,14 @@ use Rattle.prefix.specs.Literal.{Literal, negation}
 use Rattle.prefix.specs.Scopes.{is_among}
 use Rattle.truth.specs.Matrix.{Values, with_value, same, is_true_of, literal_true, clause_true, matrix_true}
 use Rattle.calculus.proofs.Lists.{all_at, any_same, contains_head, contains_tail}
+use Rattle.calculus.proofs.Merging.{beq_true, beq_yes, beq_refl}
 use Rattle.qcir.specs.declared.circuit.Gate.{Gate}
 use Rattle.qcir.specs.declared.circuit.GateKind.{GateKind}
 use Rattle.qcir.specs.declared.circuit.GateKind.TheVariants.{And, Or}
 use Rattle.qcir.specs.Truth.{gate_value, with_gates, gate_names}
 use Rattle.qcir.specs.Translation.{gate_literal, defining, gate_clauses, AreEarlier, known_after}
 use Rattle.qcir.proofs.Over.{value_here, value_there}
-use Rattle.qcir.proofs.TrueRows.{IsCovered, same_gives}
+use Rattle.qcir.proofs.TrueRows.{IsCovered}
 
 -- a literal and its negation
 negated_bool : (o : Option Bool) (p b : Bool) → o ≡ Some b → is_true_of o (not p) ≡ not (is_true_of o p)
@@ -27,12 +28,8 @@ negated : (τ : Values) (l : Literal) (b : Bool) → τ l.variable ≡ Some b
     → literal_true τ (negation l) ≡ not (literal_true τ l)
 negated τ l b e = negated_bool (τ l.variable) l.positive b e
 
-same_yes : (b : Bool) → same b true ≡ b
-same_yes true = refl
-same_yes false = refl
-
 own_true : (τ : Values) (g : Gate) (b : Bool) → τ g.var ≡ Some b → literal_true τ (gate_literal g) ≡ b
-own_true τ g b e = ap (λ o. is_true_of o true) e ∙ same_yes b
+own_true τ g b e = ap (λ o. is_true_of o true) e ∙ beq_yes b
 
 -- the clauses of pairs
 all_pairs : (τ : Values) (n : Literal) (xs : List Literal)
@@ -123,10 +120,6 @@ same_value And σ τ inputs same = all_alike inputs same
 same_value Or σ τ inputs same =
     any_same (literal_true σ) (literal_true τ) inputs (λ l i. ap (λ o. is_true_of o l.positive) (same l i))
 
-same_self : (a : Bool) → same a a ≡ true
-same_self true = refl
-same_self false = refl
-
 -- all clauses of gates
 abbrev pub definitions : List Gate → List (List Literal)
 definitions gates = flat_map gate_clauses gates
@@ -157,7 +150,7 @@ gates_forced (g ∷ gates) known ρ τ are there names agree h v i =
     and_parts (matrix_true τ (gate_clauses g)) (matrix_true τ (definitions gates))
     (sym (list_all-append (clause_true τ) (gate_clauses g) (definitions gates)) ∙ h) in
     let is : own.0 ≡ gate_value g.kind τ g.inputs =
-    same_gives own.0 (gate_value g.kind τ g.inputs)
+    beq_true own.0 (gate_value g.kind τ g.inputs)
     (sym (defining_true τ g g.kind own.0 own.1 (λ l j. there l.variable (inside known g.inputs are.0 l j)))
     ∙ parts.0) in
     let value = gate_value g.kind ρ g.inputs in
@@ -213,7 +206,7 @@ gates_made (g ∷ gates) known ρ are there =
       there = rest.there;
       holds = list_all-append (clause_true τ) (gate_clauses g) (definitions gates)
           ∙ and_from (matrix_true τ (gate_clauses g)) (matrix_true τ (definitions gates))
-          (defining_true τ g g.kind value own covered ∙ ap (same value) equal ∙ same_self value) rest.holds;
+          (defining_true τ g g.kind value own covered ∙ ap (same value) equal ∙ beq_refl value) rest.holds;
     }
 
 -- variables that are no gates keep their values

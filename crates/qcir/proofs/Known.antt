@@ -4,7 +4,7 @@ use Rattle.std.proofs.lemmas.Bool.{eq-eqb, or_cases, or_left, or_right}
 use Rattle.std.proofs.lemmas.List.Elements.{Contains-append_cases}
 use Rattle.prefix.specs.Literal.{Literal, negation}
 use Rattle.prefix.specs.Scopes.{AreDistinct, all_variables, is_among}
-use Rattle.calculus.proofs.Lists.{contains_cons, contains_nil}
+use Rattle.calculus.proofs.Lists.{contains_cons, contains_nil, contains_map}
 use Rattle.qdimacs.proofs.Fitting.{distinct_append}
 use Rattle.qcir.specs.declared.circuit.Circuit.{Circuit}
 use Rattle.qcir.specs.declared.circuit.Gate.{Gate}
@@ -13,7 +13,7 @@ use Rattle.qcir.specs.declared.circuit.GateKind.TheVariants.{And, Or}
 use Rattle.qcir.specs.Truth.{gate_names}
 use Rattle.qcir.specs.Translation.{AreEarlier, IsCircuit, circuit_clauses, defining, gate_clauses, gate_literal, known_after}
 use Rattle.qcir.proofs.Scoping.{all_among}
-use Rattle.qcir.proofs.TrueRows.{ArePositive, map_at}
+use Rattle.qcir.proofs.TrueRows.{ArePositive}
 use Rattle.qcir.proofs.Defined.{definitions, gates_new, inside, known_is}
 
 -- a literal over a known variable
@@ -40,13 +40,13 @@ known_one known x h = known_cons known x [] h (known_nil known)
 
 known_negations : (known : List ℕ) (xs : List Literal) → IsKnownClause known xs → IsKnownClause known (map negation xs)
 known_negations known xs h l i =
-    let r = map_at negation xs l i in
+    let r = contains_map negation xs l i in
     subst (λ (k : Literal). IsKnown known k) r.2 (h r.0 r.1)
 
 known_map : (known : List ℕ) (f : Literal → List Literal) (xs : List Literal)
     → ((x : Literal) → Contains xs x → IsKnownClause known (f x)) → AreKnown known (map f xs)
 known_map known f xs h c i =
-    let r = map_at f xs c i in
+    let r = contains_map f xs c i in
     subst (λ (d : List Literal). IsKnownClause known d) r.2 (h r.0 r.1)
 
 known_single : (known : List ℕ) (c : List Literal) → IsKnownClause known c → AreKnown known (c ∷ [])

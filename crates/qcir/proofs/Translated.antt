@@ -10,11 +10,12 @@ use Rattle.qcir.specs.declared.circuit.Circuit.{Circuit}
 use Rattle.qcir.specs.Truth.{with_gates, output_true, circuit_truth, gate_names}
 use Rattle.qcir.specs.Translation.{circuit_clauses, scopes_with, rows_of, translated, known_after, IsCircuit, Translates}
 use Rattle.qcir.proofs.Over.{over, truth_over, circuit_over, over_append, over_same, AllThere, Extends, block_gives, block_from}
-use Rattle.qcir.proofs.TrueRows.{rows_true, same_bools}
+use Rattle.qcir.proofs.TrueRows.{rows_true}
 use Rattle.qcir.proofs.Defined.{definitions, AreThere, gates_forced, gates_made, gates_off, gates_new}
 use Rattle.qcir.proofs.Known.{all_known, all_positive, known_cases}
 use Rattle.qcir.proofs.Places.{IsSplit, split, split_among}
 use Rattle.std.proofs.Math.Bool.{or-false}
+use Rattle.builder.proofs.Lists.{same_bools}
 
 module _ (c : Circuit) (is : IsCircuit c) where
   abbrev all : List ℕ

@@ -9,41 +9,17 @@ use Rattle.prefix.specs.Scopes.{is_among}
 use Rattle.truth.specs.Matrix.{Values, same, is_true_of, literal_true, clause_true, matrix_true}
 use Rattle.clauses.specs.Clause.{as_row, ascending, has_literal, is_tautology}
 use Rattle.clauses.proofs.Ascending.{ascending_among}
-use Rattle.calculus.proofs.Lists.{any_at, any_from, among_at, among_from, contains_cons, contains_nil, contains_head, contains_tail}
-use Rattle.calculus.proofs.Levels.{contains_map_of}
+use Rattle.calculus.proofs.Lists.{any_at, any_from, among_at, among_from, contains_head, contains_tail, contains_map_of, contains_map}
+use Rattle.calculus.proofs.Merging.{beq_true}
 use Rattle.qcir.specs.Translation.{rows_of, written}
-
-pub map_at : {X Y : Type 0} (f : X → Y) (xs : List X) (y : Y) → Contains (map f xs) y
-    → (x : X) × Contains xs x × (f x ≡ y)
-map_at f [] y c = absurd (contains_nil y c)
-map_at f (x ∷ xs) y c =
-    ⊎_elim (λ e. (x, contains_head x xs, e))
-    (λ d. let r = map_at f xs y d in (r.0, contains_tail x xs r.0 r.1, r.2))
-    (contains_cons (f x) (map f xs) y c)
-
-pub same_bools : (a b : Bool) → (a ≡ true → b ≡ true) → (b ≡ true → a ≡ true) → a ≡ b
-same_bools true b f g = sym (f refl)
-same_bools false true f g = g refl
-same_bools false false f g = refl
-
-pub same_gives : (a b : Bool) → same a b ≡ true → a ≡ b
-same_gives true true e = refl
-same_gives true false e = sym e
-same_gives false true e = e
-same_gives false false e = refl
+use Rattle.qdimacs.proofs.Codes.{number_abs}
+use Rattle.builder.proofs.Lists.{same_bools}
 
 -- Literals and their numbers.
 
 -- no literal is over the variable 0
 abbrev pub ArePositive : List Literal → Type 0
 ArePositive clause = (l : Literal) → Contains clause l → 1 ≤ l.variable
-
-pub number_variable : (l : Literal) → 1 ≤ l.variable → nat_abs (signed_number l) ≡ l.variable
-number_variable l p = by l.positive
-  where
-    by : (b : Bool) → nat_abs (if b then pos l.variable else negsuc (l.variable - 1)) ≡ l.variable
-    by true = refl
-    by false = omega (arith, p)
 
 -- numbers are the same where variables and signs are
 number_eq : (v w : ℕ) (a b : Bool) → 1 ≤ v → 1 ≤ w
@@ -62,7 +38,7 @@ same_number k l p q e =
     and_parts (l.variable == k.variable) (same l.positive k.positive)
     (sym (number_eq k.variable l.variable k.positive l.positive p q) ∙ e) in
     ap₂ (λ (v : ℕ) (b : Bool). record { variable = v; positive = b })
-    (sym (eqb-true l.variable k.variable parts.0)) (sym (same_gives l.positive k.positive parts.1))
+    (sym (eqb-true l.variable k.variable parts.0)) (sym (beq_true l.positive k.positive parts.1))
 
 pub negative_number : (v : ℕ) (b : Bool) → 1 ≤ v
     → neg_ℤ (if b then pos v else negsuc (v - 1)) ≡ (if not b then pos v else negsuc (v - 1))
@@ -85,7 +61,7 @@ has_at : (clause : List Literal) → ArePositive clause → (l : Literal) → 1 
     → has_literal (signed_number l) (written clause) ≡ true → Contains clause l
 has_at clause all l low e =
     let r = any_at (int_eq (signed_number l)) (written clause) e in
-    let m = map_at signed_number clause r.0 r.1 in
+    let m = contains_map signed_number clause r.0 r.1 in
     let is : l ≡ m.0 = same_number l m.0 low (all m.0 m.1) (ap (int_eq (signed_number l)) m.2 ∙ r.2) in
     subst (λ (k : Literal). Contains clause k) (sym is) m.1
 
@@ -100,7 +76,7 @@ tautology_at : (clause : List Literal) → ArePositive clause → is_tautology (
     → (l : Literal) × Contains clause l × Contains clause (negation l)
 tautology_at clause all e =
     let r = any_at (λ n. has_literal (neg_ℤ n) (written clause)) (written clause) e in
-    let m = map_at signed_number clause r.0 r.1 in
+    let m = contains_map signed_number clause r.0 r.1 in
     let number : signed_number (negation m.0) ≡ neg_ℤ r.0 =
     sym (negation_number m.0 (all m.0 m.1)) ∙ ap neg_ℤ m.2 in (
       m.0,
@@ -113,9 +89,9 @@ pub names_at : (clause : List Literal) → ArePositive clause → (v : ℕ)
     → is_among v (map nat_abs (written clause)) ≡ true
     → (l : Literal) × Contains clause l × (l.variable ≡ v)
 names_at clause all v h =
-    let n = map_at nat_abs (written clause) v (among_at (map nat_abs (written clause)) v h) in
-    let l = map_at signed_number clause n.0 n.1 in
-    (l.0, l.1, sym (number_variable l.0 (all l.0 l.1)) ∙ ap nat_abs l.2 ∙ n.2)
+    let n = contains_map nat_abs (written clause) v (among_at (map nat_abs (written clause)) v h) in
+    let l = contains_map signed_number clause n.0 n.1 in
+    (l.0, l.1, sym (number_abs l.0 (all l.0 l.1)) ∙ ap nat_abs l.2 ∙ n.2)
 
 -- a variable itself
 abbrev plus : ℕ → Literal
@@ -148,7 +124,7 @@ module _ (clause : List Literal) (all : ArePositive clause) (no_taut : is_tautol
       (λ t.
       let names : List ℕ = map nat_abs (written clause) in
       let r = any_at (literal_true τ) (as_row (written clause)) t in
-      let m = map_at (literal_in clause) (ascending names) r.0 r.1 in
+      let m = contains_map (literal_in clause) (ascending names) r.0 r.1 in
       let l =
       names_at clause all m.0 (sym (ascending_among m.0 names) ∙ among_from (ascending names) m.0 m.1) in
       let is : l.0 ≡ r.0 =
@@ -160,7 +136,7 @@ module _ (clause : List Literal) (all : ArePositive clause) (no_taut : is_tautol
       let r = any_at (literal_true τ) clause t in
       let v = r.0.variable in
       let in_names : Contains names v =
-      subst (λ u. Contains names u) (number_variable r.0 (all r.0 r.1))
+      subst (λ u. Contains names u) (number_abs r.0 (all r.0 r.1))
       (contains_map_of nat_abs (written clause) (signed_number r.0)
       (contains_map_of signed_number clause r.0 r.1)) in
       let there : Contains (ascending names) v =

@@ -10,7 +10,8 @@ use Rattle.std.proofs.lemmas.Str.Parse.{digit_from_value}
 use Rattle.lexer.specs.declared.token.Comments.TheVariants.{Dimacs}
 use Rattle.lexer.specs.declared.token.Word.{Word}
 use Rattle.lexer.specs.declared.token.Word.TheVariants.{Num, Text}
-use Rattle.lexer.specs.Words.{are_digits, bad_byte, begins_comment, byte, bytes_of, classified, fault_of, is_digit, is_plain, item_of, number_of, number_range, word}
+use Rattle.lexer.specs.Words.{are_digits, bad_byte, begins_comment, byte, classified, fault_of, is_digit, is_plain, item_of, number_of, number_range, word}
+use Rattle.lexer.proofs.Scans.{bytes_again}
 use Rattle.qdimacs_out.proofs.Parting.{IsPlain}
 
 -- a word of these bytes is this
@@ -23,16 +24,12 @@ faultless line [] h = refl
 faultless line (b ∷ w) h = ap (λ p. if p then fault_of line (map byte w) else Some (bad_byte line)) h.0
     ∙ faultless line w h.1
 
-bytes_back : (w : List ℕ) → bytes_of (map byte w) ≡ w
-bytes_back [] = refl
-bytes_back (b ∷ w) = ap (λ r. b ∷ r) (bytes_back w)
-
 -- its item
 pub item_is : (line : ℕ) (w : List ℕ) (x : Word) → Spells w x
     → item_of line (map byte w) ≡ word (record { word = x; line = line })
 item_is line w x s =
     ap₂ unwrap_or (faultless line w s.plain.plain)
-    (ap (λ bs. classified line bs (number_of bs)) (bytes_back w) ∙ s.is line)
+    (ap (λ bs. classified line bs (number_of bs)) (bytes_again w) ∙ s.is line)
 
 -- digits
 
