@@ -1,11 +1,11 @@
 -- What stays of an engine where its formula changes, or where it doesn't.
-use Rattle.std.proofs.Common.{◌≡◌, ◌≢◌, ◌≤◌, ◌<◌, ◌⊎◌, ℕ, ◌+◌, ◌-◌, Bool, true, false, not, ◌||◌, List, [], ◌∷◌, length, Option, Some, None, Result, Ok, Err, IsTrue, IfSome, arith, refl, sym, ap, ap₂, ◌∙◌, subst, ⊎_elim, inl, inr, ◌++◌, length-append}
-use Rattle.std.specs.Prelude.{Contains, ℤ, filter, ◌==◌, if◌then◌else◌, is_some, MatchOption, IsOk, IsOkUnless, OnOk, is_ok}
+use Rattle.std.proofs.Common.{◌≡◌, ◌≤◌, ◌<◌, ◌⊎◌, ℕ, ◌+◌, ◌-◌, Bool, true, false, not, ◌||◌, List, [], ◌∷◌, length, Option, Some, None, Result, Ok, Err, IsTrue, IfSome, arith, refl, sym, ap, ap₂, ◌∙◌, subst, ⊎_elim, inl, inr, ◌++◌, length-append}
+use Rattle.std.specs.Prelude.{Contains, filter, ◌==◌, if◌then◌else◌, is_some, MatchOption, IsOk, IsOkUnless, OnOk, is_ok}
 use Rattle.std.specs.List.{AllByRecursion}
 use Rattle.std.specs.Option.{option_map}
 use Rattle.std.proofs.lemmas.List.{length-take-le}
 use Rattle.std.proofs.lemmas.Bool.Decides.{nat_tests}
-use Rattle.std.proofs.lemmas.Bool.{cond-false, cond-true, eqb-true, or_cases}
+use Rattle.std.proofs.lemmas.Bool.{eqb-true, or_cases}
 use Rattle.prefix.specs.declared.quant.Quant.{Quant}
 use Rattle.prefix.specs.declared.refusal.PrefixRefusal.{PrefixRefusal}
 use Rattle.prefix.specs.Literal.{Literal}
@@ -17,12 +17,11 @@ use Rattle.calculus.specs.DerivationTheorems.{PrefixesGrow}
 use Rattle.calculus.specs.Rows.{IsRow, Row}
 use Rattle.calculus.specs.Verdicts.{IsEndRow, finished, proof_of, relevant_of}
 use Rattle.calculus.proofs.Lists.{among_at, among_from, contains_nil}
-use Rattle.clauses.specs.Clause.{as_row, is_tautology}
 use Rattle.derive.specs.Dropping.{is_outside, mentions}
 use Rattle.derive.specs.State.{Note, Notes, OpenClause, State, clauses_of, is_finish, is_live, may_be_antecedent, note_at, note_in, row_of, side_at, side_in, why_at, why_in}
 use Rattle.frames.specs.declared.refusal.FrameRefusal.{FrameRefusal}
 use Rattle.frames.specs.declared.refusal.FrameRefusal.TheVariants.{AssumptionsHeld, GroupOpen, Limit, NoFrame, NoMemory}
-use Rattle.frames.specs.State.{Frame, OpenFormula, clauses_in, depth, empty_frame, leaves_in, popped, pushed, with_leaving, with_row, with_variable}
+use Rattle.frames.specs.State.{Frame, OpenFormula, clauses_in, depth, empty_frame, leaves_in, popped, pushed, with_leaving, with_variable}
 use Rattle.frames.specs.Commands.{Activate, AddScope, AddVariable, CloseGroup, Deactivate, OpenGroup, Pop, Push, first_of, formula_after, is_empty, max_pushed, prefix_refusals, refusal_of, with_row_at}
 use Rattle.frames.specs.Groups.{clauses_at, grouped_in, is_active, with_clause_at, with_group, with_mark}
 use Rattle.step_core.specs.Cores.{IsFinishAt, end_row_in, proof_at, step_under}

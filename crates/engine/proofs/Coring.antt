@@ -1,5 +1,5 @@
 -- The active groups of a formula as the core has them.
-use Rattle.std.proofs.Common.{◌≡◌, ℕ, zero, suc, ◌+◌, Bool, cond, true, false, List, [], ◌∷◌, ◌++◌, take, Some, None, arith, refl, sym, ap, ap₂, ◌∙◌, subst}
+use Rattle.std.proofs.Common.{◌≡◌, ℕ, zero, suc, ◌+◌, Bool, true, false, List, [], ◌∷◌, ◌++◌, take, Some, None, arith, refl, sym, ap, ap₂, ◌∙◌, subst}
 use Rattle.std.specs.Prelude.{if◌then◌else◌, slice_get, Err, IfSome, Ok, OnOk, Option, Result}
 use Rattle.std.specs.List.{AllByRecursion}
 use Rattle.calculus.specs.Rows.{Row}

@@ -1,13 +1,13 @@
 -- The open clauses of a search by their tags, and those of the formula: frames by number, and groups behind them.
-use Rattle.std.proofs.Common.{◌≡◌, ◌≤◌, ◌<◌, ◌⊎◌, inl, inr, ⊎_elim, ℕ, zero, suc, ◌+◌, ◌-◌, Bool, cond, true, false, not, List, [], ◌∷◌, ◌++◌, map, length, take, Option, Some, None, arith, append_assoc, refl, sym, ap, ap₂, ◌∙◌, subst}
-use Rattle.std.specs.Prelude.{Contains, filter, flat_map, ◌==◌, ◌||◌, ◌&&◌, nat_le, nat_lt, if◌then◌else◌, option_map, unwrap_or}
+use Rattle.std.proofs.Common.{◌≡◌, ◌≤◌, ◌<◌, ◌⊎◌, inl, inr, ⊎_elim, ℕ, zero, suc, ◌+◌, ◌-◌, Bool, cond, true, false, not, List, [], ◌∷◌, ◌++◌, map, length, take, Option, Some, None, arith, refl, sym, ap, ap₂, ◌∙◌, subst}
+use Rattle.std.specs.Prelude.{Contains, filter, ◌==◌, ◌||◌, nat_le, nat_lt, if◌then◌else◌, option_map, unwrap_or}
 use Rattle.std.specs.List.{AllByRecursion}
 use Rattle.std.proofs.lemmas.Bool.{cond-false, cond-true, eq-eqb, eqb-true, ne_eqb}
 use Rattle.std.proofs.lemmas.Bool.Decides.{nat_tests}
 use Rattle.std.proofs.lemmas.List.{append-nil, map-append}
 use Rattle.std.proofs.lemmas.List.Elements.{Contains-append_cases, Contains-append_left, Contains-append_right, filter-append}
 use Rattle.calculus.specs.Rows.{Row}
-use Rattle.calculus.proofs.Lists.{contains_cons, contains_head, contains_nil, contains_tail, filter_at, filter_from, filter_same}
+use Rattle.calculus.proofs.Lists.{contains_head, contains_nil, contains_tail, filter_at, filter_from, filter_same}
 use Rattle.calculus.proofs.Levels.{contains_map_of}
 use Rattle.step_core.proofs.Ordering.{map_contains}
 use Rattle.calculus.specs.Derivations.{IsDerivation}
@@ -15,7 +15,7 @@ use Rattle.derive.specs.State.{OpenClause, State, clauses_of, open_clauses as cl
 use Rattle.derive.proofs.Legality.{served}
 use Rattle.frames.specs.Commands.{max_pushed, with_row_at}
 use Rattle.frames.specs.Groups.{AreRising, Group, active_in, active_of, clauses_at, group_at, grouped_in, grown, is_active, marked, new_group, with_clause_at, with_group, with_mark}
-use Rattle.frames.specs.State.{Frame, OpenFormula, clauses_in, depth, empty_frame, open_clauses, popped, pushed, with_leaving, with_row}
+use Rattle.frames.specs.State.{Frame, OpenFormula, clauses_in, depth, open_clauses, popped, pushed, with_leaving, with_row}
 use Rattle.frames.proofs.Grouping.{KeepsNumbers, KeepsOthers, grown_numbers, grown_others, marked_numbers, marked_others, rising_kept}
 use Rattle.search.specs.Changing.{AddsClause, AddsClauses}
 use Rattle.search.specs.Moves.{IsMatrix}

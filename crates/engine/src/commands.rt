@@ -96,11 +96,11 @@ impl Engine {
     // Puts a clause in.
     fn put(&mut self, clause: Given<'_>) -> Result<(), FrameRefusal>
         requires { MayBeGiven self.old.formula.scopes clause }
-        ensures ok { OnOk result (self.new ≡ record (changed self.old (AddClause (numbers_of clause))) {
+        ensures ok { OnOk result (self.new ≡ record (changed self.old (AddClause (numbers_of clause.entry))) {
           counts = with_clause self.old.counts;
           kept_long = self.new.kept_long;
         }) }
-        ensures refused { MatchOption (refusal_of self.old.formula (AddClause (numbers_of clause)))
+        ensures refused { MatchOption (refusal_of self.old.formula (AddClause (numbers_of clause.entry)))
             (IsOkUnless result FrameRefusal.NoMemory) (λ e. result ≡ Err e) }
         ensures stays { IfErr result (λ e. e ≢ FrameRefusal.NoMemory → self.new ≡ self.old) }
         ensures err { OnErr result (self.new ≡ record self.old { kept_long = self.new.kept_long }) }

@@ -99,10 +99,10 @@ pub(crate) enum Given<'a> {
 fn accept(frames: &mut Frames, clause: Given<'_>) -> Result<(), FrameRefusal>
     requires { MayBeGiven frames.old.formula.scopes clause }
     ensures ok { OnOk result (frames.new ≡ record {
-      formula = formula_after frames.old.formula (AddClause (numbers_of clause));
+      formula = formula_after frames.old.formula (AddClause (numbers_of clause.entry));
       before = Some frames.old.formula;
     }) }
-    ensures refused { MatchOption (refusal_of frames.old.formula (AddClause (numbers_of clause)))
+    ensures refused { MatchOption (refusal_of frames.old.formula (AddClause (numbers_of clause.entry)))
         (IsOkUnless result FrameRefusal.NoMemory) (λ e. result ≡ Err e) }
     ensures err { OnErr result (frames.new ≡ frames.old) }
 {
@@ -122,8 +122,8 @@ pub(crate) fn put_clause(
     requires tied { AreTied frames.old.formula search.old }
     requires given { MayBeGiven frames.old.formula.scopes clause }
     ensures ok { OnOk result (frames.new.formula
-        ≡ formula_after frames.old.formula (AddClause (numbers_of clause))) }
-    ensures refused { MatchOption (refusal_of frames.old.formula (AddClause (numbers_of clause)))
+        ≡ formula_after frames.old.formula (AddClause (numbers_of clause.entry))) }
+    ensures refused { MatchOption (refusal_of frames.old.formula (AddClause (numbers_of clause.entry)))
         (IsOkUnless result FrameRefusal.NoMemory) (λ e. result ≡ Err e) }
     ensures err { OnErr result (frames.new.formula ≡ frames.old.formula) }
     ensures stays { IfErr result (λ e. e ≢ FrameRefusal.NoMemory → search.new ≡ search.old) }

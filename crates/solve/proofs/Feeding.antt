@@ -5,7 +5,7 @@ use Rattle.std.specs.Option.{option_map}
 use Rattle.std.specs.List.{AllByRecursion, list_all}
 use Rattle.std.proofs.lemmas.Bool.{eqb-true, ne_eqb, or_right}
 use Rattle.std.proofs.lemmas.Bool.Decides.{nat_tests}
-use Rattle.std.proofs.lemmas.List.{append-nil, append_assoc, length-take-le, take_more}
+use Rattle.std.proofs.lemmas.List.{append-nil, append_assoc, get_or_at, length-take-le, take_at, take_more}
 use Rattle.prefix.specs.declared.quant.Quant.{Quant}
 use Rattle.prefix.specs.Literal.{Literal}
 use Rattle.prefix.specs.Scopes.{Scope, all_variables, insert_ascending, is_among, level_of, quantifier_at, variables_at, with_variable_at, AreDistinct, IsAscending, IsPrefix}
@@ -25,7 +25,7 @@ use Rattle.qdimacs.specs.Kept.{AreNew}
 use Rattle.qdimacs.proofs.Fitting.{distinct_apart, distinct_parts}
 use Rattle.qdimacs.proofs.Building.{among_get, last_none, scope_last, taken_new, variable_last}
 use Rattle.solve.specs.Feeding.{HoldsFormula, formula_with}
-use Rattle.solve.proofs.Numbers.{amount, known_in, no_tautology, numbers, positive_in, same_row}
+use Rattle.frames.proofs.Numbers.{amount, known_in, no_tautology, numbers, positive_in, same_row}
 
 -- Clauses.
 
@@ -67,6 +67,34 @@ literals_before (x ∷ xs) (suc i) d low = omega (
       (flat_map (λ row. row) (take i xs)),
   literals_before xs i d (omega arith),
 )
+
+-- one clause more of those that move in
+pub front_is : (xs ys all : List (List Literal)) → xs ++ ys ≡ all → take (length xs) all ≡ xs
+front_is xs ys all e = ap (take (length xs)) (sym e) ∙ take_at xs ys (length xs) refl
+
+pub next_is : (xs : List (List Literal)) (y : List Literal) (ys all : List (List Literal)) → xs ++ y ∷ ys ≡ all
+    → (length xs < length all) × (y ≡ get_or all (length xs) y)
+next_is xs y ys all e = (
+  subst (λ zs. length xs < length zs) e (omega (arith, length-append xs (y ∷ ys))),
+  sym (ap (λ zs. get_or zs (length xs) y) (sym e) ∙ get_or_at xs y ys y (length xs) refl),
+)
+
+pub more_is : (xs : List (List Literal)) (y : List Literal) (ys all : List (List Literal)) → xs ++ y ∷ ys ≡ all
+    → (xs ++ y ∷ []) ++ ys ≡ all
+more_is xs y ys all e = append_assoc xs (y ∷ []) ys ∙ e
+
+pub next_front : (xs : List (List Literal)) (y : List Literal) (ys all : List (List Literal)) → xs ++ y ∷ ys ≡ all
+    → take (length xs + 1) all ≡ xs ++ y ∷ []
+next_front xs y ys all e =
+    let long : length (xs ++ y ∷ []) ≡ length xs + 1 = length-append xs (y ∷ []) in
+    ap (take (length xs + 1)) (sym (more_is xs y ys all e)) ∙ take_at (xs ++ y ∷ []) ys (length xs + 1) long
+
+none_left : (ys : List (List Literal)) → length ys ≡ 0 → ys ≡ []
+none_left [] e = refl
+none_left (y ∷ ys) e = absurd (omega (arith, e))
+
+pub all_given : (xs ys all : List (List Literal)) → length ys ≡ 0 → xs ++ ys ≡ all → xs ≡ all
+all_given xs ys all none e = sym (append-nil xs) ∙ (ap (λ zs. xs ++ zs) (sym (none_left ys none)) ∙ e)
 
 -- Scopes.
 
@@ -144,28 +172,29 @@ only_memory o r none h = subst (λ p. MatchOption p (IsOkUnless r NoMemory) (λ 
 -- one more clause of many
 module _ (scopes : List Scope) (clauses : List (List Literal)) (valid : IsPrefix scopes)
     (over : AllByRecursion (IsClauseOver scopes) clauses) (i : ℕ) (low : i < length clauses) (row : List Literal)
-    (is : row ≡ get_or clauses i row) (ns : List ℤ) (as_numbers : ns ≡ numbers row) where
-  this_over : IsClauseOver scopes row
+    (is : row ≡ get_or clauses i row) where
+  pub this_over : IsClauseOver scopes row
   this_over = subst (IsClauseOver scopes) (sym is) (all_at (IsClauseOver scopes) clauses i row low over)
 
   pub clause_memory : (e : EngineState) → HoldsFormula scopes (take i clauses) e → length clauses ≤ max_clauses
-      → literals_in clauses ≤ max_literals → refusal_of e.formula (AddClause ns) ≡ None
+      → literals_in clauses ≤ max_literals → refusal_of e.formula (AddClause (numbers row)) ≡ None
   clause_memory e holds count few =
       let long : length (take i clauses) ≡ i = length-take-le i clauses (omega (arith, low)) in
       let before : literals_in (take i clauses) + length row ≤ literals_in clauses =
       subst (λ r. literals_in (take i clauses) + length r ≤ literals_in clauses) (sym is)
       (literals_before clauses i row low) in
-      ap (λ f. refusal_of f (AddClause ns)) holds.formula
-      ∙ ap (λ m. refusal_of (formula_with scopes (take i clauses)) (AddClause m)) as_numbers
+      ap (λ f. refusal_of f (AddClause (numbers row))) holds.formula
       ∙ clause_taken scopes (take i clauses) row valid this_over (omega (arith, long, low, count))
       (omega (arith, before, few))
 
   pub clause_fed : (old new : EngineState) → HoldsFormula scopes (take i clauses) old
-      → new ≡ record (changed old (AddClause ns)) { counts = with_clause old.counts; kept_long = new.kept_long }
+      → new ≡ record (changed old (AddClause (numbers row))) {
+        counts = with_clause old.counts;
+        kept_long = new.kept_long;
+      }
       → HoldsFormula scopes (take (i + 1) clauses) new
   clause_fed old new holds is_new = record {
-    formula = ap (λ (e : EngineState). e.formula) is_new ∙ ap (λ f. formula_after f (AddClause ns)) holds.formula
-        ∙ ap (λ m. formula_after (formula_with scopes (take i clauses)) (AddClause m)) as_numbers
+    formula = ap (λ (e : EngineState). e.formula) is_new ∙ ap (λ f. formula_after f (AddClause (numbers row))) holds.formula
         ∙ clause_given scopes (take i clauses) row valid this_over ∙ ap (λ rows. formula_with scopes rows)
         (ap (λ r. take i clauses ++ r ∷ []) is ∙ sym (take_more clauses i row low));
     undecided = ap (λ (e : EngineState). e.verdict) is_new;

@@ -1,4 +1,4 @@
-use Rattle.std.proofs.Common.{◌≡◌, ◌∙◌, ◌++◌, ◌∷◌, [], ap, ap₂, sym, List}
+use Rattle.std.proofs.Common.{◌≡◌, ◌∙◌, ◌++◌, ◌∷◌, [], ap₂, sym, List}
 use Rattle.cores.specs.Cores.{Group as Part}
 use Rattle.engine.proofs.Coring.{left_out, part_of, put_behind, same_part}
 use Rattle.engine.proofs.group_core.active_parts.Goals as goal

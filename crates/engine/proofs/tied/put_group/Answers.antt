@@ -1,4 +1,4 @@
-use Rattle.std.proofs.Common.{◌≡◌, ℕ, sym, ◌∙◌, subst}
+use Rattle.std.proofs.Common.{ℕ, sym, ◌∙◌, subst}
 use Rattle.derive.specs.State.{clauses_of}
 use Rattle.search.specs.Changing.{AddsClauses}
 use Rattle.search.specs.State.{IsResting}

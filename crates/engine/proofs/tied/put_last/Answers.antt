@@ -1,7 +1,6 @@
-use Rattle.std.proofs.Common.{◌≡◌, Option, Some, None, refl, sym, ap, ◌∙◌, subst}
+use Rattle.std.proofs.Common.{sym, ◌∙◌, subst}
 use Rattle.std.specs.Prelude.{IfSome}
 use Rattle.frames.specs.State.{OpenFormula}
-use Rattle.calculus.specs.Rows.{IsRow}
 use Rattle.derive.specs.State.{clauses_of}
 use Rattle.search.specs.Changing.{AddsClause}
 use Rattle.search.specs.Moves.{SameSteps}

@@ -1,4 +1,4 @@
-use Rattle.std.proofs.Common.{◌≡◌, ◌<◌, [], ◌∷◌, Some, refl, arith}
+use Rattle.std.proofs.Common.{◌≡◌, ◌<◌, [], ◌∷◌, Some, arith}
 use Rattle.calculus.specs.Derivations.Why.{Given}
 use Rattle.calculus.specs.Worked.{minus, plus}
 use Rattle.derive.specs.State.{State}

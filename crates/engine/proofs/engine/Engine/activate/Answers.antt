@@ -1,9 +1,8 @@
-use Rattle.std.proofs.Common.{◌≡◌, ◌≤◌, ◌∙◌, ap, ap₂, arith, subst, sym, Option, option_map}
+use Rattle.std.proofs.Common.{◌≡◌, ◌∙◌, ap, arith, subst, sym, Option}
 use Rattle.std.proofs.lemmas.Result.{err_from_is_err_and}
 use Rattle.clean.specs.Turns.{reductions_in}
 use Rattle.frames.specs.Commands.{Activate, formula_after, refusal_of}
 use Rattle.frames.specs.State.{FramesState, settled}
-use Rattle.frames.specs.Fold.{returning}
 use Rattle.search.specs.Counting.{size_of}
 use Rattle.search.proofs.Reducing.{reductions_same}
 use Rattle.engine.specs.declared.counts.Counts.{Counts}

@@ -1,4 +1,4 @@
-use Rattle.std.proofs.Common.{◌≡◌, ℕ, ap, arith, sym, subst, ◌∙◌}
+use Rattle.std.proofs.Common.{◌≡◌, arith, sym, subst}
 use Rattle.frames.specs.Commands.{Deactivate, formula_after, refusal_of}
 use Rattle.frames.specs.State.{FramesState, settled}
 use Rattle.engine.proofs.Changing.{turned}
