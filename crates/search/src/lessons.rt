@@ -109,8 +109,7 @@ impl Search {
         let front = self.trail.len_to(0);
         self.decider.undoing(&self.trail, prefix, front);
         self.trail.restart();
-        self.clauses.undone(front);
-        self.cubes.undone(front);
+        self.watches.undone(front);
     }
 
     // What a bad row of a side teaches.
@@ -188,8 +187,7 @@ impl Search {
         let keep = self.trail.len_to(level);
         self.decider.undoing(&self.trail, prefix, keep);
         self.trail.undo_to(level);
-        self.clauses.undone(keep);
-        self.cubes.undone(keep);
+        self.watches.undone(keep);
     }
 
     // Assigns the literal that a unit row of a side asks for; the row is its reason.

@@ -21,7 +21,6 @@ ghost use Rattle.search.specs.Watching.{Looks};
 
 use crate::outcome::{EndRow, Found};
 use crate::search::Search;
-use crate::watching::next_of;
 use cover::cover;
 use derive::StepId;
 use matrix::Matrix;
@@ -64,10 +63,10 @@ impl Search {
         ensures looks { Looks prefix.now self.old self.new }
         ensures found { IsFound prefix.now self.new result }
     {
-        match self.next_clause(prefix) {
+        match self.next_at(prefix, Quant::Exists) {
             Event::Unit(id, lit) => Found::Unit(Quant::Exists, id, lit),
             Event::Bad(id) => Found::Bad(Quant::Exists, id),
-            Event::Quiet => match self.next_cube(prefix) {
+            Event::Quiet => match self.next_at(prefix, Quant::Forall) {
                 Event::Unit(id, lit) => Found::Unit(Quant::Forall, id, lit),
                 Event::Bad(id) => Found::Bad(Quant::Forall, id),
                 Event::Quiet => Found::Quiet,
@@ -75,22 +74,14 @@ impl Search {
         }
     }
 
-    // What the watch of clauses finds.
-    fn next_clause(&mut self, prefix: &Prefix) -> Event
+    // What the watch of a side finds.
+    fn next_at(&mut self, prefix: &Prefix, side: Quant) -> Event
         requires searching { IsSearching prefix.now self.old }
         ensures looks { Looks prefix.now self.old self.new }
-        ensures event { IsEvent exists prefix.now (value_on self.new.trail.placed) (rows_of self.new) result }
+        ensures event { IsEvent side prefix.now (value_on self.new.trail.placed) (rows_of self.new) result }
     {
-        next_of(&mut self.clauses, &mut self.derivation, &self.trail, prefix)
-    }
-
-    // What the watch of cubes finds.
-    fn next_cube(&mut self, prefix: &Prefix) -> Event
-        requires searching { IsSearching prefix.now self.old }
-        ensures looks { Looks prefix.now self.old self.new }
-        ensures event { IsEvent forall prefix.now (value_on self.new.trail.placed) (rows_of self.new) result }
-    {
-        next_of(&mut self.cubes, &mut self.derivation, &self.trail, prefix)
+        self.watches
+            .next(side, &mut self.derivation, &self.trail, prefix)
     }
 
     // A turn where the watches are quiet: a variable is decided, or a solution teaches.
