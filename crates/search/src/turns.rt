@@ -1,5 +1,5 @@
 //! The turns of a search.
-ghost use Rattle.std.specs.Prelude.{◌≡◌, ◌-◌, ◌+◌, ◌*◌, ◌<◌, ◌≤◌, ℕ, IfOk, IfSome, OnOk, OnErr, Ok, Err, None, List};
+ghost use Rattle.std.specs.Prelude.{◌≡◌, ◌-◌, ◌+◌, ◌*◌, ◌<◌, ◌≤◌, ℕ, IfOk, OnOk, Ok, Err, None, List};
 ghost use Rattle.prefix.specs.Literal.{Literal};
 ghost use Rattle.prefix.specs.declared.quant.Quant.{Quant as Q};
 ghost use Rattle.prefix.specs.declared.quant.Quant.TheVariants.{Exists as exists, Forall as forall};
@@ -12,11 +12,10 @@ ghost use Rattle.derive.specs.State.{clauses_of, row_of};
 ghost use Rattle.watch.specs.Events.{AreQuiet, IsEvent};
 ghost use Rattle.clean.specs.Reasons.{IsReducedStep};
 ghost use Rattle.search.specs.State.{IsSearching, rows_of};
-ghost use Rattle.search.specs.Counting.{ReducesFew, size_of};
-ghost use Rattle.search.specs.Forgetting.{HasFewLong};
+ghost use Rattle.search.specs.Counting.{size_of};
 ghost use Rattle.search.specs.Forcing.{IsRefuting};
 ghost use Rattle.search.specs.Parts.{GoesOn, StopsWhenDue};
-ghost use Rattle.search.specs.Moves.{Advances, Covers, Ends, Halts, IsFound, IsMatrix, SameSteps, WasDue};
+ghost use Rattle.search.specs.Moves.{Covers, IsFound, IsMatrix, SameSteps};
 ghost use Rattle.search.specs.Watching.{Looks};
 
 use crate::outcome::{EndRow, Found};
