@@ -28,10 +28,14 @@ pub record SearchState : Type 0 where
   pub joined : Bool
   pub long : ℕ
 
+-- that of a side, of the watches of clauses and of cubes
+abbrev pub of_side : Quant → WatchState → WatchState → WatchState
+of_side Exists clauses cubes = clauses
+of_side Forall clauses cubes = cubes
+
 -- the watch of a side
 abbrev pub watch_of : Quant → SearchState → WatchState
-watch_of Exists s = s.clauses
-watch_of Forall s = s.cubes
+watch_of side s = of_side side s.clauses s.cubes
 
 -- the rows of the derivation
 abbrev pub rows_of : SearchState → Arena

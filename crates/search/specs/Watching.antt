@@ -6,9 +6,18 @@ use Rattle.rows.specs.Arena.{Arena, is_live as is_stored, link_at, literals_at, 
 use Rattle.derive.specs.State.{State, IsLegalFor, arena_of, is_live}
 use Rattle.derive.specs.Dropping.{Falls, StepTest}
 use Rattle.watch.specs.Links.{is_attached}
-use Rattle.watch.specs.State.{AgreesOn}
+use Rattle.watch.specs.State.{AgreesOn, WatchState}
 use Rattle.search.specs.Moves.{SameSteps}
-use Rattle.search.specs.State.{IsAttached, IsIntact, IsSearching, IsTallied, SearchState, rows_of}
+use Rattle.search.specs.State.{IsAttached, IsIntact, IsSearching, IsTallied, SearchState, of_side, rows_of}
+use Rattle.search.specs.declared.watching.Watches.{Watches}
+
+-- the watch of a side
+abbrev pub watch_at : Quant → Watches → WatchState
+watch_at side w = of_side side w.clauses w.cubes
+
+-- the watches of other sides are as they were
+abbrev pub SameElsewhere : Quant → Watches → Watches → Type 0
+SameElsewhere side old new = (other : Quant) → side ≢ other → watch_at other new ≡ watch_at other old
 
 -- each row is attached as it was
 abbrev pub KeepsMarks : Arena → Arena → Type 0

@@ -13,10 +13,9 @@ ghost use Rattle.search.specs.Watching.{Joins, JoinsAll, Keeps, Parts};
 
 use crate::forgetting::{MOST, is_long};
 use crate::search::Search;
-use crate::watching::{attach_to, detach_from, has_row};
 use derive::{Derivation, StepId};
 use memory::NoMemory;
-use prefix::{Prefix, Quant};
+use prefix::Prefix;
 
 impl Search {
     // Attaches a row to watch to the watch of its side, unless it is attached.
@@ -27,22 +26,9 @@ impl Search {
         ensures joins { Joins prefix.now self.old self.new id }
         ensures long { self.new.long ≡ self.old.long }
     {
-        match self.derivation.side(id) {
-            Quant::Exists => attach_to(
-                &mut self.clauses,
-                &mut self.derivation,
-                &self.trail,
-                prefix,
-                id,
-            ),
-            Quant::Forall => attach_to(
-                &mut self.cubes,
-                &mut self.derivation,
-                &self.trail,
-                prefix,
-                id,
-            ),
-        }
+        let side = self.derivation.side(id);
+        self.watches
+            .attach(side, &mut self.derivation, &self.trail, prefix, id);
     }
 
     // Detaches a row to watch from the watch of its side, if it is attached.
@@ -52,10 +38,8 @@ impl Search {
         ensures parts { Parts self.old self.new id }
         ensures long { self.new.long ≡ self.old.long }
     {
-        match self.derivation.side(id) {
-            Quant::Exists => detach_from(&mut self.clauses, &mut self.derivation, id),
-            Quant::Forall => detach_from(&mut self.cubes, &mut self.derivation, id),
-        }
+        let side = self.derivation.side(id);
+        self.watches.detach(side, &mut self.derivation, id);
     }
 
     // Attaches a row to watch, unless it is attached, and counts it where it is a long learned one.
@@ -217,10 +201,8 @@ impl Search {
         ensures same { self.new ≡ self.old }
         ensures has { result ≡ is_attached (side_at self.old.derivation row) (rows_of self.old) row }
     {
-        match self.derivation.side(row) {
-            Quant::Exists => has_row(&self.clauses, &mut self.derivation, row),
-            Quant::Forall => has_row(&self.cubes, &mut self.derivation, row),
-        }
+        let side = self.derivation.side(row);
+        self.watches.has(side, &mut self.derivation, row)
     }
 }
 

@@ -42,8 +42,8 @@ impl Search {
         ensures older { KeepsOlder self.old.derivation self.new.derivation }
     {
         let vars = v.number() as usize;
-        self.clauses.reserve(vars)?;
-        self.cubes.reserve(vars)?;
+        self.watches.clauses.reserve(vars)?;
+        self.watches.cubes.reserve(vars)?;
         self.decider.reserve(vars)?;
         self.trail.reserve(vars)?;
         Ok(())
@@ -54,7 +54,7 @@ impl Search {
         ensures { result ≡ room_of self.now }
     {
         let kept = self.trail.room().min(self.decider.room());
-        kept.min(self.clauses.room().min(self.cubes.room()))
+        kept.min(self.watches.room())
     }
 
     /// Puts in a clause of a frame, with its reduction where something goes; the initial cubes that hold no literal of

@@ -1,5 +1,5 @@
 //! What bad rows teach, and what is done about it.
-ghost use Rattle.std.specs.Prelude.{◌≡◌, ◌≢◌, ◌≤◌, ◌<◌, ◌+◌, ◌-◌, ◌*◌, ◌^◌, ℕ, IsTrue, IfOk, IfSome, OnOk, OnErr, Ok, Err, None, length, List};
+ghost use Rattle.std.specs.Prelude.{◌≡◌, ◌≢◌, ◌≤◌, ◌<◌, ◌+◌, ◌-◌, ◌*◌, ◌^◌, ℕ, IsTrue, IfOk, OnOk, OnErr, Ok, Err, None, length, List};
 ghost use Rattle.prefix.specs.Literal.{Literal};
 ghost use Rattle.prefix.specs.declared.quant.Quant.{Quant as Q};
 ghost use Rattle.steps.specs.Counter.{Counter, left};
@@ -15,11 +15,10 @@ ghost use Rattle.clean.specs.Reasons.{HaveReasons, IsReducedStep};
 ghost use Rattle.clean.specs.Marks.{CleansReasons, KeepsReasons, StopsCleaning, marks_left};
 ghost use Rattle.clean.specs.Turns.{reductions_in};
 ghost use Rattle.analyse.specs.Lessons.{IsLesson, NeedsResolution};
-ghost use Rattle.search.specs.Forgetting.{HasFewLong};
 ghost use Rattle.search.specs.State.{IsSearching};
-ghost use Rattle.search.specs.Counting.{ReducesFew, lesson_cost, size_of};
+ghost use Rattle.search.specs.Counting.{lesson_cost, size_of};
 ghost use Rattle.search.specs.Parts.{GoesOn, StopsWhenDue};
-ghost use Rattle.search.specs.Moves.{Advances, Analyses, BeginsAnew, Ends, Halts, Pushes, Undoes, WasDue};
+ghost use Rattle.search.specs.Moves.{Advances, Analyses, BeginsAnew, Halts, Pushes, Undoes, WasDue};
 
 use crate::outcome::EndRow;
 use crate::search::{LESSONS, Search};
@@ -109,8 +108,7 @@ impl Search {
         let front = self.trail.len_to(0);
         self.decider.undoing(&self.trail, prefix, front);
         self.trail.restart();
-        self.clauses.undone(front);
-        self.cubes.undone(front);
+        self.watches.undone(front);
     }
 
     // What a bad row of a side teaches.
@@ -188,8 +186,7 @@ impl Search {
         let keep = self.trail.len_to(level);
         self.decider.undoing(&self.trail, prefix, keep);
         self.trail.undo_to(level);
-        self.clauses.undone(keep);
-        self.cubes.undone(keep);
+        self.watches.undone(keep);
     }
 
     // Assigns the literal that a unit row of a side asks for; the row is its reason.

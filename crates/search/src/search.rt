@@ -5,13 +5,12 @@ ghost use Rattle.clean.specs.Turns.{reductions_in};
 ghost use Rattle.search.specs.Finishes.{HasNoFinish};
 ghost use Rattle.search.specs.State.{IsResting};
 
+use crate::watching::Watches;
 use decide::Decider;
 use derive::{Derivation, StepId};
-use prefix::{Clauses, Cubes};
 use std::alloc::Global;
 use std::marker::Model;
 use trail::Trail;
-use watch::Watch;
 
 // A restart is due with each such lesson of a solve.
 pub(crate) const LESSONS: u8 = 64;
@@ -26,8 +25,7 @@ pub(crate) const LESSONS: u8 = 64;
 pub struct Search {
     pub(crate) derivation: Derivation,
     pub(crate) trail: Trail,
-    pub(crate) clauses: Watch<Clauses>,
-    pub(crate) cubes: Watch<Cubes>,
+    pub(crate) watches: Watches,
     pub(crate) decider: Decider,
     // The ids of the rows to watch. Those of steps that were dropped go once the list has grown by a quarter.
     pub(crate) watched: Vec<StepId>,
@@ -53,8 +51,8 @@ impl Model for Search {
     ghost view = { λ s. record {
       derivation = s.derivation;
       trail = s.trail;
-      clauses = s.clauses;
-      cubes = s.cubes;
+      clauses = s.watches.clauses;
+      cubes = s.watches.cubes;
       signs = s.decider;
       watched = s.watched.items;
       joined = s.joined;
@@ -74,8 +72,7 @@ impl Search {
         Self {
             derivation: Derivation::new(alloc),
             trail: Trail::new(alloc),
-            clauses: Watch::new(alloc),
-            cubes: Watch::new(alloc),
+            watches: Watches::new(alloc),
             decider: Decider::new(alloc),
             watched: Vec::new(alloc),
             joined: true,

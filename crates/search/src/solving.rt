@@ -271,8 +271,7 @@ impl Search {
     {
         self.decider.undoing(&self.trail, prefix, 0);
         self.trail.clear();
-        self.clauses.undone(0);
-        self.cubes.undone(0);
+        self.watches.undone(0);
         self.joined = true;
         self.lessons_left = LESSONS;
         self.was_quiet = false;
@@ -292,8 +291,7 @@ impl Search {
     {
         self.decider.undoing(&self.trail, prefix, 0);
         let stopped = self.trail.stop(prefix, steps);
-        self.clauses.undone(0);
-        self.cubes.undone(0);
+        self.watches.undone(0);
         self.joined = true;
         self.lessons_left = LESSONS;
         self.was_quiet = false;

@@ -1,5 +1,5 @@
 //! The turns of a search.
-ghost use Rattle.std.specs.Prelude.{◌≡◌, ◌-◌, ◌+◌, ◌*◌, ◌<◌, ◌≤◌, ℕ, IfOk, IfSome, OnOk, OnErr, Ok, Err, None, List};
+ghost use Rattle.std.specs.Prelude.{◌≡◌, ◌-◌, ◌+◌, ◌*◌, ◌<◌, ◌≤◌, ℕ, IfOk, OnOk, Ok, Err, None, List};
 ghost use Rattle.prefix.specs.Literal.{Literal};
 ghost use Rattle.prefix.specs.declared.quant.Quant.{Quant as Q};
 ghost use Rattle.prefix.specs.declared.quant.Quant.TheVariants.{Exists as exists, Forall as forall};
@@ -12,16 +12,14 @@ ghost use Rattle.derive.specs.State.{clauses_of, row_of};
 ghost use Rattle.watch.specs.Events.{AreQuiet, IsEvent};
 ghost use Rattle.clean.specs.Reasons.{IsReducedStep};
 ghost use Rattle.search.specs.State.{IsSearching, rows_of};
-ghost use Rattle.search.specs.Counting.{ReducesFew, size_of};
-ghost use Rattle.search.specs.Forgetting.{HasFewLong};
+ghost use Rattle.search.specs.Counting.{size_of};
 ghost use Rattle.search.specs.Forcing.{IsRefuting};
 ghost use Rattle.search.specs.Parts.{GoesOn, StopsWhenDue};
-ghost use Rattle.search.specs.Moves.{Advances, Covers, Ends, Halts, IsFound, IsMatrix, SameSteps, WasDue};
+ghost use Rattle.search.specs.Moves.{Covers, IsFound, IsMatrix, SameSteps};
 ghost use Rattle.search.specs.Watching.{Looks};
 
 use crate::outcome::{EndRow, Found};
 use crate::search::Search;
-use crate::watching::next_of;
 use cover::cover;
 use derive::StepId;
 use matrix::Matrix;
@@ -64,10 +62,10 @@ impl Search {
         ensures looks { Looks prefix.now self.old self.new }
         ensures found { IsFound prefix.now self.new result }
     {
-        match self.next_clause(prefix) {
+        match self.next_at(prefix, Quant::Exists) {
             Event::Unit(id, lit) => Found::Unit(Quant::Exists, id, lit),
             Event::Bad(id) => Found::Bad(Quant::Exists, id),
-            Event::Quiet => match self.next_cube(prefix) {
+            Event::Quiet => match self.next_at(prefix, Quant::Forall) {
                 Event::Unit(id, lit) => Found::Unit(Quant::Forall, id, lit),
                 Event::Bad(id) => Found::Bad(Quant::Forall, id),
                 Event::Quiet => Found::Quiet,
@@ -75,22 +73,14 @@ impl Search {
         }
     }
 
-    // What the watch of clauses finds.
-    fn next_clause(&mut self, prefix: &Prefix) -> Event
+    // What the watch of a side finds.
+    fn next_at(&mut self, prefix: &Prefix, side: Quant) -> Event
         requires searching { IsSearching prefix.now self.old }
         ensures looks { Looks prefix.now self.old self.new }
-        ensures event { IsEvent exists prefix.now (value_on self.new.trail.placed) (rows_of self.new) result }
+        ensures event { IsEvent side prefix.now (value_on self.new.trail.placed) (rows_of self.new) result }
     {
-        next_of(&mut self.clauses, &mut self.derivation, &self.trail, prefix)
-    }
-
-    // What the watch of cubes finds.
-    fn next_cube(&mut self, prefix: &Prefix) -> Event
-        requires searching { IsSearching prefix.now self.old }
-        ensures looks { Looks prefix.now self.old self.new }
-        ensures event { IsEvent forall prefix.now (value_on self.new.trail.placed) (rows_of self.new) result }
-    {
-        next_of(&mut self.cubes, &mut self.derivation, &self.trail, prefix)
+        self.watches
+            .next(side, &mut self.derivation, &self.trail, prefix)
     }
 
     // A turn where the watches are quiet: a variable is decided, or a solution teaches.

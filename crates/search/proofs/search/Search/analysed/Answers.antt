@@ -21,8 +21,8 @@ old c = record {
   derivation = c.self.inside.derivation;
   trail = c.self.inside.trail;
   clauses =
-      c.self.inside.clauses;
-  cubes = c.self.inside.cubes;
+      c.self.inside.watches.clauses;
+  cubes = c.self.inside.watches.cubes;
   signs = c.self.inside.decider;
   watched =
       c.self.inside.watched.items;
@@ -35,8 +35,8 @@ new c = record {
   derivation = c.lesson_of-lesson.new.derivation;
   trail = c.lesson_of-lesson.new.trail;
   clauses =
-      c.self.inside.clauses;
-  cubes = c.self.inside.cubes;
+      c.self.inside.watches.clauses;
+  cubes = c.self.inside.watches.cubes;
   signs = c.bump_resolved.new.decider;
   watched =
       c.self.inside.watched.items;

@@ -12,8 +12,9 @@ returns c =
     let e = c.self.view_is in
     anew c.args.prefix.now c.len_to-front.result s _ holding_laws looking_laws
     c.requires.searching c.requires.below
-    (cut_changes _ s c.restart.new.self c.len_to-front.result c.undone.new.self c.undone-2.new.self c.undoing.new.self
-    e c.restart.ensures.room c.undone.ensures c.undone-2.ensures
+    (cut_changes _ s c.restart.new.self c.len_to-front.result c.undone.new.self.clauses c.undone.new.self.cubes
+    c.undoing.new.self
+    e c.restart.ensures.room c.undone.ensures.clauses c.undone.ensures.cubes
     (ap length c.undoing.ensures
     ∙ saved_length (drop c.len_to-front.result (literals_on c.self.inside.trail.placed)) c.self.inside.decider)
     c.self.inside.joined)

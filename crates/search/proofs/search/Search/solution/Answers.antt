@@ -31,9 +31,9 @@ with_derivation c d =
     record {
       derivation = d;
       trail = c.self.inside.trail;
-      clauses = c.self.inside.clauses;
+      clauses = c.self.inside.watches.clauses;
       cubes =
-          c.self.inside.cubes;
+          c.self.inside.watches.cubes;
       signs = c.self.inside.decider;
       watched = c.self.inside.watched.items;
       joined = c.self.inside.joined;

@@ -9,8 +9,9 @@ pub drop_finish-requires : goal.drop_finish-requires
 drop_finish-requires c =
     let is = c.stop-stopped.ensures.cleared in
     rests c.args.prefix.now c.args.self.now _ holding_laws looking_laws c.requires.paused
-    (cut_changes _ c.args.self.now c.stop-stopped.new.self 0 c.undone.new.self c.undone-2.new.self c.undoing.new.self
-    c.self.view_is (ap (λ (t : TrailState). t.room) is) c.undone.ensures c.undone-2.ensures
+    (cut_changes _ c.args.self.now c.stop-stopped.new.self 0 c.undone.new.self.clauses c.undone.new.self.cubes
+    c.undoing.new.self
+    c.self.view_is (ap (λ (t : TrailState). t.room) is) c.undone.ensures.clauses c.undone.ensures.cubes
     (ap length c.undoing.ensures
     ∙ saved_length (drop 0 (literals_on c.self.inside.trail.placed)) c.self.inside.decider) true)
     (record {

@@ -12,8 +12,9 @@ returns c =
     let e = c.self.view_is in
     undoes c.args.prefix.now c.args.level c.len_to-keep.result s _ holding_laws looking_laws
     c.requires.searching c.requires.below
-    (cut_changes _ s c.undo_to.new.self c.len_to-keep.result c.undone.new.self c.undone-2.new.self c.undoing.new.self
-    e c.undo_to.ensures.room c.undone.ensures c.undone-2.ensures
+    (cut_changes _ s c.undo_to.new.self c.len_to-keep.result c.undone.new.self.clauses c.undone.new.self.cubes
+    c.undoing.new.self
+    e c.undo_to.ensures.room c.undone.ensures.clauses c.undone.ensures.cubes
     (ap length c.undoing.ensures
     ∙ saved_length (drop c.len_to-keep.result (literals_on c.self.inside.trail.placed)) c.self.inside.decider)
     c.self.inside.joined)
