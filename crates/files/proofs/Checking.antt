@@ -49,7 +49,7 @@ use Rattle.solve.specs.Answers.{IsAnswerTo}
 use Rattle.files.specs.Solve.{IsEnding}
 use Rattle.solve.specs.Standing.{IsWitness, Standing}
 use Rattle.solve.specs.Holding.{Holds}
-use Rattle.solve.specs.Stops.{AddsEntry, IsStopAt}
+use Rattle.solve.specs.Entries.{AddsEntry, IsStopAt}
 use Rattle.solve.specs.Terms.{Terms}
 use Rattle.solve.proofs.Answering.{decided, rows_open}
 use Rattle.solve.proofs.Written.{flushed_kept, front_all, some_map}

@@ -32,7 +32,7 @@ use Rattle.solve.specs.Answers.{answer_line}
 use Rattle.solve.specs.Endings.{IsDone}
 use Rattle.files.specs.Solve.{IsEnding, Solves}
 use Rattle.solve.specs.Standing.{IsWitness, Standing}
-use Rattle.solve.specs.Stops.{AddsEntry, IsStopAt}
+use Rattle.solve.specs.Entries.{AddsEntry, IsStopAt}
 use Rattle.solve.proofs.Written.{flushed_kept, front_all, some_map}
 use Rattle.solve.specs.Terms.{Terms}
 use Rattle.solve.proofs.Answering.{Decided}

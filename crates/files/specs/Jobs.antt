@@ -29,7 +29,7 @@ use Rattle.solve.specs.Certificates.{IsCertificate}
 use Rattle.solve.specs.Answers.{IsAnswerTo, answer_line}
 use Rattle.files.specs.Solve.{OfAnswer}
 use Rattle.solve.specs.Standing.{IsWitness, Witness}
-use Rattle.solve.specs.Stops.{AddsEntry, IsStopAt}
+use Rattle.solve.specs.Entries.{AddsEntry, IsStopAt}
 use Rattle.solve.specs.Terms.{Terms}
 use Rattle.solve.specs.Decisions.{answer_with, unassumed}
 use Rattle.solve.specs.Feeding.{opened}

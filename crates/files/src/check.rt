@@ -18,7 +18,7 @@ ghost use Rattle.solve.specs.Feeding.{HoldsFormula};
 ghost use Rattle.files.specs.Inputs.Format.{as_formula};
 ghost use Rattle.solve.specs.Decisions.{answer_with};
 ghost use Rattle.files.specs.Solve.{IsEnding};
-ghost use Rattle.solve.specs.Stops.{AddsEntry, IsStopAt};
+ghost use Rattle.solve.specs.Entries.{AddsEntry, IsStopAt};
 ghost use Rattle.solve.specs.Terms.{Terms, terms_of};
 
 use crate::file::whole_circuit;
