@@ -7,7 +7,7 @@ use Rattle.reading.specs.declared.refusal.ReadRefusal.TheVariants.{Refused as Re
 use Rattle.solve.specs.Endings.{ending_for}
 use Rattle.solve.specs.Outside.{TakesInput}
 use Rattle.solve.specs.declared.ending.Ending.{Ending}
-use Rattle.solve.specs.declared.ending.Ending.TheVariants.{Refused, Limit, ReadFault, WriteFault, NoMemory}
+use Rattle.solve.specs.declared.ending.Ending.TheVariants.{ReadFault, WriteFault}
 
 -- the ending is a read fault only where the refusal is one
 pub refused_unread : {T U : Type 0} (e : ReadRefusal) → IsErrOf {T = T} (Err (ending_for e)) ReadFault
