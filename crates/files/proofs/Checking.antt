@@ -49,7 +49,8 @@ use Rattle.solve.specs.Answers.{IsAnswerTo}
 use Rattle.files.specs.Solve.{IsEnding}
 use Rattle.solve.specs.Standing.{IsWitness, Standing}
 use Rattle.solve.specs.Holding.{Holds}
-use Rattle.solve.specs.Stops.{AddsEntry, IsStopAt}
+use Rattle.solve.specs.Entries.{AddsEntry, IsStopAt}
+use Rattle.solve.specs.Outside.{SendsReply}
 use Rattle.solve.specs.Terms.{Terms}
 use Rattle.solve.proofs.Answering.{decided, rows_open}
 use Rattle.solve.proofs.Written.{flushed_kept, front_all, some_map}
@@ -326,7 +327,7 @@ module _ {S : Type 0} (written flushed : S → Option (List ℕ)) (faults : S �
     check_read (Err (CheckLimit quantity)) came is = came
     check_read (Err ReadFault) came is = came
 
-    pub check_counted : (r : Result Outcome Ending) → Came r
+    check_counted : (r : Result Outcome Ending) → Came r
         → IsCounted (IsErrOf r WriteFault) (IsOk r) (faults old) (faults new)
     check_counted (Ok outcome) came = record {
       later = let same = came.2.no_fault in omega arith;
@@ -346,7 +347,7 @@ module _ {S : Type 0} (written flushed : S → Option (List ℕ)) (faults : S �
     check_counted (Err (CheckLimit quantity)) came = absurd came
     check_counted (Err ReadFault) came = absurd came
 
-    pub check_room : (r : Result Outcome Ending) → Came r → RoomForCheck decide terms known (has_room old)
+    check_room : (r : Result Outcome Ending) → Came r → RoomForCheck decide terms known (has_room old)
         → IsErrOf r WriteFault → ⊥
     check_room (Ok outcome) came room is = absurd (cc)
     check_room (Err WriteFault) came room is =
@@ -377,7 +378,12 @@ module _ {S : Type 0} (written flushed : S → Option (List ℕ)) (faults : S �
     check_output (Err (CheckLimit quantity)) came = absurd came
     check_output (Err ReadFault) came = absurd came
 
-    pub check_flushed : (r : Result Outcome Ending) → Came r
+    check_flushed : (r : Result Outcome Ending) → Came r
         → OnOk r (AllFlushed (written new) (flushed old) (flushed new))
     check_flushed (Ok outcome) came = came.2.all_flushed
     check_flushed (Err e) came = tt
+
+    pub check_sends : (r : Result Outcome Ending) → Came r
+        → SendsReply written flushed faults (RoomForCheck decide terms known (has_room old)) old new r
+    check_sends r came =
+        record { counted = check_counted r came; fits = check_room r came; all_flushed = check_flushed r came }

@@ -24,7 +24,7 @@ use Rattle.files.specs.Endings.{IsUnread, ending_with}
 use Rattle.solve.specs.Feeding.{opened}
 use Rattle.files.specs.Inputs.{Says, format_of}
 use Rattle.solve.specs.Decisions.{IsAnsweredBy, answer_with, unassumed}
-use Rattle.files.specs.Jobs.{HasVerdictText, IsJobText, IsReplyTo, IsUntouched, IsVerdict, LeavesOutput, RepliesTo, RoomForJob, WritesJob, gates_for, solution_line, value_lines}
+use Rattle.files.specs.Jobs.{HasVerdictText, IsJobText, IsReplyTo, IsUntouched, HasVerdict, LeavesOutput, RepliesTo, RoomForJob, WritesJob, gates_for, solution_line, value_lines}
 use Rattle.solve.specs.Outputs.{Text}
 use Rattle.solve.specs.Traces.{IsTraceText}
 use Rattle.solve.specs.Certificates.{AllReached, Certifies, Denotes, gates_after}
@@ -32,8 +32,9 @@ use Rattle.solve.specs.Answers.{answer_line}
 use Rattle.solve.specs.Endings.{IsDone}
 use Rattle.files.specs.Solve.{IsEnding, Solves}
 use Rattle.solve.specs.Standing.{IsWitness, Standing}
-use Rattle.solve.specs.Stops.{AddsEntry, IsStopAt}
+use Rattle.solve.specs.Entries.{AddsEntry, IsStopAt}
 use Rattle.solve.proofs.Written.{flushed_kept, front_all, some_map}
+use Rattle.solve.specs.Outside.{SendsReply}
 use Rattle.solve.specs.Terms.{Terms}
 use Rattle.solve.proofs.Answering.{Decided}
 
@@ -99,18 +100,18 @@ solved terms f Unsat s is = record { witness = s.witness; is_witness = is.verdic
 solved terms f Unknown s is = refl
 
 -- an answer that isn't unknown is a verdict
-pub is_verdict : (a : Answer) → (a ≡ Unknown → ⊥) → IsVerdict a
+pub is_verdict : (a : Answer) → (a ≡ Unknown → ⊥) → HasVerdict a
 is_verdict Sat apart = tt
 is_verdict Unsat apart = tt
 is_verdict Unknown apart = absurd (apart refl)
 
 -- a verdict is the answer with a truth
-pub with_truth : (P : Answer → Type 0) → ((t : Bool) → P (answer_with t)) → (a : Answer) → IsVerdict a → P a
+pub with_truth : (P : Answer → Type 0) → ((t : Bool) → P (answer_with t)) → (a : Answer) → HasVerdict a → P a
 with_truth P each Sat there = each true
 with_truth P each Unsat there = each false
 with_truth P each Unknown there = absurd there
 
-pub is_told : (t : Bool) → IsVerdict (answer_with t)
+pub is_told : (t : Bool) → HasVerdict (answer_with t)
 is_told true = tt
 is_told false = tt
 
@@ -118,7 +119,7 @@ module _ {S : Type 0} (written flushed : S → Option (List ℕ)) (faults : S �
   -- the lines of a result are written, or a front of them before a fault
   pub result_sent : (terms : Terms) (f : Formula) (a : Answer) (s : Standing) (old new : S)
       (r : Result (Unit {0}) Failed)
-      → IsVerdict a → IsAnsweredBy f a s → ((truth : Bool) → s.script.formula ≡ opened f
+      → HasVerdict a → IsAnsweredBy f a s → ((truth : Bool) → s.script.formula ≡ opened f
       → s.script.verdict ≡ Some (unassumed truth) → a ≡ answer_with truth
       → Writes written flushed faults has_room old new
       (solution_line a f ++ value_lines f.prefix truth s.witness.values) r)
@@ -167,7 +168,7 @@ module _ {S : Type 0} (written flushed : S → Option (List ℕ)) (faults : S �
       by (Some x) None h = absurd h
       by (Some x) (Some y) h = h ∙ append-nil x
 
-  no_entry : (terms : Terms) (n : ℕ) (a : Answer) (old new : List Account) → IsVerdict a
+  no_entry : (terms : Terms) (n : ℕ) (a : Answer) (old new : List Account) → HasVerdict a
       → AddsEntry (IsStopAt terms n) old new a → new ≡ old
   no_entry terms n Sat old new there e = e
   no_entry terms n Unsat old new there e = e
@@ -273,7 +274,7 @@ module _ {S : Type 0} (written flushed : S → Option (List ℕ)) (faults : S �
   no_read_fault (Err (CheckLimit quantity)) came is = came
   no_read_fault (Err ReadFault) came is = came
 
-  pub counted_known : (r : Result Answer Ending) → Came r
+  counted_known : (r : Result Answer Ending) → Came r
       → IsCounted (IsErrOf r WriteFault) (IsOk r) (faults old) (faults new)
   counted_known (Ok a) came =
       record {
@@ -299,7 +300,7 @@ module _ {S : Type 0} (written flushed : S → Option (List ℕ)) (faults : S �
   counted_known (Err (CheckLimit quantity)) came = absurd came
   counted_known (Err ReadFault) came = absurd came
 
-  pub room_known : (r : Result Answer Ending) → Came r → RoomForJob job terms known (has_room old)
+  room_known : (r : Result Answer Ending) → Came r → RoomForJob job terms known (has_room old)
       → IsErrOf r WriteFault → ⊥
   room_known (Ok a) came room is = absurd (cc)
   room_known (Err WriteFault) came room is =
@@ -324,10 +325,15 @@ module _ {S : Type 0} (written flushed : S → Option (List ℕ)) (faults : S �
   output_known (Err (CheckLimit quantity)) came = absurd came
   output_known (Err ReadFault) came = absurd came
 
-  pub flushed_known : (r : Result Answer Ending) → Came r
+  flushed_known : (r : Result Answer Ending) → Came r
       → OnOk r (AllFlushed (written new) (flushed old) (flushed new))
   flushed_known (Ok a) came = came.2.all_flushed
   flushed_known (Err e) came = tt
+
+  pub sends_known : (r : Result Answer Ending) → Came r
+      → SendsReply written flushed faults (RoomForJob job terms known (has_room old)) old new r
+  sends_known r came =
+      record { counted = counted_known r came; fits = room_known r came; all_flushed = flushed_known r came }
 
 -- nothing is answered where no formula was read
 pub unread_undone : (e : Ending) → IsUnread e → ¬ IsDone e

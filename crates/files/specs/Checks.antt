@@ -33,7 +33,7 @@ use Rattle.solve.specs.Certificates.{Certifies}
 use Rattle.solve.specs.Answers.{IsAnswerTo, IsShort, answer_line, answer_status}
 use Rattle.solve.specs.Standing.{IsWitness, Standing, Witness}
 use Rattle.solve.specs.Holding.{Holds}
-use Rattle.solve.specs.Stops.{AddsEntry, IsStopAt}
+use Rattle.solve.specs.Entries.{AddsEntry, IsStopAt}
 use Rattle.solve.specs.Terms.{Terms}
 
 -- the check formula of a circuit for a formula, under no assumption

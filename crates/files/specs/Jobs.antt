@@ -29,7 +29,7 @@ use Rattle.solve.specs.Certificates.{IsCertificate}
 use Rattle.solve.specs.Answers.{IsAnswerTo, answer_line}
 use Rattle.files.specs.Solve.{OfAnswer}
 use Rattle.solve.specs.Standing.{IsWitness, Witness}
-use Rattle.solve.specs.Stops.{AddsEntry, IsStopAt}
+use Rattle.solve.specs.Entries.{AddsEntry, IsStopAt}
 use Rattle.solve.specs.Terms.{Terms}
 use Rattle.solve.specs.Decisions.{answer_with, unassumed}
 use Rattle.solve.specs.Feeding.{opened}
@@ -133,10 +133,10 @@ pub record IsHeaderOf (f : Formula) (header : Header) : Type 0 where
   pub clauses : header.clauses ≡ f.declared_clauses
 
 -- there is a verdict
-abbrev pub IsVerdict : Answer → Type 0
-IsVerdict Sat = ⊤
-IsVerdict Unsat = ⊤
-IsVerdict Unknown = ⊥
+abbrev pub HasVerdict : Answer → Type 0
+HasVerdict Sat = ⊤
+HasVerdict Unsat = ⊤
+HasVerdict Unknown = ⊥
 
 -- The text of a job is written, or a front of it before a fault; or nothing, for want of memory to tell of a verdict.
 abbrev pub WritesJob : {S : Type 0} → (written flushed : S → Option (List ℕ)) → (S → ℕ) → (S → ℕ → Type 0) → Job
@@ -146,7 +146,7 @@ WritesJob written flushed faults has_room job terms f answer old new (Ok u) = (t
 WritesJob written flushed faults has_room job terms f answer old new (Err WriteFault) = (text : Text)
     × IsJobText job terms f answer text × Stops written flushed faults has_room old new text
 WritesJob written flushed faults has_room job terms f answer old new (Err NoMemory) =
-    IsVerdict answer × Wrote written flushed faults has_room old new []
+    HasVerdict answer × Wrote written flushed faults has_room old new []
 WritesJob written flushed faults has_room job terms f answer old new (Err (Done status)) = ⊥
 WritesJob written flushed faults has_room job terms f answer old new (Err (Refused number line)) = ⊥
 WritesJob written flushed faults has_room job terms f answer old new (Err (Limit quantity line)) = ⊥

@@ -18,7 +18,8 @@ ghost use Rattle.solve.specs.Feeding.{HoldsFormula};
 ghost use Rattle.files.specs.Inputs.Format.{as_formula};
 ghost use Rattle.solve.specs.Decisions.{answer_with};
 ghost use Rattle.files.specs.Solve.{IsEnding};
-ghost use Rattle.solve.specs.Stops.{AddsEntry, IsStopAt};
+ghost use Rattle.solve.specs.Entries.{AddsEntry, IsStopAt};
+ghost use Rattle.solve.specs.Outside.{SendsReply, TakesInput};
 ghost use Rattle.solve.specs.Terms.{Terms, terms_of};
 
 use crate::file::whole_circuit;
@@ -117,10 +118,10 @@ fn ending_of(checked: Result<Outcome, Ending>) -> Ending
     ensures { result ≡ ending_after checked }
 {
     match checked {
-        Ok(Outcome::Unknown) => Ending::Done(0),
-        Ok(Outcome::Checked(true)) => Ending::Done(10),
-        Ok(Outcome::Checked(false)) => Ending::Done(20),
-        Ok(Outcome::Undecided) => Ending::Done(0),
+        Ok(Outcome::Unknown) => Ending::Done(Answer::Unknown.status()),
+        Ok(Outcome::Checked(true)) => Ending::Done(Answer::Sat.status()),
+        Ok(Outcome::Checked(false)) => Ending::Done(Answer::Unsat.status()),
+        Ok(Outcome::Undecided) => Ending::Done(Answer::Unknown.status()),
         Ok(Outcome::Beyond(quantity)) => Ending::CheckLimit { quantity },
         Err(ending) => ending,
     }
@@ -136,19 +137,11 @@ fn check<D: Desk, S: Sink>(
 ) -> Result<Outcome, Ending>
     ensures ending { IfErr result (λ e. ¬ IsFinished e × (IsUnread e → IfSome (D.left desk.old)
         (λ text. IsEnding as_formula (terms_of request.budget request.restarts) text e))) }
-    ensures read { OnOk result (IfSome (D.left desk.old) (λ _. D.left desk.new ≡ Some [])) }
-    ensures read_fault { IsCounted (IsErrOf result Ending.ReadFault) (IsOk result) (D.faults desk.old)
-        (D.faults desk.new) }
-    ensures flows { D.flows desk.old → ¬ IsErrOf result Ending.ReadFault × D.flows desk.new }
-    ensures write_fault { IsCounted (IsErrOf result Ending.WriteFault) (IsOk result) (S.faults sink.old)
-        (S.faults sink.new) }
-    ensures room { RoomForCheck request.decide (terms_of request.budget request.restarts) (D.left desk.old)
-        (S.has_room sink.old) → ¬ IsErrOf result Ending.WriteFault }
+    ensures desk { TakesInput D.content D.left D.faults D.steady D.flows desk.old desk.new result }
+    ensures sink { SendsReply S.written S.flushed S.faults (RoomForCheck request.decide
+        (terms_of request.budget request.restarts) (D.left desk.old) (S.has_room sink.old)) sink.old sink.new result }
     ensures output { LeavesCheck request.decide (terms_of request.budget request.restarts) (D.left desk.old)
         (S.written sink.old, S.written sink.new) (stops.old.items, stops.new.items) (ending_after result) }
-    ensures flushed { OnOk result (AllFlushed (S.written sink.new) (S.flushed sink.old) (S.flushed sink.new)) }
-    ensures content { (n : List ℕ) → D.content desk.new n ≡ D.content desk.old n }
-    ensures stays { (n : List ℕ) → D.steady desk.old n → D.steady desk.new n }
 {
     let (mut engine, f) = load(alloc, desk)?;
     check_held(alloc, &mut engine, &f, request, sink, stops)
@@ -160,12 +153,7 @@ fn load<D: Desk>(alloc: Global, desk: &mut D) -> Result<(Engine, Formula), Endin
         × IsFormed loaded.1 × IfSome (D.left desk.old) (λ text. Reads text (parsed loaded.1))) }
     ensures ending { IfErr result (λ e. IsUnread e
         × ((terms : Terms) → IfSome (D.left desk.old) (λ text. IsEnding as_formula terms text e))) }
-    ensures read { OnOk result (IfSome (D.left desk.old) (λ _. D.left desk.new ≡ Some [])) }
-    ensures read_fault { IsCounted (IsErrOf result Ending.ReadFault) (IsOk result) (D.faults desk.old)
-        (D.faults desk.new) }
-    ensures flows { D.flows desk.old → ¬ IsErrOf result Ending.ReadFault × D.flows desk.new }
-    ensures content { (n : List ℕ) → D.content desk.new n ≡ D.content desk.old n }
-    ensures stays { (n : List ℕ) → D.steady desk.old n → D.steady desk.new n }
+    ensures desk { TakesInput D.content D.left D.faults D.steady D.flows desk.old desk.new result }
 {
     let f = read_formula(alloc, desk)?;
     let engine = engine_with(alloc, &f)?;
@@ -187,6 +175,7 @@ fn check_held<S: Sink>(
         (IsCheck request.decide (terms_of request.budget request.restarts) f.now (stops.old.items, stops.new.items))
         sink.old sink.new (stops.old.items, stops.new.items) result }
 {
+    // For the proof: the truth under no assumptions is the truth.
     no_assumptions();
     engine.set_restarts(request.restarts);
     stops.reserve(1)?;
@@ -325,6 +314,7 @@ fn search(alloc: Global, g: &Formula, request: Request) -> Result<Decision, NoMe
     requires { IsFormed g.now }
     ensures { IfOk result (IsFound (terms_of request.budget request.restarts) g.now) }
 {
+    // For the proof: the truth under no assumptions is the truth.
     no_assumptions();
     let mut engine = engine_with(alloc, g)?;
     engine.set_restarts(request.restarts);
@@ -338,8 +328,7 @@ fn line_of(found: Answer) -> &'static str
 {
     match found {
         Answer::Unknown => "UNDECIDED\n",
-        Answer::Unsat => "WINS\n",
-        _ => unreachable!(),
+        _ => "WINS\n",
     }
 }
 

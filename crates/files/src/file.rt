@@ -23,6 +23,7 @@ ghost use Rattle.solve.specs.Endings.{IsDone};
 ghost use Rattle.files.specs.Solve.{HasAnswer, IsEnding, Solves};
 ghost use Rattle.solve.specs.Standing.{Standing};
 ghost use Rattle.solve.specs.Holding.{Holds};
+ghost use Rattle.solve.specs.Outside.{SendsReply, TakesInput};
 ghost use Rattle.solve.specs.Terms.{Terms, terms_of};
 ghost use Rattle.truth.specs.declared.formula.Formula.{Formula as AnyFormula};
 
@@ -111,20 +112,12 @@ fn answer<D: Desk, S: Sink>(
         (λ text. Solves (format_of job) (terms_of budget restarts) text a)) }
     ensures ending { IfErr result (λ e. ¬ IsDone e × IfSome (D.left desk.old)
         (λ text. IsEnding (format_of job) (terms_of budget restarts) text e)) }
-    ensures read { OnOk result (IfSome (D.left desk.old) (λ _. D.left desk.new ≡ Some [])) }
-    ensures read_fault { IsCounted (IsErrOf result Ending.ReadFault) (IsOk result) (D.faults desk.old)
-        (D.faults desk.new) }
-    ensures flows { D.flows desk.old → ¬ IsErrOf result Ending.ReadFault × D.flows desk.new }
-    ensures write_fault { IsCounted (IsErrOf result Ending.WriteFault) (IsOk result) (S.faults sink.old)
-        (S.faults sink.new) }
-    ensures room { RoomForJob job (terms_of budget restarts) (D.left desk.old) (S.has_room sink.old) → ¬ IsErrOf
-        result Ending.WriteFault }
+    ensures desk { TakesInput D.content D.left D.faults D.steady D.flows desk.old desk.new result }
+    ensures sink { SendsReply S.written S.flushed S.faults
+        (RoomForJob job (terms_of budget restarts) (D.left desk.old) (S.has_room sink.old)) sink.old sink.new result }
     ensures output { LeavesOutput job (terms_of budget restarts) (D.left desk.old)
         (S.written sink.old, S.written sink.new)
         (stops.old.items, stops.new.items) (ending_with result) }
-    ensures flushed { OnOk result (AllFlushed (S.written sink.new) (S.flushed sink.old) (S.flushed sink.new)) }
-    ensures content { (n : List ℕ) → D.content desk.new n ≡ D.content desk.old n }
-    ensures stays { (n : List ℕ) → D.steady desk.old n → D.steady desk.new n }
 {
     let (mut engine, header) = load(alloc, job, desk)?;
     reply(&mut engine, header, job, budget, restarts, sink, stops)
@@ -136,12 +129,7 @@ fn load<D: Desk>(alloc: Global, job: Job, desk: &mut D) -> Result<(Engine, Heade
         × IsHeaderOf f loaded.1 × IfSome (D.left desk.old) (λ text. Says (format_of job) text (parsed f))) }
     ensures ending { IfErr result (λ e. IsUnread e
         × ((terms : Terms) → IfSome (D.left desk.old) (λ text. IsEnding (format_of job) terms text e))) }
-    ensures read { OnOk result (IfSome (D.left desk.old) (λ _. D.left desk.new ≡ Some [])) }
-    ensures read_fault { IsCounted (IsErrOf result Ending.ReadFault) (IsOk result) (D.faults desk.old)
-        (D.faults desk.new) }
-    ensures flows { D.flows desk.old → ¬ IsErrOf result Ending.ReadFault × D.flows desk.new }
-    ensures content { (n : List ℕ) → D.content desk.new n ≡ D.content desk.old n }
-    ensures stays { (n : List ℕ) → D.steady desk.old n → D.steady desk.new n }
+    ensures desk { TakesInput D.content D.left D.faults D.steady D.flows desk.old desk.new result }
 {
     let f = read_input(alloc, job, desk)?;
     let header = Header {
@@ -166,6 +154,7 @@ fn reply<S: Sink>(
         S.flushed S.faults S.has_room job (terms_of budget restarts) f sink.old sink.new
         (stops.old.items, stops.new.items) result }
 {
+    // For the proof: the truth under no assumptions is the truth.
     no_assumptions();
     engine.set_restarts(restarts);
     stops.reserve(1)?;
@@ -238,6 +227,7 @@ fn write_proof<S: Sink>(engine: &Engine, sink: &mut S) -> Result<(), Ending>
         → IsAnsweredBy f (answer_with truth) s → WritesJob S.written S.flushed S.faults S.has_room Job.Trace terms f
         (answer_with truth) sink.old sink.new result }
 {
+    // For the proof: the verdict's proof is that of the derivation, which is legal.
     let _proof = engine.derivation();
     match engine.trace_core() {
         Ok(core) => Ok(write_core(&core, engine.prefix(), sink)?),

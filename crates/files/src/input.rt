@@ -7,6 +7,7 @@ ghost use Rattle.files.specs.Endings.{IsUnread, circuit_ending_for};
 ghost use Rattle.files.specs.Inputs.{IsTranslated, Says, format_of};
 ghost use Rattle.files.specs.Inputs.Format.{as_circuit};
 ghost use Rattle.files.specs.Solve.{IsEnding};
+ghost use Rattle.solve.specs.Outside.{TakesInput};
 ghost use Rattle.solve.specs.Terms.{Terms};
 
 use crate::job::Job;
@@ -24,12 +25,7 @@ pub(crate) fn read_input<D: Desk>(alloc: Global, job: Job, desk: &mut D) -> Resu
     ensures formula { IfOk result (λ f. IfSome (D.left desk.old) (λ text. Says (format_of job) text (parsed f))) }
     ensures ending { IfErr result (λ e. IsUnread e
         × ((terms : Terms) → IfSome (D.left desk.old) (λ text. IsEnding (format_of job) terms text e))) }
-    ensures read { OnOk result (IfSome (D.left desk.old) (λ _. D.left desk.new ≡ Some [])) }
-    ensures read_fault { IsCounted (IsErrOf result Ending.ReadFault) (IsOk result) (D.faults desk.old)
-        (D.faults desk.new) }
-    ensures flows { D.flows desk.old → ¬ IsErrOf result Ending.ReadFault × D.flows desk.new }
-    ensures content { (n : List ℕ) → D.content desk.new n ≡ D.content desk.old n }
-    ensures stays { (n : List ℕ) → D.steady desk.old n → D.steady desk.new n }
+    ensures desk { TakesInput D.content D.left D.faults D.steady D.flows desk.old desk.new result }
 {
     match job {
         Job::Qcir => read_circuit(alloc, desk),
@@ -43,12 +39,7 @@ fn read_circuit<D: Desk>(alloc: Global, desk: &mut D) -> Result<Formula, Ending>
     ensures formula { IfOk result (λ f. IfSome (D.left desk.old) (λ text. IsTranslated text f)) }
     ensures ending { IfErr result (λ e. IsUnread e
         × ((terms : Terms) → IfSome (D.left desk.old) (λ text. IsEnding as_circuit terms text e))) }
-    ensures read { OnOk result (IfSome (D.left desk.old) (λ _. D.left desk.new ≡ Some [])) }
-    ensures read_fault { IsCounted (IsErrOf result Ending.ReadFault) (IsOk result) (D.faults desk.old)
-        (D.faults desk.new) }
-    ensures flows { D.flows desk.old → ¬ IsErrOf result Ending.ReadFault × D.flows desk.new }
-    ensures content { (n : List ℕ) → D.content desk.new n ≡ D.content desk.old n }
-    ensures stays { (n : List ℕ) → D.steady desk.old n → D.steady desk.new n }
+    ensures desk { TakesInput D.content D.left D.faults D.steady D.flows desk.old desk.new result }
 {
     match read_qcir(alloc, desk) {
         Ok(circuit) => Ok(translate(alloc, &circuit)?),

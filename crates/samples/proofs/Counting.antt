@@ -1,10 +1,18 @@
 -- Formulas counted one after another, and budgets that suffice.
-use Rattle.std.proofs.Common.{◌≡◌, ℕ, zero, suc, ◌+◌, ◌*◌, ◌^◌, ◌%◌, ◌-◌, ◌<◌, ◌≤◌, Bool, true, false, [], ap, subst, ◌∙◌, arith, lit<}
+use Rattle.std.proofs.Common.{◌≡◌, ◌≢◌, ℕ, zero, suc, ◌+◌, ◌*◌, ◌^◌, ◌%◌, ◌-◌, ◌<◌, ◌≤◌, Bool, true, false, [], ap, refl, subst, ◌∙◌, arith, lit<}
 use Rattle.std.specs.Prelude.{cond, count_by, not}
 use Rattle.std.specs.List.{range_with_len}
 use Rattle.std.proofs.Math.Nat.{mul-le-mul, pow-le-pow_right}
 use Rattle.std.proofs.lemmas.List.Sums.{sum_by-cons}
+use Rattle.truth.specs.declared.formula.Formula.{Formula}
+use Rattle.truth.specs.Truth.{truth}
+use Rattle.generate.specs.Draws.{start_of}
+use Rattle.generate.specs.Made.{clauses_from, made, scopes_over}
 use Rattle.steps.specs.Counter.{step_limit}
+use Rattle.solve.specs.Answers.{IsAnswerTo, IsShort}
+use Rattle.solve.specs.Terms.{Terms}
+use Rattle.solve.specs.declared.answer.Answer.{Answer}
+use Rattle.solve.specs.declared.answer.Answer.TheVariants.{Sat, Unsat, Unknown}
 use Rattle.samples.specs.Samples.{false_ones, is_true, true_ones}
 
 module _ (p : ℕ → Bool) where
@@ -69,3 +77,19 @@ enough v few =
 
 pub three_more : (i : ℕ) → 3 + i % 10 ≤ 12
 three_more i = omega arith
+
+-- an answer that isn't that a formula is true says that it is false, where the budget isn't short
+pub decided_false : (terms : Terms) (f : Formula) (a : Answer) → IsAnswerTo terms f a → a ≢ Sat → (IsShort terms f → ⊥)
+    → truth f.prefix f.clauses ≡ false
+decided_false terms f Sat right apart long = absurd (apart refl)
+decided_false terms f Unsat right apart long = right
+decided_false terms f Unknown right apart long = absurd (long right)
+
+-- seeds that begin with one state make one formula
+pub made_alike : (a b v m : ℕ) → start_of a ≡ start_of b → made a v m ≡ made b v m
+made_alike a b v m same = ap (λ start. record {
+  prefix = scopes_over v;
+  clauses = clauses_from start v m;
+  declared_vars = v;
+  declared_clauses = m;
+}) same

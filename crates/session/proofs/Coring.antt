@@ -17,7 +17,7 @@ use Rattle.solve.specs.Outputs.{says}
 use Rattle.solve.specs.Standing.{Standing}
 use Rattle.solve.specs.Holding.{Holds, given_of}
 use Rattle.session.specs.Steps.{IsReplyFor}
-use Rattle.solve.specs.Stops.{IsStopAt}
+use Rattle.solve.specs.Entries.{IsStopAt}
 use Rattle.solve.specs.Terms.{Terms}
 use Rattle.session.proofs.Telling.{IsAnswer}
 

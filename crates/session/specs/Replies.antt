@@ -23,7 +23,7 @@ use Rattle.engine.specs.Refusals.{is_outermost, winner_of}
 use Rattle.qscript.specs.declared.command.Command.{Command}
 use Rattle.qscript.specs.declared.command.Command.TheVariants.{Scope as ScopeCommand, Var, Clause, Push, Pop, Assume, Solve, Value, Relevant, Trace, Cert, OpenGroup, CloseGroup, Activate, Deactivate, GroupCore}
 use Rattle.solve.specs.Standing.{Standing, start}
-use Rattle.solve.specs.Stops.{IsStopAt}
+use Rattle.solve.specs.Entries.{IsStopAt}
 use Rattle.solve.specs.Terms.{Terms}
 use Rattle.solve.specs.Outputs.{Text, Output, says, literal_number}
 use Rattle.solve.specs.Decisions.{IsSolved}

@@ -20,7 +20,7 @@ use Rattle.solve.specs.Terms.{Terms}
 use Rattle.solve.specs.declared.decision.Decision.{Decision}
 use Rattle.solve.specs.declared.decision.Decision.TheVariants.{Sat as is_sat, Unsat as is_unsat, Unknown as is_unknown}
 use Rattle.solve.specs.Decisions.{stopped_at, truth_of}
-use Rattle.solve.specs.Stops.{listed}
+use Rattle.solve.specs.Entries.{listed}
 
 -- what a reply tells of a search that stopped
 abbrev pub told_by : Reply → List Account

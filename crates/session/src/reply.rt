@@ -3,7 +3,7 @@ ghost use Rattle.std.specs.Prelude.{◌≡◌};
 ghost use Rattle.session.specs.declared.reply.SessionStop.TheVariants.{NoMemory};
 ghost use Rattle.session.specs.Endings.{ending_at};
 ghost use Rattle.session.specs.Steps.{reply_to, told_by};
-ghost use Rattle.solve.specs.Stops.{listed};
+ghost use Rattle.solve.specs.Entries.{listed};
 
 use memory::NoMemory as NoRoom;
 use solve::{Decision, Ending};

@@ -19,7 +19,7 @@ use Rattle.solve.specs.Outputs.{Output, verdict_text}
 use Rattle.solve.specs.Answers.{IsAnswerTo, answer_line}
 use Rattle.solve.specs.Standing.{IsWitness, Standing}
 use Rattle.solve.specs.Holding.{Holds, given_of}
-use Rattle.solve.specs.Stops.{AddsEntry, IsStopAt}
+use Rattle.solve.specs.Entries.{AddsEntry, IsStopAt}
 use Rattle.solve.specs.Terms.{Terms, terms_of}
 use Rattle.solve.specs.declared.decision.Decision.{Decision}
 

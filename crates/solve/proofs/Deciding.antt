@@ -25,7 +25,7 @@ use Rattle.solve.specs.declared.decision.Decision.TheVariants.{Unknown}
 use Rattle.solve.specs.Outputs.{says, verdict_text}
 use Rattle.solve.specs.Answers.{answer_line}
 use Rattle.solve.specs.Standing.{IsWitness, Standing}
-use Rattle.solve.specs.Stops.{IsStopAt}
+use Rattle.solve.specs.Entries.{IsStopAt}
 use Rattle.solve.specs.Holding.{Holds, given_of}
 use Rattle.solve.specs.Decisions.{told_by, IsRight}
 use Rattle.solve.specs.Decisions.{IsDecided, answered, decision_of, truth_of}

@@ -11,3 +11,4 @@ pub mod Passing
 pub mod TraceValues
 pub mod Traced
 pub mod Written
+pub mod Taking

@@ -10,7 +10,7 @@ use Rattle.frames.specs.Fold.{Given, state_after}
 use Rattle.frames.specs.State.{OpenFormula, open_clauses}
 use Rattle.search.specs.Counting.{size_of}
 use Rattle.solve.specs.Standing.{IsWitness, Standing}
-use Rattle.solve.specs.Stops.{IsStopAt}
+use Rattle.solve.specs.Entries.{IsStopAt}
 use Rattle.solve.specs.Terms.{Terms}
 use Rattle.engine.specs.State.{EngineState}
 use Rattle.solve.specs.declared.answer.Answer.{Answer}

@@ -2,11 +2,12 @@ pub mod Answers
 pub mod Certificates
 pub mod Decisions
 pub mod Endings
+pub mod Entries
 pub mod Feeding
 pub mod Holding
 pub mod Outputs
+pub mod Outside
 pub mod Standing
-pub mod Stops
 pub mod Terms
 pub mod Traces
 pub mod Worked

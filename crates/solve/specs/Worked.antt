@@ -18,7 +18,7 @@ use Rattle.solve.specs.Traces.{IsTraceText}
 use Rattle.solve.specs.Certificates.{IsCertText, IsCertificate}
 use Rattle.solve.specs.Answers.{IsAnswerTo}
 use Rattle.solve.specs.Standing.{Standing}
-use Rattle.solve.specs.Stops.{AddsEntry, IsStopAt}
+use Rattle.solve.specs.Entries.{AddsEntry, IsStopAt}
 use Rattle.solve.specs.Terms.{terms_of, with_restarts}
 use Rattle.solve.specs.declared.decision.Decision.TheVariants.{Sat as is_sat, Unknown as is_unknown}
 

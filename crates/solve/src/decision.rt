@@ -1,7 +1,7 @@
 //! What a solve comes to.
 ghost use Rattle.std.specs.Prelude.{◌≡◌, ◌<◌, ◌++◌, vec_len, vec_capacity};
 ghost use Rattle.solve.specs.Decisions.{answered, told_by};
-ghost use Rattle.solve.specs.Stops.{listed};
+ghost use Rattle.solve.specs.Entries.{listed};
 
 use crate::answer::Answer;
 use trail::Stopped;

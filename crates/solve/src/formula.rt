@@ -51,6 +51,7 @@ pub fn decide_formula(alloc: Global, f: &Formula) -> Result<Answer, NoMemory>
     requires { IsFormed f.now }
     ensures { IfOk result (IsAnswerTo (terms_of (2 ^ 64 - 1) 0) f.now) }
 {
+    // For the proof: the truth under no assumptions is the truth.
     no_assumptions();
     let mut engine = engine_with(alloc, f)?;
     let decision = decide(&mut engine, u64::MAX)?;
@@ -77,6 +78,7 @@ fn told(engine: &Engine, verdict: Verdict) -> Decision
     ensures facts { IfSome engine.now.verdict (IsVerdictOf engine.now.formula) }
     ensures first { IfSome engine.now.verdict (PlaysFirst engine.now.formula) }
 {
+    // For the proof: what is kept of a verdict is right, and so are its values of the first scope.
     let _facts = engine.verdict();
     if verdict.truth {
         Decision::Sat

@@ -2,7 +2,8 @@
 //!
 //! `specs/Terms` says on what terms a solve is made, `specs/Standing` what commands come to that build a formula and
 //! decide it, `specs/Feeding` what an engine holds that was fed with one, `specs/Decisions` what a solve comes to,
-//! `specs/Answers` what the answer to a formula is, and `specs/Stops` what is told of a search that stopped.
+//! `specs/Answers` what the answer to a formula is, `specs/Entries` what is told of a search that stopped,
+//! and `specs/Outside` what a call that reads an input and replies to it does to the outside.
 //! `specs/Traces` and `specs/Certificates` say what the trace and the circuit of a verdict are.
 #![tactic(auto)]
 

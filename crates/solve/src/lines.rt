@@ -11,7 +11,7 @@ ghost use Rattle.solve.specs.Outputs.{Text};
 
 use crate::answer::Answer;
 use aig::Strategy;
-use aiger_out::{circuits_have_one_form_of_bytes, circuits_have_one_text, write_aag, write_aig};
+use aiger_out::{write_aag, write_aig};
 use ports::{Failed, Sink, write_all};
 use prefix::Prefix;
 use qrp_trace::write_trace;
@@ -50,7 +50,6 @@ fn write_text<S: Sink>(strategy: &Strategy, sink: &mut S) -> Result<(), Failed>
     ensures { (text : Text) × IsAagText text strategy.now
         × Writes S.written S.flushed S.faults S.has_room sink.old sink.new text result }
 {
-    circuits_have_one_text();
     write_aag(strategy, sink)
 }
 
@@ -60,7 +59,6 @@ fn write_bytes<S: Sink>(strategy: &Strategy, sink: &mut S) -> Result<(), Failed>
     ensures { (bytes : Text) × IsAigBytes bytes strategy.now
         × Writes S.written S.flushed S.faults S.has_room sink.old sink.new bytes result }
 {
-    circuits_have_one_form_of_bytes();
     write_aig(strategy, sink)
 }
 

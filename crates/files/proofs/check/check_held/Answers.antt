@@ -5,7 +5,7 @@ use Rattle.search.specs.Counting.{size_of}
 use Rattle.files.specs.Checks.{IsCheck, SendsOutcome}
 use Rattle.solve.specs.Feeding.{built}
 use Rattle.solve.specs.Decisions.{told_by}
-use Rattle.solve.specs.Stops.{listed, AddsEntry, IsStopAt}
+use Rattle.solve.specs.Entries.{listed, AddsEntry, IsStopAt}
 use Rattle.solve.specs.Terms.{terms_of}
 use Rattle.files.proofs.Checking.{outcome_failed, outcome_flushed, outcome_unflushed}
 use Rattle.solve.proofs.Answering.{Decided, built_held, decided}

@@ -5,7 +5,7 @@ use Rattle.search.specs.Counting.{size_of}
 use Rattle.files.specs.Checks.{IsCheckReply, check_line, judged}
 use Rattle.solve.specs.Answers.{IsAnswerTo}
 use Rattle.solve.specs.Decisions.{told_by}
-use Rattle.solve.specs.Stops.{listed, AddsEntry, IsStopAt}
+use Rattle.solve.specs.Entries.{listed, AddsEntry, IsStopAt}
 use Rattle.solve.specs.Decisions.{answered}
 use Rattle.solve.specs.Terms.{terms_of}
 use Rattle.solve.specs.declared.answer.Answer.TheVariants.{Sat}

@@ -4,7 +4,7 @@ use Rattle.std.proofs.lemmas.Result.{err_from_is_err_and}
 use Rattle.solve.specs.Feeding.{built}
 use Rattle.files.specs.Jobs.{RepliesTo}
 use Rattle.solve.specs.Decisions.{told_by}
-use Rattle.solve.specs.Stops.{listed}
+use Rattle.solve.specs.Entries.{listed}
 use Rattle.solve.specs.Terms.{terms_of}
 use Rattle.solve.proofs.Answering.{Decided, built_held, decided}
 use Rattle.files.proofs.Jobs.{flush_failed, reply_failed, reply_flushed}

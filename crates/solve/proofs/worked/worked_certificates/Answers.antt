@@ -14,6 +14,8 @@ use Rattle.aig.specs.declared.edge.Node.TheVariants.{Constant}
 use Rattle.aig.specs.declared.edge.Edge.{Edge}
 use Rattle.aig.specs.declared.strategy.Strategy.{Strategy}
 use Rattle.aiger_out.specs.Theorems.{HaveOneCircuit}
+use Rattle.aiger_out.proofs.Same.{have_one_circuit}
+use Rattle.aiger_out.proofs.SameBytes.{bytes_have_one_circuit}
 use Rattle.solve.specs.Certificates.{Certifies}
 use Rattle.solve.specs.Feeding.{opened}
 use Rattle.solve.specs.Decisions.{unassumed}
@@ -104,8 +106,6 @@ all_allowed v x b e at = absurd (let f : None ≡ Some b = e in cc)
 pub returns : goal.returns
 unfolding second_byte
 returns c =
-    let text_one = c.texts_denote_one_circuit.ensures in
-    let bytes_one = c.bytes_denote_one_circuit.ensures in
     record {
       whole = record {
         strategy = two_gates;
@@ -134,15 +134,15 @@ returns c =
         reached = λ trim. one_reached;
       };
       not_trimmed = λ h.
-          let same = text_one whole_text two_gates h.strategy whole_denotes h.denotes in
+          let same = have_one_circuit whole_text two_gates h.strategy whole_denotes h.denotes in
           first_not_reached h.strategy same
           (h.reached refl 0 (let two = two_there h.strategy same in omega (arith, two)));
       not_trimmed_in_binary = λ h.
-          let same = bytes_one whole_bytes two_gates h.strategy bytes_denote h.denotes in
+          let same = bytes_have_one_circuit whole_bytes two_gates h.strategy bytes_denote h.denotes in
           first_not_reached h.strategy same
           (h.reached refl 0 (let two = two_there h.strategy same in omega (arith, two)));
       too_many = λ h.
-          let same = text_one whole_text two_gates h.strategy whole_denotes h.denotes in
+          let same = have_one_circuit whole_text two_gates h.strategy whole_denotes h.denotes in
           absurd (let two = two_there h.strategy same in let few = h.certifies.few in omega (arith, two, few));
       assumed = record {
         strategy = always;
@@ -150,11 +150,11 @@ returns c =
         certifies = always_certifies;
         reached = λ trim. absurd (false≢true trim);
       };
-      otherwise_assumed = λ h. not_constant h.strategy (text_one true_text always h.strategy always_denotes h.denotes)
+      otherwise_assumed = λ h. not_constant h.strategy (have_one_circuit true_text always h.strategy always_denotes h.denotes)
           (h.certifies.assumed 3 false refl (λ e. absurd (let f : Some Exists ≡ Some Forall = e in cc)));
       other_value = λ h. false≢true
           (sym (h.certifies.first_values refl (minus 3) (contains_head (minus 3) []) (λ x. true))
-          ∙ three_is_true h.strategy (text_one true_text always h.strategy always_denotes h.denotes) (λ x. true));
+          ∙ three_is_true h.strategy (have_one_circuit true_text always h.strategy always_denotes h.denotes) (λ x. true));
       herbrand = record {
         strategy = bare Forall;
         denotes = bare_denotes Forall;
@@ -162,7 +162,7 @@ returns c =
         reached = λ trim. absurd (false≢true trim);
       };
       other_winner = λ h.
-          let same = text_one _ (bare Exists) h.strategy (bare_denotes Exists) h.denotes in
+          let same = have_one_circuit _ (bare Exists) h.strategy (bare_denotes Exists) h.denotes in
           absurd (let f : Exists ≡ Forall = same.winner ∙ h.certifies.winner in cc);
       true_always = record {
         strategy = always;
@@ -171,19 +171,19 @@ returns c =
         reached = λ trim. absurd (false≢true trim);
       };
       no_input = λ h.
-          let same = text_one _ inputless h.strategy inputless_denotes h.denotes in
+          let same = have_one_circuit _ inputless h.strategy inputless_denotes h.denotes in
           absurd (let f : [] ≡ 4 ∷ [] = same.inputs ∙ h.certifies.inputs in cc);
       other_output = λ h.
-          let same = text_one _ two_outputs h.strategy two_outputs_denote h.denotes in
+          let same = have_one_circuit _ two_outputs h.strategy two_outputs_denote h.denotes in
           absurd (let f : 3 ∷ 9 ∷ [] ≡ 3 ∷ [] = ap output_vars same.outputs ∙ h.certifies.outputs in cc);
       false_always = λ h.
-          let same = text_one _ (three_by zero) h.strategy (three_denotes zero zero_stands) h.denotes in
+          let same = have_one_circuit _ (three_by zero) h.strategy (three_denotes zero zero_stands) h.denotes in
           let v : Assignment = λ x. false in
           three_or_four (values_of h.strategy v)
           (sym (same_value (three_by zero) h.strategy same v 3) ∙ never_value v)
           (sym (same_value (three_by zero) h.strategy same v 4)) (h.certifies.wins v (all_allowed v)).0;
       looks_ahead = λ h.
-          let same = text_one _ (three_by ahead) h.strategy (three_denotes ahead ahead_stands) h.denotes in
+          let same = have_one_circuit _ (three_by ahead) h.strategy (three_denotes ahead ahead_stands) h.denotes in
           looks_at_four h.strategy same h.certifies.earlier;
       looks_back = record {
         strategy = two_gates;
@@ -192,13 +192,13 @@ returns c =
         reached = λ trim. absurd (false≢true trim);
       };
       one_gate_more = λ h.
-          let same = text_one whole_text two_gates h.strategy whole_denotes h.denotes in
+          let same = have_one_circuit whole_text two_gates h.strategy whole_denotes h.denotes in
           absurd (let two = two_there h.strategy same in let few = h.certifies.few in omega (arith, two, few));
       in_bytes = λ h. absurd (let f : 105 ≡ 97 = ap second_byte h.denotes.lines in omega (arith, f));
       other_first_value = λ h. false≢true
           (sym (h.certifies.first_values refl (minus 3) (contains_head (minus 3) []) (λ x. true))
-          ∙ three_is_true h.strategy (text_one true_text always h.strategy always_denotes h.denotes) (λ x. true));
+          ∙ three_is_true h.strategy (have_one_circuit true_text always h.strategy always_denotes h.denotes) (λ x. true));
       other_assumed_value = λ h.
-          not_constant h.strategy (text_one true_text always h.strategy always_denotes h.denotes)
+          not_constant h.strategy (have_one_circuit true_text always h.strategy always_denotes h.denotes)
           (h.certifies.assumed 3 false refl (λ e. absurd (let f : Some Exists ≡ Some Forall = e in cc)));
     }
