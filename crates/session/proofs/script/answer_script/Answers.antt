@@ -1,5 +1,5 @@
 use Rattle.std.proofs.Common.{◌≡◌, ◌≤◌, ℕ, List, [], Option, None, Err, Ok, Some, ap, arith, refl, sym, subst, true, ◌∙◌, is_err, is_ok}
-use Rattle.std.specs.Prelude.{IfSome, IsErrOf, IsOk, is_some}
+use Rattle.std.specs.Prelude.{IfSome, IsErrOf, IsOk, OnOk, Result, is_some}
 use Rattle.std.proofs.lemmas.Bool.{false≢true}
 use Rattle.std.proofs.lemmas.Result.{err_from_is_err_and}
 use Rattle.qscript.specs.State.{reading, upcoming}
@@ -21,6 +21,12 @@ not_err is = absurd (cc)
 
 not_read : IsErrOf {T = Unit {0}} (Ok tt) ReadFault → ⊥
 not_read is = absurd (cc)
+
+write_is_no_read : IsErrOf {T = Unit {0}} (Err WriteFault) ReadFault → ⊥
+write_is_no_read is = let same : WriteFault ≡ ReadFault = cc in absurd (cc)
+
+not_ok : (r : Result (Unit {0}) Ending) (P : Type 0) (e : Ending) → r ≡ Err e → OnOk r P
+not_ok r P e is = subst (λ (x : Result (Unit {0}) Ending). OnOk x P) (sym is) tt
 
 no_good : (e : Ending) → IsOk {T = Unit {0}} (Err e) → ⊥
 no_good e is = absurd (cc)
@@ -271,7 +277,7 @@ returns-in_err-flush-clause-sink g c =
           (subst (λ b. RoomForReplies b known (has_room c.args.sink.now)) (sym c.in_ok-session.ensures.terms) room) in
           let fine = (c.flush.ensures.room left.0 left.1).0 in
           absurd (false≢true (ap is_ok (sym c.in_err-flush.was) ∙ fine));
-      all_flushed = rw (p.1, p.2) tt;
+      all_flushed = not_ok c.from_residual-in_err-flush.result _ WriteFault (p.1 ∙ ap Err p.2);
     }
 
 pub returns-in_err-flush-clause-desk : goal.returns-in_err-flush-clause-desk
@@ -283,10 +289,10 @@ returns-in_err-flush-clause-desk g c =
       to_end = tt;
       counted = record {
         later = let before = first.cause.later in let then = second.counted.later in omega (arith, before, then);
-        rose = λ is. absurd (cc);
+        rose = λ is. absurd (write_is_no_read is);
         kept = λ ok. absurd (no_good WriteFault ok);
       };
-      flowing = λ flows. (λ is. absurd (cc), (second.flowing (first.flows flows).1).1);
+      flowing = λ flows. (write_is_no_read, (second.flowing (first.flows flows).1).1);
       holds = λ n. second.holds n ∙ first.content n;
       stays = λ n steady. second.stays n (first.stays n steady);
     })
