@@ -7,8 +7,7 @@ use Rattle.trail.specs.State.{Account}
 use Rattle.reading.specs.declared.refusal.Quantity.{Quantity}
 use Rattle.qdimacs.specs.Reads.{Reads}
 use Rattle.qdimacs.specs.Rules.{limit, parsed, refused}
-use Rattle.command.specs.Forms.{Asks, HasNoForm, Text}
-use Rattle.command.specs.declared.command.Command.{Command}
+use Rattle.command.specs.Forms.{HasNoForm, Text}
 use Rattle.solve.specs.declared.answer.Answer.{Answer}
 use Rattle.solve.specs.declared.answer.Answer.TheVariants.{Sat, Unsat, Unknown as Unanswered}
 use Rattle.files.specs.declared.check.Outcome.{Outcome}
@@ -26,9 +25,11 @@ use Rattle.solve.specs.Endings.{IsDone}
 use Rattle.files.specs.Solve.{HasAnswer, OfAnswer, Solves}
 use Rattle.solve.specs.Terms.{Terms}
 use Rattle.program.specs.declared.ending.RunEnding.TheVariants.{Worked}
-use Rattle.program.specs.Asked.{Asked, AskedCheck, OfCheckCommand, OfFormula, input_of}
-use Rattle.program.specs.Run.{IsCheckBeyond, IsCheckWork, IsErrorLine, IsLimited, IsLimitedCheck, IsRefused, IsUndecidedCheck, IsVerdict, line_of, status_of}
+use Rattle.program.specs.Asked.{Asked, AskedCheck, OfCheckTask, OfFormula, Task}
+use Rattle.program.specs.Run.{IsCheckBeyond, IsErrorLine, IsLimited, IsLimitedCheck, IsRefused, IsUndecidedCheck, IsVerdict, line_of, status_of}
 use Rattle.program.specs.Told.{IsCheckOutput}
+use Rattle.program.specs.Work.{IsCheckWork}
+use Rattle.program.proofs.Asking.{AsksFor, asked_check, asked_formula, has_form}
 use Rattle.program.proofs.Solving.{Content, answer_line, answer_verdict, other_verdict, plain_line, plain_verdict, some_map}
 use Rattle.program.proofs.Statuses.{absent, answer_absent, is_answer, no_answer}
 
@@ -145,25 +146,26 @@ module _ (decide : Bool) (terms : Terms) (known left : Option Text) (output : Op
     check_output NoMemory so = quiet 5 (λ h. no_answer 5 refl h) (λ e. omega (arith, e)) so.output_of
 
 module _ (words : List Text) (content : Content) (left : Option Text) (output : Option Text × Option Text)
-    (told : List Account × List Account) (decide : Bool) (terms : Terms) (c : Command) (asks : Asks words c)
-    (of : (P : Format → Terms → Text → Type 0) → IfSome (content (input_of c)) (P as_formula terms)
-    → OfFormula c content P)
-    (of_check : (P : Bool → Terms → Text → Type 0) → IfSome (content (input_of c)) (P decide terms)
-    → OfCheckCommand c content P) where
+    (told : List Account × List Account) (decide : Bool) (terms : Terms) (task : Task) (input : Text)
+    (asks : AsksFor words task)
+    (of : (P : Format → Terms → Text → Type 0) → IfSome (content input) (P as_formula terms)
+    → OfFormula task content P)
+    (of_check : (P : Bool → Terms → Text → Type 0) → IfSome (content input) (P decide terms)
+    → OfCheckTask task content P) where
   -- what is so of the text is so of the input that was asked for
-  asked : (P : Format → Terms → Text → Type 0) → IfSome (content (input_of c)) (P as_formula terms)
+  asked : (P : Format → Terms → Text → Type 0) → IfSome (content input) (P as_formula terms)
       → Asked words content P
-  asked P h = (c, asks, of P h)
+  asked P h = asked_formula words task asks content P (of P h)
 
-  asked_check : (P : Bool → Terms → Text → Type 0) → IfSome (content (input_of c)) (P decide terms)
+  asked_of_check : (P : Bool → Terms → Text → Type 0) → IfSome (content input) (P decide terms)
       → AskedCheck words content P
-  asked_check P h = (c, asks, of_check P h)
+  asked_of_check P h = asked_check words task asks content P (of_check P h)
 
   some_form : HasNoForm words → ⊥
-  some_form none = none c asks
+  some_form none = has_form words task asks none
 
   abbrev Works : Ending → Type 0
-  Works f = IsCheckWork decide terms (content (input_of c)) left output told f
+  Works f = IsCheckWork decide terms (content input) left output told f
 
   -- neither an answer to the formula nor one to its check formula
   undecided : (s : ℕ) → s ≡ 0 → AskedCheck words content IsUndecidedCheck → IsVerdict words content s
@@ -180,30 +182,30 @@ module _ (words : List Text) (content : Content) (left : Option Text) (output : 
   }
 
   done_verdict : (outcome : Outcome) (text : Text) (s : ℕ) → check_ending outcome ≡ Done s
-      → IsCheckOn decide terms (content (input_of c)) told outcome text → IsVerdict words content s
+      → IsCheckOn decide terms (content input) told outcome text → IsVerdict words content s
   done_verdict outcome text s end on =
-      ⊎_elim (λ a. answer_verdict words content left output told SolveJob terms c asks of s (has_answer outcome s end)
-      (some_map (content (input_of c)) (λ bytes. Reads bytes (parsed on.formula))
+      ⊎_elim (λ a. answer_verdict words content left output told SolveJob terms task input asks of s (has_answer outcome s end)
+      (some_map (content input) (λ bytes. Reads bytes (parsed on.formula))
       (λ bytes. OfAnswer s (Solves as_formula terms bytes))
       (λ bytes reads. (a.0, a.1, (on.formula, reads, a.2))) on.read))
-      (λ u. undecided s u.0 (asked_check IsUndecidedCheck
-      (some_map (content (input_of c)) (λ bytes. Reads bytes (parsed on.formula)) (IsUndecidedCheck decide terms)
+      (λ u. undecided s u.0 (asked_of_check IsUndecidedCheck
+      (some_map (content input) (λ bytes. Reads bytes (parsed on.formula)) (IsUndecidedCheck decide terms)
       (λ bytes reads. (on.formula, reads, u.1.0, u.1.1)) on.read)))
       (answered_as decide terms on.formula told outcome text on.is s end)
 
   -- a limit of the check formula
   beyond : (quantity : Quantity) (text : Text)
-      → IsCheckOn decide terms (content (input_of c)) told (Beyond quantity) text
+      → IsCheckOn decide terms (content input) told (Beyond quantity) text
       → AskedCheck words content (IsCheckBeyond quantity)
-  beyond quantity text on = asked_check (IsCheckBeyond quantity)
-      (some_map (content (input_of c)) (λ bytes. Reads bytes (parsed on.formula)) (IsCheckBeyond quantity decide terms)
+  beyond quantity text on = asked_of_check (IsCheckBeyond quantity)
+      (some_map (content input) (λ bytes. Reads bytes (parsed on.formula)) (IsCheckBeyond quantity decide terms)
       (λ bytes reads. (on.formula, reads, on.is.value, on.is.circuit, on.is.certified, on.is.limit)) on.read)
 
   pub beyond_some : (quantity : Quantity) (text : Text)
-      → IsCheckOn decide terms (content (input_of c)) told (Beyond quantity) text
+      → IsCheckOn decide terms (content input) told (Beyond quantity) text
       → AskedCheck words content IsLimitedCheck
-  beyond_some quantity text on = asked_check IsLimitedCheck
-      (some_map (content (input_of c)) (λ bytes. Reads bytes (parsed on.formula)) (IsLimitedCheck decide terms)
+  beyond_some quantity text on = asked_of_check IsLimitedCheck
+      (some_map (content input) (λ bytes. Reads bytes (parsed on.formula)) (IsLimitedCheck decide terms)
       (λ bytes reads. (quantity, (on.formula, reads, on.is.value, on.is.circuit, on.is.certified, on.is.limit)))
       on.read)
 

@@ -2,26 +2,25 @@
 use Rattle.std.proofs.Common.{◌≡◌, inl, inr, ℕ, List, [], ◌∷◌, Option, Some, Contains, refl, sym, ap, subst, ⊎_elim, arith, ◌∙◌}
 use Rattle.std.specs.Io.KnownBytes.{Keeps}
 use Rattle.trail.specs.State.{Account}
-use Rattle.command.specs.Forms.{Asks, HasNoForm, Text}
-use Rattle.command.specs.declared.command.Command.{Command}
-use Rattle.command.specs.declared.command.Command.TheVariants.{Solve, Trace, Cert, Check, Script, Gen, Demo}
+use Rattle.command.specs.Forms.{HasNoForm, Text}
 use Rattle.solve.specs.declared.answer.Answer.TheVariants.{Sat, Unsat, Unknown}
 use Rattle.solve.specs.Endings.{IsDone}
 use Rattle.files.specs.Solve.{HasAnswer}
 use Rattle.solve.specs.declared.ending.Ending.{Ending}
 use Rattle.solve.specs.declared.ending.Ending.TheVariants.{Done, Refused, Limit, CheckLimit, ReadFault, WriteFault, NoMemory}
-use Rattle.files.specs.declared.job.Job.TheVariants.{Trace as TraceJob, Cert as CertJob}
 use Rattle.program.specs.declared.ending.RunEnding.{RunEnding}
 use Rattle.program.specs.declared.ending.RunEnding.TheVariants.{Worked, Usage}
-use Rattle.program.specs.Asked.{AskedAny, known_for, solve_job}
-use Rattle.program.specs.Run.{Carried, IsAnswered, IsErrorLine, IsVerdict, IsWorkOf, line_of, status_of}
+use Rattle.program.specs.Asked.{AskedAny, Task, known_for, task_of}
+use Rattle.program.specs.Asked.Task.{job_task, check_task, script_task, text_task}
+use Rattle.program.specs.Run.{IsErrorLine, IsVerdict, line_of, status_of}
 use Rattle.program.specs.Told.{IsOutput, IsOutputOf}
+use Rattle.program.specs.Work.{Carried, IsAnswered, IsWorkOf}
+use Rattle.program.proofs.Asking.{AsksFor, asked_sample}
 use Rattle.program.proofs.Checking.{check_error, check_output, check_reads, check_status, check_verdict}
 use Rattle.program.proofs.Sampling.{sample_line, sample_output, sample_status, sample_verdict}
 use Rattle.program.proofs.Scripting.{script_line, script_output, script_read, script_verdict}
 use Rattle.program.proofs.Solving.{Content, other_verdict, plain_line, solve_line, solve_output, solve_read, solve_verdict}
 use Rattle.program.proofs.Statuses.{is_answer, no_answer}
-use Rattle.solve.specs.Terms.{terms_of}
 
 -- the statuses of all endings
 abbrev Listed : ℕ → Type 0
@@ -76,15 +75,15 @@ write_fault (CheckLimit quantity) has is = absurd (omega (arith, is))
 
 module _ (words : List Text) (content : Content) (left : Option Text) (output : Option Text × Option Text)
     (told : List Account × List Account) where
-  -- what is so of words without a form, of want of memory, and of each command's work, is so of each run
+  -- what is so of words without a form, of want of memory, and of the work on each task, is so of each run
   each : (P : RunEnding → Type 0)
       → ((text : _) → HasNoForm words → Keeps output.0 output.1 → told.1 ≡ told.0 → P (Usage text))
       → (Keeps output.0 output.1 → told.1 ≡ told.0 → P (Worked NoMemory))
-      → ((c : Command) (f : Ending) → Asks words c → IsWorkOf c (known_for content c) left output told f
+      → ((t : Task) (f : Ending) → AsksFor words t → IsWorkOf t (known_for content t) left output told f
       → P (Worked f)) → (e : RunEnding) → Carried words content left output told e → P e
   each P usage early work (Usage text) c = usage text c.0 c.1 c.2
   each P usage early work (Worked f) c =
-      ⊎_elim (λ h. subst (λ g. P (Worked g)) (sym h.0) (early h.1 h.2)) (λ h. work h.0 f h.1 h.2) c
+      ⊎_elim (λ h. subst (λ g. P (Worked g)) (sym h.0) (early h.1 h.2)) (λ h. work (task_of h.0) f (h.0, h.1, refl) h.2) c
 
   pub verdict : (e : RunEnding) → Carried words content left output told e → IsVerdict words content (status_of e)
   verdict e carried = each (λ e. IsVerdict words content (status_of e))
@@ -94,47 +93,35 @@ module _ (words : List Text) (content : Content) (left : Option Text) (output : 
       (λ e. absurd (omega (arith, e))) (λ e. absurd (omega (arith, e))) (λ _. (0, omega arith, refl)))
       by e carried
     where
-      by : (c : Command) (f : Ending) → Asks words c → IsWorkOf c (known_for content c) left output told f
+      by : (t : Task) (f : Ending) → AsksFor words t → IsWorkOf t (known_for content t) left output told f
           → IsVerdict words content (status_of (Worked f))
-      by (Solve budget restarts form name) f asks so =
-          solve_verdict words content left output told (solve_job form) (terms_of budget restarts)
-          (Solve budget restarts form name) asks (λ P h. h) f so
-      by (Trace budget restarts name) f asks so =
-          solve_verdict words content left output told TraceJob (terms_of budget restarts)
-          (Trace budget restarts name) asks (λ P h. h) f so
-      by (Cert budget restarts binary trim name) f asks so =
-          solve_verdict words content left output told (CertJob binary trim) (terms_of budget restarts)
-          (Cert budget restarts binary trim name) asks (λ P h. h) f so
-      by (Check budget restarts decide name) f asks so =
-          check_verdict words content left output told decide (terms_of budget restarts)
-          (Check budget restarts decide name) asks (λ P h. h) (λ P h. h) f so
-      by (Script budget restarts name) f asks so =
-          script_verdict words content left output told (terms_of budget restarts) (Script budget restarts name) asks
-          (λ P h. h) f so
-      by (Gen seed vars clauses) f asks so =
-          sample_verdict words content output told _ (Gen seed vars clauses) asks tt f so
-      by (Demo seed count) f asks so = sample_verdict words content output told _ (Demo seed count) asks tt f so
+      by (job_task job terms input) f asks so =
+          solve_verdict words content left output told job terms (job_task job terms input) input asks (λ P h. h) f so
+      by (check_task decide terms input) f asks so =
+          check_verdict words content left output told decide terms (check_task decide terms input) input asks
+          (λ P h. h) (λ P h. h) f so
+      by (script_task terms input) f asks so =
+          script_verdict words content left output told terms input asks f so
+      by (text_task text) f asks so = sample_verdict words content output told text asks f so
 
   pub output_is : told.0 ≡ [] → (e : RunEnding) → Carried words content left output told e
       → IsOutput words content output told.1 (status_of e)
   output_is empty e carried = each (λ e. IsOutput words content output told.1 (status_of e))
       (λ text none kept same. inl ((1, omega arith, refl), kept, same ∙ empty))
       (λ kept same. inl ((0, omega arith, refl), kept, same ∙ empty))
-      (λ c f asks so. inr (c, asks, by c f so)) e carried
+      (λ t f asks so. inr (
+        asks.0,
+        asks.1,
+        subst (λ u. IsOutputOf u (known_for content u) output told.1 (status_of (Worked f))) (sym asks.2) (by t f so),
+      ))
+      e carried
     where
-      by : (c : Command) (f : Ending) → IsWorkOf c (known_for content c) left output told f
-          → IsOutputOf c (known_for content c) output told.1 (status_of (Worked f))
-      by (Solve budget restarts form name) f so = solve_output (solve_job form) (terms_of budget restarts) _ left
-          output told empty f so
-      by (Trace budget restarts name) f so = solve_output TraceJob (terms_of budget restarts) _ left output told
-          empty f so
-      by (Cert budget restarts binary trim name) f so = solve_output (CertJob binary trim) (terms_of budget restarts)
-          _ left output told empty f so
-      by (Check budget restarts decide name) f so =
-          check_output decide (terms_of budget restarts) _ left output told empty f so
-      by (Script budget restarts name) f so = script_output (terms_of budget restarts) _ output told empty f so.answered
-      by (Gen seed vars clauses) f so = sample_output _ output told empty f so
-      by (Demo seed count) f so = sample_output _ output told empty f so
+      by : (t : Task) (f : Ending) → IsWorkOf t (known_for content t) left output told f
+          → IsOutputOf t (known_for content t) output told.1 (status_of (Worked f))
+      by (job_task job terms input) f so = solve_output job terms _ left output told empty f so
+      by (check_task decide terms input) f so = check_output decide terms _ left output told empty f so
+      by (script_task terms input) f so = script_output terms _ output told empty f so.answered
+      by (text_task text) f so = sample_output text output told empty f so
 
   error_line : (e : RunEnding) → Carried words content left output told e
       → IsErrorLine words content (status_of e) (line_of e)
@@ -147,25 +134,16 @@ module _ (words : List Text) (content : Content) (left : Option Text) (output : 
       (λ kept same. plain_line words content 5 _ (λ e. omega (arith, e)) (λ e. omega (arith, e)) refl)
       by e carried
     where
-      by : (c : Command) (f : Ending) → Asks words c → IsWorkOf c (known_for content c) left output told f
+      by : (t : Task) (f : Ending) → AsksFor words t → IsWorkOf t (known_for content t) left output told f
           → IsErrorLine words content (status_of (Worked f)) (line_of (Worked f))
-      by (Solve budget restarts form name) f asks so =
-          solve_line words content left output told (solve_job form) (terms_of budget restarts)
-          (Solve budget restarts form name) asks (λ P h. h) f so
-      by (Trace budget restarts name) f asks so =
-          solve_line words content left output told TraceJob (terms_of budget restarts) (Trace budget restarts name)
-          asks (λ P h. h) f so
-      by (Cert budget restarts binary trim name) f asks so =
-          solve_line words content left output told (CertJob binary trim) (terms_of budget restarts)
-          (Cert budget restarts binary trim name) asks (λ P h. h) f so
-      by (Check budget restarts decide name) f asks so =
-          check_error words content left output told decide (terms_of budget restarts)
-          (Check budget restarts decide name) asks (λ P h. h) (λ P h. h) f so
-      by (Script budget restarts name) f asks so =
-          script_line words content left output told (terms_of budget restarts) (Script budget restarts name) asks
-          (λ P h. h) f so
-      by (Gen seed vars clauses) f asks so = sample_line words content output told _ f so
-      by (Demo seed count) f asks so = sample_line words content output told _ f so
+      by (job_task job terms input) f asks so =
+          solve_line words content left output told job terms (job_task job terms input) input asks (λ P h. h) f so
+      by (check_task decide terms input) f asks so =
+          check_error words content left output told decide terms (check_task decide terms input) input asks
+          (λ P h. h) (λ P h. h) f so
+      by (script_task terms input) f asks so =
+          script_line words content left output told terms input asks f so
+      by (text_task text) f asks so = sample_line words content output told text f so
 
   pub error_at : (e : RunEnding) → Carried words content left output told e → (s : ℕ) → s ≡ status_of e
       → IsErrorLine words content s (line_of e)
@@ -178,50 +156,38 @@ module _ (words : List Text) (content : Content) (left : Option Text) (output : 
   whole_input e carried = each (λ e. HasAnswer (status_of e) → Read) (λ text none kept same h. no_answer 7 refl h)
       (λ kept same h. no_answer 5 refl h) by e carried
     where
-      by : (c : Command) (f : Ending) → Asks words c → IsWorkOf c (known_for content c) left output told f
+      by : (t : Task) (f : Ending) → AsksFor words t → IsWorkOf t (known_for content t) left output told f
           → HasAnswer (status_of (Worked f)) → Read
-      by (Solve budget restarts form name) f asks so h =
-          inl (inl (solve_read words content left output told (solve_job form) (terms_of budget restarts)
-          (Solve budget restarts form name) asks (λ P h. h) f so h))
-      by (Trace budget restarts name) f asks so h =
-          inl (inl (solve_read words content left output told TraceJob (terms_of budget restarts)
-          (Trace budget restarts name) asks (λ P h. h) f so h))
-      by (Cert budget restarts binary trim name) f asks so h =
-          inl (inl (solve_read words content left output told (CertJob binary trim) (terms_of budget restarts)
-          (Cert budget restarts binary trim name) asks (λ P h. h) f so h))
-      by (Check budget restarts decide name) f asks so h =
-          inl (inl (check_reads words content left output told decide (terms_of budget restarts)
-          (Check budget restarts decide name) asks (λ P h. h) (λ P h. h) f so h))
-      by (Script budget restarts name) f asks so h =
-          inl (inr (script_read words content left output told (terms_of budget restarts)
-          (Script budget restarts name) asks (λ P h. h) f so h))
-      by (Gen seed vars clauses) f asks so h = inr (Gen seed vars clauses, asks, tt)
-      by (Demo seed count) f asks so h = inr (Demo seed count, asks, tt)
+      by (job_task job terms input) f asks so h =
+          inl (inl (solve_read words content left output told job terms (job_task job terms input) input asks
+          (λ P h. h) f so h))
+      by (check_task decide terms input) f asks so h =
+          inl (inl (check_reads words content left output told decide terms (check_task decide terms input) input asks
+          (λ P h. h) (λ P h. h) f so h))
+      by (script_task terms input) f asks so h =
+          inl (inr (script_read words content left output told terms input asks f so h))
+      by (text_task text) f asks so h = inr (asked_sample words (text_task text) asks tt)
 
   -- what ends with an answer's status, where it ends well
-  done_status : (c : Command) (f : Ending) → IsWorkOf c (known_for content c) left output told f → (s : ℕ)
+  done_status : (t : Task) (f : Ending) → IsWorkOf t (known_for content t) left output told f → (s : ℕ)
       → f ≡ Done s → HasAnswer s
-  done_status (Solve budget restarts form name) f so = so.status
-  done_status (Trace budget restarts name) f so = so.status
-  done_status (Cert budget restarts binary trim name) f so = so.status
-  done_status (Check budget restarts decide name) f so =
-      check_status decide (terms_of budget restarts) _ left output told f so
-  done_status (Script budget restarts name) f so = λ s is. (Unknown, so.status s is)
-  done_status (Gen seed vars clauses) f so = λ s is. (Unknown, sample_status _ output told f so s is)
-  done_status (Demo seed count) f so = λ s is. (Unknown, sample_status _ output told f so s is)
+  done_status (job_task job terms input) f so = so.status
+  done_status (check_task decide terms input) f so = check_status decide terms _ left output told f so
+  done_status (script_task terms input) f so = λ s is. (Unknown, so.status s is)
+  done_status (text_task text) f so = λ s is. (Unknown, sample_status text output told f so s is)
 
   pub statuses : (e : RunEnding) → Carried words content left output told e → Listed (status_of e)
   statuses e carried = each (λ e. Listed (status_of e)) (λ text none kept same. (8, omega arith, refl))
-      (λ kept same. (6, omega arith, refl)) (λ c f asks so. ending_listed f (done_status c f so)) e carried
+      (λ kept same. (6, omega arith, refl)) (λ t f asks so. ending_listed f (done_status t f so)) e carried
 
   pub is_read_fault : (e : RunEnding) → Carried words content left output told e → status_of e ≡ 3
       → e ≡ Worked ReadFault
   is_read_fault e carried = each (λ e. status_of e ≡ 3 → e ≡ Worked ReadFault)
       (λ text none kept same is. absurd (omega (arith, is))) (λ kept same is. absurd (omega (arith, is)))
-      (λ c f asks so is. ap Worked (read_fault f (done_status c f so) is)) e carried
+      (λ t f asks so is. ap Worked (read_fault f (done_status t f so) is)) e carried
 
   pub is_write_fault : (e : RunEnding) → Carried words content left output told e → status_of e ≡ 4
       → e ≡ Worked WriteFault
   is_write_fault e carried = each (λ e. status_of e ≡ 4 → e ≡ Worked WriteFault)
       (λ text none kept same is. absurd (omega (arith, is))) (λ kept same is. absurd (omega (arith, is)))
-      (λ c f asks so is. ap Worked (write_fault f (done_status c f so) is)) e carried
+      (λ t f asks so is. ap Worked (write_fault f (done_status t f so) is)) e carried

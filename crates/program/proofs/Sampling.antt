@@ -1,14 +1,16 @@
 -- What is known of the work of a command that makes formulas, by its status.
 use Rattle.std.proofs.Common.{◌≡◌, inl, inr, ℕ, List, [], Option, refl, sym, subst, arith, ◌∙◌}
 use Rattle.trail.specs.State.{Account}
-use Rattle.command.specs.Forms.{Asks, HasNoForm, Text}
-use Rattle.command.specs.declared.command.Command.{Command}
+use Rattle.command.specs.Forms.{HasNoForm, Text}
 use Rattle.solve.specs.declared.ending.Ending.{Ending}
 use Rattle.solve.specs.declared.ending.Ending.TheVariants.{Done, Refused, Limit, CheckLimit, ReadFault, WriteFault, NoMemory}
 use Rattle.program.specs.declared.ending.RunEnding.TheVariants.{Worked}
-use Rattle.program.specs.Asked.{AskedSample, IsSample}
-use Rattle.program.specs.Run.{IsErrorLine, IsMade, IsVerdict, line_of, status_of}
+use Rattle.program.specs.Asked.{AskedSample}
+use Rattle.program.specs.Asked.Task.{text_task}
+use Rattle.program.specs.Run.{IsErrorLine, IsVerdict, line_of, status_of}
 use Rattle.program.specs.Told.{IsSampleOutput}
+use Rattle.program.specs.Work.{IsMade}
+use Rattle.program.proofs.Asking.{AsksFor, asked_sample, has_form}
 use Rattle.program.proofs.Solving.{Content, plain_line, plain_verdict}
 
 module _ (text : Text) (output : Option Text × Option Text) (told : List Account × List Account) where
@@ -68,19 +70,20 @@ module _ (words : List Text) (content : Content) (output : Option Text × Option
     unasked = λ none. absurd (some_form none);
   }
 
-  pub sample_verdict : (c : Command) → Asks words c → IsSample c → (f : Ending) → IsMade text output told f
+  pub sample_verdict : AsksFor words (text_task text) → (f : Ending) → IsMade text output told f
       → IsVerdict words content (status_of (Worked f))
-  sample_verdict c asks of (Done s) so = well s so.leaves.0 (c, asks, of) (λ none. none c asks)
-  sample_verdict c asks of (Refused number at) so = absurd so.leaves
-  sample_verdict c asks of (Limit quantity at) so = absurd so.leaves
-  sample_verdict c asks of (CheckLimit quantity) so = absurd so.leaves
-  sample_verdict c asks of ReadFault so = absurd so.leaves
-  sample_verdict c asks of WriteFault so =
+  sample_verdict asks (Done s) so = well s so.leaves.0 (asked_sample words (text_task text) asks tt)
+      (has_form words (text_task text) asks)
+  sample_verdict asks (Refused number at) so = absurd so.leaves
+  sample_verdict asks (Limit quantity at) so = absurd so.leaves
+  sample_verdict asks (CheckLimit quantity) so = absurd so.leaves
+  sample_verdict asks ReadFault so = absurd so.leaves
+  sample_verdict asks WriteFault so =
       plain_verdict words content 4 refl (λ e. omega (arith, e)) (λ e. omega (arith, e)) (λ e. omega (arith, e))
-      (λ none. none c asks)
-  sample_verdict c asks of NoMemory so =
+      (has_form words (text_task text) asks)
+  sample_verdict asks NoMemory so =
       plain_verdict words content 5 refl (λ e. omega (arith, e)) (λ e. omega (arith, e)) (λ e. omega (arith, e))
-      (λ none. none c asks)
+      (has_form words (text_task text) asks)
 
   pub sample_line : (f : Ending) → IsMade text output told f
       → IsErrorLine words content (status_of (Worked f)) (line_of (Worked f))

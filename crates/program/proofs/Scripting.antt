@@ -3,8 +3,7 @@ use Rattle.std.proofs.Common.{◌≡◌, ◌≢◌, inl, inr, ℕ, List, [], ◌
 use Rattle.std.specs.Prelude.{IfSome}
 use Rattle.std.specs.Io.KnownBytes.{Appends}
 use Rattle.trail.specs.State.{Account}
-use Rattle.command.specs.Forms.{Asks, HasNoForm, Text}
-use Rattle.command.specs.declared.command.Command.{Command}
+use Rattle.command.specs.Forms.{HasNoForm, Text}
 use Rattle.reading.specs.declared.refusal.Quantity.TheVariants.{Bytes}
 use Rattle.qscript.specs.declared.command.Command.{Command as ScriptCommand}
 use Rattle.versions.specs.declared.version.Version.{Version}
@@ -15,9 +14,12 @@ use Rattle.files.specs.Solve.{HasAnswer}
 use Rattle.solve.specs.declared.ending.Ending.{Ending}
 use Rattle.solve.specs.declared.ending.Ending.TheVariants.{Done, Refused, Limit, CheckLimit, ReadFault, WriteFault, NoMemory}
 use Rattle.program.specs.declared.ending.RunEnding.TheVariants.{Worked}
-use Rattle.program.specs.Asked.{AskedScript, OfScript, input_of}
-use Rattle.program.specs.Run.{EndsIn, IsErrorLine, IsLimitedScript, IsRefusedScript, IsReplied, IsVerdict, line_of, status_of}
+use Rattle.program.specs.Asked.{AskedScript}
+use Rattle.program.specs.Asked.Task.{script_task}
+use Rattle.program.specs.Run.{EndsIn, IsErrorLine, IsLimitedScript, IsRefusedScript, IsVerdict, line_of, status_of}
 use Rattle.program.specs.Told.{IsScriptOutput}
+use Rattle.program.specs.Work.{IsReplied}
+use Rattle.program.proofs.Asking.{AsksFor, asked_script, has_form}
 use Rattle.program.proofs.Solving.{Content, other_verdict, plain_line, plain_verdict, some_map}
 use Rattle.program.proofs.Statuses.{absent, no_answer}
 use Rattle.solve.specs.Terms.{Terms}
@@ -111,17 +113,17 @@ module _ (terms : Terms) (known : Option Text) (output : Option Text × Option T
       (λ _ is. absurd (let same : NoMemory ≡ WriteFault = is in cc))
 
 module _ (words : List Text) (content : Content) (left : Option Text) (output : Option Text × Option Text)
-    (told : List Account × List Account) (terms : Terms) (c : Command) (asks : Asks words c)
-    (of : (P : Terms → Text → Type 0) → IfSome (content (input_of c)) (P terms) → OfScript c content P) where
+    (told : List Account × List Account) (terms : Terms) (input : Text)
+    (asks : AsksFor words (script_task terms input)) where
   -- what is so of the text is so of the input that was asked for
-  asked : (P : Terms → Text → Type 0) → IfSome (content (input_of c)) (P terms) → AskedScript words content P
-  asked P h = (c, asks, of P h)
+  asked : (P : Terms → Text → Type 0) → IfSome (content input) (P terms) → AskedScript words content P
+  asked P h = asked_script words (script_task terms input) asks content P h
 
   some_form : HasNoForm words → ⊥
-  some_form none = none c asks
+  some_form none = has_form words (script_task terms input) asks none
 
   -- a script that ends well
-  well : (s : ℕ) → s ≡ 0 → IfSome (content (input_of c)) (λ text. IsScriptEnding text (Done s))
+  well : (s : ℕ) → s ≡ 0 → IfSome (content input) (λ text. IsScriptEnding text (Done s))
       → IsVerdict words content s
   well s zero_is ending = record {
     sat = λ h. absurd (omega (arith, h, zero_is));
@@ -141,7 +143,7 @@ module _ (words : List Text) (content : Content) (left : Option Text) (output : 
       good = asked (λ n text. EndsIn text done)
           (some_map _ (λ text. IsScriptEnding text (Done s)) (λ text. EndsIn text done) (λ text e. (e.1, e.2)) ending)
 
-  pub script_verdict : (f : Ending) → IsReplied terms (content (input_of c)) left output told f
+  pub script_verdict : (f : Ending) → IsReplied terms (content input) left output told f
       → IsVerdict words content (status_of (Worked f))
   script_verdict (Done s) so = well s (so.status s refl) so.ending
   script_verdict (Refused number at) so =
@@ -167,7 +169,7 @@ module _ (words : List Text) (content : Content) (left : Option Text) (output : 
       plain_verdict words content 5 refl (λ e. omega (arith, e)) (λ e. omega (arith, e)) (λ e. omega (arith, e))
       some_form
 
-  pub script_line : (f : Ending) → IsReplied terms (content (input_of c)) left output told f
+  pub script_line : (f : Ending) → IsReplied terms (content input) left output told f
       → IsErrorLine words content (status_of (Worked f)) (line_of (Worked f))
   script_line (Done s) so =
       let zero_is : s ≡ 0 = so.status s refl in
@@ -196,7 +198,7 @@ module _ (words : List Text) (content : Content) (left : Option Text) (output : 
   script_line WriteFault so = plain_line words content 4 _ (λ e. omega (arith, e)) (λ e. omega (arith, e)) refl
   script_line NoMemory so = plain_line words content 5 _ (λ e. omega (arith, e)) (λ e. omega (arith, e)) refl
 
-  pub script_read : (f : Ending) → IsReplied terms (content (input_of c)) left output told f
+  pub script_read : (f : Ending) → IsReplied terms (content input) left output told f
       → HasAnswer (status_of (Worked f)) → AskedScript words content (λ n text. left ≡ Some [])
   script_read (Done s) so h = asked (λ n text. left ≡ Some []) (so.read tt)
   script_read (Refused number at) so h = no_answer 2 refl h

@@ -6,8 +6,7 @@ use Rattle.truth.specs.declared.formula.Formula.{Formula}
 use Rattle.truth.specs.Truth.{truth}
 use Rattle.trail.specs.State.{Account}
 use Rattle.qdimacs.specs.Rules.{parsed, refused, limit}
-use Rattle.command.specs.Forms.{Asks, HasNoForm, Text}
-use Rattle.command.specs.declared.command.Command.{Command}
+use Rattle.command.specs.Forms.{HasNoForm, Text}
 use Rattle.solve.specs.declared.answer.Answer.{Answer}
 use Rattle.solve.specs.declared.answer.Answer.TheVariants.{Sat, Unsat, Unknown}
 use Rattle.solve.specs.Answers.{answer_status, IsAnswerTo, IsShort}
@@ -19,9 +18,11 @@ use Rattle.solve.specs.declared.ending.Ending.{Ending}
 use Rattle.solve.specs.declared.ending.Ending.TheVariants.{Done, Refused, Limit, CheckLimit, ReadFault, WriteFault, NoMemory}
 use Rattle.files.specs.declared.job.Job.{Job}
 use Rattle.program.specs.declared.ending.RunEnding.TheVariants.{Worked}
-use Rattle.program.specs.Asked.{Asked, AskedCheck, AskedEither, OfFormula, input_of}
-use Rattle.program.specs.Run.{HasTruth, IsBeyond, IsErrorLine, IsLimited, IsLimitedCheck, IsLimitedScript, IsRefused, IsRefusedScript, IsSlow, IsSolved, IsVerdict, line_of, status_of, fixed_line}
+use Rattle.program.specs.Asked.{Asked, AskedCheck, AskedEither, OfFormula, Task}
+use Rattle.program.specs.Run.{HasTruth, IsBeyond, IsErrorLine, IsLimited, IsLimitedCheck, IsLimitedScript, IsRefused, IsRefusedScript, IsSlow, IsVerdict, line_of, status_of, fixed_line}
 use Rattle.program.specs.Told.{IsJobOutput}
+use Rattle.program.specs.Work.{IsJobWork}
+use Rattle.program.proofs.Asking.{AsksFor, asked_formula, has_form}
 use Rattle.program.proofs.Statuses.{absent, answer_absent, answers, is_among, is_answer, no_answer}
 use Rattle.solve.specs.Terms.{Terms}
 
@@ -138,7 +139,7 @@ module _ (job : Job) (terms : Terms) (known left : Option Text) (output : Option
   first_reply a text h = subst (λ before. IsReplyOn job terms known (before, told.1) a text) empty h
 
   -- what a job leaves on the output
-  pub solve_output : (f : Ending) → IsSolved job terms known left output told f
+  pub solve_output : (f : Ending) → IsJobWork job terms known left output told f
       → IsJobOutput job terms known output told.1 (status_of (Worked f))
   solve_output (Done s) so =
       let has : HasAnswer s = so.status s refl in
@@ -161,20 +162,21 @@ module _ (job : Job) (terms : Terms) (known left : Option Text) (output : Option
   solve_output NoMemory so = quiet 5 refl (λ e. omega (arith, e)) so.output_of
 
 module _ (words : List Text) (content : Content) (left : Option Text) (output : Option Text × Option Text)
-    (told : List Account × List Account) (job : Job) (terms : Terms) (c : Command) (asks : Asks words c)
-    (of : (P : Format → Terms → Text → Type 0) → IfSome (content (input_of c)) (P (format_of job) terms)
-    → OfFormula c content P) where
+    (told : List Account × List Account) (job : Job) (terms : Terms) (task : Task) (input : Text)
+    (asks : AsksFor words task)
+    (of : (P : Format → Terms → Text → Type 0) → IfSome (content input) (P (format_of job) terms)
+    → OfFormula task content P) where
   -- what is so of the text is so of the input that was asked for
-  asked : (P : Format → Terms → Text → Type 0) → IfSome (content (input_of c)) (P (format_of job) terms)
+  asked : (P : Format → Terms → Text → Type 0) → IfSome (content input) (P (format_of job) terms)
       → Asked words content P
-  asked P h = (c, asks, of P h)
+  asked P h = asked_formula words task asks content P (of P h)
 
   some_form : HasNoForm words → ⊥
-  some_form none = none c asks
+  some_form none = has_form words task asks none
 
   -- an answer to the formula
   pub answer_verdict : (s : ℕ) → HasAnswer s
-      → IfSome (content (input_of c)) (λ text. OfAnswer s (Solves (format_of job) terms text))
+      → IfSome (content input) (λ text. OfAnswer s (Solves (format_of job) terms text))
       → IsVerdict words content s
   answer_verdict s has ending = record {
     sat = λ h. asked (λ format n text. HasTruth format text true)
@@ -190,7 +192,7 @@ module _ (words : List Text) (content : Content) (left : Option Text) (output : 
     unasked = λ none. absurd (some_form none);
   }
 
-  pub solve_verdict : (f : Ending) → IsSolved job terms (content (input_of c)) left output told f
+  pub solve_verdict : (f : Ending) → IsJobWork job terms (content input) left output told f
       → IsVerdict words content (status_of (Worked f))
   solve_verdict (Done s) so = answer_verdict s (so.status s refl) so.ending
   solve_verdict (Refused number at) so =
@@ -216,7 +218,7 @@ module _ (words : List Text) (content : Content) (left : Option Text) (output : 
       plain_verdict words content 5 refl (λ e. omega (arith, e)) (λ e. omega (arith, e)) (λ e. omega (arith, e))
       some_form
 
-  pub solve_line : (f : Ending) → IsSolved job terms (content (input_of c)) left output told f
+  pub solve_line : (f : Ending) → IsJobWork job terms (content input) left output told f
       → IsErrorLine words content (status_of (Worked f)) (line_of (Worked f))
   solve_line (Done s) so = answer_line words content s (so.status s refl)
   solve_line (Refused number at) so = record {
@@ -235,7 +237,7 @@ module _ (words : List Text) (content : Content) (left : Option Text) (output : 
   solve_line WriteFault so = plain_line words content 4 _ (λ e. omega (arith, e)) (λ e. omega (arith, e)) refl
   solve_line NoMemory so = plain_line words content 5 _ (λ e. omega (arith, e)) (λ e. omega (arith, e)) refl
 
-  pub solve_read : (f : Ending) → IsSolved job terms (content (input_of c)) left output told f
+  pub solve_read : (f : Ending) → IsJobWork job terms (content input) left output told f
       → HasAnswer (status_of (Worked f)) → Asked words content (λ format n text. left ≡ Some [])
   solve_read (Done s) so h = asked (λ format n text. left ≡ Some []) (so.read tt)
   solve_read (Refused number at) so h = no_answer 2 refl h

@@ -18,7 +18,7 @@ use Rattle.solve.specs.declared.ending.Ending.TheVariants.{CheckLimit, Done}
 use Rattle.files.specs.Checks.{IsCheckOn, check_ending}
 use Rattle.files.specs.Worked.{anything_fits}
 use Rattle.files.proofs.JobValues.{bare, bare_is, bare_reads}
-use Rattle.program.specs.Asked.{AskedEither, IsSample, OfCheckCommand, OfFormula, OfScript}
+use Rattle.program.specs.Asked.{AskedEither, IsSample, OfCheckTask, OfFormula, OfScript, task_of}
 use Rattle.program.specs.Complete.{IsValid, IsValidFor}
 use Rattle.program.specs.Run.{EndsIn, IsBeyond, IsUndecidedCheck, IsVerdict}
 use Rattle.program.specs.Told.{IsCheckOutput}
@@ -69,15 +69,15 @@ checked_limit = other_verdict check_words (holds great_text) 6 refl (λ e. absur
 -- where the check formula isn't to be decided, 0 comes only where the budget is too low for the formula
 low_for_true : AskedEither check_words (holds bare) IsBeyond (λ terms text. EndsIn text done) → ⊥
 low_for_true h = ⊎_elim
-    (λ f. let is = subst (λ d. OfFormula d (holds bare) IsBeyond) (only_check f.0 f.1) f.2 in
+    (λ f. let is = subst (λ d. OfFormula (task_of d) (holds bare) IsBeyond) (only_check f.0 f.1) f.2 in
     let low : 2 ^ 64 - 1 < 16 = subst (λ (g : Formula). whole < step_limit 0 (size_of g.prefix))
     (bare_is is.0 is.1) is.2 in omega (arith, low))
-    (λ s. subst (λ d. OfScript d (holds bare) (λ terms text. EndsIn text done)) (only_check s.0 s.1) s.2) h
+    (λ s. subst (λ d. OfScript (task_of d) (holds bare) (λ terms text. EndsIn text done)) (only_check s.0 s.1) s.2) h
 
 pub true_as_unknown : IsVerdict check_words (holds bare) 0 → ⊥
 true_as_unknown h = ⊎_elim
-    (λ any. ⊎_elim low_for_true (λ s. subst IsSample (only_check s.0 s.1) s.2) any)
-    (λ c. let is = subst (λ d. OfCheckCommand d (holds bare) IsUndecidedCheck) (only_check c.0 c.1) c.2 in
+    (λ any. ⊎_elim low_for_true (λ s. subst (λ d. IsSample (task_of d)) (only_check s.0 s.1) s.2) any)
+    (λ c. let is = subst (λ d. OfCheckTask (task_of d) (holds bare) IsUndecidedCheck) (only_check c.0 c.1) c.2 in
     absurd (false≢true is.3.is.0)) (h.unknown refl)
 
 -- a formula is a valid input
@@ -85,7 +85,7 @@ pub valid_check : IsValid check_words (holds bare)
 valid_check = record {
   command = check;
   asks = asks_check;
-  valid = λ c asks. subst (λ d. IsValidFor d (holds bare)) (sym (only_check c asks)) (anything_fits, bare_reads);
+  valid = λ c asks. subst (λ d. IsValidFor (task_of d) (holds bare)) (sym (only_check c asks)) (anything_fits, bare_reads);
 }
 
 same_status : (n m : ℕ) → Done n ≡ Done m → n ≡ m

@@ -26,7 +26,7 @@ use Rattle.files.specs.Solve.{OfAnswer, Solves}
 use Rattle.files.specs.WorkedInputs.{each_text, formula_text, negated, one_text}
 use Rattle.files.proofs.InputValues.{alone, each_reads, formula_refused, is_circuit, is_formula, one_reads, one_says}
 use Rattle.qdimacs.specs.Rules.{refused}
-use Rattle.program.specs.Asked.{AskedSample, IsSample}
+use Rattle.program.specs.Asked.{AskedSample, IsSample, task_of}
 use Rattle.program.specs.Complete.{IsValid, IsValidFor}
 use Rattle.program.specs.Run.{EndsIn, HasTruth, IsBeyond, IsErrorLine, IsRefused, IsRefusedScript, IsUndecidedCheck, IsVerdict}
 use Rattle.program.proofs.Solving.{other_verdict}
@@ -69,7 +69,7 @@ true_as_false h = absurd (let is : false ≡ true = true_is false (of_circuit (h
 
 -- nor has one that is decided within the budget 0
 no_sample : AskedSample circuit_words → ⊥
-no_sample (c, asks, is) = subst IsSample (only_circuit c asks) is
+no_sample (c, asks, is) = subst (λ d. IsSample (task_of d)) (only_circuit c asks) is
 
 pub true_as_unknown : IsVerdict circuit_words (holds one_text) 0 → ⊥
 true_as_unknown h =
@@ -112,7 +112,7 @@ pub valid_circuit : IsValid circuit_words (holds one_text)
 valid_circuit = record {
   command = decide_circuit;
   asks = asks_circuit;
-  valid = λ c asks. subst (λ d. IsValidFor d (holds one_text)) (sym (only_circuit c asks)) (alone Exists, one_reads);
+  valid = λ c asks. subst (λ d. IsValidFor (task_of d) (holds one_text)) (sym (only_circuit c asks)) (alone Exists, one_reads);
 }
 
 no_circuit : (c : Circuit) × ReadsCircuit formula_text (circuit c) → ⊥

@@ -24,7 +24,7 @@ use Rattle.files.specs.Worked.{anything_fits}
 use Rattle.session.specs.WorkedScripts.{one_refusal, two_pops, two_refusals}
 use Rattle.files.proofs.JobValues.{bare, bare_reads, line_length, sat}
 use Rattle.session.proofs.ScriptValues.{at_start, both_read, first_ones, front_head, leads_two, none_told, read_length, reply_length, some_reply, too_short, whole_length}
-use Rattle.program.specs.Asked.{RoomForCommand, RoomForOutput, known_for}
+use Rattle.program.specs.Asked.{RoomForOutput, RoomForTask, known_for, task_of}
 use Rattle.program.specs.Told.{IsJobOutput, IsOutput, IsOutputOf, IsSampleOutput, IsScriptOutput}
 use Rattle.program.proofs.Statuses.{absent}
 use Rattle.program.proofs.WorkedVerdicts.{holds}
@@ -43,19 +43,19 @@ module _ (input output : Text) (stops : List Account) (status : ℕ) where
   of_solve : (output ≡ [] → ⊥) → Leaves solve_words input output stops status
       → IsJobOutput SolveJob plain (Some input) (Some [], Some output) stops status
   of_solve some h = ⊎_elim (λ q. absurd (some (quiet q)))
-      (λ r. subst (λ c. IsOutputOf c (known_for (holds input) c) (Some [], Some output) stops status)
+      (λ r. subst (λ c. IsOutputOf (task_of c) (known_for (holds input) (task_of c)) (Some [], Some output) stops status)
       (only_solve r.0 r.1) r.2) h
 
   of_script : (output ≡ [] → ⊥) → Leaves script_words input output stops status
       → IsScriptOutput plain (Some input) (Some [], Some output) stops status
   of_script some h = ⊎_elim (λ q. absurd (some (quiet q)))
-      (λ r. subst (λ c. IsOutputOf c (known_for (holds input) c) (Some [], Some output) stops status)
+      (λ r. subst (λ c. IsOutputOf (task_of c) (known_for (holds input) (task_of c)) (Some [], Some output) stops status)
       (only_script r.0 r.1) r.2) h
 
   of_gen : (output ≡ [] → ⊥) → Leaves gen_words input output stops status
       → IsSampleOutput (formula_text (made 0 3 1)) (Some [], Some output) stops status
   of_gen some h = ⊎_elim (λ q. absurd (some (quiet q)))
-      (λ r. subst (λ c. IsOutputOf c (known_for (holds input) c) (Some [], Some output) stops status)
+      (λ r. subst (λ c. IsOutputOf (task_of c) (known_for (holds input) (task_of c)) (Some [], Some output) stops status)
       (only_gen r.0 r.1) r.2) h
 
 -- the line of an answer, flushed or not
@@ -151,7 +151,7 @@ writes_nothing = inl ((0, omega arith, refl), refl, refl)
 told_none : (status : ℕ) → Contains (2 ∷ 3 ∷ 5 ∷ 6 ∷ []) status → Leaves solve_words bare [] (at_thirty_six ∷ []) status
     → at_thirty_six ∷ [] ≡ []
 told_none status ends h = ⊎_elim (λ q. q.2)
-    (λ r. ((subst (λ c. IsOutputOf c (known_for (holds bare) c) (Some [], Some []) (at_thirty_six ∷ []) status)
+    (λ r. ((subst (λ c. IsOutputOf (task_of c) (known_for (holds bare) (task_of c)) (Some [], Some []) (at_thirty_six ∷ []) status)
     (only_solve r.0 r.1) r.2).nothing ends).1) h
 
 pub tells_more : (status : ℕ) → Contains (2 ∷ 3 ∷ 5 ∷ 6 ∷ []) status
@@ -291,7 +291,7 @@ sample_no_front h =
 
 -- the room that a run wants: eight bytes for a solve, 22 for the replies, and the length of what is made
 pub room_for_solve : RoomForOutput solve_words (holds bare) (λ n. n ≤ 8)
-room_for_solve c asks = subst (λ d. RoomForCommand d (known_for (holds bare) d) (λ n. n ≤ 8)) (sym (only_solve c asks))
+room_for_solve c asks = subst (λ d. RoomForTask (task_of d) (known_for (holds bare) (task_of d)) (λ n. n ≤ 8)) (sym (only_solve c asks))
     (λ f a text read right says. line_length plain f a text says)
 
 pub no_room_for_solve : RoomForOutput solve_words (holds bare) (λ n. n ≤ 3) → ⊥
@@ -300,7 +300,7 @@ no_room_for_solve room =
     omega (arith, few)
 
 pub room_for_script : RoomForOutput script_words (holds two_pops) (λ n. n ≤ 22)
-room_for_script c asks = subst (λ d. RoomForCommand d (known_for (holds two_pops) d) (λ n. n ≤ 22))
+room_for_script c asks = subst (λ d. RoomForTask (task_of d) (known_for (holds two_pops) (task_of d)) (λ n. n ≤ 22))
     (sym (only_script c asks))
     (λ version commands out after leads first.
     let long = reply_length out (some_reply plain commands (first_ones version commands first) out after
@@ -315,7 +315,7 @@ no_room_for_script room =
     omega (arith, few)
 
 pub room_for_gen : (input : Text) → RoomForOutput gen_words (holds input) (λ n. n ≡ length (formula_text (made 0 3 1)))
-room_for_gen input c asks = subst (λ d. RoomForCommand d (known_for (holds input) d)
+room_for_gen input c asks = subst (λ d. RoomForTask (task_of d) (known_for (holds input) (task_of d))
     (λ n. n ≡ length (formula_text (made 0 3 1)))) (sym (only_gen c asks)) refl
 
 pub no_room_for_gen : (input : Text) → RoomForOutput gen_words (holds input)

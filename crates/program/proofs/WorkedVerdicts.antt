@@ -35,6 +35,7 @@ use Rattle.files.specs.Solve.{OfAnswer, Solves}
 use Rattle.solve.specs.Worked.{nothing_fits}
 use Rattle.files.specs.Worked.{anything_fits}
 use Rattle.files.proofs.JobValues.{bare, bare_is, bare_reads}
+use Rattle.program.specs.Asked.{task_of}
 use Rattle.program.specs.Complete.{IsValid, IsValidFor}
 use Rattle.program.specs.Run.{EndsIn, HasTruth, IsBeyond, IsCheckBeyond, IsErrorLine, IsErrorOutput, IsLimited, IsLimitedCheck, IsLimitedScript, IsRefused, IsRefusedScript, IsSlow, IsUndecidedCheck, IsVerdict, refused_line, status_of}
 use Rattle.program.specs.Words.{IsRefusal}
@@ -351,28 +352,28 @@ pub valid_formula : IsValid solve_words (holds bare)
 valid_formula = record {
   command = solve;
   asks = asks_solve;
-  valid = λ c asks. subst (λ d. IsValidFor d (holds bare)) (sym (only_solve c asks)) (anything_fits, bare_reads);
+  valid = λ c asks. subst (λ d. IsValidFor (task_of d) (holds bare)) (sym (only_solve c asks)) (anything_fits, bare_reads);
 }
 
 pub valid_script : IsValid script_words (holds header)
 valid_script = record {
   command = script;
   asks = asks_script;
-  valid = λ c asks. subst (λ d. IsValidFor d (holds header)) (sym (only_script c asks)) ([], header_reads);
+  valid = λ c asks. subst (λ d. IsValidFor (task_of d) (holds header)) (sym (only_script c asks)) ([], header_reads);
 }
 
 pub valid_without : IsValid gen_words (λ name. None)
 valid_without = record {
   command = gen;
   asks = asks_gen;
-  valid = λ c asks. subst (λ d. IsValidFor d (λ name. None)) (sym (only_gen c asks)) tt;
+  valid = λ c asks. subst (λ d. IsValidFor (task_of d) (λ name. None)) (sym (only_gen c asks)) tt;
 }
 
 bad_formula : (f : Formula) × Reads bad_text (parsed f) → ⊥
 bad_formula (f, reads) =
     absurd (let same : refused 11 1 ≡ parsed f = one_outcome bad_text (refused 11 1) (parsed f) bad_reads reads in cc)
 
-pub all_valid : AllByRecursion (λ c. IsValidFor c (holds bare))
+pub all_valid : AllByRecursion (λ c. IsValidFor (task_of c) (holds bare))
     (Solve 7 1 Qdo None ∷ Trace 7 1 None ∷ Cert 7 1 true true None ∷ Check 7 1 true None ∷ gen ∷ Demo 0 1 ∷ [])
 all_valid = (
   (anything_fits, bare_reads),
@@ -385,7 +386,7 @@ all_valid = (
   ),
 )
 
-pub none_valid : AllByRecursion (λ c. IsValidFor c (holds bad_text) → ⊥)
+pub none_valid : AllByRecursion (λ c. IsValidFor (task_of c) (holds bad_text) → ⊥)
     (Solve 7 1 Qdo None ∷ Trace 7 1 None ∷ Cert 7 1 true true None ∷ Check 7 1 true None ∷ [])
 none_valid = (bad_formula, (bad_formula, (bad_formula, (bad_formula, tt))))
 

@@ -14,7 +14,7 @@ use Rattle.command.proofs.AccountLemmas.{one_command}
 use Rattle.files.specs.Inputs.{Format}
 use Rattle.files.specs.Inputs.Format.{as_circuit, as_formula}
 use Rattle.solve.specs.Terms.{Terms, terms_of}
-use Rattle.program.specs.Asked.{Asked, AskedAny, AskedCheck, AskedEither, AskedSample, AskedScript, IsSample, OfCheckCommand, OfFormula, OfScript, SteadyFor, SteadyForInput, input_of, known_for}
+use Rattle.program.specs.Asked.{Asked, AskedAny, AskedCheck, AskedEither, AskedSample, AskedScript, IsSample, OfCheckTask, OfFormula, OfScript, SteadyFor, SteadyForInput, input_name, known_for, task_of}
 
 -- `qbf solve`, `qbf solve --qcir`, `qbf script` and `qbf gen 0 3 1`
 abbrev pub solve_words : List Text
@@ -223,34 +223,34 @@ OnScript = Terms → Text → Type 0
 
 module _ (content : Text → Option Text) where
   pub of_solve : (P : On) → Asked solve_words content P → IfSome (content (codes "-")) (P as_formula plain)
-  of_solve P (c, asks, of) = subst (λ d. OfFormula d content P) (only_solve c asks) of
+  of_solve P (c, asks, of) = subst (λ d. OfFormula (task_of d) content P) (only_solve c asks) of
 
   pub to_solve : (P : On) → IfSome (content (codes "-")) (P as_formula plain) → Asked solve_words content P
   to_solve P h = (solve, asks_solve, h)
 
   pub of_circuit : (P : On) → Asked circuit_words content P → IfSome (content (codes "-")) (P as_circuit plain)
-  of_circuit P (c, asks, of) = subst (λ d. OfFormula d content P) (only_circuit c asks) of
+  of_circuit P (c, asks, of) = subst (λ d. OfFormula (task_of d) content P) (only_circuit c asks) of
 
   pub to_circuit : (P : On) → IfSome (content (codes "-")) (P as_circuit plain) → Asked circuit_words content P
   to_circuit P h = (decide_circuit, asks_circuit, h)
 
   pub of_script : (P : OnScript) → AskedScript script_words content P → IfSome (content (codes "-")) (P plain)
-  of_script P (c, asks, of) = subst (λ d. OfScript d content P) (only_script c asks) of
+  of_script P (c, asks, of) = subst (λ d. OfScript (task_of d) content P) (only_script c asks) of
 
   pub to_script : (P : OnScript) → IfSome (content (codes "-")) (P plain) → AskedScript script_words content P
   to_script P h = (script, asks_script, h)
 
   -- and of no other input
   pub no_script : (P : OnScript) → AskedScript solve_words content P → ⊥
-  no_script P (c, asks, of) = subst (λ d. OfScript d content P) (only_solve c asks) of
+  no_script P (c, asks, of) = subst (λ d. OfScript (task_of d) content P) (only_solve c asks) of
 
   pub no_formula : (P : On) → Asked script_words content P → ⊥
-  no_formula P (c, asks, of) = subst (λ d. OfFormula d content P) (only_script c asks) of
+  no_formula P (c, asks, of) = subst (λ d. OfFormula (task_of d) content P) (only_script c asks) of
 
   pub none_of_gen : (P : On) (Q : OnScript) → AskedEither gen_words content P Q → ⊥
   none_of_gen P Q h = ⊎_elim
-      (λ f. subst (λ d. OfFormula d content P) (only_gen f.0 f.1) f.2)
-      (λ s. subst (λ d. OfScript d content Q) (only_gen s.0 s.1) s.2) h
+      (λ f. subst (λ d. OfFormula (task_of d) content P) (only_gen f.0 f.1) f.2)
+      (λ s. subst (λ d. OfScript (task_of d) content Q) (only_gen s.0 s.1) s.2) h
 
   pub either_of_solve : (P : On) (Q : OnScript) → AskedEither solve_words content P Q
       → IfSome (content (codes "-")) (P as_formula plain)
@@ -262,29 +262,29 @@ module _ (content : Text → Option Text) where
 
   -- and of no certificate that is checked
   pub no_check : (P : Bool → Terms → Text → Type 0) → AskedCheck solve_words content P → ⊥
-  no_check P (c, asks, of) = subst (λ d. OfCheckCommand d content P) (only_solve c asks) of
+  no_check P (c, asks, of) = subst (λ d. OfCheckTask (task_of d) content P) (only_solve c asks) of
 
   pub no_script_of_circuit : (P : OnScript) → AskedScript circuit_words content P → ⊥
-  no_script_of_circuit P (c, asks, of) = subst (λ d. OfScript d content P) (only_circuit c asks) of
+  no_script_of_circuit P (c, asks, of) = subst (λ d. OfScript (task_of d) content P) (only_circuit c asks) of
 
   pub either_of_circuit : (P : On) (Q : OnScript) → AskedEither circuit_words content P Q
       → IfSome (content (codes "-")) (P as_circuit plain)
   either_of_circuit P Q h = ⊎_elim (λ f. of_circuit P f) (λ s. absurd (no_script_of_circuit Q s)) h
 
   pub no_check_of_circuit : (P : Bool → Terms → Text → Type 0) → AskedCheck circuit_words content P → ⊥
-  no_check_of_circuit P (c, asks, of) = subst (λ d. OfCheckCommand d content P) (only_circuit c asks) of
+  no_check_of_circuit P (c, asks, of) = subst (λ d. OfCheckTask (task_of d) content P) (only_circuit c asks) of
 
   pub no_check_of_script : (P : Bool → Terms → Text → Type 0) → AskedCheck script_words content P → ⊥
-  no_check_of_script P (c, asks, of) = subst (λ d. OfCheckCommand d content P) (only_script c asks) of
+  no_check_of_script P (c, asks, of) = subst (λ d. OfCheckTask (task_of d) content P) (only_script c asks) of
 
 pub first_one : {A B : Type 0} → A ⊎ B → (B → ⊥) → A
 first_one h never = ⊎_elim (λ a. a) (λ b. absurd (never b)) h
 
 pub no_sample : AskedSample solve_words → ⊥
-no_sample (c, asks, is) = subst IsSample (only_solve c asks) is
+no_sample (c, asks, is) = subst (λ d. IsSample (task_of d)) (only_solve c asks) is
 
 pub no_sample_script : AskedSample script_words → ⊥
-no_sample_script (c, asks, is) = subst IsSample (only_script c asks) is
+no_sample_script (c, asks, is) = subst (λ d. IsSample (task_of d)) (only_script c asks) is
 
 pub is_sample : AskedSample gen_words
 is_sample = (gen, asks_gen, tt)
@@ -299,24 +299,27 @@ module _ (content : Text → Option Text) where
   any_of_script P Q h = ⊎_elim (λ e. either_of_script content P Q e) (λ s. absurd (no_sample_script s)) h
 
 -- the input of a command, and what is known of it
-pub standard_input : input_of solve ≡ codes "-"
+pub standard_input : input_name None ≡ codes "-"
 standard_input = refl
 
-pub known_input : (content : Text → Option Text) → known_for content script ≡ content (codes "-")
+pub named_input : input_name (Some (codes "a")) ≡ codes "a"
+named_input = refl
+
+pub known_input : (content : Text → Option Text) → known_for content (task_of script) ≡ content (codes "-")
 known_input content = refl
 
-pub no_input : (content : Text → Option Text) → known_for content gen ≡ None
+pub no_input : (content : Text → Option Text) → known_for content (task_of gen) ≡ None
 no_input content = refl
 
 -- a desk that is steady for standard input is so for the input that the words ask for, and `gen` has none
 pub steady : SteadyForInput solve_words (λ name. name ≡ codes "-")
-steady c asks = subst (λ d. SteadyFor d (λ name. name ≡ codes "-")) (sym (only_solve c asks)) refl
+steady c asks = subst (λ d. SteadyFor (task_of d) (λ name. name ≡ codes "-")) (sym (only_solve c asks)) refl
 
 pub steady_script : SteadyForInput script_words (λ name. name ≡ codes "-")
-steady_script c asks = subst (λ d. SteadyFor d (λ name. name ≡ codes "-")) (sym (only_script c asks)) refl
+steady_script c asks = subst (λ d. SteadyFor (task_of d) (λ name. name ≡ codes "-")) (sym (only_script c asks)) refl
 
 pub steady_without : SteadyForInput gen_words (λ name. ⊥)
-steady_without c asks = subst (λ d. SteadyFor d (λ name. ⊥)) (sym (only_gen c asks)) tt
+steady_without c asks = subst (λ d. SteadyFor (task_of d) (λ name. ⊥)) (sym (only_gen c asks)) tt
 
 pub unsteady : SteadyForInput solve_words (λ name. name ≢ codes "-") → ⊥
 unsteady steady = steady solve asks_solve refl

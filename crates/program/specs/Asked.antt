@@ -1,6 +1,6 @@
 -- What the words of a run ask for.
-use Rattle.std.specs.Prelude.{ℕ, ◌⊎◌, ⊤, Bool, List, Option, None, Some, IfSome, codes, length}
-use Rattle.command.specs.Forms.{Asks, Text, name_of}
+use Rattle.std.specs.Prelude.{ℕ, ◌⊎◌, ⊤, Bool, List, Option, None, Some, IfSome, codes, length, option_map}
+use Rattle.command.specs.Forms.{Asks, Text}
 use Rattle.command.specs.declared.command.Command.{Command}
 use Rattle.command.specs.declared.command.SolveForm.{SolveForm}
 use Rattle.command.specs.declared.command.SolveForm.TheVariants.{Plain, Qdo, Qcir}
@@ -22,89 +22,87 @@ abbrev pub input_name : Option Text → Text
 input_name None = codes "-"
 input_name (Some name) = name
 
--- The name of the input of a command that has one.
-abbrev pub input_of : Command → Text
-input_of c = input_name (name_of c)
-
 -- The job of `solve`, without a flag, with `--qdo` or with `--qcir`.
 abbrev pub solve_job : SolveForm → Job
 solve_job Plain = SolveJob
 solve_job Qdo = QdoJob
 solve_job Qcir = QcirJob
 
--- What is known of the text of a command's input, where the desk tells.
-abbrev pub known_for : (Text → Option Text) → Command → Option Text
-known_for content (Solve budget restarts form name) = content (input_of (Solve budget restarts form name))
-known_for content (Trace budget restarts name) = content (input_of (Trace budget restarts name))
-known_for content (Cert budget restarts binary trim name) = content (input_of (Cert budget restarts binary trim name))
-known_for content (Check budget restarts decide name) = content (input_of (Check budget restarts decide name))
-known_for content (Script budget restarts name) = content (input_of (Script budget restarts name))
-known_for content (Gen seed vars clauses) = None
-known_for content (Demo seed count) = None
+-- What a command comes to: a job on the formula or circuit of an input, the check of a certificate of its formula,
+-- replies to its script, or a text that is written without an input.
+pub data Task : Type 0 where
+  job_task : Job → Terms → (input : Text) → Task
+  check_task : (decide : Bool) → Terms → (input : Text) → Task
+  script_task : Terms → (input : Text) → Task
+  text_task : Text → Task
 
--- The command is about one formula or circuit, and this is so of the format of its input, of its terms and of the text
+-- What each command comes to.
+abbrev pub task_of : Command → Task
+task_of (Solve budget restarts form name) =
+    job_task (solve_job form) (terms_of budget restarts) (input_name (option_map (λ s. s.now) name))
+task_of (Trace budget restarts name) =
+    job_task TraceJob (terms_of budget restarts) (input_name (option_map (λ s. s.now) name))
+task_of (Cert budget restarts binary trim name) =
+    job_task (CertJob binary trim) (terms_of budget restarts) (input_name (option_map (λ s. s.now) name))
+task_of (Check budget restarts decide name) =
+    check_task decide (terms_of budget restarts) (input_name (option_map (λ s. s.now) name))
+task_of (Script budget restarts name) =
+    script_task (terms_of budget restarts) (input_name (option_map (λ s. s.now) name))
+task_of (Gen seed vars clauses) = text_task (formula_text (made seed vars clauses))
+task_of (Demo seed count) = text_task (counts_text seed count)
+
+-- What is known of the text of a task's input, where the desk tells.
+abbrev pub known_for : (Text → Option Text) → Task → Option Text
+known_for content (job_task job terms input) = content input
+known_for content (check_task decide terms input) = content input
+known_for content (script_task terms input) = content input
+known_for content (text_task text) = None
+
+-- The task is about one formula or circuit, and this is so of the format of its input, of its terms and of the text
 -- that its input holds, where the desk tells.
-abbrev pub OfFormula : Command → (Text → Option Text) → (Format → Terms → Text → Type 0) → Type 0
-OfFormula (Solve budget restarts form name) content P = IfSome (content (input_of (Solve budget restarts form name)))
-    (P (format_of (solve_job form)) (terms_of budget restarts))
-OfFormula (Trace budget restarts name) content P = IfSome (content (input_of (Trace budget restarts name)))
-    (P as_formula (terms_of budget restarts))
-OfFormula (Cert budget restarts binary trim name) content P =
-    IfSome (content (input_of (Cert budget restarts binary trim name))) (P as_formula (terms_of budget restarts))
-OfFormula (Check budget restarts decide name) content P =
-    IfSome (content (input_of (Check budget restarts decide name))) (P as_formula (terms_of budget restarts))
-OfFormula (Script budget restarts name) content P = ⊥
-OfFormula (Gen seed vars clauses) content P = ⊥
-OfFormula (Demo seed count) content P = ⊥
+abbrev pub OfFormula : Task → (Text → Option Text) → (Format → Terms → Text → Type 0) → Type 0
+OfFormula (job_task job terms input) content P = IfSome (content input) (P (format_of job) terms)
+OfFormula (check_task decide terms input) content P = IfSome (content input) (P as_formula terms)
+OfFormula (script_task terms input) content P = ⊥
+OfFormula (text_task text) content P = ⊥
 
--- The command is about a script, and this is so of both.
-abbrev pub OfScript : Command → (Text → Option Text) → (Terms → Text → Type 0) → Type 0
-OfScript (Solve budget restarts form name) content P = ⊥
-OfScript (Trace budget restarts name) content P = ⊥
-OfScript (Cert budget restarts binary trim name) content P = ⊥
-OfScript (Check budget restarts decide name) content P = ⊥
-OfScript (Script budget restarts name) content P = IfSome (content (input_of (Script budget restarts name)))
-    (P (terms_of budget restarts))
-OfScript (Gen seed vars clauses) content P = ⊥
-OfScript (Demo seed count) content P = ⊥
+-- The task is about a script, and this is so of both.
+abbrev pub OfScript : Task → (Text → Option Text) → (Terms → Text → Type 0) → Type 0
+OfScript (job_task job terms input) content P = ⊥
+OfScript (check_task decide terms input) content P = ⊥
+OfScript (script_task terms input) content P = IfSome (content input) (P terms)
+OfScript (text_task text) content P = ⊥
 
--- The command checks the certificate of one formula, and this is so of whether it decides the check formula, of its
+-- The task is to check the certificate of one formula, and this is so of whether it decides the check formula, of its
 -- terms and of that text.
-abbrev pub OfCheckCommand : Command → (Text → Option Text) → (Bool → Terms → Text → Type 0) → Type 0
-OfCheckCommand (Solve budget restarts form name) content P = ⊥
-OfCheckCommand (Trace budget restarts name) content P = ⊥
-OfCheckCommand (Cert budget restarts binary trim name) content P = ⊥
-OfCheckCommand (Check budget restarts decide name) content P =
-    IfSome (content (input_of (Check budget restarts decide name))) (P decide (terms_of budget restarts))
-OfCheckCommand (Script budget restarts name) content P = ⊥
-OfCheckCommand (Gen seed vars clauses) content P = ⊥
-OfCheckCommand (Demo seed count) content P = ⊥
+abbrev pub OfCheckTask : Task → (Text → Option Text) → (Bool → Terms → Text → Type 0) → Type 0
+OfCheckTask (job_task job terms input) content P = ⊥
+OfCheckTask (check_task decide terms input) content P = IfSome (content input) (P decide terms)
+OfCheckTask (script_task terms input) content P = ⊥
+OfCheckTask (text_task text) content P = ⊥
 
--- The command makes formulas from a seed, and has no input.
-abbrev pub IsSample : Command → Type 0
-IsSample (Solve budget restarts form name) = ⊥
-IsSample (Trace budget restarts name) = ⊥
-IsSample (Cert budget restarts binary trim name) = ⊥
-IsSample (Check budget restarts decide name) = ⊥
-IsSample (Script budget restarts name) = ⊥
-IsSample (Gen seed vars clauses) = ⊤
-IsSample (Demo seed count) = ⊤
+-- The task has no input.
+abbrev pub IsSample : Task → Type 0
+IsSample (job_task job terms input) = ⊥
+IsSample (check_task decide terms input) = ⊥
+IsSample (script_task terms input) = ⊥
+IsSample (text_task text) = ⊤
 
 -- The words ask for a command about one formula or circuit, and this is so of format, terms and text.
 abbrev pub Asked : List Text → (Text → Option Text) → (Format → Terms → Text → Type 0) → Type 0
-Asked words content P = (c : Command) × Asks words c × OfFormula c content P
+Asked words content P = (c : Command) × Asks words c × OfFormula (task_of c) content P
 
 -- The words ask for a script, and this is so of terms and text.
 abbrev pub AskedScript : List Text → (Text → Option Text) → (Terms → Text → Type 0) → Type 0
-AskedScript words content P = (c : Command) × Asks words c × OfScript c content P
+AskedScript words content P = (c : Command) × Asks words c × OfScript (task_of c) content P
 
 -- The words ask for a check of one formula's certificate, and this is so of it.
 abbrev pub AskedCheck : List Text → (Text → Option Text) → (Bool → Terms → Text → Type 0) → Type 0
-AskedCheck words content P = (c : Command) × Asks words c × OfCheckCommand c content P
+AskedCheck words content P = (c : Command) × Asks words c × OfCheckTask (task_of c) content P
 
 -- The words ask for a command that makes formulas from a seed.
 abbrev pub AskedSample : List Text → Type 0
-AskedSample words = (c : Command) × Asks words c × IsSample c
+AskedSample words = (c : Command) × Asks words c × IsSample (task_of c)
 
 -- The words ask for a command about one formula or circuit of which the one is so, or for a script of which the other
 -- is so.
@@ -117,35 +115,25 @@ abbrev pub AskedAny : List Text → (Text → Option Text) → (P : Format → T
     → (Q : Terms → Text → Type 0) → Type 0
 AskedAny words content P Q = AskedEither words content P Q ⊎ AskedSample words
 
--- The desk is steady for a command's input, if it has one.
-abbrev pub SteadyFor : Command → (Text → Type 0) → Type 0
-SteadyFor (Solve budget restarts form name) steady = steady (input_of (Solve budget restarts form name))
-SteadyFor (Trace budget restarts name) steady = steady (input_of (Trace budget restarts name))
-SteadyFor (Cert budget restarts binary trim name) steady = steady (input_of (Cert budget restarts binary trim name))
-SteadyFor (Check budget restarts decide name) steady = steady (input_of (Check budget restarts decide name))
-SteadyFor (Script budget restarts name) steady = steady (input_of (Script budget restarts name))
-SteadyFor (Gen seed vars clauses) steady = ⊤
-SteadyFor (Demo seed count) steady = ⊤
+-- The desk is steady for a task's input, if it has one.
+abbrev pub SteadyFor : Task → (Text → Type 0) → Type 0
+SteadyFor (job_task job terms input) steady = steady input
+SteadyFor (check_task decide terms input) steady = steady input
+SteadyFor (script_task terms input) steady = steady input
+SteadyFor (text_task text) steady = ⊤
 
 -- The desk is steady for the input that the words ask for.
 abbrev pub SteadyForInput : List Text → (Text → Type 0) → Type 0
-SteadyForInput words steady = (c : Command) → Asks words c → SteadyFor c steady
+SteadyForInput words steady = (c : Command) → Asks words c → SteadyFor (task_of c) steady
 
--- The output has room for each text that a command can write whose input is this text, where it is told.
-abbrev pub RoomForCommand : Command → Option Text → (ℕ → Type 0) → Type 0
-RoomForCommand (Solve budget restarts form name) known has_room = RoomForJob (solve_job form)
-    (terms_of budget restarts) known has_room
-RoomForCommand (Trace budget restarts name) known has_room = RoomForJob TraceJob (terms_of budget restarts) known
-    has_room
-RoomForCommand (Cert budget restarts binary trim name) known has_room = RoomForJob (CertJob binary trim)
-    (terms_of budget restarts) known has_room
-RoomForCommand (Check budget restarts decide name) known has_room =
-    RoomForCheck decide (terms_of budget restarts) known has_room
-RoomForCommand (Script budget restarts name) known has_room = RoomForReplies (terms_of budget restarts) known has_room
-RoomForCommand (Gen seed vars clauses) known has_room = has_room (length (formula_text (made seed vars clauses)))
-RoomForCommand (Demo seed count) known has_room = has_room (length (counts_text seed count))
+-- The output has room for each text that a task can write whose input is this text, where it is told.
+abbrev pub RoomForTask : Task → Option Text → (ℕ → Type 0) → Type 0
+RoomForTask (job_task job terms input) known has_room = RoomForJob job terms known has_room
+RoomForTask (check_task decide terms input) known has_room = RoomForCheck decide terms known has_room
+RoomForTask (script_task terms input) known has_room = RoomForReplies terms known has_room
+RoomForTask (text_task text) known has_room = has_room (length text)
 
 -- The output has room for all that the words and the input can have written.
 abbrev pub RoomForOutput : List Text → (Text → Option Text) → (ℕ → Type 0) → Type 0
 RoomForOutput words content has_room =
-    (c : Command) → Asks words c → RoomForCommand c (known_for content c) has_room
+    (c : Command) → Asks words c → RoomForTask (task_of c) (known_for content (task_of c)) has_room

@@ -11,8 +11,8 @@ use Rattle.files.specs.Inputs.{Format, format_of}
 use Rattle.files.specs.Inputs.Format.{as_circuit, as_formula}
 use Rattle.command.specs.Forms.{Asks, Text}
 use Rattle.command.specs.declared.command.Command.{Command}
-use Rattle.command.specs.declared.command.Command.TheVariants.{Solve, Trace, Cert, Check, Script, Gen, Demo}
-use Rattle.program.specs.Asked.{AskedCheck, input_of, solve_job}
+use Rattle.program.specs.Asked.{AskedCheck, Task, task_of}
+use Rattle.program.specs.Asked.Task.{job_task, check_task, script_task, text_task}
 use Rattle.program.specs.Run.{EndsIn, IsLimitedCheck}
 
 -- The text is told, and is a formula.
@@ -32,25 +32,19 @@ IsOfFormat as_circuit known = IsCircuitText known
 abbrev pub IsScript : Option Text → Type 0
 IsScript known = IsSomeAnd known (λ text. EndsIn text done)
 
--- The input of a command is valid: a formula, a quantified circuit for `--qcir`, or a script that ends well; some
--- commands have none.
-abbrev pub IsValidFor : Command → (Text → Option Text) → Type 0
-IsValidFor (Solve budget restarts form name) content =
-    IsOfFormat (format_of (solve_job form)) (content (input_of (Solve budget restarts form name)))
-IsValidFor (Trace budget restarts name) content = IsFormula (content (input_of (Trace budget restarts name)))
-IsValidFor (Cert budget restarts binary trim name) content =
-    IsFormula (content (input_of (Cert budget restarts binary trim name)))
-IsValidFor (Check budget restarts decide name) content =
-    IsFormula (content (input_of (Check budget restarts decide name)))
-IsValidFor (Script budget restarts name) content = IsScript (content (input_of (Script budget restarts name)))
-IsValidFor (Gen seed vars clauses) content = ⊤
-IsValidFor (Demo seed count) content = ⊤
+-- The input of a task is valid: a formula, a quantified circuit for `--qcir`, or a script that ends well; some tasks
+-- have none.
+abbrev pub IsValidFor : Task → (Text → Option Text) → Type 0
+IsValidFor (job_task job terms input) content = IsOfFormat (format_of job) (content input)
+IsValidFor (check_task decide terms input) content = IsFormula (content input)
+IsValidFor (script_task terms input) content = IsScript (content input)
+IsValidFor (text_task text) content = ⊤
 
 -- The words are of a form, and the input that they ask for is valid.
 pub record IsValid (words : List Text) (content : Text → Option Text) : Type 0 where
   pub command : Command
   pub asks : Asks words command
-  pub valid : (c : Command) → Asks words c → IsValidFor c content
+  pub valid : (c : Command) → Asks words c → IsValidFor (task_of c) content
 
 -- The statuses of a valid input: those of answers, want of memory, and that of a check formula beyond a limit.
 abbrev pub IsComplete : (words : List Text) (content : Text → Option Text) → ℕ → Type 0

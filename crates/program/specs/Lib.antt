@@ -3,3 +3,4 @@ pub mod Complete
 pub mod Run
 pub mod Told
 pub mod Words
+pub mod Work

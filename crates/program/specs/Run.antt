@@ -1,32 +1,23 @@
 -- What the exit status of a run says, and the line on the error output.
-use Rattle.std.specs.Prelude.{◌≡◌, ◌≢◌, ℕ, ◌<◌, Bool, true, false, ◌==◌, if◌then◌else◌, ◌⊎◌, List, [], ◌∷◌, ◌++◌, Contains, codes, Option, Some, IfSome, string_bytes}
+use Rattle.std.specs.Prelude.{◌≡◌, ◌≢◌, ℕ, ◌<◌, Bool, true, false, ◌==◌, if◌then◌else◌, ◌⊎◌, List, [], ◌∷◌, ◌++◌, Contains, codes, Option, Some, string_bytes}
 use Rattle.std.specs.Fmt.{decimal}
-use Rattle.std.specs.Io.KnownBytes.{Appends, Keeps}
+use Rattle.std.specs.Io.KnownBytes.{Appends}
 use Rattle.ports.specs.Bytes.{AppendsFront}
 use Rattle.ports.specs.Causes.{Rose}
-use Rattle.command.specs.Forms.{Asks, HasNoForm, Text}
-use Rattle.command.specs.declared.command.Command.{Command}
-use Rattle.command.specs.declared.command.Command.TheVariants.{Solve, Trace, Cert, Check, Script, Gen, Demo}
+use Rattle.command.specs.Forms.{HasNoForm, Text}
 use Rattle.calculus.specs.Limits.{propagation_limit}
 use Rattle.calculus.specs.Search.{IsRefuted}
-use Rattle.trail.specs.State.{Account}
 use Rattle.search.specs.Counting.{size_of}
 use Rattle.aig.specs.declared.strategy.Strategy.{Strategy}
 use Rattle.certcheck.specs.Building.{limit_of}
-use Rattle.files.specs.Checks.{HasCircuit, IsFinished, LeavesCheck, OfCheck, check_of}
-use Rattle.files.specs.Endings.{IsUnread}
-use Rattle.files.specs.Inputs.{Format, Says, format_of}
+use Rattle.files.specs.Checks.{HasCircuit, OfCheck, check_of}
+use Rattle.files.specs.Inputs.{Format, Says}
 use Rattle.files.specs.Inputs.Format.{as_circuit, as_formula}
-use Rattle.files.specs.Jobs.{LeavesOutput}
-use Rattle.session.specs.Scripts.{AreAnswered, IsScriptEnding, IsScriptOf}
-use Rattle.solve.specs.Terms.{Terms, terms_of}
+use Rattle.session.specs.Scripts.{IsScriptOf}
+use Rattle.solve.specs.Terms.{Terms}
 use Rattle.solve.specs.Answers.{IsShort}
-use Rattle.solve.specs.Endings.{IsDone}
-use Rattle.files.specs.Solve.{HasAnswer, IsEnding, OfAnswer, Solves}
-use Rattle.solve.specs.declared.ending.Ending.{Ending}
+use Rattle.files.specs.Solve.{HasAnswer, OfAnswer, Solves}
 use Rattle.solve.specs.declared.ending.Ending.TheVariants.{Done, Refused, Limit, CheckLimit, ReadFault, WriteFault, NoMemory}
-use Rattle.files.specs.declared.job.Job.{Job}
-use Rattle.files.specs.declared.job.Job.TheVariants.{Trace as TraceJob, Cert as CertJob}
 use Rattle.steps.specs.Counter.{step_limit}
 use Rattle.truth.specs.declared.formula.Formula.{Formula}
 use Rattle.truth.specs.Truth.{truth}
@@ -40,10 +31,7 @@ use Rattle.qcir_reader.specs.Rules.{parsed as circuit}
 use Rattle.qcir_reader.specs.Reads.{Reads as ReadsCircuit}
 use Rattle.qscript.specs.declared.command.Command.{Command as ScriptCommand}
 use Rattle.qscript.specs.Reads.{Ending as ScriptEnding, done, limit as script_limit, refused as script_refused}
-use Rattle.generate.specs.Made.{made}
-use Rattle.qdimacs_out.specs.Texts.{formula_text}
-use Rattle.samples.specs.Samples.{LeavesText, counts_text}
-use Rattle.program.specs.Asked.{Asked, AskedAny, AskedCheck, AskedEither, known_for, solve_job}
+use Rattle.program.specs.Asked.{Asked, AskedAny, AskedCheck, AskedEither}
 use Rattle.program.specs.declared.ending.RunEnding.{RunEnding}
 use Rattle.program.specs.declared.ending.RunEnding.TheVariants.{Worked, Usage}
 
@@ -197,63 +185,3 @@ pub record IsErrorOutput (words : List Text) (content : Text → Option Text) (f
   pub is : IsErrorLine words content status line
   pub front : AppendsFront old new line
   pub whole : ¬ Rose faults.0 faults.1 → Appends old new line
-
--- What is known of the work of a job on a formula, or on a circuit, that an input holds. `output` is what stood on the
--- output and stands on it, `told` the list of stopped searches before and after.
-pub record IsSolved (job : Job) (terms : Terms) (known left : Option Text) (output : Option Text × Option Text)
-    (told : List Account × List Account) (e : Ending) : Type 0 where
-  pub ending : IfSome known (λ text. IsEnding (format_of job) terms text e)
-  pub status : (s : ℕ) → e ≡ Done s → HasAnswer s
-  pub read : IsDone e → IfSome known (λ text. left ≡ Some [])
-  pub output_of : LeavesOutput job terms known output told e
-
--- What is known of the check of a certificate of the formula that an input holds.
-pub record IsCheckWork (decide : Bool) (terms : Terms) (known left : Option Text) (output : Option Text × Option Text)
-    (told : List Account × List Account) (e : Ending) : Type 0 where
-  pub unread : IsUnread e → IfSome known (λ text. IsEnding as_formula terms text e)
-  pub read : IsFinished e → IfSome known (λ text. left ≡ Some [])
-  pub output_of : LeavesCheck decide terms known output told e
-
--- What is known of the work on a script that an input holds.
-pub record IsReplied (terms : Terms) (known left : Option Text) (output : Option Text × Option Text)
-    (told : List Account × List Account) (e : Ending) : Type 0 where
-  pub ending : IfSome known (λ text. IsScriptEnding text e)
-  pub status : (s : ℕ) → e ≡ Done s → s ≡ 0
-  pub read : IsDone e → IfSome known (λ text. left ≡ Some [])
-  pub answered : AreAnswered terms known output told e
-
--- What is known of the work of a command that makes formulas and writes this text.
-pub record IsMade (text : Text) (output : Option Text × Option Text) (told : List Account × List Account) (e : Ending)
-    : Type 0 where
-  pub leaves : LeavesText text output.0 output.1 e
-  pub none_told : told.1 ≡ told.0
-
--- what is known of the work of a command
-abbrev pub IsWorkOf : Command → (known left : Option Text) (output : Option Text × Option Text)
-    (told : List Account × List Account) → Ending → Type 0
-IsWorkOf (Solve budget restarts form name) known left output told e = IsSolved (solve_job form)
-    (terms_of budget restarts) known left output told e
-IsWorkOf (Trace budget restarts name) known left output told e = IsSolved TraceJob (terms_of budget restarts) known
-    left output told e
-IsWorkOf (Cert budget restarts binary trim name) known left output told e = IsSolved (CertJob binary trim)
-    (terms_of budget restarts) known left output told e
-IsWorkOf (Check budget restarts decide name) known left output told e =
-    IsCheckWork decide (terms_of budget restarts) known left output told e
-IsWorkOf (Script budget restarts name) known left output told e = IsReplied (terms_of budget restarts) known left
-    output told e
-IsWorkOf (Gen seed vars clauses) known left output told e = IsMade (formula_text (made seed vars clauses)) output told e
-IsWorkOf (Demo seed count) known left output told e = IsMade (counts_text seed count) output told e
-
--- what is known of a run by its ending
-abbrev pub Carried : (words : List Text) (content : Text → Option Text) (left : Option Text)
-    (output : Option Text × Option Text) (told : List Account × List Account) → RunEnding → Type 0
-Carried words content left output told (Usage text) =
-    HasNoForm words × Keeps output.0 output.1 × (told.1 ≡ told.0)
-Carried words content left output told (Worked e) =
-    ((e ≡ NoMemory) × Keeps output.0 output.1 × (told.1 ≡ told.0))
-    ⊎ ((c : Command) × Asks words c × IsWorkOf c (known_for content c) left output told e)
-
--- the answer is written
-abbrev pub IsAnswered : RunEnding → Type 0
-IsAnswered (Usage text) = ⊥
-IsAnswered (Worked e) = IsDone e

@@ -5,7 +5,6 @@ use Rattle.ports.specs.Bytes.{AppendsFront}
 use Rattle.trail.specs.State.{Account}
 use Rattle.command.specs.Forms.{Asks, Text}
 use Rattle.command.specs.declared.command.Command.{Command}
-use Rattle.command.specs.declared.command.Command.TheVariants.{Solve, Trace, Cert, Check, Script, Gen, Demo}
 use Rattle.qscript.specs.declared.command.Command.{Command as ScriptCommand}
 use Rattle.versions.specs.declared.version.Version.{Version}
 use Rattle.qscript.specs.Reads.{Ending as ScriptEnding, ReadsScript}
@@ -21,13 +20,10 @@ use Rattle.files.specs.Checks.{IsCheckOn, check_ending}
 use Rattle.files.specs.Jobs.{IsReplyOn}
 use Rattle.files.specs.Solve.{HasAnswer, OfAnswer}
 use Rattle.solve.specs.Standing.{Standing}
-use Rattle.solve.specs.Terms.{Terms, terms_of}
+use Rattle.solve.specs.Terms.{Terms}
 use Rattle.files.specs.declared.job.Job.{Job}
-use Rattle.files.specs.declared.job.Job.TheVariants.{Trace as TraceJob, Cert as CertJob}
-use Rattle.generate.specs.Made.{made}
-use Rattle.qdimacs_out.specs.Texts.{formula_text}
-use Rattle.samples.specs.Samples.{counts_text}
-use Rattle.program.specs.Asked.{known_for, solve_job}
+use Rattle.program.specs.Asked.{Task, known_for, task_of}
+use Rattle.program.specs.Asked.Task.{job_task, check_task, script_task, text_task}
 
 -- What a job on a formula leaves on the output and tells: its reply with an answer, a front of one after a write fault,
 -- and else nothing. With UNKNOWN an entry is told of its search, and else none. `written` is what stood on the output
@@ -80,22 +76,14 @@ pub record IsSampleOutput (text : Text) (written : Option Text × Option Text) (
   pub none : stops ≡ []
   pub ends : Contains (0 ∷ 4 ∷ 5 ∷ []) status
 
--- what a command leaves on the output and tells, whose input is this text, where it is told
-abbrev pub IsOutputOf : Command → (known : Option Text) (written : Option Text × Option Text)
+-- what a task leaves on the output and tells, whose input is this text, where it is told
+abbrev pub IsOutputOf : Task → (known : Option Text) (written : Option Text × Option Text)
     (stops : List Account) → ℕ → Type 0
-IsOutputOf (Solve budget restarts form name) known written stops status =
-    IsJobOutput (solve_job form) (terms_of budget restarts) known written stops status
-IsOutputOf (Trace budget restarts name) known written stops status = IsJobOutput TraceJob (terms_of budget restarts)
-    known written stops status
-IsOutputOf (Cert budget restarts binary trim name) known written stops status =
-    IsJobOutput (CertJob binary trim) (terms_of budget restarts) known written stops status
-IsOutputOf (Check budget restarts decide name) known written stops status =
-    IsCheckOutput decide (terms_of budget restarts) known written stops status
-IsOutputOf (Script budget restarts name) known written stops status = IsScriptOutput (terms_of budget restarts) known
-    written stops status
-IsOutputOf (Gen seed vars clauses) known written stops status =
-    IsSampleOutput (formula_text (made seed vars clauses)) written stops status
-IsOutputOf (Demo seed count) known written stops status = IsSampleOutput (counts_text seed count) written stops status
+IsOutputOf (job_task job terms input) known written stops status = IsJobOutput job terms known written stops status
+IsOutputOf (check_task decide terms input) known written stops status =
+    IsCheckOutput decide terms known written stops status
+IsOutputOf (script_task terms input) known written stops status = IsScriptOutput terms known written stops status
+IsOutputOf (text_task text) known written stops status = IsSampleOutput text written stops status
 
 -- What a run leaves on the output and tells: what the command does that the words ask for. Nothing, where they ask for
 -- none, or want of memory came before.
@@ -103,4 +91,4 @@ abbrev pub IsOutput : (words : List Text) (content : Text → Option Text) (writ
     (stops : List Account) → ℕ → Type 0
 IsOutput words content written stops status =
     (Contains (5 ∷ 7 ∷ []) status × Keeps written.0 written.1 × (stops ≡ []))
-    ⊎ ((c : Command) × Asks words c × IsOutputOf c (known_for content c) written stops status)
+    ⊎ ((c : Command) × Asks words c × IsOutputOf (task_of c) (known_for content (task_of c)) written stops status)

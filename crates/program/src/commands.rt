@@ -10,18 +10,16 @@ ghost use Rattle.session.specs.Scripts.{RoomForReplies};
 ghost use Rattle.solve.specs.Endings.{IsDone};
 ghost use Rattle.files.specs.Solve.{HasAnswer};
 ghost use Rattle.solve.specs.Terms.{terms_of};
-ghost use Rattle.program.specs.Asked.{AskedAny, RoomForCommand, RoomForOutput, SteadyFor, SteadyForInput, input_name as name_of_input, known_for, solve_job};
+ghost use Rattle.program.specs.Asked.{AskedAny, RoomForOutput, RoomForTask, SteadyFor, SteadyForInput, input_name as name_of_input, known_for, solve_job, task_of};
 ghost use Rattle.program.specs.Complete.{IsComplete, IsValid};
-ghost use Rattle.program.specs.Run.{Carried, IsAnswered, IsCheckWork, IsErrorOutput, IsReplied, IsSolved, IsVerdict, IsWorkOf, line_of, status_of};
+ghost use Rattle.program.specs.Run.{IsErrorOutput, IsVerdict, line_of, status_of};
 ghost use Rattle.program.specs.Told.{IsOutput};
+ghost use Rattle.program.specs.Work.{Carried, IsAnswered, IsCheckWork, IsDue, IsJobWork, IsReplied, IsWorkOf};
 
 use crate::ending::RunEnding;
 use command::{Command, Refused, SolveForm, read_command};
 use files::{Job, run_check, run_file};
 use ports::{Desk, Sink};
-use qcir_reader::each_text_has_one_outcome as each_circuit_has_one_outcome;
-use qdimacs::each_text_has_one_outcome;
-use qscript::each_script_has_one_reading;
 use samples::{count_samples, write_sample};
 use session::run_script;
 use solve::Ending;
@@ -93,9 +91,6 @@ pub fn run<D: Desk, O: Sink, E: Sink>(
     ensures error { IsErrorOutput (map string_bytes words.now) (D.content desk.old) (E.faults err.old, E.faults err.new)
         (E.written err.old) (E.written err.new) result }
 {
-    each_text_has_one_outcome();
-    each_circuit_has_one_outcome();
-    each_script_has_one_reading();
     let ending = ending_of(alloc, words, desk, out, stops);
     report(err, &ending)
 }
@@ -121,15 +116,10 @@ fn ending_of<D: Desk, O: Sink>(
 ) -> RunEnding
     ensures carried { Carried (map string_bytes words.now) (D.content desk.old) (D.left desk.new)
         (O.written out.old, O.written out.new) (stops.old.items, stops.new.items) result }
-    ensures read_fault { IsCounted (result ≡ RunEnding.Worked Ending.ReadFault) (IsAnswered result)
-        (D.faults desk.old) (D.faults desk.new) }
-    ensures write_fault { IsCounted (result ≡ RunEnding.Worked Ending.WriteFault) (IsAnswered result)
-        (O.faults out.old) (O.faults out.new) }
-    ensures steady { SteadyForInput (map string_bytes words.now) (D.steady desk.old)
-        → result ≢ RunEnding.Worked Ending.ReadFault }
-    ensures room { RoomForOutput (map string_bytes words.now) (D.content desk.old) (O.has_room out.old)
-        → result ≢ RunEnding.Worked Ending.WriteFault }
-    ensures flushed { IsAnswered result → AllFlushed (O.written out.new) (O.flushed out.old) (O.flushed out.new) }
+    ensures outside { IsDue D.faults O.written O.flushed O.faults
+        (SteadyForInput (map string_bytes words.now) (D.steady desk.old))
+        (RoomForOutput (map string_bytes words.now) (D.content desk.old) (O.has_room out.old))
+        (desk.old, desk.new) (out.old, out.new) (λ e. result ≡ RunEnding.Worked e) (IsAnswered result) }
 {
     match read_command(alloc, words) {
         Ok(command) => RunEnding::Worked(carry_out(alloc, command, desk, out, stops)),
@@ -147,14 +137,12 @@ fn carry_out<D: Desk, O: Sink>(
     stops: &mut Vec<Stopped>,
 ) -> Ending
     requires { (words : List Text) × Asks words command }
-    ensures work { IsWorkOf command.entry (known_for (D.content desk.old) command.entry) (D.left desk.new)
-        (O.written out.old, O.written out.new) (stops.old.items, stops.new.items) result }
-    ensures read_fault { IsCounted (result ≡ Ending.ReadFault) (IsDone result) (D.faults desk.old) (D.faults desk.new) }
-    ensures write_fault { IsCounted (result ≡ Ending.WriteFault) (IsDone result) (O.faults out.old) (O.faults out.new) }
-    ensures steady { SteadyFor command.entry (D.steady desk.old) → result ≢ Ending.ReadFault }
-    ensures room { RoomForCommand command.entry (known_for (D.content desk.old) command.entry) (O.has_room out.old)
-        → result ≢ Ending.WriteFault }
-    ensures flushed { IsDone result → AllFlushed (O.written out.new) (O.flushed out.old) (O.flushed out.new) }
+    ensures work { IsWorkOf (task_of command.entry) (known_for (D.content desk.old) (task_of command.entry))
+        (D.left desk.new) (O.written out.old, O.written out.new) (stops.old.items, stops.new.items) result }
+    ensures outside { IsDue D.faults O.written O.flushed O.faults (SteadyFor (task_of command.entry) (D.steady desk.old))
+        (RoomForTask (task_of command.entry) (known_for (D.content desk.old) (task_of command.entry))
+        (O.has_room out.old))
+        (desk.old, desk.new) (out.old, out.new) (λ e. result ≡ e) (IsDone result) }
 {
     match command {
         Command::Solve {
@@ -235,17 +223,14 @@ fn work<D: Desk, O: Sink>(
     out: &mut O,
     stops: &mut Vec<Stopped>,
 ) -> Ending
-    ensures solved { IsSolved job (terms_of budget restarts)
+    ensures solved { IsJobWork job (terms_of budget restarts)
         (D.content desk.old (name_of_input (option_map (λ s. s.now) name.entry)))
         (D.left desk.new) (O.written out.old, O.written out.new) (stops.old.items, stops.new.items) result }
-    ensures read_fault { IsCounted (result ≡ Ending.ReadFault) (IsDone result) (D.faults desk.old) (D.faults desk.new) }
-    ensures write_fault { IsCounted (result ≡ Ending.WriteFault) (IsDone result) (O.faults out.old) (O.faults out.new) }
-    ensures steady { D.steady desk.old (name_of_input (option_map (λ s. s.now) name.entry))
-        → result ≢ Ending.ReadFault }
-    ensures room { RoomForJob job (terms_of budget restarts)
-        (D.content desk.old (name_of_input (option_map (λ s. s.now) name.entry)))
-        (O.has_room out.old) → result ≢ Ending.WriteFault }
-    ensures flushed { IsDone result → AllFlushed (O.written out.new) (O.flushed out.old) (O.flushed out.new) }
+    ensures outside { IsDue D.faults O.written O.flushed O.faults
+        (D.steady desk.old (name_of_input (option_map (λ s. s.now) name.entry)))
+        (RoomForJob job (terms_of budget restarts)
+        (D.content desk.old (name_of_input (option_map (λ s. s.now) name.entry))) (O.has_room out.old))
+        (desk.old, desk.new) (out.old, out.new) (λ e. result ≡ e) (IsDone result) }
 {
     if desk.choose(input_name(name)).is_err() {
         return Ending::ReadFault;
@@ -267,14 +252,11 @@ fn check<D: Desk, O: Sink>(
     ensures checked { IsCheckWork decide (terms_of budget restarts)
         (D.content desk.old (name_of_input (option_map (λ s. s.now) name.entry)))
         (D.left desk.new) (O.written out.old, O.written out.new) (stops.old.items, stops.new.items) result }
-    ensures read_fault { IsCounted (result ≡ Ending.ReadFault) (IsDone result) (D.faults desk.old) (D.faults desk.new) }
-    ensures write_fault { IsCounted (result ≡ Ending.WriteFault) (IsDone result) (O.faults out.old) (O.faults out.new) }
-    ensures steady { D.steady desk.old (name_of_input (option_map (λ s. s.now) name.entry))
-        → result ≢ Ending.ReadFault }
-    ensures room { RoomForCheck decide (terms_of budget restarts)
-        (D.content desk.old (name_of_input (option_map (λ s. s.now) name.entry)))
-        (O.has_room out.old) → result ≢ Ending.WriteFault }
-    ensures flushed { IsDone result → AllFlushed (O.written out.new) (O.flushed out.old) (O.flushed out.new) }
+    ensures outside { IsDue D.faults O.written O.flushed O.faults
+        (D.steady desk.old (name_of_input (option_map (λ s. s.now) name.entry)))
+        (RoomForCheck decide (terms_of budget restarts)
+        (D.content desk.old (name_of_input (option_map (λ s. s.now) name.entry))) (O.has_room out.old))
+        (desk.old, desk.new) (out.old, out.new) (λ e. result ≡ e) (IsDone result) }
 {
     if desk.choose(input_name(name)).is_err() {
         return Ending::ReadFault;
@@ -295,18 +277,13 @@ fn reply<D: Desk, O: Sink>(
     ensures replied { IsReplied (terms_of budget restarts) (D.content desk.old
         (name_of_input (option_map (λ s. s.now) name.entry)))
         (D.left desk.new) (O.written out.old, O.written out.new) (stops.old.items, stops.new.items) result }
-    ensures read_fault { IsCounted (result ≡ Ending.ReadFault) (IsDone result) (D.faults desk.old) (D.faults desk.new) }
-    ensures write_fault { IsCounted (result ≡ Ending.WriteFault) (IsDone result) (O.faults out.old) (O.faults out.new) }
-    ensures steady { D.steady desk.old (name_of_input (option_map (λ s. s.now) name.entry))
-        → result ≢ Ending.ReadFault }
-    ensures room { RoomForReplies (terms_of budget restarts)
-        (D.content desk.old (name_of_input (option_map (λ s. s.now) name.entry)))
-        (O.has_room out.old) → result ≢ Ending.WriteFault }
-    ensures flushed { IsDone result → AllFlushed (O.written out.new) (O.flushed out.old) (O.flushed out.new) }
+    ensures outside { IsDue D.faults O.written O.flushed O.faults
+        (D.steady desk.old (name_of_input (option_map (λ s. s.now) name.entry)))
+        (RoomForReplies (terms_of budget restarts)
+        (D.content desk.old (name_of_input (option_map (λ s. s.now) name.entry))) (O.has_room out.old))
+        (desk.old, desk.new) (out.old, out.new) (λ e. result ≡ e) (IsDone result) }
 {
-    each_script_has_one_reading();
-    let input = input_name(name);
-    if desk.choose(input).is_err() {
+    if desk.choose(input_name(name)).is_err() {
         return Ending::ReadFault;
     }
     run_script(alloc, budget, restarts, desk, out, stops)

@@ -25,7 +25,7 @@ use Rattle.session.specs.Replies.{Changes, IsAccepted, IsReplyWith, no_change, r
 use Rattle.solve.specs.Outputs.{Output, says}
 use Rattle.solve.specs.Standing.{Standing}
 use Rattle.solve.specs.Holding.{Holds, given_of}
-use Rattle.session.specs.Steps.{IsAcceptedReply, IsReplyFor, Refuses, Steps, left_by}
+use Rattle.session.specs.Steps.{IsAcceptedReply, IsReplyFor, Refuses, StepsOf, left_by}
 use Rattle.session.proofs.Telling.{stepped}
 use Rattle.solve.specs.Terms.{Terms}
 
@@ -270,7 +270,7 @@ module _ {S : Type 0} (written flushed : S → Option (List ℕ)) (faults : S �
   }
 
   abbrev Goal : S → S → Result Reply SessionStop → Type 0
-  Goal old new result = Steps written flushed faults has_room terms command s old new e result
+  Goal old new result = StepsOf written flushed faults has_room terms command s old new e result
 
   silent : (old new : S) (result : Result Reply SessionStop) → refusal_of before.formula change ≡ None
       → HasChanged change before e → result ≡ Ok Silent → new ≡ old → Goal old new result

@@ -12,7 +12,8 @@ use Rattle.qscript.specs.declared.command.Command.{Command}
 use Rattle.qscript.specs.Reads.{Ending as ScriptEnding, ReadsScript, done, limit, refused}
 use Rattle.reading.specs.declared.refusal.ReadRefusal.{ReadRefusal}
 use Rattle.reading.specs.declared.refusal.ReadRefusal.TheVariants.{Refused as Malformed, Limit as Beyond, ReadFault as Unreadable, NoMemory as NoRoom}
-use Rattle.qscript.specs.Run.{Reading, Script, ends, stopped}
+use Rattle.qscript.specs.Run.{Reading, Script, ends, reading_of, stopped}
+use Rattle.qscript.proofs.Outcomes.{computed_reading}
 use Rattle.qscript.specs.State.{EndsReading, Heads}
 use Rattle.solve.specs.declared.ending.Ending.{Ending}
 use Rattle.solve.specs.declared.ending.Ending.TheVariants.{Done, Limit, CheckLimit, NoMemory, ReadFault, Refused, WriteFault}
@@ -26,6 +27,9 @@ use Rattle.solve.proofs.Written.{some_map, front_all, flushed_kept}
 abbrev pub AllRead : Type 0
 AllRead = (text : List ℕ) → (version : Option Version) × (cs : List Command) × (e : ScriptEnding)
     × ReadsScript text version cs e
+
+pub each_script : AllRead
+each_script text = let r = reading_of text in (r.version, r.script.0, r.script.1, computed_reading text)
 
 -- the script that is known is that of the text
 abbrev pub IsOfText : Option (List ℕ) → Option Version → Option Script → Type 0

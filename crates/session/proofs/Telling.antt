@@ -38,7 +38,7 @@ use Rattle.solve.specs.Certificates.{Certifies, gates_after, IsCertText}
 use Rattle.engine.proofs.FirstScope.{first_among, level_is, value_among}
 use Rattle.solve.specs.Standing.{Standing}
 use Rattle.solve.specs.Holding.{Holds, given_of}
-use Rattle.session.specs.Steps.{IsAcceptedReply, IsReplyFor, IsSent, Sends, Steps, told_by}
+use Rattle.session.specs.Steps.{IsAcceptedReply, IsReplyFor, IsSent, Sends, StepsOf, told_by}
 use Rattle.solve.specs.Terms.{Terms}
 use Rattle.solve.proofs.Certified.{certifies_after}
 use Rattle.solve.proofs.Traced.{trace_after}
@@ -63,7 +63,7 @@ module _ {S : Type 0} (written flushed : S → Option (List ℕ)) (faults : S �
       → IsReply terms s command (record { text = text; stops = told_by reply }) after
       → IsReplyFor (refusal_number s command) s command reply → Holds terms e after
       → Sends written flushed faults has_room reply text old new result
-      → Steps written flushed faults has_room terms command s old new e result
+      → StepsOf written flushed faults has_room terms command s old new e result
   stepped terms command s after old new e reply text (Ok given) is has holds sends = (
     text,
     after,
@@ -86,7 +86,7 @@ module _ {S : Type 0} (written flushed : S → Option (List ℕ)) (faults : S �
       (r : Result (Unit {0}) Failed) (result : Result Reply SessionStop)
       → IsAnswer terms command s text (refusal_number s command) → Holds terms e s
       → Writes written flushed faults has_room old new text r → IsSent Written r result
-      → Steps written flushed faults has_room terms command s old new e result
+      → StepsOf written flushed faults has_room terms command s old new e result
   tells terms command s old new e text r result is holds writes is_sent =
       stepped terms command s s old new e Written text result is.0 is.1 holds
       (sent Written text old new r result writes is_sent)

@@ -122,17 +122,17 @@ left_by GroupCore s = s
 
 -- A command is replied to, and the reply is written; or a front of it is, before a fault; or there is no memory for one
 -- that isn't refused, and nothing is written. `old` and `new` are the sink, by what sinks of its type tell.
-abbrev pub Steps : {S : Type 0} → (written flushed : S → Option (List ℕ)) → (S → ℕ)
+abbrev pub StepsOf : {S : Type 0} → (written flushed : S → Option (List ℕ)) → (S → ℕ)
     → (S → ℕ → Type 0) → Terms → Command → Standing → S → S → EngineState → Result Reply SessionStop
     → Type 0
-Steps written flushed faults has_room terms command s old new e (Ok reply) = (text : Text) × (after : Standing)
+StepsOf written flushed faults has_room terms command s old new e (Ok reply) = (text : Text) × (after : Standing)
     × IsReply terms s command (record { text = text; stops = told_by reply }) after
     × IsReplyFor (refusal_number s command) s command reply × Wrote written flushed faults has_room old new text
     × Holds terms e after
-Steps written flushed faults has_room terms command s old new e (Err (WriteFault told)) = (text : Text)
+StepsOf written flushed faults has_room terms command s old new e (Err (WriteFault told)) = (text : Text)
     × (after : Standing) × IsReply terms s command (record { text = text; stops = listed told }) after
     × Stops written flushed faults has_room old new text × Holds terms e after
-Steps written flushed faults has_room terms command s old new e (Err NoMemory) =
+StepsOf written flushed faults has_room terms command s old new e (Err NoMemory) =
     Wrote written flushed faults has_room old new [] × Holds terms e (left_by command s)
     × (refusal_number s command ≡ None)
 

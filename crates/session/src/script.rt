@@ -8,6 +8,7 @@ ghost use Rattle.qscript.specs.State.{EndsWith, is_fault, upcoming};
 ghost use Rattle.session.specs.Scripts.{Answers, AreAnswered, IsLeftAt, IsScriptEnding, IsScriptOf, IsSentAt, RoomForReplies, ending_of};
 ghost use Rattle.session.specs.Steps.{Goes};
 ghost use Rattle.solve.specs.Endings.{IsDone};
+ghost use Rattle.solve.specs.Outside.{SendsReply, TakesInput};
 ghost use Rattle.solve.specs.Standing.{Standing, start_of};
 ghost use Rattle.solve.specs.Holding.{Holds};
 ghost use Rattle.solve.specs.Terms.{terms_of};
@@ -16,7 +17,7 @@ use crate::reply::{Reply, SessionStop};
 use crate::session::Session;
 use memory::NoMemory;
 use ports::{Desk, Sink};
-use qscript::{Command, ScriptReader, each_script_has_one_reading};
+use qscript::{Command, ScriptReader};
 use solve::{Ending, put_told};
 use std::alloc::Global;
 use trail::Stopped;
@@ -72,21 +73,12 @@ fn answer_script<D: Desk, S: Sink>(
 ) -> Result<(), Ending>
     ensures ending { IfSome (D.left desk.old) (λ text. IsScriptEnding text (ending_of result)) }
     ensures err { IfErr result (λ e. ¬ IsDone e) }
-    ensures read { OnOk result (IfSome (D.left desk.old) (λ _. D.left desk.new ≡ Some [])) }
-    ensures read_fault { IsCounted (IsErrOf result Ending.ReadFault) (IsOk result) (D.faults desk.old)
-        (D.faults desk.new) }
-    ensures flows { D.flows desk.old → ¬ IsErrOf result Ending.ReadFault × D.flows desk.new }
-    ensures write_fault { IsCounted (IsErrOf result Ending.WriteFault) (IsOk result) (S.faults sink.old)
-        (S.faults sink.new) }
-    ensures room { RoomForReplies (terms_of budget restarts) (D.left desk.old) (S.has_room sink.old) → ¬ IsErrOf
-        result Ending.WriteFault }
+    ensures desk { TakesInput D.content D.left D.faults D.steady D.flows desk.old desk.new result }
+    ensures sink { SendsReply S.written S.flushed S.faults
+        (RoomForReplies (terms_of budget restarts) (D.left desk.old) (S.has_room sink.old)) sink.old sink.new result }
     ensures answered { AreAnswered (terms_of budget restarts) (D.left desk.old) (S.written sink.old, S.written sink.new)
         (stops.old.items, stops.new.items) (ending_of result) }
-    ensures flushed { OnOk result (AllFlushed (S.written sink.new) (S.flushed sink.old) (S.flushed sink.new)) }
-    ensures content { (n : List ℕ) → D.content desk.new n ≡ D.content desk.old n }
-    ensures stays { (n : List ℕ) → D.steady desk.old n → D.steady desk.new n }
 {
-    each_script_has_one_reading();
     let mut reader = ScriptReader::new(alloc)?;
     let version = reader.read_header(desk)?;
     let mut session = session_with(alloc, version, budget, restarts)?;
@@ -124,13 +116,8 @@ fn answer_commands<D: Desk, S: Sink>(
         (upcoming reader.old (D.left desk.old)) (IsLeftAt result)
         (λ text. IsSentAt S.written S.flushed S.faults S.has_room sink.old sink.new text result)
         (stops.old.items, stops.new.items) }
-    ensures read { OnOk result (IfSome (D.left desk.old) (λ _. D.left desk.new ≡ Some [])) }
     ensures unstopped { OnOk result (is_fault reader.old.ahead ≡ false) }
-    ensures read_fault { IsCounted (IsErrOf result Ending.ReadFault) (IsOk result) (D.faults desk.old)
-        (D.faults desk.new) }
-    ensures flows { D.flows desk.old → ¬ IsErrOf result Ending.ReadFault × D.flows desk.new }
-    ensures content { (n : List ℕ) → D.content desk.new n ≡ D.content desk.old n }
-    ensures stays { (n : List ℕ) → D.steady desk.old n → D.steady desk.new n }
+    ensures desk { TakesInput D.content D.left D.faults D.steady D.flows desk.old desk.new result }
 {
     while let Some(command) = reader.next_command(desk)? {
         answer(session, &command, sink, stops)?;

@@ -4,7 +4,7 @@ ghost use Rattle.frames.specs.Refusal.{number_of};
 ghost use Rattle.solve.specs.Standing.{Standing, start, start_of};
 ghost use Rattle.solve.specs.Holding.{Holds};
 ghost use Rattle.session.specs.Replies.{refusal_number};
-ghost use Rattle.session.specs.Steps.{IsQuestion, IsSent, LeavesAtWant, Refuses, Steps as StepsOf};
+ghost use Rattle.session.specs.Steps.{IsQuestion, IsSent, LeavesAtWant, Refuses, StepsOf};
 ghost use Rattle.solve.specs.Terms.{Terms, terms_of, with_restarts};
 
 use crate::lines::{write_groups, write_refused, write_relevant, write_value};
@@ -188,6 +188,7 @@ fn tell_trace<S: Sink>(engine: &Engine, sink: &mut S) -> Result<Reply, SessionSt
         S.has_room terms
         Command.Trace s sink.old sink.new engine.now result }
 {
+    // For the proof: the verdict's proof is that of the derivation, which is legal.
     let _proof = engine.derivation();
     match engine.trace_core() {
         Ok(core) => send(write_core(&core, engine.prefix(), sink), Reply::Written),

@@ -7,7 +7,7 @@ use Rattle.files.specs.Checks.{IsFinished, RoomForCheck}
 use Rattle.solve.specs.Terms.{terms_of}
 use Rattle.solve.specs.declared.ending.Ending.TheVariants.{ReadFault, WriteFault}
 use Rattle.program.specs.Asked.{input_name}
-use Rattle.program.specs.Run.{IsCheckWork}
+use Rattle.program.specs.Work.{IsCheckWork}
 use Rattle.program.proofs.Checking.{done_counted, done_finished}
 use Rattle.program.proofs.Choosing.{chosen, where_chosen}
 use Rattle.program.proofs.commands.check.Goals as goal
@@ -30,29 +30,24 @@ returns-clause-checked g c =
       output_of = c.run_check.ensures.output;
     })
 
-pub returns-clause-read_fault : goal.returns-clause-read_fault
-returns-clause-read_fault g c =
-    let kept : g.D.Desk.faults c.choose.new.self ≡ g.D.Desk.faults c.args.desk.now =
-    where_chosen c.choose.result (g.D.Desk.faults c.choose.new.self ≡ g.D.Desk.faults c.args.desk.now)
-    c.if-is_err.ensures.negation c.choose.ensures.cause.kept in
-    done_counted (c.run_check.result ≡ ReadFault) c.run_check.result _ _
-    (subst (λ n. IsCounted (c.run_check.result ≡ ReadFault) (IsFinished c.run_check.result) n
-    (g.D.Desk.faults c.run_check.new.desk)) kept c.run_check.ensures.read_fault)
-
-pub returns-clause-write_fault : goal.returns-clause-write_fault
-returns-clause-write_fault g c =
-    done_counted (c.run_check.result ≡ WriteFault) c.run_check.result _ _ c.run_check.ensures.write_fault
-
-pub returns-clause-flushed : goal.returns-clause-flushed
-returns-clause-flushed g c done = c.run_check.ensures.flushed (done_finished c.run_check.result done)
-
-pub returns-clause-room : goal.returns-clause-room
-returns-clause-room g c room =
+pub returns-clause-outside : goal.returns-clause-outside
+returns-clause-outside g c =
     let left = g.D.Desk.left in
     let content = g.D.Desk.content c.args.desk.now in
     let name = input_name (option_map (λ s. s.now) c.args.name) in
     let same : left c.choose.new.self ≡ content name =
     chosen c.choose.result content _ _ name c.if-is_err.ensures.negation c.choose.ensures.chosen c.input_name.ensures in
-    c.run_check.ensures.room
-    (subst (λ known. RoomForCheck c.args.decide (terms_of c.args.budget c.args.restarts) known
-    (g.O.Sink.has_room c.args.out.now)) (sym same) room)
+    let kept : g.D.Desk.faults c.choose.new.self ≡ g.D.Desk.faults c.args.desk.now =
+    where_chosen c.choose.result (g.D.Desk.faults c.choose.new.self ≡ g.D.Desk.faults c.args.desk.now)
+    c.if-is_err.ensures.negation c.choose.ensures.cause.kept in
+    let did = c.run_check.ensures in
+    record {
+      read_fault = done_counted (c.run_check.result ≡ ReadFault) c.run_check.result _ _
+          (subst (λ n. IsCounted (c.run_check.result ≡ ReadFault) (IsFinished c.run_check.result) n
+          (g.D.Desk.faults c.run_check.new.desk)) kept did.read_fault);
+      write_fault = done_counted (c.run_check.result ≡ WriteFault) c.run_check.result _ _ did.write_fault;
+      steady = λ steady. (did.flows
+          (c.choose.ensures.steady (subst (g.D.Desk.steady c.args.desk.now) (sym c.input_name.ensures) steady)).1).0;
+      room = λ room. did.room (subst (λ known. RoomForCheck c.args.decide (terms_of c.args.budget c.args.restarts) known (g.O.Sink.has_room c.args.out.now)) (sym same) room);
+      flushed = λ done. did.flushed (done_finished c.run_check.result done);
+    }

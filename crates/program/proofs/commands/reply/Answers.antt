@@ -5,7 +5,8 @@ use Rattle.solve.specs.Terms.{terms_of}
 use Rattle.session.specs.Scripts.{RoomForReplies}
 use Rattle.std.specs.Prelude.{option_map}
 use Rattle.program.specs.Asked.{input_name}
-use Rattle.program.specs.Run.{IsReplied}
+use Rattle.program.specs.Work.{IsReplied}
+use Rattle.session.proofs.Scripting.{each_script}
 use Rattle.program.proofs.Scripting.{unchosen}
 use Rattle.ports.specs.Causes.{IsCounted}
 use Rattle.solve.specs.Endings.{IsDone}
@@ -14,7 +15,7 @@ use Rattle.program.proofs.Choosing.{chosen, where_chosen}
 use Rattle.program.proofs.commands.reply.Goals as goal
 
 pub returns-then-is_err-clause-replied : goal.returns-then-is_err-clause-replied
-returns-then-is_err-clause-replied g c = unchosen _ _ _ _ _ c.each_script_has_one_reading.ensures.some
+returns-then-is_err-clause-replied g c = unchosen _ _ _ _ _ each_script
 
 pub returns-clause-replied : goal.returns-clause-replied
 returns-clause-replied g c =
@@ -23,7 +24,7 @@ returns-clause-replied g c =
     let name = input_name (option_map (λ s. s.now) c.args.name) in
     let same : left c.choose.new.self ≡ content name =
     chosen c.choose.result content _ _ name c.if-is_err.ensures.negation c.choose.ensures.chosen
-    c.input_name-input.ensures in
+    c.input_name.ensures in
     let output : Option Text × Option Text =
     (g.O.Sink.written c.args.out.now, g.O.Sink.written c.run_script.new.sink) in
     let told : List Account × List Account = (c.args.stops.now.items, c.run_script.new.stops.items) in
@@ -36,22 +37,23 @@ returns-clause-replied g c =
       answered = c.run_script.ensures.answered;
     })
 
-pub returns-clause-room : goal.returns-clause-room
-returns-clause-room g c room =
+pub returns-clause-outside : goal.returns-clause-outside
+returns-clause-outside g c =
     let left = g.D.Desk.left in
     let content = g.D.Desk.content c.args.desk.now in
     let name = input_name (option_map (λ s. s.now) c.args.name) in
     let same : left c.choose.new.self ≡ content name =
-    chosen c.choose.result content _ _ name c.if-is_err.ensures.negation c.choose.ensures.chosen
-    c.input_name-input.ensures in
-    c.run_script.ensures.room
-    (subst (λ known. RoomForReplies (terms_of c.args.budget c.args.restarts) known
-    (g.O.Sink.has_room c.args.out.now)) (sym same) room)
-
-pub returns-clause-read_fault : goal.returns-clause-read_fault
-returns-clause-read_fault g c =
+    chosen c.choose.result content _ _ name c.if-is_err.ensures.negation c.choose.ensures.chosen c.input_name.ensures in
     let kept : g.D.Desk.faults c.choose.new.self ≡ g.D.Desk.faults c.args.desk.now =
     where_chosen c.choose.result (g.D.Desk.faults c.choose.new.self ≡ g.D.Desk.faults c.args.desk.now)
     c.if-is_err.ensures.negation c.choose.ensures.cause.kept in
-    subst (λ n. IsCounted (c.run_script.result ≡ ReadFault) (IsDone c.run_script.result) n
-    (g.D.Desk.faults c.run_script.new.desk)) kept c.run_script.ensures.read_fault
+    let did = c.run_script.ensures in
+    record {
+      read_fault = (subst (λ n. IsCounted (c.run_script.result ≡ ReadFault) (IsDone c.run_script.result) n
+          (g.D.Desk.faults c.run_script.new.desk)) kept did.read_fault);
+      write_fault = did.write_fault;
+      steady = λ steady. (did.flows
+          (c.choose.ensures.steady (subst (g.D.Desk.steady c.args.desk.now) (sym c.input_name.ensures) steady)).1).0;
+      room = λ room. did.room (subst (λ known. RoomForReplies (terms_of c.args.budget c.args.restarts) known (g.O.Sink.has_room c.args.out.now)) (sym same) room);
+      flushed = did.flushed;
+    }

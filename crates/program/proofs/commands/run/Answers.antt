@@ -46,15 +46,14 @@ returns-clause-error g c = record {
 
 pub returns-clause-complete : goal.returns-clause-complete
 returns-clause-complete g c valid reads writes = subst (IsComplete _ _) (sym c.report.ensures.status)
-    (complete c.each_text_has_one_outcome.ensures.one c.each_text_has_one_outcome-2.ensures.one
-    c.each_script_has_one_reading.ensures.one _ _ _ _ _ valid
+    (complete _ _ _ _ _ valid
     c.ending_of-ending.result c.ending_of-ending.ensures.carried
-    (λ is. reads (c.ending_of-ending.ensures.read_fault.rose is))
-    (λ is. writes (c.ending_of-ending.ensures.write_fault.rose is)))
+    (λ is. reads (c.ending_of-ending.ensures.outside.read_fault.rose is))
+    (λ is. writes (c.ending_of-ending.ensures.outside.write_fault.rose is)))
 
 pub returns-clause-read_fault : goal.returns-clause-read_fault
 returns-clause-read_fault g c =
-    let counted = c.ending_of-ending.ensures.read_fault in
+    let counted = c.ending_of-ending.ensures.outside.read_fault in
     let e = c.ending_of-ending.result in
     record {
       later = counted.later;
@@ -68,7 +67,7 @@ returns-clause-read_fault g c =
 
 pub returns-clause-write_fault : goal.returns-clause-write_fault
 returns-clause-write_fault g c =
-    let counted = c.ending_of-ending.ensures.write_fault in
+    let counted = c.ending_of-ending.ensures.outside.write_fault in
     let e = c.ending_of-ending.result in
     record {
       later = counted.later;
@@ -82,7 +81,7 @@ returns-clause-write_fault g c =
     }
 
 pub returns-clause-steady : goal.returns-clause-steady
-returns-clause-steady g c steady is = c.ending_of-ending.ensures.steady steady
+returns-clause-steady g c steady is = c.ending_of-ending.ensures.outside.steady steady
     (by.is_read_fault (map string_bytes c.args.words.now) (g.D.Desk.content c.args.desk.now)
     (g.D.Desk.left c.ending_of-ending.new.desk)
     (g.O.Sink.written c.args.out.now, g.O.Sink.written c.ending_of-ending.new.out)
@@ -91,7 +90,7 @@ returns-clause-steady g c steady is = c.ending_of-ending.ensures.steady steady
     (sym c.report.ensures.status ∙ is))
 
 pub returns-clause-room : goal.returns-clause-room
-returns-clause-room g c room is = c.ending_of-ending.ensures.room room
+returns-clause-room g c room is = c.ending_of-ending.ensures.outside.room room
     (by.is_write_fault (map string_bytes c.args.words.now) (g.D.Desk.content c.args.desk.now)
     (g.D.Desk.left c.ending_of-ending.new.desk)
     (g.O.Sink.written c.args.out.now, g.O.Sink.written c.ending_of-ending.new.out)
@@ -100,5 +99,5 @@ returns-clause-room g c room is = c.ending_of-ending.ensures.room room
     (sym c.report.ensures.status ∙ is))
 
 pub returns-clause-flushed : goal.returns-clause-flushed
-returns-clause-flushed g c h = c.ending_of-ending.ensures.flushed
+returns-clause-flushed g c h = c.ending_of-ending.ensures.outside.flushed
     (by.answered c.ending_of-ending.result (subst HasAnswer c.report.ensures.status h))

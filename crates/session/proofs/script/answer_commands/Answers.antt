@@ -4,6 +4,7 @@ use Rattle.solve.specs.Holding.{Holds}
 use Rattle.session.specs.Steps.{Goes}
 use Rattle.std.proofs.lemmas.Result.{err_from_is_err_and}
 use Rattle.session.proofs.Going.{begun, ended, failed_at, goes_itself, goes_on, gone_on, no_command, refused_at}
+use Rattle.solve.proofs.Taking.{refused_unread, rose_later}
 use Rattle.session.proofs.script.answer_commands.Goals as goal
 
 -- src/script.rt:104:5
@@ -47,22 +48,6 @@ returns-in_err-command-clause-replied g c = λ s holds.
     c.loop-command.sink c.args.stops.now.items c.loop-command.stops.items (c.loop-command.invariant.under s holds)
     c.in_err-command.field-0.0 c.in_err-command.ensures.script)
 
--- src/script.rt:104:31
-pub returns-in_err-command-clause-read_fault : goal.returns-in_err-command-clause-read_fault
-returns-in_err-command-clause-read_fault g c = search rules
-
--- src/script.rt:104:31
-pub returns-in_err-command-clause-flows : goal.returns-in_err-command-clause-flows
-returns-in_err-command-clause-flows g c = search rules
-
--- src/script.rt:104:31
-pub returns-in_err-command-clause-content : goal.returns-in_err-command-clause-content
-returns-in_err-command-clause-content g c = search rules
-
--- src/script.rt:104:31
-pub returns-in_err-command-clause-stays : goal.returns-in_err-command-clause-stays
-returns-in_err-command-clause-stays g c = search rules
-
 -- src/script.rt:105:9
 pub returns-in_err-answer-clause-replied : goal.returns-in_err-answer-clause-replied
 returns-in_err-answer-clause-replied g c = λ s holds.
@@ -83,33 +68,6 @@ returns-in_err-answer-clause-replied g c = λ s holds.
     c.answer.new.sink c.answer.new.session.engine (c.loop-command.stops.items, c.answer.new.stops.items)
     (Err c.in_err-answer.field-0.0)) c.loop-command.invariant.terms (c.in_err-answer.ensures.goes t
     (subst (λ b. Holds b c.loop-command.session.engine t) (sym c.loop-command.invariant.terms) held))))
-
--- src/script.rt:105:9
-pub returns-in_err-answer-clause-read_fault : goal.returns-in_err-answer-clause-read_fault
-returns-in_err-answer-clause-read_fault g c =
-    let p = err_from_is_err_and c.from_residual-in_err-answer.result c.from_residual-in_err-answer.ensures.1 in
-    let inv = c.loop-command.invariant in
-    let next = c.in_ok-command.ensures in
-    rw (p.1, p.2) (record {
-      later = let first = inv.later in let second = next.cause.later in omega (arith, first, second);
-      rose = λ is. absurd (c.in_err-answer.ensures.unread is);
-      kept = λ ok. absurd (cc);
-    })
-
--- src/script.rt:105:9
-pub returns-in_err-answer-clause-flows : goal.returns-in_err-answer-clause-flows
-returns-in_err-answer-clause-flows g c = λ flows.
-    let p = err_from_is_err_and c.from_residual-in_err-answer.result c.from_residual-in_err-answer.ensures.1 in
-    let on = (c.in_ok-command.ensures.flows (c.loop-command.invariant.flows flows)).1 in
-    rw (p.1, p.2) (λ is. c.in_err-answer.ensures.unread is, on)
-
--- src/script.rt:105:9
-pub returns-in_err-answer-clause-content : goal.returns-in_err-answer-clause-content
-returns-in_err-answer-clause-content g c = search rules
-
--- src/script.rt:105:9
-pub returns-in_err-answer-clause-stays : goal.returns-in_err-answer-clause-stays
-returns-in_err-answer-clause-stays g c = search rules
 
 -- src/script.rt:104:5
 pub loop-command-smaller-in_ok-answer : goal.loop-command-smaller-in_ok-answer
@@ -198,25 +156,55 @@ returns-clause-replied g c = λ s holds.
     c.args.sink.now c.loop-command.sink c.args.stops.now.items c.loop-command.stops.items
     (c.loop-command.invariant.under s holds) (rw none at c.in_ok-command.ensures.script)
 
--- src/script.rt:84:1
-pub returns-clause-read : goal.returns-clause-read
-returns-clause-read g c = search rules
-
--- src/script.rt:84:1
-pub returns-clause-read_fault : goal.returns-clause-read_fault
-returns-clause-read_fault g c = search rules
-
--- src/script.rt:84:1
-pub returns-clause-flows : goal.returns-clause-flows
-returns-clause-flows g c = search rules
-
--- src/script.rt:84:1
-pub returns-clause-content : goal.returns-clause-content
-returns-clause-content g c = search rules
-
--- src/script.rt:84:1
-pub returns-clause-stays : goal.returns-clause-stays
-returns-clause-stays g c = search rules
-
 pub returns-clause-unstopped : goal.returns-clause-unstopped
 returns-clause-unstopped g c = c.loop-command.invariant.sound c.in_ok-command.ensures.unstopped
+
+-- what the desk is left as, at each return
+pub returns-in_err-command-clause-desk : goal.returns-in_err-command-clause-desk
+returns-in_err-command-clause-desk g c =
+    let p = err_from_is_err_and c.from_residual.result c.from_residual.ensures.1 in
+    let inv = c.loop-command.invariant in
+    let next = c.in_err-command.ensures in
+    rw (p.1, p.2) (record {
+      to_end = tt;
+      counted = record {
+        later = let first = inv.later in let second = next.cause.later in omega (arith, first, second);
+        rose = λ is. rose_later (g.D.Desk.faults c.args.desk.now) (g.D.Desk.faults c.loop-command.desk)
+            (g.D.Desk.faults c.next_command.new.desk) inv.later
+            (next.cause.rose (refused_unread c.in_err-command.field-0.0 is));
+        kept = λ ok. absurd (cc);
+      };
+      flowing = λ flows.
+          let on = next.flows (inv.flows flows) in (λ is. on.0 (refused_unread c.in_err-command.field-0.0 is), on.1);
+      holds = λ n. next.content n ∙ inv.content n;
+      stays = λ n steady. next.stays n (inv.stays n steady);
+    })
+
+pub returns-in_err-answer-clause-desk : goal.returns-in_err-answer-clause-desk
+returns-in_err-answer-clause-desk g c =
+    let p = err_from_is_err_and c.from_residual-in_err-answer.result c.from_residual-in_err-answer.ensures.1 in
+    let inv = c.loop-command.invariant in
+    let next = c.in_ok-command.ensures in
+    rw (p.1, p.2) (record {
+      to_end = tt;
+      counted = record {
+        later = let first = inv.later in let second = next.cause.later in omega (arith, first, second);
+        rose = λ is. absurd (c.in_err-answer.ensures.unread is);
+        kept = λ ok. absurd (cc);
+      };
+      flowing = λ flows. (λ is. c.in_err-answer.ensures.unread is, (next.flows (inv.flows flows)).1);
+      holds = λ n. next.content n ∙ inv.content n;
+      stays = λ n steady. next.stays n (inv.stays n steady);
+    })
+
+pub returns-clause-desk : goal.returns-clause-desk
+returns-clause-desk g c =
+    let inv = c.loop-command.invariant in
+    let next = c.in_ok-command.ensures in
+    record {
+      to_end = search rules;
+      counted = search rules;
+      flowing = search rules;
+      holds = λ n. next.content n ∙ inv.content n;
+      stays = λ n steady. next.stays n (inv.stays n steady);
+    }
