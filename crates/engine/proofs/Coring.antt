@@ -3,6 +3,7 @@ use Rattle.std.proofs.Common.{◌≡◌, ℕ, zero, suc, ◌+◌, Bool, true, fa
 use Rattle.std.specs.Prelude.{if◌then◌else◌, slice_get, Err, IfSome, Ok, OnOk, Option, Result}
 use Rattle.std.specs.List.{AllByRecursion}
 use Rattle.calculus.specs.Rows.{Row}
+use Rattle.calculus.proofs.Lists.{all_append, all_behind, all_front}
 use Rattle.frames.specs.Groups.{Group, active_in, active_of, grouped_in}
 use Rattle.cores.specs.Cores.{CoresAreMinimal, Group as Part, grouped_in as parts_in}
 use Rattle.frames.specs.State.{OpenFormula, clauses_in}
@@ -23,26 +24,13 @@ parts_open (g ∷ gs) = by g.active (parts_open gs)
     by true rest = ap (λ rs. g.clauses ++ rs) rest
     by false rest = rest
 
-all_left : {X : Type 0} (P : X → Type 0) (xs ys : List X) → AllByRecursion P (xs ++ ys) → AllByRecursion P xs
-all_left P [] ys all = tt
-all_left P (x ∷ xs) ys all = (all.0, all_left P xs ys all.1)
-
-all_right : {X : Type 0} (P : X → Type 0) (xs ys : List X) → AllByRecursion P (xs ++ ys) → AllByRecursion P ys
-all_right P [] ys all = all
-all_right P (x ∷ xs) ys all = all_right P xs ys all.1
-
-all_both : {X : Type 0} (P : X → Type 0) (xs ys : List X) → AllByRecursion P xs → AllByRecursion P ys → AllByRecursion P
-    (xs ++ ys)
-all_both P [] ys all each = each
-all_both P (x ∷ xs) ys all each = (all.0, all_both P xs ys all.1 each)
-
 all_active : (P : Row → Type 0) (gs : List Group) → AllByRecursion P (grouped_in gs) → AllByRecursion P (active_in gs)
 all_active P [] all = tt
-all_active P (g ∷ gs) all = all_both P (active_of g) (active_in gs) (by g.active)
-    (all_active P gs (all_right P g.clauses (grouped_in gs) all))
+all_active P (g ∷ gs) all = all_append P (active_of g) (active_in gs) (by g.active)
+    (all_active P gs (all_behind P g.clauses (grouped_in gs) all))
   where
     by : (b : Bool) → AllByRecursion P (if b then g.clauses else [])
-    by true = all_left P g.clauses (grouped_in gs) all
+    by true = all_front P g.clauses (grouped_in gs) all
     by false = tt
 
 pub all_parts : (P : Row → Type 0) (gs : List Group) → AllByRecursion P (grouped_in gs) → AllByRecursion P

@@ -7,9 +7,7 @@ use Rattle.std.proofs.lemmas.Bool.Decides.{nat_tests}
 use Rattle.std.proofs.lemmas.List.{append-nil, map-append}
 use Rattle.std.proofs.lemmas.List.Elements.{Contains-append_cases, Contains-append_left, Contains-append_right, filter-append}
 use Rattle.calculus.specs.Rows.{Row}
-use Rattle.calculus.proofs.Lists.{contains_head, contains_nil, contains_tail, filter_at, filter_from, filter_same}
-use Rattle.calculus.proofs.Levels.{contains_map_of}
-use Rattle.step_core.proofs.Ordering.{map_contains}
+use Rattle.calculus.proofs.Lists.{contains_cons, contains_head, contains_nil, contains_tail, filter_at, filter_from, filter_same, contains_map_of, all_behind, all_front, contains_map}
 use Rattle.calculus.specs.Derivations.{IsDerivation}
 use Rattle.derive.specs.State.{OpenClause, State, clauses_of, open_clauses as clauses_in_search, steps_of}
 use Rattle.derive.proofs.Legality.{served}
@@ -24,14 +22,6 @@ use Rattle.engine.specs.Kept.{AreTied, active_rows, frame_rows, group_tag, tagge
 
 pub apart : (a b : ℕ) → (a == b) ≡ false → a ≡ b → ⊥
 apart a b e same = let f : (a == b) ≡ true = eq-eqb a b same in let g = e in absurd (cc)
-
-all_left : {X : Type 0} (P : X → Type 0) (xs ys : List X) → AllByRecursion P (xs ++ ys) → AllByRecursion P xs
-all_left P [] ys all = tt
-all_left P (x ∷ xs) ys all = (all.0, all_left P xs ys all.1)
-
-pub all_right : {X : Type 0} (P : X → Type 0) (xs ys : List X) → AllByRecursion P (xs ++ ys) → AllByRecursion P ys
-all_right P [] ys all = all
-all_right P (x ∷ xs) ys all = all_right P xs ys all.1
 
 -- The clauses of a search.
 
@@ -113,7 +103,7 @@ under_left tag top test (c ∷ cs) apart all = by (c.frame == tag) (c.frame == t
 pub under_open : (tag : ℕ) (cs : List OpenClause) (row : Row) → Contains (under tag cs) row
     → Contains (map row_in cs) row
 under_open tag cs row i =
-    let at : (c : OpenClause) × Contains (filter (has_tag tag) cs) c × (c.row ≡ row) = map_contains row_in
+    let at : (c : OpenClause) × Contains (filter (has_tag tag) cs) c × (c.row ≡ row) = contains_map row_in
     (filter (has_tag tag) cs) row i in
     subst (λ (r : Row). Contains (map row_in cs) r) at.2
     (contains_map_of row_in cs at.0 (filter_at (has_tag tag) cs at.0 at.1).0)
@@ -122,7 +112,7 @@ under_open tag cs row i =
 pub open_under : (cs : List OpenClause) (row : Row) → Contains (map row_in cs) row → (tag : ℕ)
     × Contains (under tag cs) row
 open_under cs row i =
-    let at : (c : OpenClause) × Contains cs c × (c.row ≡ row) = map_contains row_in cs row i in (
+    let at : (c : OpenClause) × Contains cs c × (c.row ≡ row) = contains_map row_in cs row i in (
       at.0.frame,
       subst (λ (r : Row). Contains (under at.0.frame cs) r) at.2
           (contains_map_of row_in (filter (has_tag at.0.frame) cs) at.0
@@ -600,16 +590,16 @@ grown_none row n m gs off = by (m == n) refl
 all_in_frame : (P : Row → Type 0) (frames : List Frame) (n : ℕ) → AllByRecursion P (clauses_in frames)
     → AllByRecursion P (frame_rows frames n)
 all_in_frame P [] n all = tt
-all_in_frame P (f ∷ frames) zero all = all_left P f.clauses (clauses_in frames) all
-all_in_frame P (f ∷ frames) (suc n) all = all_in_frame P frames n (all_right P f.clauses (clauses_in frames) all)
+all_in_frame P (f ∷ frames) zero all = all_front P f.clauses (clauses_in frames) all
+all_in_frame P (f ∷ frames) (suc n) all = all_in_frame P frames n (all_behind P f.clauses (clauses_in frames) all)
 
 all_turned : (P : Row → Type 0) (gs : List Group) (n : ℕ) → AllByRecursion P (grouped_in gs)
     → AllByRecursion P (turned n (group_at gs n))
 all_turned P [] n all = tt
-all_turned P (g ∷ gs) n all = by (g.number == n) (all_turned P gs n (all_right P g.clauses (grouped_in gs) all))
+all_turned P (g ∷ gs) n all = by (g.number == n) (all_turned P gs n (all_behind P g.clauses (grouped_in gs) all))
   where
     own : (b : Bool) → AllByRecursion P (if b then g.clauses else [])
-    own true = all_left P g.clauses (grouped_in gs) all
+    own true = all_front P g.clauses (grouped_in gs) all
     own false = tt
 
     by : (b : Bool) → AllByRecursion P (turned n (group_at gs n)) → AllByRecursion P

@@ -4,6 +4,7 @@ use Rattle.std.specs.Prelude.{◌-◌, ◌==◌, if◌then◌else◌, MatchOptio
 use Rattle.std.specs.List.{AllByRecursion}
 use Rattle.std.proofs.lemmas.Bool.{cond-true, eq-eqb}
 use Rattle.calculus.specs.Rows.{IsRow, Row}
+use Rattle.calculus.proofs.Lists.{all_behind}
 use Rattle.derive.specs.State.{clauses_of}
 use Rattle.frames.specs.Commands.{max_pushed, with_row_at}
 use Rattle.frames.specs.Groups.{grouped_in, is_active}
@@ -13,7 +14,7 @@ use Rattle.search.specs.Moves.{SameSteps}
 use Rattle.search.specs.State.{IsResting, SearchState}
 use Rattle.engine.specs.Kept.{AddsIn, AreTied, group_tag, joined_tag, tag_for, tagged_rows, under}
 use Rattle.engine.proofs.Changing.{row_added}
-use Rattle.engine.proofs.Framing.{activity_kept, all_right, all_tagged, some_with_row, tagged_grown, tagged_with_row}
+use Rattle.engine.proofs.Framing.{activity_kept, all_tagged, some_with_row, tagged_grown, tagged_with_row}
 
 -- what stood before
 pub the_before : {X : Type 0} (o : Option X) (P : X → Type 0) → MatchOption o ⊥ P → (x : X) × (o ≡ Some x) × P x
@@ -76,7 +77,7 @@ module _ (now before : OpenFormula) (row : Row) (s : SearchState) (is : now ≡ 
       let split : tagged_rows now tag ≡ tagged_rows before tag ++ row ∷ [] =
       ap (λ (f : OpenFormula). tagged_rows f tag) is
       ∙ joined_row before row tied.frames tied.few before.current tag (sym joins ∙ at) in
-      (all_right (IsRow now.scopes) (tagged_rows before tag) (row ∷ [])
+      (all_behind (IsRow now.scopes) (tagged_rows before tag) (row ∷ [])
       (subst (AllByRecursion (IsRow now.scopes)) split all)).0
 
   pub joined_tied : (new : SearchState) (tag : ℕ) → joined_tag now ≡ Some tag → IsResting now.scopes new

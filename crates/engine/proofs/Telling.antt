@@ -17,6 +17,7 @@ use Rattle.derive.specs.State.{Note, State, is_step, may_be_antecedent, note_at,
 use Rattle.derive.specs.Theorems.{StepsAreListed}
 use Rattle.frames.specs.State.{OpenFormula, open_clauses}
 use Rattle.step_core.specs.Cores.{IsFinishAt, end_row_in, proof_at, step_under}
+use Rattle.step_core.proofs.Linking.{end_row_of_step}
 use Rattle.search.specs.declared.outcome.Outcome.{Outcome}
 use Rattle.search.specs.declared.outcome.SolveStop.{SolveStop}
 use Rattle.search.specs.State.{SearchState}
@@ -64,20 +65,10 @@ is_truth f d assumptions v found = sym (found.outcome.truth ∙ truth_again v.tr
 
 -- the step of the end row is the one that the finish tells
 
-step_is_whole : (note : Option Note) (id : ℕ) → may_be_antecedent note ≡ true → end_row_in (why_in note) id ≡ id
-step_is_whole None id e = refl
-step_is_whole (Some note) id e = by note.why refl e
-  where
-    by : (why : Why) → note.why ≡ why → may_be_antecedent (Some note) ≡ true → end_row_in note.why id ≡ id
-    by Given same t = ap (λ w. end_row_in w id) same
-    by (ReducedFrom a) same t = ap (λ w. end_row_in w id) same
-    by (ResolvedFrom a b x) same t = ap (λ w. end_row_in w id) same
-    by (FinishedFrom a) same t = absurd (cc)
-
 end_row_is : (scopes : List Scope) (assumptions : List Literal) (d : State) (end : ℕ)
     (finish : IsFinishAt scopes assumptions d end) → end_row_in (why_at d end) end ≡ finish.before
 end_row_is scopes assumptions d end finish = ⊎_elim
-    (λ same. step_is_whole (note_at d end) end (subst (λ id. is_step d id ≡ true) (sym same) finish.step) ∙ same)
+    (λ same. end_row_of_step (note_at d end) end (subst (λ id. is_step d id ≡ true) (sym same) finish.step) ∙ same)
     (λ r. ap (λ w. end_row_in w end) r.0)
     finish.stands
 
