@@ -7,7 +7,7 @@ use Rattle.std.proofs.lemmas.Bool.Decides.{nat_tests}
 use Rattle.std.proofs.lemmas.List.{append-nil, map-append}
 use Rattle.std.proofs.lemmas.List.Elements.{Contains-append_cases, Contains-append_left, Contains-append_right, filter-append}
 use Rattle.calculus.specs.Rows.{Row}
-use Rattle.calculus.proofs.Lists.{contains_cons, contains_head, contains_nil, contains_tail, filter_at, filter_from, filter_same, contains_map_of, all_behind, all_front, contains_map}
+use Rattle.calculus.proofs.Lists.{all_behind, all_front, contains_head, contains_map, contains_map_of, contains_nil, contains_tail, filter_at, filter_from, filter_same}
 use Rattle.calculus.specs.Derivations.{IsDerivation}
 use Rattle.derive.specs.State.{OpenClause, State, clauses_of, open_clauses as clauses_in_search, steps_of}
 use Rattle.derive.proofs.Legality.{served}
