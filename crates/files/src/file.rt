@@ -36,9 +36,7 @@ use engine::Engine;
 use memory::NoMemory;
 use ports::{Desk, Failed, Sink};
 use prefix::{Prefix, Quant};
-use solve::{
-    Answer, Ending, decide, engine_of, put_told, write_answer, write_circuit, write_core,
-};
+use solve::{Answer, Ending, decide, engine_of, put_told, write_answer, write_circuit, write_core};
 use std::alloc::Global;
 use trail::Stopped;
 use trim::trim;
