@@ -223,19 +223,29 @@ def peak(program, words, pieces):
     return usage.ru_maxrss * 1024
 
 
-def rounds(commands):
-    """A script of so many commands that opens a frame of ten drawn clauses, solves and drops it, again and again."""
+def drawn_clauses(draw, count):
+    """Lines of so many clauses of three literals over thirty variables."""
+    for _ in range(count):
+        literals = (draw.choice((-1, 1)) * v for v in sorted(draw.sample(range(1, 31), 3)))
+        yield "clause " + " ".join(map(str, literals)) + " 0"
+
+
+def rounds(commands, standing):
+    """A script of so many commands that opens a frame of ten drawn clauses, solves and drops it, again and again, over
+    so many clauses that stay.
+    """
     draw = random.Random(1)
     yield lines("p qscript 1", "scope e", "scope a", "scope e", *(f"var {v} {(v + 9) // 10}" for v in range(1, 31)))
+    yield lines(*drawn_clauses(draw, standing))
     for _ in range(commands // 13):
-        some = [draw.choice((-1, 1)) * v for _ in range(10) for v in sorted(draw.sample(range(1, 31), 3))]
-        clauses = (f"clause {some[i]} {some[i + 1]} {some[i + 2]} 0" for i in range(0, 30, 3))
-        yield lines("push", *clauses, "solve", "pop")
+        yield lines("push", *drawn_clauses(draw, 10), "solve", "pop")
 
 
-def check_dropped(program):
-    """A script that comes back to no clause again and again keeps nothing of what it dropped but a byte for each id."""
-    few, many = (peak(program, ["script"], rounds(commands)) for commands in (50_000, 400_000))
+def check_dropped(program, standing):
+    """A script that comes back to the same clauses again and again keeps nothing of what it dropped but a byte for each
+    id.
+    """
+    few, many = (peak(program, ["script"], rounds(commands, standing)) for commands in (50_000, 400_000))
     require(many - few <= DROPPED, f"{many} bytes for 400,000 commands, {few} for 50,000")
 
 
@@ -291,7 +301,8 @@ def cases(program, is_heavy):
     rows = [rows_of_prefixes(), rows_of_words(), rows_of_many_clauses()]
     for name, *row in itertools.chain(*rows, rows_that_are_heavy() if is_heavy else []):
         yield name, check, row
-    yield "memory_of_what_was_dropped", check_dropped, []
+    yield "memory_of_what_was_dropped", check_dropped, [0]
+    yield "memory_of_what_was_dropped_over_clauses_that_stay", check_dropped, [20]
     yield "memory_of_a_great_number", check_number, []
     yield "budgets", all_budgets, []
 

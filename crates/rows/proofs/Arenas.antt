@@ -5,10 +5,9 @@ use Rattle.std.proofs.lemmas.Bool.{cases_eq, cases_lt}
 use Rattle.std.specs.Option.{option_map}
 use Rattle.prefix.specs.Literal.{Literal}
 use Rattle.rows.specs.declared.places.Place.{Place}
-use Rattle.rows.specs.declared.blocks.Block.{Block}
 use Rattle.rows.specs.Arena.{StoredRow, Arena, row_at, is_live, literals_of, links_of, link_at, new_row, ThreeLinks, with_row, with_link, with_links, set_link_of, set_links_of, ChangesAt, ChangesLink, ChangesLinks}
 use Rattle.rows.specs.Places.{AreSpread, KeepsParts, Reblocks, blocks_of, part, part_in, place_at}
-use Rattle.rows.specs.Blocks.{LosesBlock, block_in, links_in}
+use Rattle.rows.specs.Blocks.{Block, LosesBlock, block_in, links_in}
 use Rattle.rows.specs.Stored.{arena_of, stored}
 use Rattle.rows.proofs.Parts.{map_at, some_is, part_append, part_end}
 

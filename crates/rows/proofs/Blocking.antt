@@ -6,9 +6,8 @@ use Rattle.std.proofs.lemmas.Bool.{cases_eq, cases_lt}
 use Rattle.std.proofs.lemmas.List.{get_or-set_same, get_or-set_other, get_or_past, get_or_append_left, get_or_at, length-set, length-append, length_push}
 use Rattle.std.proofs.lemmas.List.Sums.{sum_by-cons, sum_by_push, sum_by-set}
 use Rattle.rows.specs.declared.places.Place.{Place}
-use Rattle.rows.specs.declared.blocks.Block.{Block}
 use Rattle.rows.specs.Places.{blocks_of, place_at}
-use Rattle.rows.specs.Blocks.{AreBlocks, LosesBlock, block_at, block_in, has_block, links_in, no_block}
+use Rattle.rows.specs.Blocks.{Block, AreBlocks, LosesBlock, block_at, block_in, has_block, links_in, no_block}
 use Rattle.rows.proofs.Parts.{map_at, none_some, some_same}
 
 abbrev Rows : Type 0

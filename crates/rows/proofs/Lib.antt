@@ -1,6 +1,6 @@
 pub mod Arenas
 pub mod Blocking
-pub mod Linking
+pub mod Cutting
 pub mod Parts
 pub mod Shortening
 pub mod Storing

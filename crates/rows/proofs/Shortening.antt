@@ -7,10 +7,9 @@ use Rattle.std.proofs.lemmas.List.{get_or-take, get_or_past, length-take, take-m
 use Rattle.std.proofs.lemmas.List.Sums.{sum_by-cons}
 use Rattle.prefix.specs.Literal.{Literal}
 use Rattle.rows.specs.declared.places.Place.{Place}
-use Rattle.rows.specs.declared.blocks.Block.{Block}
 use Rattle.rows.specs.Arena.{is_live}
 use Rattle.rows.specs.Places.{AreSpread, blocks_of, place_at}
-use Rattle.rows.specs.Blocks.{AreBlocks, block_at, has_block}
+use Rattle.rows.specs.Blocks.{Block, AreBlocks, block_at, has_block}
 use Rattle.rows.specs.Stored.{AreStored, arena_of, stored}
 use Rattle.rows.proofs.Arenas.{live_place}
 use Rattle.rows.proofs.Parts.{map_at}

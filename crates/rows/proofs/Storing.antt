@@ -6,9 +6,8 @@ use Rattle.std.proofs.lemmas.List.{length-map, length-append, map-append}
 use Rattle.std.proofs.lemmas.List.Sums.{count_by-le-length, sum_by-cons}
 use Rattle.prefix.specs.Literal.{Literal}
 use Rattle.rows.specs.declared.places.Place.{Place}
-use Rattle.rows.specs.declared.blocks.Block.{Block}
 use Rattle.rows.specs.Places.{AreSpread, KeepsParts, Reblocks, blocks_of, most_blocks}
-use Rattle.rows.specs.Blocks.{AreBlocks, LosesBlock, block_at}
+use Rattle.rows.specs.Blocks.{Block, AreBlocks, LosesBlock, block_at}
 use Rattle.rows.specs.Stored.{AreStored, arena_of, stored}
 use Rattle.rows.proofs.Parts.{spread_more, spread_reblocked, spread_without}
 use Rattle.rows.proofs.Blocking.{blocks_more, blocks_written, count_le, live_more}
@@ -51,7 +50,7 @@ stored_more size more places blocks live room now s fits few =
 pub stored_less : (size : ℕ) (places new_places : List (Option Place)) (blocks new_blocks : List Block)
     (live room now id : ℕ) → AreStored size places blocks live room → Reblocks (set places id None) new_places
     → LosesBlock (blocks_of places) blocks (blocks_of new_places) new_blocks id → count_by is_some
-    (blocks_of new_places) + 1 ≡ count_by is_some (blocks_of places) → now ≡ room → AreStored size new_places new_blocks
+    (blocks_of new_places) + 1 ≡ count_by is_some (blocks_of places) → room ≤ now → AreStored size new_places new_blocks
     (live - 1) now
 stored_less size places new_places blocks new_blocks live room now id s same loses count is =
     record {

@@ -1,6 +1,32 @@
 -- Which rows have link fields of their own.
-use Rattle.std.specs.Prelude.{◌≡◌, ◌≢◌, ℕ, ◌<◌, Bool, false, List, length, count_by, replicate, Option, None, Some, is_some, slice_index_or}
-use Rattle.rows.specs.declared.blocks.Block.{Block}
+use Rattle.std.specs.Prelude.{◌≡◌, ◌≢◌, ℕ, ◌*◌, ◌<◌, ◌≤◌, Bool, false, List, [], ◌∷◌, length, take, drop, count_by, replicate, Option, None, Some, is_some, slice_index_or}
+use Rattle.rows.specs.Places.{most_blocks}
+
+-- a block: the row that owns it, and its link fields, each a number or none
+pub record Block : Type 0 where
+  pub owner : ℕ
+  pub links : List (Option ℕ)
+
+-- blocks, and how many there may be without more memory
+pub record BlocksState : Type 0 where
+  pub items : List Block
+  pub room : ℕ
+
+-- the number that stands for an owner
+abbrev pub owner_of : Option ℕ → ℕ
+owner_of None = 0
+owner_of (Some owner) = owner
+
+-- the blocks of some owners, whose link fields stand one behind the other, so many a block
+abbrev pub blocks_from : ℕ → List (Option ℕ) → List (Option ℕ) → List Block
+blocks_from width [] links = []
+blocks_from width (owner ∷ owners) links =
+    record { owner = owner_of owner; links = take width links } ∷ blocks_from width owners (drop width links)
+
+-- how blocks are kept: with eight link fields each, and a number for each
+pub record AreKept (owners links : List (Option ℕ)) : Type 0 where
+  pub eight : length links ≡ 8 * length owners
+  pub few : length owners ≤ most_blocks
 
 -- link fields without a link, of no row
 abbrev pub no_block : Block

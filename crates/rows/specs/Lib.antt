@@ -1,5 +1,4 @@
 pub mod Arena
 pub mod Blocks
-pub mod Fields
 pub mod Places
 pub mod Stored

@@ -30,9 +30,20 @@ with_block block place = record { start = place.start; len = place.len; block = 
 abbrev pub place_at : List (Option Place) → ℕ → Option Place
 place_at places id = slice_index_or places id None
 
--- places of which the first ones are of no live row, so many of them, and the others are these
-abbrev pub behind_gone : ℕ → List (Option Place) → List (Option Place)
-behind_gone gone places = replicate gone None ++ places
+-- these places with so many between them, behind the first `split`, that are of no live row
+abbrev pub around_gone : ℕ → ℕ → List (Option Place) → List (Option Place)
+around_gone split gone places = take split places ++ (replicate gone None ++ drop split places)
+
+-- none of the rows with ids from one up to another is live
+pub record AreDead (places : List (Option Place)) (start end : ℕ) : Type 0 where
+  pub in_order : start ≤ end
+  pub given : end ≤ length places
+  pub none : (id : ℕ) → start ≤ id → id < end → place_at places id ≡ None
+
+-- what stood between the first two of these numbers and what stood between the last two have changed places
+abbrev pub Swaps : (old new : List (Option Place)) → ℕ → ℕ → ℕ → Type 0
+Swaps old new start middle end = (a b c d : List (Option Place)) → old ≡ a ++ (b ++ (c ++ d)) → length a ≡ start
+    → start + length b ≡ middle → middle + length c ≡ end → new ≡ a ++ (c ++ (b ++ d))
 
 -- the literals that stand at a place
 abbrev pub part : List Literal → Place → List Literal

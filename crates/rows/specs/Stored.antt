@@ -3,10 +3,9 @@ use Rattle.std.specs.Prelude.{◌≡◌, ℕ, ◌≤◌, List, map, count_by, is
 use Rattle.std.specs.Option.{option_map}
 use Rattle.prefix.specs.Literal.{Literal}
 use Rattle.rows.specs.declared.places.Place.{Place}
-use Rattle.rows.specs.declared.blocks.Block.{Block}
 use Rattle.rows.specs.Arena.{StoredRow, Arena}
 use Rattle.rows.specs.Places.{AreSpread, blocks_of, most_blocks, part}
-use Rattle.rows.specs.Blocks.{AreBlocks, links_in}
+use Rattle.rows.specs.Blocks.{AreBlocks, Block, links_in}
 
 -- what contracts see of a row
 abbrev pub stored : List Literal → List Block → Place → StoredRow

@@ -1,57 +1,208 @@
 //! Blocks of link fields, for the rows that have links.
-ghost use Rattle.std.specs.Prelude.{◌≡◌, ◌≢◌, ℕ, ◌+◌, ◌<◌, ◌≤◌, ◌∷◌, ◌++◌, [], None, Option, Some, IsTrue, is_some, count_by, length, replicate, slice_index_or, slice_set, vec_len, vec_capacity};
+ghost use Rattle.std.specs.Prelude.{◌≡◌, ◌≢◌, ℕ, ◌+◌, ◌-◌, ◌<◌, ◌≤◌, ◌∷◌, ◌++◌, [], None, Option, OnOk, Some, IsTrue, is_some, count_by, length, replicate, slice_index_or, slice_set};
 ghost use Rattle.rows.specs.Arena.{set_three};
-ghost use Rattle.rows.specs.Places.{AreSpread, Reblocks, blocks_of, most_blocks, place_at};
-ghost use Rattle.rows.specs.Blocks.{AreBlocks, LosesBlock, block_at, block_in, has_block, links_in};
+ghost use Rattle.rows.specs.Places.{Reblocks, blocks_of, most_blocks, place_at};
+ghost use Rattle.rows.specs.Blocks.{AreBlocks, LosesBlock, block_at, block_in, links_in};
 
-use super::links::{Links, ThreeLinks};
 use super::places::set_block;
 use super::rows::RowId;
 use super::table::Table;
+use short_numbers::Numbers;
+use std::alloc::{AllocError, Global};
+use std::marker::Model;
 
-// The link fields of a row.
+// How many link fields a block has.
+const LINKS: usize = 8;
+
+/// The values of three link fields, that of a number and the two behind it.
+pub type ThreeLinks = (Option<usize>, Option<usize>, Option<usize>);
+
+// Blocks, in 36 bytes each while their numbers are small. Contracts see them as a list, with how long it may be without
+// more memory.
 #[derive(Debug, Drop)]
-pub(crate) struct Block {
-    owner: RowId,
-    links: Links,
+pub(crate) struct Blocks {
+    // The row that owns each block.
+    owners: Numbers,
+    // The link fields of all blocks, one block behind the other.
+    links: Numbers,
 }
 
-impl Block {
-    // Writes a link field.
-    fn set(&mut self, k: usize, value: Option<usize>)
-        requires { k < 8 }
-        ensures links { self.new ≡ record { owner = self.old.owner; links = slice_set self.old.links k value } }
-        ensures eight { length self.old.links ≡ 8 }
+impl Model for Blocks {
+    ghost use Rattle.std.specs.Prelude.{◌/◌, min};
+    ghost use Rattle.rows.specs.Blocks.{AreKept, BlocksState, blocks_from};
+
+    ghost Value = { BlocksState };
+
+    ghost view = { λ b. record {
+      items = blocks_from 8 b.owners.items b.links.items;
+      room = min b.owners.room (b.links.room / 8);
+    } };
+
+    ghost invariant = { λ b. AreKept b.owners.items b.links.items };
+}
+
+impl Blocks {
+    // No blocks. This takes no memory.
+    pub(crate) fn new(alloc: Global) -> Self
+        ensures { result.items ≡ [] }
     {
-        self.links.set(k, value);
+        Self {
+            owners: Numbers::new(alloc),
+            links: Numbers::new(alloc),
+        }
     }
 
-    // Writes three link fields.
-    fn set_three(&mut self, base: usize, values: ThreeLinks)
-        requires { base + 2 < 8 }
-        ensures links { self.new ≡ record { owner = self.old.owner; links = set_three base values self.old.links } }
-        ensures eight { length self.old.links ≡ 8 }
+    // How many blocks there are.
+    pub(crate) fn len(&self) -> usize
+        ensures { result ≡ length self.now.items }
     {
-        self.links.set_three(base, values);
+        self.owners.len()
+    }
+
+    // The row that owns a block.
+    fn owner(&self, block: usize) -> RowId
+        requires { block < length self.now.items }
+        ensures { result ≡ (block_at self.now.items block).owner }
+    {
+        match self.owners.get(block) {
+            Some(owner) => owner,
+            None => 0,
+        }
+    }
+
+    // Reads a link field of a block.
+    #[inline(always)]
+    fn get(&self, block: usize, k: usize) -> Option<usize>
+        requires field { k < 8 }
+        requires block { block < length self.now.items }
+        ensures { result ≡ slice_index_or (block_at self.now.items block).links k None }
+    {
+        self.links.get(LINKS * block + k)
+    }
+
+    // Reads three link fields of a block.
+    #[inline(always)]
+    fn get_three(&self, block: usize, base: usize) -> ThreeLinks
+        requires fields { base + 2 < 8 }
+        requires block { block < length self.now.items }
+        ensures first { result.0 ≡ slice_index_or (block_at self.now.items block).links base None }
+        ensures second { result.1 ≡ slice_index_or (block_at self.now.items block).links (base + 1) None }
+        ensures third { result.2 ≡ slice_index_or (block_at self.now.items block).links (base + 2) None }
+    {
+        (
+            self.get(block, base),
+            self.get(block, base + 1),
+            self.get(block, base + 2),
+        )
+    }
+
+    // Writes a link field of a block.
+    #[inline(always)]
+    pub(crate) fn set(&mut self, block: usize, k: usize, value: Option<usize>)
+        requires field { k < 8 }
+        requires block { block < length self.old.items }
+        ensures items { self.new.items ≡ slice_set self.old.items block (record {
+          owner = (block_at self.old.items block).owner;
+          links = slice_set (block_at self.old.items block).links k value;
+        }) }
+        ensures room { self.old.room ≤ self.new.room }
+        ensures eight { length (block_at self.old.items block).links ≡ 8 }
+    {
+        self.links.set(LINKS * block + k, value);
+    }
+
+    // Writes three link fields of a block.
+    #[inline(always)]
+    pub(crate) fn set_three(&mut self, block: usize, base: usize, values: ThreeLinks)
+        requires fields { base + 2 < 8 }
+        requires block { block < length self.old.items }
+        ensures items { self.new.items ≡ slice_set self.old.items block (record {
+          owner = (block_at self.old.items block).owner;
+          links = set_three base values (block_at self.old.items block).links;
+        }) }
+        ensures room { self.old.room ≤ self.new.room }
+        ensures eight { length (block_at self.old.items block).links ≡ 8 }
+    {
+        self.set(block, base, values.0);
+        self.set(block, base + 1, values.1);
+        self.set(block, base + 2, values.2);
+    }
+
+    // Reads three link fields of a block, of which the first is none from then on.
+    #[inline(always)]
+    pub(crate) fn take_three(&mut self, block: usize, base: usize) -> ThreeLinks
+        requires fields { base + 2 < 8 }
+        requires block { block < length self.old.items }
+        ensures first { result.0 ≡ slice_index_or (block_at self.old.items block).links base None }
+        ensures second { result.1 ≡ slice_index_or (block_at self.old.items block).links (base + 1) None }
+        ensures third { result.2 ≡ slice_index_or (block_at self.old.items block).links (base + 2) None }
+        ensures items { self.new.items ≡ slice_set self.old.items block (record {
+          owner = (block_at self.old.items block).owner;
+          links = slice_set (block_at self.old.items block).links base None;
+        }) }
+        ensures room { self.old.room ≤ self.new.room }
+        ensures eight { length (block_at self.old.items block).links ≡ 8 }
+    {
+        let links = self.get_three(block, base);
+        self.set(block, base, None);
+        links
+    }
+
+    // Makes room for more blocks. With no memory the blocks stay as they were.
+    pub(crate) fn reserve(&mut self, more: usize) -> Result<(), AllocError>
+        requires { more ≤ most_blocks }
+        ensures items { self.new.items ≡ self.old.items }
+        ensures room { self.old.room ≤ self.new.room }
+        ensures ok { OnOk result (length self.old.items + more ≤ self.new.room) }
+    {
+        self.owners.reserve(more)?;
+        self.links.reserve(LINKS * more)
+    }
+
+    // Puts the block of a row in that has no link. There is room for it.
+    fn push(&mut self, owner: RowId)
+        requires room { length self.old.items + 1 ≤ self.old.room }
+        requires few { length self.old.items + 1 ≤ most_blocks }
+        ensures items { self.new.items ≡ self.old.items ++ (record { owner = owner; links = replicate 8 None }) ∷ [] }
+        ensures room { self.old.room ≤ self.new.room }
+    {
+        let block = self.owners.len();
+        self.owners.push_none(1);
+        self.owners.set(block, Some(owner));
+        self.links.push_none(LINKS);
+    }
+
+    // Takes a block out. The last one comes into its place.
+    fn remove(&mut self, block: usize)
+        requires { block < length self.old.items }
+        ensures count { length self.new.items + 1 ≡ length self.old.items }
+        ensures moved { block + 1 < length self.old.items
+            → block_at self.new.items block ≡ block_at self.old.items (length self.old.items - 1) }
+        ensures others { (k : ℕ) → k ≢ block → k + 1 < length self.old.items
+            → block_at self.new.items k ≡ block_at self.old.items k }
+        ensures room { self.old.room ≤ self.new.room }
+    {
+        self.owners.move_last(block, 1);
+        self.links.move_last(LINKS * block, LINKS);
     }
 }
 
 // Reads a link field of a row with this block, if it has one.
-#[inline]
-pub(crate) fn read(blocks: &Vec<Block>, block: Option<usize>, k: usize) -> Option<usize>
+#[inline(always)]
+pub(crate) fn read(blocks: &Blocks, block: Option<usize>, k: usize) -> Option<usize>
     requires field { k < 8 }
     requires block { (b : ℕ) → block ≡ Some b → b < length blocks.now.items }
     ensures { result ≡ slice_index_or (links_in blocks.now.items block) k None }
 {
     match block {
         None => None,
-        Some(block) => blocks[block].links.get(k),
+        Some(block) => blocks.get(block, k),
     }
 }
 
 // Reads three link fields of a row with this block, if it has one.
-#[inline]
-pub(crate) fn read_three(blocks: &Vec<Block>, block: Option<usize>, base: usize) -> ThreeLinks
+#[inline(always)]
+pub(crate) fn read_three(blocks: &Blocks, block: Option<usize>, base: usize) -> ThreeLinks
     requires fields { base + 2 < 8 }
     requires block { (b : ℕ) → block ≡ Some b → b < length blocks.now.items }
     ensures first { result.0 ≡ slice_index_or (links_in blocks.now.items block) base None }
@@ -60,46 +211,16 @@ pub(crate) fn read_three(blocks: &Vec<Block>, block: Option<usize>, base: usize)
 {
     match block {
         None => (None, None, None),
-        Some(block) => blocks[block].links.get_three(base),
+        Some(block) => blocks.get_three(block, base),
     }
 }
 
-// Writes a link field of a block.
-#[inline]
-pub(crate) fn write(blocks: &mut Vec<Block>, block: usize, k: usize, value: Option<usize>)
-    requires field { k < 8 }
-    requires block { block < length blocks.old.items }
-    ensures items { blocks.new.items ≡ slice_set blocks.old.items block (record {
-      owner = (block_at blocks.old.items block).owner;
-      links = slice_set (block_at blocks.old.items block).links k value;
-    }) }
-    ensures room { vec_capacity blocks.new ≡ vec_capacity blocks.old }
-    ensures eight { length (block_at blocks.old.items block).links ≡ 8 }
-{
-    blocks[block].set(k, value);
-}
-
-// Writes three link fields of a block.
-#[inline]
-pub(crate) fn write_three(blocks: &mut Vec<Block>, block: usize, base: usize, values: ThreeLinks)
-    requires fields { base + 2 < 8 }
-    requires block { block < length blocks.old.items }
-    ensures items { blocks.new.items ≡ slice_set blocks.old.items block (record {
-      owner = (block_at blocks.old.items block).owner;
-      links = set_three base values (block_at blocks.old.items block).links;
-    }) }
-    ensures room { vec_capacity blocks.new ≡ vec_capacity blocks.old }
-    ensures eight { length (block_at blocks.old.items block).links ≡ 8 }
-{
-    blocks[block].set_three(base, values);
-}
-
 // The block of a live row. Where it has none it gets one, for which there is room.
-#[inline]
-pub(crate) fn block_for(places: &mut Table, blocks: &mut Vec<Block>, id: RowId) -> usize
+#[inline(always)]
+pub(crate) fn block_for(places: &mut Table, blocks: &mut Blocks, id: RowId) -> usize
     requires live { IsTrue (is_some (place_at places.old id)) }
     requires blocks { AreBlocks (blocks_of places.old) blocks.old.items }
-    requires room { count_by is_some (blocks_of places.old) ≤ vec_capacity blocks.old }
+    requires room { count_by is_some (blocks_of places.old) ≤ blocks.old.room }
     requires few { count_by is_some (blocks_of places.old) ≤ most_blocks }
     ensures block { block_in (blocks_of places.new) id ≡ Some (Some result) }
     ensures blocks { AreBlocks (blocks_of places.new) blocks.new.items }
@@ -107,7 +228,7 @@ pub(crate) fn block_for(places: &mut Table, blocks: &mut Vec<Block>, id: RowId) 
     ensures live { count_by is_some (blocks_of places.new) ≡ count_by is_some (blocks_of places.old) }
     ensures links { (i : ℕ) (b c : Option ℕ) → block_in (blocks_of places.old) i ≡ Some b →
         block_in (blocks_of places.new) i ≡ Some c → links_in blocks.new.items c ≡ links_in blocks.old.items b }
-    ensures room { vec_capacity blocks.old ≤ vec_capacity blocks.new }
+    ensures room { blocks.old.room ≤ blocks.new.room }
 {
     match places.place_of(id).block {
         Some(block) => block,
@@ -117,29 +238,26 @@ pub(crate) fn block_for(places: &mut Table, blocks: &mut Vec<Block>, id: RowId) 
 
 // Gives a row that has none a block, for which there is room.
 #[cold]
-fn give_block(places: &mut Table, blocks: &mut Vec<Block>, id: RowId) -> usize
+#[inline(never)]
+fn give_block(places: &mut Table, blocks: &mut Blocks, id: RowId) -> usize
     requires live { block_in (blocks_of places.old) id ≡ Some None }
     requires blocks { AreBlocks (blocks_of places.old) blocks.old.items }
-    requires room { count_by is_some (blocks_of places.old) ≤ vec_capacity blocks.old }
+    requires room { count_by is_some (blocks_of places.old) ≤ blocks.old.room }
     requires few { count_by is_some (blocks_of places.old) ≤ most_blocks }
     ensures result { result ≡ length blocks.old.items }
     ensures block { blocks_of places.new ≡ slice_set (blocks_of places.old) id (Some (Some result)) }
     ensures blocks { blocks.new.items ≡ blocks.old.items ++ (record { owner = id; links = replicate 8 None }) ∷ [] }
     ensures same { Reblocks places.old places.new }
-    ensures room { vec_capacity blocks.old ≤ vec_capacity blocks.new }
+    ensures room { blocks.old.room ≤ blocks.new.room }
 {
     let block = blocks.len();
-    // There is room for it.
-    let _ = blocks.push(Block {
-        owner: id,
-        links: Links::new(),
-    });
+    blocks.push(id);
     set_block(places, id, Some(block));
     block
 }
 
 // Takes a live row out. Where it has a block, the last block comes into its place.
-pub(crate) fn forget(places: &mut Table, blocks: &mut Vec<Block>, id: RowId)
+pub(crate) fn forget(places: &mut Table, blocks: &mut Blocks, id: RowId)
     requires live { IsTrue (is_some (place_at places.old id)) }
     requires blocks { AreBlocks (blocks_of places.old) blocks.old.items }
     requires few { count_by is_some (blocks_of places.old) ≤ most_blocks }
@@ -147,16 +265,16 @@ pub(crate) fn forget(places: &mut Table, blocks: &mut Vec<Block>, id: RowId)
         blocks.new.items id }
     ensures same { Reblocks (slice_set places.old id None) places.new }
     ensures live { count_by is_some (blocks_of places.new) + 1 ≡ count_by is_some (blocks_of places.old) }
-    ensures room { vec_capacity blocks.new ≡ vec_capacity blocks.old }
+    ensures room { blocks.old.room ≤ blocks.new.room }
 {
     let place = places.place_of(id);
     places.clear(id);
     let Some(block) = place.block else {
         return;
     };
-    let _ = blocks.swap_remove(block);
+    blocks.remove(block);
     if block < blocks.len() {
-        let owner = blocks[block].owner;
+        let owner = blocks.owner(block);
         set_block(places, owner, Some(block));
     }
 }

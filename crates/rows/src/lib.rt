@@ -3,11 +3,10 @@
 #![tactic(auto)]
 
 mod blocks;
-mod links;
 mod places;
 mod rows;
 mod slots;
 mod table;
 
-pub use links::ThreeLinks;
+pub use blocks::ThreeLinks;
 pub use rows::{RowId, Rows};

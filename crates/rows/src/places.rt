@@ -40,11 +40,26 @@ pub(crate) fn slide(lits: &mut Vec<Lit>, places: &mut Table)
     ensures spread { AreSpread (length lits.new.items) places.new }
     ensures kept { KeepsParts lits.old.items places.old lits.new.items places.new }
 {
-    let mut to = 0;
-    for id in places.first()..places.len() {
+    let gap = places.gap();
+    let to = settle_all(lits, places, 0, gap.start, 0);
+    let count = places.len();
+    let to = settle_all(lits, places, gap.end, count, to);
+    lits.truncate(to);
+}
+
+// Moves the literals of all rows from one id up to another down, as `settle` does one by one.
+fn settle_all(lits: &mut Vec<Lit>, places: &mut Table, first: RowId, end: RowId, to: usize) -> usize
+    requires order { first ≤ end }
+    requires given { end ≤ length places.old }
+    requires moving { AreMoving (length lits.old.items) places.old first to }
+    ensures moving { AreMoving (length lits.new.items) places.new end result }
+    ensures kept { KeepsParts lits.old.items places.old lits.new.items places.new }
+{
+    let mut to = to;
+    for id in first..end {
         to = settle(lits, places, id, to);
     }
-    lits.truncate(to);
+    to
 }
 
 // Moves the literals of a row, if it is live, down to a place that no row before it reaches, and answers the place

@@ -2,8 +2,7 @@
 ghost use Rattle.std.specs.Prelude.{◌≡◌, ◌↔◌, ◌<◌, ◌≤◌, ◌+◌, ℕ, [], ◌∷◌, take, IsFalse, IsTrue, Some, None, IfOk, OnOk, OnErr, length, slice_set, count_by, is_some};
 ghost use Rattle.rows.specs.Arena.{ChangesAt, ChangesLink, ChangesLinks, next_id, row_at, is_live, literals_at, link_at, new_row, with_row, without_row, with_link, with_links};
 
-use super::blocks::{Block, block_for, forget, read, read_three, write, write_three};
-use super::links::ThreeLinks;
+use super::blocks::{Blocks, ThreeLinks, block_for, forget, read, read_three};
 use super::places::{put, slide};
 use super::slots::{slot_from, within};
 use super::table::Table;
@@ -20,11 +19,11 @@ pub type RowId = usize;
 ///
 /// Each row has its literals, which never change, and eight link fields, numbered from 0, for lists that are threaded
 /// through the rows. Every call takes constant time, but `add` and `add_pair`, which copy the literals, and `compact`,
-/// which goes over all ids but the first ones, where most of those in front have no live row.
+/// which goes over all ids but those of one gap, none of whose rows is live.
 ///
 /// The literals of all rows stand in one list. A row that goes leaves a hole there, until `compact` or `tidy` moves the
-/// others together. Room for the link fields of all live rows is taken as rows come in, and written only for rows that have
-/// had a link.
+/// others together, and makes the gap as long as it can. Room for the link fields of all live rows is taken as rows come
+/// in, and written only for rows that have had a link.
 #[derive(Debug, Drop)]
 pub struct Rows {
     // The literals of the rows, in the order of their ids.
@@ -32,7 +31,7 @@ pub struct Rows {
     // Where the row of each id stands, if it is live.
     places: Table,
     // The link fields of the rows that have had a link, with room for those of all live rows.
-    blocks: Vec<Block>,
+    blocks: Blocks,
     // How many rows are live.
     live: usize,
     // How many rows went since the others were moved together.
@@ -40,7 +39,7 @@ pub struct Rows {
 }
 
 impl Model for Rows {
-    ghost use Rattle.std.specs.Prelude.{length, vec_capacity};
+    ghost use Rattle.std.specs.Prelude.{length};
     ghost use Rattle.rows.specs.Arena.{Arena};
 
     ghost Value = { Arena };
@@ -49,8 +48,7 @@ impl Model for Rows {
 
     ghost view = { λ a. arena_of a.lits.items a.blocks.items a.places };
 
-    ghost invariant = { λ a. AreStored (length a.lits.items) a.places a.blocks.items a.live
-        (vec_capacity a.blocks) };
+    ghost invariant = { λ a. AreStored (length a.lits.items) a.places a.blocks.items a.live a.blocks.room };
 }
 
 impl Rows {
@@ -61,7 +59,7 @@ impl Rows {
         Self {
             lits: Vec::new(alloc),
             places: Table::new(alloc),
-            blocks: Vec::new(alloc),
+            blocks: Blocks::new(alloc),
             live: 0,
             holes: 0,
         }
@@ -99,7 +97,7 @@ impl Rows {
     }
 
     /// A link field of a live row.
-    #[inline]
+    #[inline(always)]
     pub fn link(&self, id: RowId, k: usize) -> Option<usize>
         requires live { IsTrue (is_live self.now id) }
         requires field { k < 8 }
@@ -109,7 +107,7 @@ impl Rows {
     }
 
     /// Three link fields of a live row, that of a number and the two behind it.
-    #[inline]
+    #[inline(always)]
     pub fn links_from(&self, id: RowId, base: usize) -> ThreeLinks
         requires live { IsTrue (is_live self.now id) }
         requires fields { base + 2 < 8 }
@@ -121,7 +119,7 @@ impl Rows {
     }
 
     /// Writes a link field of a live row, and changes nothing else.
-    #[inline]
+    #[inline(always)]
     pub fn set_link(&mut self, id: RowId, k: usize, value: Option<usize>)
         requires live { IsTrue (is_live self.old id) }
         requires field { k < 8 }
@@ -130,11 +128,11 @@ impl Rows {
         ensures next { next_id self.new ≡ next_id self.old }
     {
         let block = block_for(&mut self.places, &mut self.blocks, id);
-        write(&mut self.blocks, block, k, value);
+        self.blocks.set(block, k, value);
     }
 
     /// Writes three link fields of a live row, that of a number and the two behind it, and changes nothing else.
-    #[inline]
+    #[inline(always)]
     pub fn set_links(&mut self, id: RowId, base: usize, values: ThreeLinks)
         requires live { IsTrue (is_live self.old id) }
         requires fields { base + 2 < 8 }
@@ -143,7 +141,26 @@ impl Rows {
         ensures next { next_id self.new ≡ next_id self.old }
     {
         let block = block_for(&mut self.places, &mut self.blocks, id);
-        write_three(&mut self.blocks, block, base, values);
+        self.blocks.set_three(block, base, values);
+    }
+
+    /// Three link fields of a live row, that of a number and the two behind it. The first of them is none from then on,
+    /// and nothing else changes.
+    #[inline(always)]
+    pub fn take_links(&mut self, id: RowId, base: usize) -> ThreeLinks
+        requires live { IsTrue (is_live self.old id) }
+        requires fields { base + 2 < 8 }
+        ensures first { result.0 ≡ link_at self.old id base }
+        ensures second { result.1 ≡ link_at self.old id (base + 1) }
+        ensures third { result.2 ≡ link_at self.old id (base + 2) }
+        ensures arena { self.new ≡ with_link self.old id base None }
+        ensures rest { ChangesLink self.old self.new id base None }
+        ensures next { next_id self.new ≡ next_id self.old }
+    {
+        match self.places.place_of(id).block {
+            None => (None, None, None),
+            Some(block) => self.blocks.take_three(block, base),
+        }
     }
 
     /// Puts in a row with a copy of these literals and no links, under the id that comes next. With no memory the

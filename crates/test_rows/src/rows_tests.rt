@@ -16,6 +16,8 @@ enum Turn {
     // Writes a link field; or three, from that of a number on.
     Link(RowId, usize, Option<usize>),
     Links(RowId, usize, ThreeLinks),
+    // Takes the first of three link fields away, which are these.
+    TakeLinks(RowId, usize, ThreeLinks),
     // Looks whether this id comes next, and whether a row is live.
     Next(RowId),
     Live(RowId),
@@ -65,6 +67,10 @@ fn set_links(rows: &mut Rows, id: RowId, base: usize, values: ThreeLinks) -> boo
     }
     rows.set_links(id, base, values);
     true
+}
+
+fn take_links(rows: &mut Rows, id: RowId, base: usize, values: ThreeLinks) -> bool {
+    base <= 5 && rows.is_live(id) && rows.take_links(id, base) == values
 }
 
 pub(crate) fn has_lits(
@@ -121,6 +127,7 @@ fn make(rows: &mut Rows, alloc: Global, turn: Turn) -> Result<bool, Fail> {
         }
         Turn::Link(id, k, value) => Ok(set_link(rows, id, k, value)),
         Turn::Links(id, base, values) => Ok(set_links(rows, id, base, values)),
+        Turn::TakeLinks(id, base, values) => Ok(take_links(rows, id, base, values)),
         _ => is_so(rows, alloc, turn),
     }
 }
@@ -237,6 +244,46 @@ fn three_link_fields_are_read_and_written_at_once(rt: HostRuntime) -> Result<(),
         Turn::HasLinks(0, 4, (None, Some(usize::MAX), None)),
         Turn::HasLink(0, 3, Some(1)),
         Turn::HasLinks(1, 3, (None, None, None)),
+    ];
+    play(rt.alloc(), &turns)
+}
+
+#[test]
+fn the_first_of_three_link_fields_is_taken_away(rt: HostRuntime) -> Result<(), Fail> {
+    let turns = [
+        Turn::Add([5, 0], 0),
+        Turn::TakeLinks(0, 2, (None, None, None)),
+        Turn::Links(0, 2, (Some(4), None, Some(9))),
+        Turn::TakeLinks(0, 2, (Some(4), None, Some(9))),
+        Turn::HasLinks(0, 2, (None, None, Some(9))),
+    ];
+    play(rt.alloc(), &turns)
+}
+
+#[test]
+fn rows_stay_where_many_ids_between_them_go(rt: HostRuntime) -> Result<(), Fail> {
+    let turns = [
+        Turn::AddPair([1, 0], [2, 3], (0, 1)),
+        Turn::AddPair([4, 0], [5, 0], (2, 3)),
+        Turn::AddPair([6, 0], [7, 0], (4, 5)),
+        Turn::Link(5, 1, Some(8)),
+        Turn::Free(2),
+        Turn::Free(3),
+        Turn::Free(4),
+        Turn::Compact,
+        Turn::Next(6),
+        Turn::Dead(3),
+        Turn::HasLits(1, [2, 3]),
+        Turn::HasLits(5, [7, 0]),
+        Turn::Add([8, 0], 6),
+        Turn::Free(5),
+        Turn::Compact,
+        Turn::Dead(5),
+        Turn::HasLits(0, [1, 0]),
+        Turn::HasLits(6, [8, 0]),
+        Turn::Link(6, 0, Some(3)),
+        Turn::HasLink(6, 0, Some(3)),
+        Turn::Next(7),
     ];
     play(rt.alloc(), &turns)
 }

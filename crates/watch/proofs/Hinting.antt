@@ -1,5 +1,6 @@
 -- A row whose field 7 is written: no list changes.
-use Rattle.std.proofs.Common.{◌≡◌, ℕ, ◌+◌, ◌<◌, Bool, true, false, cond, List, Option, Some, None, is_some, refl, sym, ap, ap₂, ◌∙◌, arith, nat_eq}
+use Rattle.std.proofs.Common.{◌≡◌, ◌≢◌, ℕ, ◌+◌, ◌<◌, Bool, true, false, cond, List, Option, Some, None, is_some, refl, sym, ap, ap₂, ◌∙◌, arith, nat_eq}
+use Rattle.std.specs.Prelude.{IfSome}
 use Rattle.std.proofs.lemmas.Bool.{cond-false, ne_eqb, true≢false}
 use Rattle.prefix.specs.declared.quant.Quant.{Quant}
 use Rattle.rows.specs.Arena.{Arena, link_at}
@@ -8,10 +9,11 @@ use Rattle.watch.specs.State.{IsBoard, KeepsRows}
 use Rattle.watch.proofs.Boards.{KeepsRows-more}
 use Rattle.watch.proofs.Threads.{Linked-same}
 
-module _ (pivot : Quant) (old new : Arena) (id : ℕ) (value : Option ℕ) (w : Writes old new (Some id) 7 value) where
+module _ (pivot : Quant) (old new : Arena) (id : ℕ) (at value : Option ℕ) (mine : IfSome at (λ i. i ≡ id))
+    (w : Writes old new at 7 value) where
   -- every other field is as it was
   pub hint_links : (i k : ℕ) → k < 7 → link_at new i k ≡ link_at old i k
-  hint_links i k low = w.links i k ∙ same (is_at (Some id) i) (nat_eq k 7) (ne_eqb k 7 (λ e. absurd (omega arith)))
+  hint_links i k low = w.links i k ∙ same (is_at at i) (nat_eq k 7) (ne_eqb k 7 (λ e. absurd (omega arith)))
     where
       same : (b c : Bool) → c ≡ false → cond b (cond c value (link_at old i k)) (link_at old i k) ≡ link_at old i k
       same true c f = cond-false c value (link_at old i k) f
@@ -46,8 +48,12 @@ module _ (pivot : Quant) (old new : Arena) (id : ℕ) (value : Option ℕ) (w : 
     same_live = w.live;
     same_literals = w.literals;
     same_attached = λ i. hint_links i 6 (omega arith);
-    others = λ i f. w.rows i (ne_eqb id i (λ e. true≢false (sym attached ∙ (ap (is_attached pivot old) e ∙ f))));
+    others = λ i f. w.rows i (apart at mine i (λ e. true≢false (sym attached ∙ (ap (is_attached pivot old) e ∙ f))));
   }
+    where
+      apart : (o : Option ℕ) → IfSome o (λ j. j ≡ id) → (i : ℕ) → id ≢ i → is_at o i ≡ false
+      apart None h i differs = refl
+      apart (Some j) h i differs = ne_eqb j i (λ e. differs (sym h ∙ e))
 
   -- what moves then, moved from where it was
   module _ (last : Arena) where

@@ -1,8 +1,8 @@
 -- The entries of variables, and the list of first rows that they stand for.
-use Rattle.std.proofs.Common.{◌≡◌, ◌≢◌, ℕ, zero, suc, ◌+◌, ◌-◌, ◌*◌, ◌/◌, ◌%◌, ◌<◌, ◌≤◌, ◌==◌, Bool, true, false, cond, List, [], ◌∷◌, ◌++◌, length, get_or, set, replicate, take, Option, None, refl, sym, ap, ◌∙◌, ⊎_elim, arith}
-use Rattle.std.proofs.lemmas.Bool.{cases_eq, false≢true}
+use Rattle.std.proofs.Common.{◌≡◌, ◌≢◌, ℕ, zero, suc, ◌+◌, ◌-◌, ◌*◌, ◌/◌, ◌%◌, ◌<◌, ◌≤◌, ◌==◌, cond, List, [], ◌∷◌, ◌++◌, length, get_or, set, replicate, Option, None, refl, sym, ap, ◌∙◌, ⊎_elim, arith}
+use Rattle.std.proofs.lemmas.Bool.{cases_eq}
 use Rattle.std.proofs.lemmas.Bool.Decides.{nat_tests}
-use Rattle.std.proofs.lemmas.List.{append_assoc, ext_get_or, get_or_past, get_or-set_other, get_or-set_same, get_or_read, length-append, length-replicate, length-set, take_all}
+use Rattle.std.proofs.lemmas.List.{append_assoc, ext_get_or, get_or_past, get_or-set_other, get_or-set_same, get_or_read, length-append, length-replicate, length-set}
 use Rattle.watch.specs.Entries.{AreLaid, entry_at, heads_of, no_slot, slot_at, used}
 
 pub length_heads : (entries : List (Option ℕ)) (slots : List ℕ) → length (heads_of entries slots) ≡ 4 * length slots
@@ -89,14 +89,6 @@ entry_more entries k e = read_more entries None k e
 
 pub slot_more : (slots : List ℕ) (k i : ℕ) → slot_at (slots ++ replicate k no_slot) i ≡ slot_at slots i
 slot_more slots k i = read_more slots no_slot k i
-
--- a list that is made longer
-pub resized : {X : Type 0} (xs ys : List X) (n len k : ℕ) (d : X) (ok : Bool) → ok ≡ true
-    → ys ≡ cond ok (take n xs ++ replicate (n - len) d) xs → length xs ≡ len → n ≡ len + k → ys ≡ xs ++ replicate k d
-resized xs ys n len k d true ok is size more =
-    let rest : n - len ≡ k = omega arith in
-    is ∙ (ap (λ zs. zs ++ replicate (n - len) d) (take_all n xs (omega arith)) ∙ ap (λ m. xs ++ replicate m d) rest)
-resized xs ys n len k d false ok is size more = absurd (false≢true ok)
 
 -- how many slots are used
 pub used_most : (slots : List ℕ) → used slots ≤ length slots

@@ -1,8 +1,7 @@
 use Rattle.std.proofs.Common.{◌≡◌, ℕ, List, length, set, Option, Some, None, is_some, ap, sym, subst, ◌∙◌}
 use Rattle.std.specs.Prelude.{count_by}
-use Rattle.rows.specs.declared.blocks.Block.{Block}
 use Rattle.rows.specs.Places.{blocks_of}
-use Rattle.rows.specs.Blocks.{AreBlocks, block_in}
+use Rattle.rows.specs.Blocks.{Block, AreBlocks, block_in}
 use Rattle.rows.proofs.Blocking.{block_there, blocks_given, live_given}
 use Rattle.rows.proofs.blocks.block_for.Goals as goal
 

@@ -1,11 +1,10 @@
 use Rattle.std.proofs.Common.{◌≡◌, ◌≢◌, ℕ, ◌+◌, ◌-◌, ◌<◌, ◌≤◌, List, length, set, Option, Some, None, is_some, ap, sym, subst, ◌∙◌, arith}
 use Rattle.std.specs.Prelude.{count_by}
 use Rattle.std.specs.Option.{option_map}
-use Rattle.std.proofs.lemmas.List.{map-set, get_or_default, get_or-set_other}
+use Rattle.std.proofs.lemmas.List.{map-set, get_or-set_other}
 use Rattle.rows.specs.declared.places.Place.{Place}
-use Rattle.rows.specs.declared.blocks.Block.{Block}
 use Rattle.rows.specs.Places.{blocks_of, place_at}
-use Rattle.rows.specs.Blocks.{LosesBlock, block_at, block_in, no_block}
+use Rattle.rows.specs.Blocks.{Block, LosesBlock, block_at, block_in}
 use Rattle.rows.proofs.Blocking.{block_there, count_le, live_block, live_less, live_swapped, loses_last, loses_none, loses_swapped, owner_row, owner_differs}
 use Rattle.rows.proofs.blocks.forget.Goals as goal
 
@@ -37,51 +36,41 @@ returns-in_default-clause-live c =
     ap (λ (rows : Rows). count_by is_some rows + 1) (gone places c.args.id c.clear.new.self c.clear.ensures)
     ∙ live_less (blocks_of places) c.args.id None there
 
-pub swap_remove-requires : goal.swap_remove-requires
-swap_remove-requires c =
+pub remove-requires : goal.remove-requires
+remove-requires c =
     let places = c.args.places.now in
     let there : block_in (blocks_of places) c.args.id ≡ Some (Some c.in-Some.block) = block_there places c.args.id
     c.place_of-place.result c.place_of-place.ensures ∙ ap Some c.in-Some.is in
-    let within = (c.requires.blocks.has c.args.id c.in-Some.block there).0 in
-    let ok = c.args.blocks.now.ok.0 in
-    omega arith
+    (c.requires.blocks.has c.args.id c.in-Some.block there).0
 
 pub set_block-requires : goal.set_block-requires
 set_block-requires c =
     let places = c.args.places.now in
     let blocks = c.args.blocks.now.items in
-    let new = c.swap_remove.new.self.items in
+    let new = c.remove.new.self.items in
     let b = c.in-Some.block in
-    let ok = c.args.blocks.now.ok.0 in
-    let new_ok = c.swap_remove.new.self.ok.0 in
-    let len = c.swap_remove.ensures.len in
     let test = c.if-block-len.true in
     let is = c.len.ensures in
     let there : block_in (blocks_of places) c.args.id ≡ Some (Some b) = block_there places c.args.id
     c.place_of-place.result c.place_of-place.ensures ∙ ap Some c.in-Some.is in
-    let short : length new + 1 ≡ length blocks = omega arith in
+    let short : length new + 1 ≡ length blocks = c.remove.ensures.count in
     let more : b + 1 < length blocks = omega arith in
-    let low : b < length new = omega arith in
-    let moved : b + 1 < length blocks → block_at new b ≡ block_at blocks (length blocks - 1) =
-    λ h. subst (λ n. block_at new b ≡ block_at blocks (n - 1)) ok
-    (c.swap_remove.ensures.by_index.0 no_block (omega arith)) in
-    let others : (k : ℕ) → k ≢ b → k + 1 < length blocks → block_at new k ≡ block_at blocks k =
-    λ k differs h. c.swap_remove.ensures.by_index.1 k no_block differs (omega arith) in
-    let at : c.index.result.now ≡ block_at new b = c.index.ensures ∙ get_or_default new b c.index.result.now no_block
-    low in
-    let owner_is : c.index.result.now.owner ≡ (block_at blocks (length blocks - 1)).owner = ap (λ (k : Block). k.owner)
-    (at ∙ moved more) in
+    let moved : b + 1 < length blocks → block_at new b ≡ block_at blocks (length blocks - 1) = c.remove.ensures.moved in
+    let others : (k : ℕ) → k ≢ b → k + 1 < length blocks → block_at new k ≡ block_at blocks k = c.remove.ensures.others
+    in
+    let owner_is : c.owner-owner.result ≡ (block_at blocks (length blocks - 1)).owner = c.owner-owner.ensures
+    ∙ ap (λ (k : Block). k.owner) (moved more) in
     let row = owner_row (blocks_of places) blocks c.requires.blocks c.args.id b there new short moved others more
-    c.index.result.now.owner owner_is in
+    c.owner-owner.result owner_is in
     let apart = owner_differs (blocks_of places) blocks c.requires.blocks c.args.id b there new short moved others more
-    c.index.result.now.owner owner_is in
+    c.owner-owner.result owner_is in
     let count = c.requires.blocks.counted in
     let le = count_le (blocks_of places) in
     let few = c.requires.few in
     record {
-      live = ap (λ (ps : List (Option Place)). is_some (place_at ps c.index.result.now.owner)) c.clear.ensures
-          ∙ ap is_some (get_or-set_other places c.args.id c.index.result.now.owner None None apart)
-          ∙ live_block places c.index.result.now.owner (Some (length blocks - 1)) row;
+      live = ap (λ (ps : List (Option Place)). is_some (place_at ps c.owner-owner.result)) c.clear.ensures
+          ∙ ap is_some (get_or-set_other places c.args.id c.owner-owner.result None None apart)
+          ∙ live_block places c.owner-owner.result (Some (length blocks - 1)) row;
       fits = omega arith;
     }
 
@@ -89,88 +78,68 @@ pub returns-then-block-len-clause-loses : goal.returns-then-block-len-clause-los
 returns-then-block-len-clause-loses c =
     let places = c.args.places.now in
     let blocks = c.args.blocks.now.items in
-    let new = c.swap_remove.new.self.items in
+    let new = c.remove.new.self.items in
     let b = c.in-Some.block in
-    let ok = c.args.blocks.now.ok.0 in
-    let new_ok = c.swap_remove.new.self.ok.0 in
-    let len = c.swap_remove.ensures.len in
     let test = c.if-block-len.true in
     let is = c.len.ensures in
     let there : block_in (blocks_of places) c.args.id ≡ Some (Some b) = block_there places c.args.id
     c.place_of-place.result c.place_of-place.ensures ∙ ap Some c.in-Some.is in
-    let short : length new + 1 ≡ length blocks = omega arith in
+    let short : length new + 1 ≡ length blocks = c.remove.ensures.count in
     let more : b + 1 < length blocks = omega arith in
-    let low : b < length new = omega arith in
-    let moved : b + 1 < length blocks → block_at new b ≡ block_at blocks (length blocks - 1) =
-    λ h. subst (λ n. block_at new b ≡ block_at blocks (n - 1)) ok
-    (c.swap_remove.ensures.by_index.0 no_block (omega arith)) in
-    let others : (k : ℕ) → k ≢ b → k + 1 < length blocks → block_at new k ≡ block_at blocks k =
-    λ k differs h. c.swap_remove.ensures.by_index.1 k no_block differs (omega arith) in
-    let at : c.index.result.now ≡ block_at new b = c.index.ensures ∙ get_or_default new b c.index.result.now no_block
-    low in
-    let owner_is : c.index.result.now.owner ≡ (block_at blocks (length blocks - 1)).owner = ap (λ (k : Block). k.owner)
-    (at ∙ moved more) in
+    let moved : b + 1 < length blocks → block_at new b ≡ block_at blocks (length blocks - 1) = c.remove.ensures.moved in
+    let others : (k : ℕ) → k ≢ b → k + 1 < length blocks → block_at new k ≡ block_at blocks k = c.remove.ensures.others
+    in
+    let owner_is : c.owner-owner.result ≡ (block_at blocks (length blocks - 1)).owner = c.owner-owner.ensures
+    ∙ ap (λ (k : Block). k.owner) (moved more) in
     let rows_are : blocks_of c.set_block.new.places ≡ set (set (blocks_of places) c.args.id None)
-    c.index.result.now.owner (Some (Some b)) = c.set_block.ensures.blocks
-    ∙ ap (λ (rows : Rows). set rows c.index.result.now.owner (Some (Some b)))
+    c.owner-owner.result (Some (Some b)) = c.set_block.ensures.blocks
+    ∙ ap (λ (rows : Rows). set rows c.owner-owner.result (Some (Some b)))
     (gone places c.args.id c.clear.new.self c.clear.ensures) in
     let P : Rows → Type 0 = λ rows. LosesBlock (blocks_of places) blocks rows new c.args.id in
     subst P (sym rows_are) (loses_swapped (blocks_of places) blocks c.requires.blocks c.args.id b there new short moved
-    others more c.index.result.now.owner owner_is)
+    others more c.owner-owner.result owner_is)
 
 pub returns-then-block-len-clause-live : goal.returns-then-block-len-clause-live
 returns-then-block-len-clause-live c =
     let places = c.args.places.now in
     let blocks = c.args.blocks.now.items in
-    let new = c.swap_remove.new.self.items in
+    let new = c.remove.new.self.items in
     let b = c.in-Some.block in
-    let ok = c.args.blocks.now.ok.0 in
-    let new_ok = c.swap_remove.new.self.ok.0 in
-    let len = c.swap_remove.ensures.len in
     let test = c.if-block-len.true in
     let is = c.len.ensures in
     let there : block_in (blocks_of places) c.args.id ≡ Some (Some b) = block_there places c.args.id
     c.place_of-place.result c.place_of-place.ensures ∙ ap Some c.in-Some.is in
-    let short : length new + 1 ≡ length blocks = omega arith in
+    let short : length new + 1 ≡ length blocks = c.remove.ensures.count in
     let more : b + 1 < length blocks = omega arith in
-    let low : b < length new = omega arith in
-    let moved : b + 1 < length blocks → block_at new b ≡ block_at blocks (length blocks - 1) =
-    λ h. subst (λ n. block_at new b ≡ block_at blocks (n - 1)) ok
-    (c.swap_remove.ensures.by_index.0 no_block (omega arith)) in
-    let others : (k : ℕ) → k ≢ b → k + 1 < length blocks → block_at new k ≡ block_at blocks k =
-    λ k differs h. c.swap_remove.ensures.by_index.1 k no_block differs (omega arith) in
-    let at : c.index.result.now ≡ block_at new b = c.index.ensures ∙ get_or_default new b c.index.result.now no_block
-    low in
-    let owner_is : c.index.result.now.owner ≡ (block_at blocks (length blocks - 1)).owner = ap (λ (k : Block). k.owner)
-    (at ∙ moved more) in
+    let moved : b + 1 < length blocks → block_at new b ≡ block_at blocks (length blocks - 1) = c.remove.ensures.moved in
+    let others : (k : ℕ) → k ≢ b → k + 1 < length blocks → block_at new k ≡ block_at blocks k = c.remove.ensures.others
+    in
+    let owner_is : c.owner-owner.result ≡ (block_at blocks (length blocks - 1)).owner = c.owner-owner.ensures
+    ∙ ap (λ (k : Block). k.owner) (moved more) in
     let rows_are : blocks_of c.set_block.new.places ≡ set (set (blocks_of places) c.args.id None)
-    c.index.result.now.owner (Some (Some b)) = c.set_block.ensures.blocks
-    ∙ ap (λ (rows : Rows). set rows c.index.result.now.owner (Some (Some b)))
+    c.owner-owner.result (Some (Some b)) = c.set_block.ensures.blocks
+    ∙ ap (λ (rows : Rows). set rows c.owner-owner.result (Some (Some b)))
     (gone places c.args.id c.clear.new.self c.clear.ensures) in
     ap (λ (rows : Rows). count_by is_some rows + 1) rows_are
     ∙ ap (λ n. n + 1) (live_swapped (blocks_of places) blocks c.requires.blocks c.args.id b there new short moved others
-    more c.index.result.now.owner owner_is)
+    more c.owner-owner.result owner_is)
     ∙ live_less (blocks_of places) c.args.id (Some b) there
 
 pub returns-else-block-len-clause-loses : goal.returns-else-block-len-clause-loses
 returns-else-block-len-clause-loses c =
     let places = c.args.places.now in
     let blocks = c.args.blocks.now.items in
-    let new = c.swap_remove.new.self.items in
+    let new = c.remove.new.self.items in
     let b = c.in-Some.block in
-    let ok = c.args.blocks.now.ok.0 in
-    let new_ok = c.swap_remove.new.self.ok.0 in
-    let len = c.swap_remove.ensures.len in
     let test = c.if-block-len.false in
     let is = c.len.ensures in
     let there : block_in (blocks_of places) c.args.id ≡ Some (Some b) = block_there places c.args.id
     c.place_of-place.result c.place_of-place.ensures ∙ ap Some c.in-Some.is in
-    let short : length new + 1 ≡ length blocks = omega arith in
+    let short : length new + 1 ≡ length blocks = c.remove.ensures.count in
     let last : length blocks ≤ b + 1 = omega arith in
-    let moved : b + 1 < length blocks → block_at new b ≡ block_at blocks (length blocks - 1) =
-    λ h. absurd (omega arith) in
-    let others : (k : ℕ) → k ≢ b → k + 1 < length blocks → block_at new k ≡ block_at blocks k =
-    λ k differs h. c.swap_remove.ensures.by_index.1 k no_block differs (omega arith) in
+    let moved : b + 1 < length blocks → block_at new b ≡ block_at blocks (length blocks - 1) = c.remove.ensures.moved in
+    let others : (k : ℕ) → k ≢ b → k + 1 < length blocks → block_at new k ≡ block_at blocks k = c.remove.ensures.others
+    in
     let P : Rows → Type 0 = λ rows. LosesBlock (blocks_of places) blocks rows new c.args.id in
     subst P (sym (gone places c.args.id c.clear.new.self c.clear.ensures))
     (loses_last (blocks_of places) blocks c.requires.blocks c.args.id b there new short moved others last)

@@ -1,31 +1,45 @@
-use Rattle.std.proofs.Common.{◌≤◌, ℕ, List, Option, length, ap, sym, subst, arith}
-use Rattle.std.specs.Option.{option_map}
-use Rattle.std.proofs.lemmas.List.{length-map}
+use Rattle.std.proofs.Common.{◌≡◌, ◌≤◌, List, length, subst, sym, ap, ◌∙◌, arith}
+use Rattle.std.proofs.lemmas.List.{length-take-le}
 use Rattle.prefix.specs.Literal.{Literal}
-use Rattle.rows.specs.declared.places.Place.{Place}
-use Rattle.rows.specs.Places.{KeepsParts}
-use Rattle.rows.proofs.Gone.{moving_after}
-use Rattle.rows.proofs.Parts.{parts_front, parts_same, parts_then}
+use Rattle.rows.specs.Places.{AreSpread, KeepsParts}
+use Rattle.rows.proofs.Gone.{dead_kept, moving_across, places_kept}
+use Rattle.rows.proofs.Parts.{parts_front, parts_then, spread_front}
 use Rattle.rows.proofs.places.slide.Goals as goal
+
+pub settle_all-to-requires-2-clause-moving : goal.settle_all-to-requires-2-clause-moving
+settle_all-to-requires-2-clause-moving c =
+    let first = c.settle_all-to in
+    let gap = c.gap-gap in
+    moving_across (length first.new.lits.items) first.result gap.result.start gap.result.end first.new.places
+    first.ensures.moving
+    (dead_kept c.args.lits.now.items first.new.lits.items c.args.places.now first.new.places gap.result.start
+    gap.result.end first.ensures.kept gap.ensures)
+
+pub returns-clause-spread : goal.returns-clause-spread
+returns-clause-spread c =
+    let first = c.settle_all-to in
+    let next = c.settle_all-to-2 in
+    let lits = next.new.lits.items in
+    let same = places_kept first.new.lits.items lits first.new.places next.new.places next.ensures.kept in
+    let count = c.len-count.ensures in
+    let all : length next.new.places ≤ c.len-count.result = omega arith in
+    let size : length c.truncate.new.self.items ≡ next.result =
+    ap (λ (ls : List Literal). length ls) c.truncate.ensures.items
+    ∙ length-take-le next.result lits next.ensures.moving.fits in
+    subst (λ n. AreSpread n next.new.places) (sym size)
+    (spread_front (length lits) next.new.places c.len-count.result next.result next.ensures.moving all)
 
 pub returns-clause-kept : goal.returns-clause-kept
 returns-clause-kept c =
-    let old = c.args.places.now in
-    let places = c.loop-id.places in
-    let same = ap (λ (bs : List (Option (Option ℕ))). length bs) c.loop-id.invariant.1.blocks in
-    let a = length-map places (option_map (λ (p : Place). p.block)) in
-    let b = length-map old (option_map (λ (p : Place). p.block)) in
-    let end = c.len-id-end.ensures in
-    let test = c.loop-id-test.false in
-    let all : length places ≤ c.loop-id.id = omega arith in
-    let P : List Literal → Type 0 = λ ls. KeepsParts c.loop-id.lits.items places ls places in
-    parts_then c.args.lits.now.items c.loop-id.lits.items c.truncate.new.self.items old places places
-    c.loop-id.invariant.1
-    (subst P (sym c.truncate.ensures.items)
-    (parts_front c.loop-id.lits.items places c.loop-id.id c.loop-id.to c.loop-id.invariant.0 all))
-
-pub loop-id-init : goal.loop-id-init
-loop-id-init c = (
-  moving_after (length c.args.lits.now.items) c.first-id.result c.args.places.now c.requires c.first-id.ensures,
-  parts_same c.args.lits.now.items c.args.places.now,
-)
+    let old = c.args.lits.now.items in
+    let first = c.settle_all-to in
+    let next = c.settle_all-to-2 in
+    let lits = next.new.lits.items in
+    let same = places_kept first.new.lits.items lits first.new.places next.new.places next.ensures.kept in
+    let count = c.len-count.ensures in
+    let all : length next.new.places ≤ c.len-count.result = omega arith in
+    parts_then old lits c.truncate.new.self.items c.args.places.now next.new.places next.new.places
+    (parts_then old first.new.lits.items lits c.args.places.now first.new.places next.new.places first.ensures.kept
+    next.ensures.kept)
+    (subst (λ ls. KeepsParts lits next.new.places ls next.new.places) (sym c.truncate.ensures.items)
+    (parts_front lits next.new.places c.len-count.result next.result next.ensures.moving all))

@@ -1,5 +1,4 @@
 use Rattle.std.proofs.Common.{◌≡◌, ◌*◌, ◌+◌, ◌/◌, ◌%◌, ◌<◌, length, set, ap, ◌∙◌, arith}
-use Rattle.std.specs.Prelude.{vec_capacity}
 use Rattle.std.proofs.lemmas.List.{get_or_read}
 use Rattle.watch.specs.Entries.{heads_of, no_slot, slot_at}
 use Rattle.watch.proofs.Laying.{entry_heads}
@@ -13,7 +12,8 @@ returns-clause-heads c =
     let var : c.args.place / 4 < length slots = omega arith in
     let slot : c.index.result.now ≡ slot_at slots (c.args.place / 4) =
     get_or_read slots (c.args.place / 4) c.index.result.now var c.index.ensures no_slot in
-    ap (λ s. heads_of (set entries (4 * s + c.args.place % 4) c.args.first) slots) slot
-    ∙ (entry_heads slots entries (vec_capacity c.give_entries.new.entries) c.give_entries.ensures.laid c.args.place
+    ap (λ es. heads_of es slots) c.set.ensures.items
+    ∙ ap (λ s. heads_of (set entries (4 * s + c.args.place % 4) c.args.first) slots) slot
+    ∙ entry_heads slots entries c.give_entries.new.entries.room c.give_entries.ensures.laid c.args.place
     c.args.first here c.give_entries.ensures.given
-    ∙ ap (λ hs. set hs c.args.place c.args.first) c.give_entries.ensures.heads)
+    ∙ ap (λ hs. set hs c.args.place c.args.first) c.give_entries.ensures.heads

@@ -1,10 +1,9 @@
 use Rattle.std.proofs.Common.{ℕ, ◌≡◌, ◌+◌, ◌≤◌, List, [], ◌∷◌, ◌++◌, length, Option, Some, None, ap, sym, subst, ◌∙◌, arith}
-use Rattle.std.specs.Prelude.{vec_capacity}
 use Rattle.std.specs.Option.{option_map}
 use Rattle.std.proofs.lemmas.List.{length-map}
 use Rattle.prefix.specs.Literal.{Literal}
+use Rattle.rows.specs.Blocks.{Block}
 use Rattle.rows.specs.declared.places.Place.{Place}
-use Rattle.rows.specs.declared.blocks.Block.{Block}
 use Rattle.rows.specs.Arena.{Arena, ChangesAt, new_row, with_row}
 use Rattle.rows.specs.Stored.{AreStored, arena_of, stored}
 use Rattle.rows.proofs.Arenas.{ChangesAt-more, arena_put}
@@ -14,9 +13,8 @@ use Rattle.rows.proofs.rows.Rows.add.Goals as goal
 pub overflow_sub-self-inside : goal.overflow_sub-self-inside
 overflow_sub-self-inside c =
     let few = blocks_few (length c.self.inside.lits.items) c.self.inside.places c.self.inside.blocks.items
-    c.self.inside.live (vec_capacity c.self.inside.blocks) c.self.invariant in
+    c.self.inside.live c.self.inside.blocks.room c.self.invariant in
     let is = c.len-2.ensures in
-    let ok = c.self.inside.blocks.ok.0 in
     omega arith
 
 pub invariant_of-self-2 : goal.invariant_of-self-2
@@ -32,17 +30,15 @@ invariant_of-self-2 c =
     ∙ ap (λ (o : Option Place). places ++ o ∷ [])
     (c.in_ok-slot.ensures ∙ ap (λ (n : ℕ). Some (record { start = n; len = length row; block = None })) start) in
     let few = blocks_few (length lits) places c.self.inside.blocks.items c.self.inside.live
-    (vec_capacity c.self.inside.blocks) c.self.invariant in
+    c.self.inside.blocks.room c.self.invariant in
     let is = c.len-2.ensures in
-    let ok = c.self.inside.blocks.ok.0 in
-    let same = c.reserve.ensures.len in
     let room = c.in_ok-reserve.ensures.ok in
-    let fits : c.self.inside.live + 1 ≤ vec_capacity c.reserve.new.self = omega arith in
+    let fits : c.self.inside.live + 1 ≤ c.reserve.new.self.room = omega arith in
     let P : List Block → Type 0 = λ bs. AreStored (length c.put.new.all.items) c.push.new.self bs
-    (c.self.inside.live + 1) (vec_capacity c.reserve.new.self) in
+    (c.self.inside.live + 1) c.reserve.new.self.room in
     subst P (sym c.reserve.ensures.items)
     (stored_put lits row c.put.new.all.items places c.push.new.self c.self.inside.blocks.items c.self.inside.live
-    (vec_capacity c.self.inside.blocks) (vec_capacity c.reserve.new.self) e1 e2 c.self.invariant fits
+    c.self.inside.blocks.room c.reserve.new.self.room e1 e2 c.self.invariant fits
     c.in_ok-within.ensures)
 
 pub returns-clause-arena : goal.returns-clause-arena

@@ -1,8 +1,7 @@
 use Rattle.std.proofs.Common.{length-append, refl, ap₂, ◌≡◌, ◌+◌, ◌≤◌, ℕ, List, [], ◌∷◌, ◌++◌, length, Option, Some, None, ap, ap₂, sym, subst, ◌∙◌, arith}
-use Rattle.std.specs.Prelude.{vec_capacity}
 use Rattle.prefix.specs.Literal.{Literal}
+use Rattle.rows.specs.Blocks.{Block}
 use Rattle.rows.specs.declared.places.Place.{Place}
-use Rattle.rows.specs.declared.blocks.Block.{Block}
 use Rattle.rows.specs.Arena.{Arena, with_row}
 use Rattle.rows.specs.Places.{most_blocks}
 use Rattle.rows.specs.Stored.{AreStored, arena_of}
@@ -13,9 +12,8 @@ use Rattle.rows.proofs.rows.Rows.add_pair.Goals as goal
 pub overflow_sub-self-inside : goal.overflow_sub-self-inside
 overflow_sub-self-inside c =
     let few = blocks_few (length c.self.inside.lits.items) c.self.inside.places c.self.inside.blocks.items
-    c.self.inside.live (vec_capacity c.self.inside.blocks) c.self.invariant in
+    c.self.inside.live c.self.inside.blocks.room c.self.invariant in
     let is = c.len-3.ensures in
-    let ok = c.self.inside.blocks.ok.0 in
     omega arith
 
 pub invariant_of-self-2 : goal.invariant_of-self-2
@@ -40,27 +38,25 @@ invariant_of-self-2 c =
     c.in_ok-push_pair.ensures.ok
     ∙ ap₂ (λ (a b : Option Place). (places ++ a ∷ []) ++ b ∷ []) one_is two_is in
     let few = blocks_few (length lits) places c.self.inside.blocks.items c.self.inside.live
-    (vec_capacity c.self.inside.blocks) c.self.invariant in
+    c.self.inside.blocks.room c.self.invariant in
     let is = c.len-3.ensures in
-    let ok = c.self.inside.blocks.ok.0 in
-    let same = c.reserve.ensures.len in
     let room = c.in_ok-reserve.ensures.ok in
-    let fits : (c.self.inside.live + 1) + 1 ≤ vec_capacity c.reserve.new.self = omega arith in
+    let fits : (c.self.inside.live + 1) + 1 ≤ c.reserve.new.self.room = omega arith in
     let most = c.in_ok-within.ensures in
     let few_one : c.self.inside.live + 1 ≤ most_blocks = omega arith in
     let few_two : (c.self.inside.live + 1) + 1 ≤ most_blocks = omega arith in
-    let fits_one : c.self.inside.live + 1 ≤ vec_capacity c.reserve.new.self = omega arith in
+    let fits_one : c.self.inside.live + 1 ≤ c.reserve.new.self.room = omega arith in
     let two : (c.self.inside.live + 1) + 1 ≡ c.self.inside.live + 2 = omega arith in
     let one = stored_put lits first c.put.new.all.items places middle c.self.inside.blocks.items
-    c.self.inside.live (vec_capacity c.self.inside.blocks) (vec_capacity c.reserve.new.self) e1 refl
+    c.self.inside.live c.self.inside.blocks.room c.reserve.new.self.room e1 refl
     c.self.invariant fits_one few_one in
     let both = stored_put c.put.new.all.items second c.put-2.new.all.items middle
-    c.push_pair.new.self c.self.inside.blocks.items (c.self.inside.live + 1) (vec_capacity c.reserve.new.self)
-    (vec_capacity c.reserve.new.self) c.put-2.ensures.lits e2 one fits few_two in
+    c.push_pair.new.self c.self.inside.blocks.items (c.self.inside.live + 1) c.reserve.new.self.room
+    c.reserve.new.self.room c.put-2.ensures.lits e2 one fits few_two in
     let P : List Block → Type 0 = λ bs. AreStored (length c.put-2.new.all.items) c.push_pair.new.self bs
-    ((c.self.inside.live + 1) + 1) (vec_capacity c.reserve.new.self) in
+    ((c.self.inside.live + 1) + 1) c.reserve.new.self.room in
     let Q : ℕ → Type 0 = λ n. AreStored (length c.put-2.new.all.items) c.push_pair.new.self
-    c.reserve.new.self.items n (vec_capacity c.reserve.new.self) in
+    c.reserve.new.self.items n c.reserve.new.self.room in
     subst Q two (subst P (sym c.reserve.ensures.items) both)
 
 pub returns-clause-arena : goal.returns-clause-arena
@@ -85,18 +81,16 @@ returns-clause-arena c =
     let e2 : c.push_pair.new.self ≡ middle ++ slot_at (length c.put.new.all.items) (length second) ∷ [] =
     c.in_ok-push_pair.ensures.ok
     ∙ ap₂ (λ (a b : Option Place). (places ++ a ∷ []) ++ b ∷ []) one_is two_is in
-    let few = blocks_few (length lits) places blocks c.self.inside.live (vec_capacity c.self.inside.blocks)
+    let few = blocks_few (length lits) places blocks c.self.inside.live c.self.inside.blocks.room
     c.self.invariant in
     let is = c.len-3.ensures in
-    let ok = c.self.inside.blocks.ok.0 in
-    let same = c.reserve.ensures.len in
     let room = c.in_ok-reserve.ensures.ok in
     let most = c.in_ok-within.ensures in
     let few_one : c.self.inside.live + 1 ≤ most_blocks = omega arith in
     let few_two : (c.self.inside.live + 1) + 1 ≤ most_blocks = omega arith in
-    let fits_one : c.self.inside.live + 1 ≤ vec_capacity c.reserve.new.self = omega arith in
+    let fits_one : c.self.inside.live + 1 ≤ c.reserve.new.self.room = omega arith in
     let one = stored_put lits first c.put.new.all.items places middle blocks c.self.inside.live
-    (vec_capacity c.self.inside.blocks) (vec_capacity c.reserve.new.self) e1 refl c.self.invariant fits_one
+    c.self.inside.blocks.room c.reserve.new.self.room e1 refl c.self.invariant fits_one
     few_one in
     ap (λ (bs : List Block). arena_of c.put-2.new.all.items bs c.push_pair.new.self) c.reserve.ensures.items
     ∙ arena_put c.put.new.all.items second c.put-2.new.all.items blocks middle c.push_pair.new.self

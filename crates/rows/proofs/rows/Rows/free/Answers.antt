@@ -1,5 +1,4 @@
 use Rattle.std.proofs.Common.{◌≡◌, length, set, None, is_some, true, ap, sym, subst, ◌∙◌, arith}
-use Rattle.std.specs.Prelude.{vec_capacity}
 use Rattle.rows.specs.Arena.{Arena, ChangesAt, is_live}
 use Rattle.rows.specs.Places.{blocks_of, place_at}
 use Rattle.rows.proofs.Arenas.{ChangesAt-set, arena_less, live_place}
@@ -21,8 +20,8 @@ overflow_sub-self c =
 
 pub invariant_of-self : goal.invariant_of-self
 invariant_of-self c = stored_less (length c.self.inside.lits.items) c.self.inside.places c.forget.new.places
-    c.self.inside.blocks.items c.forget.new.blocks.items c.self.inside.live (vec_capacity c.self.inside.blocks)
-    (vec_capacity c.forget.new.blocks) c.args.id c.self.invariant c.forget.ensures.same c.forget.ensures.loses
+    c.self.inside.blocks.items c.forget.new.blocks.items c.self.inside.live c.self.inside.blocks.room
+    c.forget.new.blocks.room c.args.id c.self.invariant c.forget.ensures.same c.forget.ensures.loses
     c.forget.ensures.live c.forget.ensures.room
 
 pub returns-clause-arena : goal.returns-clause-arena

@@ -1,5 +1,4 @@
 use Rattle.std.proofs.Common.{List, take, length, Option, sym, ap, subst, ◌∙◌}
-use Rattle.std.specs.Prelude.{vec_capacity}
 use Rattle.rows.specs.Arena.{Arena, is_live}
 use Rattle.rows.specs.Stored.{AreStored, arena_of}
 use Rattle.rows.specs.declared.places.Place.{Place}
@@ -15,10 +14,10 @@ pub invariant_of-self : goal.invariant_of-self
 invariant_of-self c =
     subst (λ (places : List (Option Place)). AreStored
     (length c.self.inside.lits.items) places c.self.inside.blocks.items c.self.inside.live
-    (vec_capacity c.self.inside.blocks)) (sym c.truncate.ensures)
+    c.self.inside.blocks.room) (sym c.truncate.ensures)
     (stored_front c.self.inside.places c.args.first (none c)
     (length c.self.inside.lits.items) c.self.inside.blocks.items c.self.inside.live
-    (vec_capacity c.self.inside.blocks) c.self.invariant)
+    c.self.inside.blocks.room c.self.invariant)
 
 pub returns : goal.returns
 returns c =

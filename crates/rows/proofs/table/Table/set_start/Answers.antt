@@ -2,23 +2,28 @@ use Rattle.std.proofs.Common.{◌≡◌, ◌-◌, List, Option, None, is_some, s
 use Rattle.std.specs.Option.{option_map}
 use Rattle.std.proofs.lemmas.List.{get_or_default}
 use Rattle.rows.specs.declared.places.Place.{Place}
-use Rattle.rows.specs.Places.{behind_gone, moved_to, place_at}
-use Rattle.rows.proofs.Gone.{kept_given, kept_set, kept_there, live_kept}
+use Rattle.rows.specs.Places.{around_gone, moved_to, place_at}
+use Rattle.rows.proofs.Gone.{Before, live_given, live_kept, live_set}
 use Rattle.rows.proofs.table.Table.set_start.Goals as goal
 
 pub returns : goal.returns
 returns c =
-    let gone = c.self.inside.gone in
-    let slots = c.self.inside.slots.items in
+    let t = c.self.inside in
+    let slots = t.slots.items in
     let id = c.args.id in
-    let live : is_some (place_at (behind_gone gone slots) id) ≡ true =
+    let before = c.gone_before.result in
+    let within = c.self.invariant.0 in
+    let is : Before t.split t.gone id before = (c.gone_before.ensures.front, c.gone_before.ensures.behind) in
+    let live : is_some (place_at (around_gone t.split t.gone slots) id) ≡ true =
     ap (λ (ps : List (Option Place)). is_some (place_at ps id)) c.self.view_is ∙ c.requires in
-    let kept = live_kept gone id slots live in
-    let there : c.index_mut.result.now ≡ place_at (behind_gone gone slots) id =
+    let there : c.index_mut.result.now ≡ place_at (around_gone t.split t.gone slots) id =
     c.index_mut.ensures.value
-    ∙ (get_or_default slots (id - gone) c.index_mut.result.now None (kept_given gone id slots live)
-    ∙ sym (kept_there gone id slots kept)) in
-    ap (λ (o : Option Place). behind_gone gone (set slots (id - gone) o))
+    ∙ (get_or_default slots (id - before) c.index_mut.result.now None
+    (live_given t.split t.gone id before slots within is live)
+    ∙ sym (live_kept t.split t.gone id before slots within is live)) in
+    ap (λ (o : Option Place). around_gone t.split t.gone (set slots (id - before) o))
     (c.set_start.ensures ∙ ap (option_map (moved_to c.args.start)) there)
-    ∙ (kept_set gone id slots (option_map (moved_to c.args.start) (place_at (behind_gone gone slots) id)) kept
-    ∙ ap (λ (ps : List (Option Place)). set ps id (option_map (moved_to c.args.start) (place_at ps id))) c.self.view_is)
+    ∙ (live_set t.split t.gone id before slots within is live
+    (option_map (moved_to c.args.start) (place_at (around_gone t.split t.gone slots) id))
+    ∙ ap (λ (ps : List (Option Place)). set ps id (option_map (moved_to c.args.start) (place_at ps id)))
+    c.self.view_is)
