@@ -12,4 +12,4 @@ use smallvec::SmallVec;
 pub use worked::worked_depths;
 
 /// The literals of a clause or of a cube, of which most have few.
-pub type Row = SmallVec<Lit, 16>;
+pub type Row = SmallVec<Lit, 40>;
