@@ -7,8 +7,6 @@
 
 mod commands;
 mod ending;
-#[cfg(test)]
-mod tests;
 mod words;
 
 pub use commands::{report, run};

@@ -2,8 +2,8 @@
 ghost use Rattle.std.specs.Prelude.{◌<◌};
 
 use super::{desk, words};
-use crate::run;
 use ports::{Desk, MemoryDesk, MemorySink};
+use program::run;
 use std::alloc::Global;
 use std::test::Fail;
 

@@ -1,7 +1,7 @@
 //! Certificates that are checked.
 use super::{DIFFERS, desk, report, run, words};
-use crate::ending::RunEnding;
 use ports::MemorySink;
+use program::RunEnding;
 use reading::Quantity;
 use solve::Ending;
 use std::alloc::Global;

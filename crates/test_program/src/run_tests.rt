@@ -13,8 +13,8 @@ mod pigeons;
 mod restarts;
 mod scripts;
 
-use crate::{report, run, words_of};
 use ports::{Input, MemoryDesk, MemorySink};
+use program::{report, run, words_of};
 use std::alloc::Global;
 use std::io::{Error, ErrorKind};
 use std::test::Fail;

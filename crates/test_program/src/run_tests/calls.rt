@@ -2,8 +2,8 @@
 
 use super::pigeons::formula_of;
 use super::{desk, words};
-use crate::run;
 use ports::MemorySink;
+use program::run;
 use std::alloc::Global;
 use std::test::Fail;
 

@@ -2,8 +2,8 @@
 
 use super::scripts::{carry_out, lines, written};
 use super::{DIFFERS, desk, words};
-use crate::run;
 use ports::MemorySink;
+use program::run;
 use std::alloc::Global;
 use std::test::Fail;
 
