@@ -1,6 +1,7 @@
 //! Rows of clauses that are given as numbers.
 use clauses::{is_tautology, row_of, variables};
 use prefix::LitList;
+use std::alloc::Global;
 use std::test::Fail;
 
 fn numbers(row: &LitList) -> Option<[i32; 3]> {
@@ -10,10 +11,15 @@ fn numbers(row: &LitList) -> Option<[i32; 3]> {
     }
 }
 
+// Whether 3, -1, 3 and 2 come to the row of -1, 2 and 3.
+fn ascends(alloc: Global) -> Result<bool, Fail> {
+    let row = row_of(alloc, &[3, -1, 3, 2])?.ok_or("a row")?;
+    Ok(numbers(&row) == Some([-1, 2, 3]))
+}
+
 #[test]
 fn a_row_ascends_without_repeats(rt: HostRuntime) -> Result<(), Fail> {
-    let row = row_of(rt.alloc(), &[3, -1, 3, 2])?.ok_or("a row")?;
-    assert_eq!(rt; numbers(&row), Some([-1, 2, 3]));
+    assert!(rt; ascends(rt.alloc())?);
     assert!(rt; row_of(rt.alloc(), &[2, 1, -2])?.is_none());
     assert_eq!(rt; variables(&[3, -1, 3, 2]), 3);
     assert_eq!(rt;

@@ -3,64 +3,120 @@ use crate::build::{literal, variable};
 use prefix::{Clauses, Cubes, Lit, LitList, Prefix, PrefixRefusal, Quant};
 use std::test::Fail;
 
-#[test]
-fn scopes_move_up_when_one_is_put_in_front(rt: HostRuntime) -> Result<(), Fail> {
-    let mut prefix = Prefix::new(rt.alloc());
+// Whether the variables of a scope have these numbers.
+fn has_numbers(prefix: &Prefix, scope: usize, numbers: &[u32]) -> bool {
+    if scope == 0 || prefix.scopes() < scope {
+        return false;
+    }
+    let vars = prefix.vars_of(scope);
+    for (v, n) in vars.iter().zip(numbers) {
+        if v.number() != *n {
+            return false;
+        }
+    }
+    vars.len() == numbers.len()
+}
+
+// Whether the scopes have the variables 5, and 3 and 7.
+fn are_scopes(prefix: &Prefix) -> bool {
+    prefix.scopes() == 2
+        && prefix.len() == 3
+        && has_numbers(prefix, 1, &[5])
+        && has_numbers(prefix, 2, &[3, 7])
+}
+
+// Existential variables 7 and 3, and then the universal 5 in a scope in front of them.
+fn put_in_front(prefix: &mut Prefix) -> Result<(), PrefixRefusal> {
     prefix.add_scope(Quant::Exists, None)?;
     prefix.add_var(7, 1)?;
     prefix.add_var(3, 1)?;
     prefix.add_scope(Quant::Forall, Some(1))?;
-    prefix.add_var(5, 1)?;
+    prefix.add_var(5, 1)
+}
+
+// Whether a variable is of this level and quantifier, and a pivot on that quantifier's side alone.
+fn stands(prefix: &Prefix, number: u32, level: usize, quant: Quant) -> Result<bool, Fail> {
+    let v = variable(number)?;
+    let lit = Lit::new(v, false);
+    Ok(
+        prefix.level(v) == Some(level)
+            && prefix.quant(v) == Some(quant)
+            && prefix.depth(v) == level
+            && v.index() == number.saturating_sub(1) as usize
+            && prefix.is_pivot::<Clauses>(lit) == (quant == Quant::Exists)
+            && prefix.is_pivot::<Cubes>(lit) == (quant == Quant::Forall),
+    )
+}
+
+// Whether a variable of no scope comes behind all, and is no pivot.
+fn is_absent(prefix: &Prefix, number: u32) -> Result<bool, Fail> {
+    let v = variable(number)?;
+    Ok(prefix.depth(v) == 3 && !prefix.is_pivot::<Cubes>(Lit::new(v, true)))
+}
+
+// Whether all three variables and one of no scope stand where they should.
+fn are_moved(prefix: &Prefix) -> Result<bool, Fail> {
     for (n, level, quant) in [
         (5, 1, Quant::Forall),
         (3, 2, Quant::Exists),
         (7, 2, Quant::Exists),
     ] {
-        let v = variable(n)?;
-        assert_eq!(rt; prefix.level(v), Some(level), "variable {n}");
-        assert_eq!(rt; prefix.quant(v), Some(quant), "variable {n}");
-        assert_eq!(rt; (prefix.depth(v), v.index()), (level, n as usize - 1));
-        let lit = Lit::new(v, false);
-        assert_eq!(rt; prefix.is_pivot::<Clauses>(lit), quant == Quant::Exists);
-        assert_eq!(rt; prefix.is_pivot::<Cubes>(lit), quant == Quant::Forall);
-    }
-    let absent = variable(9)?;
-    assert_eq!(rt; prefix.depth(absent), 3);
-    assert!(rt; !prefix.is_pivot::<Cubes>(Lit::new(absent, true)));
-    let mut numbers = Vec::new(rt.alloc());
-    for s in 0..prefix.scopes() {
-        for v in prefix.vars_of(s + 1) {
-            numbers.push(v.number())?;
+        if !stands(prefix, n, level, quant)? {
+            return Ok(false);
         }
     }
-    assert_eq!(rt; numbers.as_slice(), [5, 3, 7].as_slice());
-    assert_eq!(rt; (prefix.scopes(), prefix.len()), (2, 3));
+    is_absent(prefix, 9)
+}
+
+#[test]
+fn scopes_move_up_when_one_is_put_in_front(rt: HostRuntime) -> Result<(), Fail> {
+    let mut prefix = Prefix::new(rt.alloc());
+    put_in_front(&mut prefix)?;
+    assert!(rt; are_moved(&prefix)?);
+    assert!(rt; are_scopes(&prefix));
     Ok(())
+}
+
+// Existential variables 1 and 2, and the universal 3 behind them.
+fn put_behind(prefix: &mut Prefix) -> Result<(), PrefixRefusal> {
+    prefix.add_scope(Quant::Exists, None)?;
+    prefix.add_var(1, 1)?;
+    prefix.add_var(2, 1)?;
+    prefix.add_scope(Quant::Forall, None)?;
+    prefix.add_var(3, 2)
+}
+
+// The levels of 1, 2 and 3, and how many scopes there are.
+fn levels(prefix: &Prefix) -> Result<([Option<usize>; 3], usize), Fail> {
+    let levels = [
+        prefix.level(variable(1)?),
+        prefix.level(variable(2)?),
+        prefix.level(variable(3)?),
+    ];
+    Ok((levels, prefix.scopes()))
+}
+
+// Whether the others stay where one is taken out, and all where it isn't there.
+fn leave_in_turn(prefix: &mut Prefix) -> Result<bool, Fail> {
+    for (number, second, third) in [(2, None, Some(2)), (3, None, None), (9, None, None)] {
+        prefix.remove_var(variable(number)?);
+        if levels(prefix)? != ([Some(1), second, third], 2) {
+            return Ok(false);
+        }
+    }
+    Ok(true)
 }
 
 #[test]
 fn a_variable_is_taken_out_and_its_scope_stays(rt: HostRuntime) -> Result<(), Fail> {
     let mut prefix = Prefix::new(rt.alloc());
-    prefix.add_scope(Quant::Exists, None)?;
-    prefix.add_var(1, 1)?;
-    prefix.add_var(2, 1)?;
-    prefix.add_scope(Quant::Forall, None)?;
-    prefix.add_var(3, 2)?;
-    for (number, second, third) in [(2, None, Some(2)), (3, None, None), (9, None, None)] {
-        prefix.remove_var(variable(number)?);
-        assert_eq!(rt; prefix.level(variable(1)?), Some(1), "without {number}");
-        assert_eq!(rt; prefix.level(variable(2)?), second, "without {number}");
-        assert_eq!(rt; prefix.level(variable(3)?), third, "without {number}");
-        assert_eq!(rt; prefix.scopes(), 2);
-    }
+    put_behind(&mut prefix)?;
+    assert!(rt; leave_in_turn(&mut prefix)?);
     Ok(())
 }
 
-#[test]
-fn refusals_come_in_order(rt: HostRuntime) -> Result<(), Fail> {
-    let mut prefix = Prefix::new(rt.alloc());
-    prefix.add_scope(Quant::Exists, None)?;
-    prefix.add_var(1, 1)?;
+// Whether variables and scopes are refused in order, and the greatest variable isn't, by a prefix of one variable.
+fn refuses(prefix: &mut Prefix) -> bool {
     for (var, scope, want) in [
         (0, 2, PrefixRefusal::VarRange),
         (1_048_577, 0, PrefixRefusal::VarRange),
@@ -69,15 +125,24 @@ fn refusals_come_in_order(rt: HostRuntime) -> Result<(), Fail> {
         (2, 0, PrefixRefusal::ScopeRange),
         (1_048_576, 2, PrefixRefusal::ScopeRange),
     ] {
-        assert_eq!(rt; prefix.add_var(var, scope), Err(want), "variable {var}");
+        if prefix.add_var(var, scope) != Err(want) {
+            return false;
+        }
     }
     for at in [0, 3, u64::MAX] {
-        assert_eq!(rt;
-            prefix.add_scope(Quant::Forall, Some(at)),
-            Err(PrefixRefusal::ScopeRange)
-        );
+        if prefix.add_scope(Quant::Forall, Some(at)) != Err(PrefixRefusal::ScopeRange) {
+            return false;
+        }
     }
-    assert_eq!(rt; prefix.add_var(1_048_576, 1), Ok(()));
+    prefix.add_var(1_048_576, 1) == Ok(())
+}
+
+#[test]
+fn refusals_come_in_order(rt: HostRuntime) -> Result<(), Fail> {
+    let mut prefix = Prefix::new(rt.alloc());
+    prefix.add_scope(Quant::Exists, None)?;
+    prefix.add_var(1, 1)?;
+    assert!(rt; refuses(&mut prefix));
     Ok(())
 }
 
@@ -87,10 +152,6 @@ fn literals_have_signed_numbers(rt: HostRuntime) -> Result<(), Fail> {
     let mut lits = LitList::new(rt.alloc());
     lits.push(four)?;
     lits.push(four.negate())?;
-    let mut numbers = Vec::new(rt.alloc());
-    for lit in lits.lits() {
-        numbers.push(lit.number())?;
-    }
-    assert_eq!(rt; numbers.as_slice(), [4, -4].as_slice());
+    assert!(rt; matches!(lits.lits(), [a, b] if a.number() == 4 && b.number() == -4));
     Ok(())
 }
