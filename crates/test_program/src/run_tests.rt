@@ -30,15 +30,75 @@ fn words(alloc: Global, texts: &[&str]) -> Result<Vec<String>, Fail> {
     Ok(all)
 }
 
-fn desk(alloc: Global, text: &[u8], greatest: usize, failing: Vec<u64>) -> Result<MemoryDesk, Fail>
+// A text under a name.
+fn input(alloc: Global, name: &str, text: &[u8]) -> Result<Input, Fail> {
+    Ok(Input {
+        name: String::from_str(alloc, name)?,
+        bytes: Vec::from_slice(alloc, text)?,
+    })
+}
+
+// A desk with a text as standard input, that gives at most so many bytes a read. The call with this number fails, none
+// where it is 0.
+fn desk(alloc: Global, text: &[u8], greatest: usize, failing: u64) -> Result<MemoryDesk, Fail>
     requires { 0 < greatest }
 {
     let mut inputs = Vec::new(alloc);
-    inputs.push(Input {
-        name: String::from_str(alloc, "-")?,
-        bytes: Vec::from_slice(alloc, text)?,
-    })?;
+    inputs.push(input(alloc, "-", text)?)?;
+    let failing = vec![in alloc; failing]?;
     Ok(MemoryDesk::new(inputs, greatest, failing))
+}
+
+// A sink with this room, that takes at most so many bytes at once. The call with this number fails, none where it is 0.
+fn sink(alloc: Global, room: usize, greatest: usize, failing: u64) -> Result<MemorySink, Fail>
+    requires { 0 < greatest }
+{
+    let failing = vec![in alloc; failing]?;
+    Ok(MemorySink::new(alloc, room, greatest, failing)?)
+}
+
+// What a run works with.
+#[derive(Drop)]
+struct World {
+    desk: MemoryDesk,
+    out: MemorySink,
+    err: MemorySink,
+}
+
+impl World {
+    // Whether the outputs got these texts, and the first of them was flushed behind its text.
+    fn got(&self, out_text: &str, err_text: &str) -> bool {
+        self.out.bytes() == out_text.as_bytes()
+            && self.out.flushed() == out_text.as_bytes()
+            && self.err.bytes() == err_text.as_bytes()
+    }
+}
+
+// What a run came to, beside what its outputs got: the status, how many searches stopped, and how often the first of
+// these began anew.
+#[derive(Clone, Copy)]
+struct Ended {
+    status: u8,
+    stops: usize,
+    restarts: Option<u64>,
+}
+
+// What `qbf` with these words comes to.
+fn carried(alloc: Global, given: &[String], world: &mut World) -> Ended {
+    let mut stops = Vec::new(alloc);
+    let World { desk, out, err } = world;
+    let status = run(alloc, given, desk, out, err, &mut stops);
+    Ended {
+        status,
+        stops: stops.len(),
+        restarts: stops.first().map(|stopped| stopped.restarts()),
+    }
+}
+
+// The same with words that are made of texts.
+fn run_on(alloc: Global, given: &[&str], world: &mut World) -> Result<Ended, Fail> {
+    let given = words(alloc, given)?;
+    Ok(carried(alloc, &given, world))
 }
 
 // Whether `qbf solve` on a text ends so.
@@ -61,23 +121,14 @@ fn ends_with(
     out_text: &str,
     err_text: &str,
 ) -> Result<bool, Fail> {
-    let mut desk = desk(alloc, text, 7, Vec::new(alloc))?;
-    let mut out = MemorySink::new(alloc, 64, 3, Vec::new(alloc))?;
-    let mut err = MemorySink::new(alloc, 64, 3, Vec::new(alloc))?;
-    let mut stops = Vec::new(alloc);
-    let answer = run(
-        alloc,
-        &words(alloc, given)?,
-        &mut desk,
-        &mut out,
-        &mut err,
-        &mut stops,
-    );
-    if stops.is_empty() == (out_text == "UNKNOWN\n") {
-        return Ok(false);
-    }
-    let is_written = out.bytes() == out_text.as_bytes() && out.flushed() == out_text.as_bytes();
-    Ok(answer == status && is_written && err.bytes() == err_text.as_bytes())
+    let mut world = World {
+        desk: desk(alloc, text, 7, 0)?,
+        out: sink(alloc, 64, 3, 0)?,
+        err: sink(alloc, 64, 3, 0)?,
+    };
+    let ended = run_on(alloc, given, &mut world)?;
+    let is_told = (ended.stops == 0) != (out_text == "UNKNOWN\n");
+    Ok(ended.status == status && is_told && world.got(out_text, err_text))
 }
 
 #[test]
@@ -114,8 +165,8 @@ fn formulas_are_decided(rt: HostRuntime) -> Result<(), Fail> {
 
 // Forty existential variables in front, each clause of two neighbours; then 41 universal, and four clauses over 42 and
 // 43 that no values satisfy. Search without lessons would try the values of the forty again and again.
-fn refuted_behind_forty(alloc: Global) -> Result<String, Fail> {
-    let mut text = String::from_str(alloc, "p cnf 43 43\ne")?;
+fn refute_behind_forty(text: &mut String) -> Result<(), Fail> {
+    text.push_str("p cnf 43 43\ne")?;
     for v in 1..41 {
         write!(text, " {v}")?;
     }
@@ -125,13 +176,13 @@ fn refuted_behind_forty(alloc: Global) -> Result<String, Fail> {
         writeln!(text, "{v} {next} 0")?;
     }
     text.push_str("42 43 0\n42 -43 0\n-42 43 0\n-42 -43 0\n")?;
-    Ok(text)
+    Ok(())
 }
 
 // Forty universal variables, and clauses that 41 and 42 satisfy whatever these are. Search without cubes would try all
 // values of the forty.
-fn satisfied_behind_forty(alloc: Global) -> Result<String, Fail> {
-    let mut text = String::from_str(alloc, "p cnf 42 81\na")?;
+fn satisfy_behind_forty(text: &mut String) -> Result<(), Fail> {
+    text.push_str("p cnf 42 81\na")?;
     for v in 1..41 {
         write!(text, " {v}")?;
     }
@@ -141,46 +192,49 @@ fn satisfied_behind_forty(alloc: Global) -> Result<String, Fail> {
         writeln!(text, "-{v} 41 42 0")?;
     }
     text.push_str("-41 -42 0\n")?;
-    Ok(text)
+    Ok(())
+}
+
+// Whether `qbf solve` with a thousand steps ends so on a text.
+fn settles(alloc: Global, text: &str, status: u8, line: &str) -> Result<bool, Fail> {
+    let within = ["qbf", "solve", "--budget", "1000"];
+    ends_with(alloc, &within, text.as_bytes(), status, line, "")
 }
 
 #[test]
 fn lessons_settle_forty_variables_within_a_thousand_steps(rt: HostRuntime) -> Result<(), Fail> {
-    let alloc = rt.alloc();
-    let within = ["qbf", "solve", "--budget", "1000"];
-    let refuted = refuted_behind_forty(alloc)?;
-    assert!(rt; ends_with(alloc, &within, refuted.as_bytes(), 20, "UNSAT\n", "")?);
-    let satisfied = satisfied_behind_forty(alloc)?;
-    assert!(rt; ends_with(alloc, &within, satisfied.as_bytes(), 10, "SAT\n", "")?);
+    let mut refuted = String::new(rt.alloc());
+    refute_behind_forty(&mut refuted)?;
+    assert!(rt; settles(rt.alloc(), refuted.as_str(), 20, "UNSAT\n")?);
+    let mut satisfied = String::new(rt.alloc());
+    satisfy_behind_forty(&mut satisfied)?;
+    assert!(rt; settles(rt.alloc(), satisfied.as_str(), 10, "SAT\n")?);
     Ok(())
 }
 
-// The status, the output and whether the error output got something, of `qbf` with these words on a desk that keeps a
-// formula of one variable as standard input, and another one under the name `f`.
-fn runs(alloc: Global, others: &[&str]) -> Result<(u8, String, bool), Fail> {
+// A desk that keeps a formula of one variable as standard input, and another one under the name `f`.
+fn two_formulas(alloc: Global) -> Result<MemoryDesk, Fail> {
     let mut inputs = Vec::new(alloc);
-    inputs.push(Input {
-        name: String::from_str(alloc, "-")?,
-        bytes: Vec::from_slice(alloc, b"p cnf 1 1\ne 1 0\n1 0\n")?,
-    })?;
-    inputs.push(Input {
-        name: String::from_str(alloc, "f")?,
-        bytes: Vec::from_slice(alloc, b"p cnf 1 1\na 1 0\n1 0\n")?,
-    })?;
-    let mut desk = MemoryDesk::new(inputs, 7, Vec::new(alloc));
-    let mut out = MemorySink::new(alloc, 64, 64, Vec::new(alloc))?;
-    let mut err = MemorySink::new(alloc, 4096, 64, Vec::new(alloc))?;
-    let mut stops = Vec::new(alloc);
-    let status = run(
-        alloc,
-        &words(alloc, others)?,
-        &mut desk,
-        &mut out,
-        &mut err,
-        &mut stops,
-    );
-    let written = String::from_utf8_lossy(alloc, out.bytes())?;
-    Ok((status, written, err.bytes().is_empty()))
+    inputs.push(input(alloc, "-", b"p cnf 1 1\ne 1 0\n1 0\n")?)?;
+    inputs.push(input(alloc, "f", b"p cnf 1 1\na 1 0\n1 0\n")?)?;
+    Ok(MemoryDesk::new(inputs, 7, Vec::new(alloc)))
+}
+
+// Whether `qbf` with these words over that desk ends with this status and this output, and the error output gets
+// something where the input or the words are at fault, and nothing else.
+fn runs(alloc: Global, given: &[&str], status: u8, out_text: &str) -> Result<bool, Fail> {
+    let mut world = World {
+        desk: two_formulas(alloc)?,
+        out: sink(alloc, 64, 64, 0)?,
+        err: sink(alloc, 4096, 64, 0)?,
+    };
+    let ended = run_on(alloc, given, &mut world)?;
+    let is_fault = status == 3 || status == 7;
+    Ok(
+        ended.status == status
+            && world.out.bytes() == out_text.as_bytes()
+            && world.err.bytes().is_empty() != is_fault,
+    )
 }
 
 #[test]
@@ -245,10 +299,7 @@ fn words_choose_the_input_and_the_budget(rt: HostRuntime) -> Result<(), Fail> {
         (&["qbf", "script", "--budget=9", "g"], 3, ""),
         (&["qbf", "solve", ""], 3, ""),
     ] {
-        let (found, written, silent) = runs(alloc, others)?;
-        assert_eq!(rt; found, status, "{others:?}");
-        assert_eq!(rt; written.as_str(), line, "{others:?}");
-        assert_eq!(rt; silent, status != 3, "{others:?}");
+        assert!(rt; runs(alloc, others, status, line)?, "{others:?}");
     }
     Ok(())
 }
@@ -296,23 +347,21 @@ fn other_words_are_usage(rt: HostRuntime) -> Result<(), Fail> {
         &["qbf", "script", "--binary"],
         &["qbf", "certificate"],
     ] {
-        let (found, written, silent) = runs(alloc, others)?;
-        assert_eq!(rt; found, 7, "{others:?}");
-        assert_eq!(rt; written.as_str(), "", "{others:?}");
-        assert!(rt; !silent, "{others:?}");
+        assert!(rt; runs(alloc, others, 7, "")?, "{others:?}");
     }
     Ok(())
 }
 
-// What `qbf` with these words says on the error output.
-fn told(alloc: Global, others: &[&str]) -> Result<String, Fail> {
-    let mut desk = desk(alloc, b"", 7, Vec::new(alloc))?;
-    let mut out = MemorySink::new(alloc, 64, 64, Vec::new(alloc))?;
-    let mut err = MemorySink::new(alloc, 4096, 64, Vec::new(alloc))?;
-    let mut stops = Vec::new(alloc);
-    let given = words(alloc, others)?;
-    let _ = run(alloc, &given, &mut desk, &mut out, &mut err, &mut stops);
-    Ok(String::from_utf8_lossy(alloc, err.bytes())?)
+// Whether `qbf` with these words says this on the error output, beside more.
+fn tells(alloc: Global, given: &[&str], part: &str) -> Result<bool, Fail> {
+    let mut world = World {
+        desk: desk(alloc, b"", 7, 0)?,
+        out: sink(alloc, 64, 64, 0)?,
+        err: sink(alloc, 4096, 64, 0)?,
+    };
+    let _ = run_on(alloc, given, &mut world)?;
+    let text = String::from_utf8_lossy(alloc, world.err.bytes())?;
+    Ok(text.as_str().contains(part))
 }
 
 #[test]
@@ -336,20 +385,29 @@ fn wrong_words_are_told_with_what_is_wrong(rt: HostRuntime) -> Result<(), Fail> 
         ),
         (&["qbf", "solve", "-"], "NAME begins with no '-'"),
     ] {
-        let text = told(alloc, others)?;
-        assert!(rt; text.as_str().contains(part), "{others:?}");
+        assert!(rt; tells(alloc, others, part)?, "{others:?}");
     }
     Ok(())
 }
 
-// The status and the text on the error output where the system has an error of this kind for the words.
-fn ends_without_words(alloc: Global, kind: ErrorKind) -> Result<(u8, String), Fail> {
-    let mut err = MemorySink::new(alloc, 64, 5, Vec::new(alloc))?;
-    let status = match words_of(alloc, Err(Error::from(kind))) {
+// The status where the system has an error of this kind for the words, with what an error output gets of it.
+fn status_without_words(alloc: Global, kind: ErrorKind, err: &mut MemorySink) -> u8 {
+    match words_of(alloc, Err(Error::from(kind))) {
         Ok(_) => 0,
-        Err(ending) => report(&mut err, &ending),
-    };
-    Ok((status, String::from_utf8_lossy(alloc, err.bytes())?))
+        Err(ending) => report(err, &ending),
+    }
+}
+
+// Whether these are the status and the text then.
+fn ends_without_words(
+    alloc: Global,
+    kind: ErrorKind,
+    status: u8,
+    text: &str,
+) -> Result<bool, Fail> {
+    let mut err = sink(alloc, 64, 5, 0)?;
+    let found = status_without_words(alloc, kind, &mut err);
+    Ok(found == status && err.bytes() == text.as_bytes())
 }
 
 #[test]
@@ -360,9 +418,7 @@ fn words_that_the_system_can_not_give_are_usage(rt: HostRuntime) -> Result<(), F
         (ErrorKind::InvalidData, 7, "error: a word isn't UTF-8\n"),
         (ErrorKind::OutOfMemory, 5, "qbf: no memory\n"),
     ] {
-        let (found, written) = ends_without_words(alloc, kind)?;
-        assert_eq!(rt; found, status);
-        assert_eq!(rt; written.as_str(), text);
+        assert!(rt; ends_without_words(alloc, kind, status, text)?, "{text}");
     }
     let given = words_of(alloc, Ok(words(alloc, &["qbf", "solve"])?));
     assert!(rt; given.is_ok_and(|given| given.len() == 2 && given[1].as_str() == "solve"));

@@ -18,6 +18,16 @@ pub(crate) fn desk_with(alloc: Global, text: &[u8], greatest: usize) -> Result<M
     failing_desk(alloc, text, greatest, Vec::new(alloc))
 }
 
+// A text under the name of the standard input, alone.
+fn inputs_of(alloc: Global, text: &[u8]) -> Result<Vec<Input>, Fail> {
+    let mut inputs = Vec::new(alloc);
+    inputs.push(Input {
+        name: String::from_str(alloc, "-")?,
+        bytes: Vec::from_slice(alloc, text)?,
+    })?;
+    Ok(inputs)
+}
+
 // A desk with this text, that gives at most so many bytes a read. The calls with these numbers fail.
 pub(crate) fn failing_desk(
     alloc: Global,
@@ -27,12 +37,7 @@ pub(crate) fn failing_desk(
 ) -> Result<MemoryDesk, Fail>
     requires { 0 < greatest }
 {
-    let mut inputs = Vec::new(alloc);
-    inputs.push(Input {
-        name: String::from_str(alloc, "-")?,
-        bytes: Vec::from_slice(alloc, text)?,
-    })?;
-    let mut desk = MemoryDesk::new(inputs, greatest, failing);
+    let mut desk = MemoryDesk::new(inputs_of(alloc, text)?, greatest, failing);
     desk.choose("-")?;
     Ok(desk)
 }
@@ -42,4 +47,17 @@ pub(crate) fn sink_with(alloc: Global, room: usize, greatest: usize) -> Result<M
     requires { 0 < greatest }
 {
     Ok(MemorySink::new(alloc, room, greatest, Vec::new(alloc))?)
+}
+
+// The same where the call with this number fails.
+pub(crate) fn failing_sink(
+    alloc: Global,
+    room: usize,
+    greatest: usize,
+    failing: u64,
+) -> Result<MemorySink, Fail>
+    requires { 0 < greatest }
+{
+    let failing = vec![in alloc; failing]?;
+    Ok(MemorySink::new(alloc, room, greatest, failing)?)
 }

@@ -6,6 +6,7 @@ use memory::NoMemory;
 use prefix::{Lit, LitList, Prefix, Quant};
 use std::alloc::{AllocError, Global};
 use std::test::Fail;
+use truth::{ClauseList, Formula};
 
 // Puts the numbers of literals, and 0, behind others.
 fn push_row(numbers: &mut Vec<i32>, row: &LitList) -> Result<(), AllocError> {
@@ -13,6 +14,14 @@ fn push_row(numbers: &mut Vec<i32>, row: &LitList) -> Result<(), AllocError> {
         numbers.push(lit.number())?;
     }
     numbers.push(0)?;
+    Ok(())
+}
+
+// The same for each row of a list.
+fn push_rows(numbers: &mut Vec<i32>, list: &ClauseList) -> Result<(), AllocError> {
+    for row in list.clauses() {
+        push_row(numbers, row)?;
+    }
     Ok(())
 }
 
@@ -24,9 +33,7 @@ fn clauses_of(alloc: Global, seed: u32, vars: u32, clauses: u32) -> Result<Vec<i
 {
     let f = make(alloc, seed, vars, clauses)?;
     let mut numbers = Vec::new(alloc);
-    for row in f.clauses.clauses() {
-        push_row(&mut numbers, row)?;
-    }
+    push_rows(&mut numbers, &f.clauses)?;
     Ok(numbers)
 }
 
@@ -55,19 +62,18 @@ fn scope_of(prefix: &Prefix, number: usize) -> Option<(Quant, u32, usize)> {
     Some((quant, vars.first()?.number(), vars.len()))
 }
 
+// Whether 32,000 variables are shared out, and no clause is declared.
+fn has_thirds(f: &Formula) -> bool {
+    scope_of(&f.prefix, 1) == Some((Quant::Exists, 1, 10_666))
+        && scope_of(&f.prefix, 2) == Some((Quant::Forall, 10_667, 10_666))
+        && scope_of(&f.prefix, 3) == Some((Quant::Exists, 21_333, 10_668))
+        && (f.declared_vars, f.declared_clauses) == (32_000, 0)
+}
+
 #[test]
 fn scopes_take_thirds(rt: HostRuntime) -> Result<(), Fail> {
     let f = make(rt.alloc(), 1, 32_000, 0)?;
-    assert_eq!(rt; scope_of(&f.prefix, 1), Some((Quant::Exists, 1, 10_666)));
-    assert_eq!(rt;
-        scope_of(&f.prefix, 2),
-        Some((Quant::Forall, 10_667, 10_666))
-    );
-    assert_eq!(rt;
-        scope_of(&f.prefix, 3),
-        Some((Quant::Exists, 21_333, 10_668))
-    );
-    assert_eq!(rt; (f.declared_vars, f.declared_clauses), (32_000, 0));
+    assert!(rt; has_thirds(&f));
     Ok(())
 }
 
@@ -81,6 +87,15 @@ fn mixed(sum: u32, lits: &[Lit]) -> u32 {
     sum
 }
 
+// The number for all rows of a list.
+fn sum_of(list: &ClauseList) -> u32 {
+    let mut sum = 0;
+    for row in list.clauses() {
+        sum = mixed(sum, row.lits());
+    }
+    sum
+}
+
 // The sums were taken from another program.
 #[test]
 fn longer_formulas_have_these_sums(rt: HostRuntime) -> Result<(), Fail> {
@@ -89,12 +104,8 @@ fn longer_formulas_have_these_sums(rt: HostRuntime) -> Result<(), Fail> {
         (7, 12, 1_569_948_740),
     ] {
         let f = make(rt.alloc(), seed, vars, 1_000)?;
-        let mut sum = 0;
-        for row in f.clauses.clauses() {
-            sum = mixed(sum, row.lits());
-        }
-        assert_eq!(rt; sum, want, "seed {seed}");
-        assert_eq!(rt; f.clauses.clauses().len(), 1_000);
+        let found = (sum_of(&f.clauses), f.clauses.clauses().len());
+        assert!(rt; found == (want, 1_000), "seed {seed}");
     }
     Ok(())
 }

@@ -6,43 +6,66 @@ use std::alloc::Global;
 use std::test::Fail;
 
 // Writes a number as such, a text in quotes, another word as a star.
-fn write_word(alloc: Global, word: Word, to: &mut Vec<u8>) -> Result<(), Fail> {
+fn write_word(word: Word, to: &mut String) -> Result<(), Fail> {
     match word {
-        Word::Num(n) => to.extend_from_slice(format!(in alloc; "{n}")?.as_bytes())?,
+        Word::Num(n) => write!(to, "{n}")?,
         Word::Text(text) => {
-            to.push(b'\'')?;
-            to.extend_from_slice(text.as_slice())?;
-            to.push(b'\'')?;
+            to.push('\'')?;
+            for byte in text.as_slice() {
+                to.push(char::from(*byte))?;
+            }
+            to.push('\'')?;
         }
-        Word::Other => to.push(b'*')?,
+        Word::Other => to.push('*')?,
+    }
+    Ok(())
+}
+
+// Writes the next word behind the number of its line, or the line of the end, or the refusal. Whether more may come.
+fn write_next<D: Desk>(lexer: &mut Lexer, desk: &mut D, to: &mut String) -> Result<bool, Fail> {
+    if lexer.has_failed() {
+        return Ok(false);
+    }
+    match lexer.next(desk) {
+        Ok(Some(token)) => {
+            write!(to, "{} ", token.line)?;
+            write_word(token.word, to)?;
+            to.push_str(", ")?;
+            Ok(true)
+        }
+        Ok(None) => {
+            write!(to, "{} end", lexer.line())?;
+            Ok(false)
+        }
+        Err(refusal) => {
+            write!(to, "{refusal}")?;
+            Ok(true)
+        }
+    }
+}
+
+// The same for all words.
+fn write_all<D: Desk>(lexer: &mut Lexer, desk: &mut D, to: &mut String) -> Result<(), Fail> {
+    for _ in 0..40 {
+        if !write_next(lexer, desk, to)? {
+            break;
+        }
     }
     Ok(())
 }
 
 // Each word behind the number of its line, then the line of the end, or the refusal.
-fn read<D: Desk>(alloc: Global, comments: Comments, desk: &mut D) -> Result<Vec<u8>, Fail> {
+fn read<D: Desk>(alloc: Global, comments: Comments, desk: &mut D) -> Result<String, Fail> {
     let mut lexer = Lexer::new(alloc, comments)?;
-    let mut words = Vec::new(alloc);
-    for _ in 0..40 {
-        if lexer.has_failed() {
-            break;
-        }
-        match lexer.next(desk) {
-            Ok(Some(token)) => {
-                words.extend_from_slice(format!(in alloc; "{} ", token.line)?.as_bytes())?;
-                write_word(alloc, token.word, &mut words)?;
-                words.extend_from_slice(b", ")?;
-            }
-            Ok(None) => {
-                words.extend_from_slice(format!(in alloc; "{} end", lexer.line())?.as_bytes())?;
-                break;
-            }
-            Err(refusal) => {
-                words.extend_from_slice(format!(in alloc; "{refusal}")?.as_bytes())?;
-            }
-        }
-    }
+    let mut words = String::new(alloc);
+    write_all(&mut lexer, desk, &mut words)?;
     Ok(words)
+}
+
+// Whether a text with comments as in QDIMACS is read so.
+fn is_read(alloc: Global, text: &str, want: &str) -> Result<bool, Fail> {
+    let mut desk = desk_with(alloc, text.as_bytes(), 4096)?;
+    Ok(read(alloc, Comments::Dimacs, &mut desk)?.as_str() == want)
 }
 
 #[test]
@@ -77,11 +100,7 @@ fn words_have_their_lines(rt: HostRuntime) -> Result<(), Fail> {
             "1 1, line 3: a byte of a word is none of 33 to 126",
         ),
     ] {
-        let mut desk = desk_with(alloc, text.as_bytes(), 4096)?;
-        assert_eq!(rt;
-            read(alloc, Comments::Dimacs, &mut desk)?.as_slice(),
-            want.as_bytes()
-        );
+        assert!(rt; is_read(alloc, text, want)?, "{text:?}");
     }
     Ok(())
 }
@@ -91,9 +110,8 @@ fn only_a_word_c_begins_a_script_comment(rt: HostRuntime) -> Result<(), Fail> {
     let alloc = rt.alloc();
     let mut desk = desk_with(alloc, b"c x\ncx\n5 c 1\n", 2)?;
     let words = read(alloc, Comments::Script, &mut desk)?;
-    assert_eq!(rt;
-        words.as_slice(),
-        b"2 'cx', 3 5, 3 'c', 3 1, 4 end".as_slice(),
+    assert!(rt;
+        words.as_str() == "2 'cx', 3 5, 3 'c', 3 1, 4 end",
         "two bytes a read"
     );
     Ok(())
@@ -104,6 +122,6 @@ fn a_failed_read_is_refused(rt: HostRuntime) -> Result<(), Fail> {
     let alloc = rt.alloc();
     let mut desk = failing_desk(alloc, b"12 34", 2, vec![in alloc; 3]?)?;
     let words = read(alloc, Comments::Dimacs, &mut desk)?;
-    assert_eq!(rt; words.as_slice(), b"the text can't be read".as_slice());
+    assert!(rt; words.as_str() == "the text can't be read");
     Ok(())
 }

@@ -1,5 +1,5 @@
 //! Texts of formulas that are made from seeds, read back, and faults of the sink.
-use crate::build::{desk_with, sink_with};
+use crate::build::{desk_with, failing_sink, sink_with};
 use generate::make;
 use ports::{Failed, MemorySink};
 use qdimacs::read_formula;
@@ -16,6 +16,13 @@ fn read_back(alloc: Global, text: &[u8]) -> Result<Formula, Fail> {
     Ok(read_formula(alloc, &mut desk)?)
 }
 
+// Whether this is all that a sink gets of a formula, and no flush.
+fn gets(sink: &mut MemorySink, f: &Formula, want: &str) -> bool {
+    write_formula(f, sink) == Ok(())
+        && sink.bytes() == want.as_bytes()
+        && sink.flushed() == b"".as_slice()
+}
+
 #[test]
 fn made_formulas_have_these_texts(rt: HostRuntime) -> Result<(), Fail> {
     for (seed, vars, clauses, want) in [
@@ -23,24 +30,50 @@ fn made_formulas_have_these_texts(rt: HostRuntime) -> Result<(), Fail> {
         (1, 4, 2, TWO_CLAUSES),
         (7, 5, 0, "p cnf 5 0\ne 1 0\na 2 0\ne 3 4 5 0\n"),
     ] {
+        let f = make(rt.alloc(), seed, vars, clauses)?;
         let mut sink = sink_with(rt.alloc(), 64, 3)?;
-        write_formula(&make(rt.alloc(), seed, vars, clauses)?, &mut sink)?;
-        assert_eq!(rt; sink.bytes(), want.as_bytes(), "seed {seed}");
-        assert_eq!(rt; sink.flushed(), b"".as_slice());
+        assert!(rt; gets(&mut sink, &f, want), "seed {seed}");
     }
     Ok(())
+}
+
+// A sink with the text of a formula.
+fn written(alloc: Global, f: &Formula) -> Result<MemorySink, Fail> {
+    let mut sink = sink_with(alloc, 4096, 4096)?;
+    write_formula(f, &mut sink)?;
+    Ok(sink)
+}
+
+// Whether a formula is read back from its text: that of what is read is the same.
+fn is_read_back(alloc: Global, f: &Formula) -> Result<bool, Fail> {
+    let sink = written(alloc, f)?;
+    let again = written(alloc, &read_back(alloc, sink.bytes())?)?;
+    Ok(sink.bytes() == again.bytes())
 }
 
 #[test]
 fn what_is_written_is_read_back(rt: HostRuntime) -> Result<(), Fail> {
     for (seed, vars, clauses) in [(1, 4, 2), (5, 40, 30), (9, 100, 0)] {
-        let mut sink = sink_with(rt.alloc(), 4096, 4096)?;
-        write_formula(&make(rt.alloc(), seed, vars, clauses)?, &mut sink)?;
-        let mut again = sink_with(rt.alloc(), 4096, 4096)?;
-        write_formula(&read_back(rt.alloc(), sink.bytes())?, &mut again)?;
-        assert_eq!(rt; sink.bytes(), again.bytes(), "seed {seed}");
+        let f = make(rt.alloc(), seed, vars, clauses)?;
+        assert!(rt; is_read_back(rt.alloc(), &f)?, "seed {seed}");
     }
     Ok(())
+}
+
+// Whether a sink that fails gets this front alone.
+fn gets_front(sink: &mut MemorySink, f: &Formula, front: &[u8]) -> bool {
+    write_formula(f, sink) == Err(Failed) && sink.bytes() == front
+}
+
+// Whether each call for a byte that fails leaves the bytes before it.
+fn leaves_each_front(alloc: Global, f: &Formula, whole: &[u8]) -> Result<bool, Fail> {
+    for n in 0..whole.len() {
+        let mut sink = failing_sink(alloc, 64, 1, n as u64 + 1)?;
+        if !gets_front(&mut sink, f, &whole[..n]) {
+            return Ok(false);
+        }
+    }
+    Ok(true)
 }
 
 // Each of the calls for a byte fails in turn, and then the room is too small.
@@ -48,14 +81,8 @@ fn what_is_written_is_read_back(rt: HostRuntime) -> Result<(), Fail> {
 fn a_fault_leaves_a_front(rt: HostRuntime) -> Result<(), Fail> {
     let f = make(rt.alloc(), 1, 4, 2)?;
     let whole = TWO_CLAUSES.as_bytes();
-    for n in 0..whole.len() {
-        let failing = vec![in rt.alloc(); n as u64 + 1]?;
-        let mut sink = MemorySink::new(rt.alloc(), 64, 1, failing)?;
-        assert_eq!(rt; write_formula(&f, &mut sink), Err(Failed));
-        assert_eq!(rt; sink.bytes(), &whole[..n], "{n}");
-    }
+    assert!(rt; leaves_each_front(rt.alloc(), &f, whole)?);
     let mut sink = sink_with(rt.alloc(), whole.len() - 1, 64)?;
-    assert_eq!(rt; write_formula(&f, &mut sink), Err(Failed));
-    assert_eq!(rt; sink.bytes(), &whole[..whole.len() - 1]);
+    assert!(rt; gets_front(&mut sink, &f, &whole[..whole.len() - 1]));
     Ok(())
 }

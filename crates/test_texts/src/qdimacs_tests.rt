@@ -1,6 +1,6 @@
 //! Texts and what is read of them.
 use crate::build::desk_with;
-use prefix::{Prefix, Quant};
+use prefix::{Lit, Prefix, Quant};
 use qdimacs::read_formula;
 use reading::{Quantity, ReadRefusal};
 use std::alloc::Global;
@@ -8,38 +8,52 @@ use std::test::Fail;
 use truth::Formula;
 
 // Writes the scopes, each with its variables.
-fn write_prefix(alloc: Global, prefix: &Prefix, to: &mut Vec<u8>) -> Result<(), Fail> {
+fn write_prefix(prefix: &Prefix, to: &mut String) -> Result<(), Fail> {
     for s in 0..prefix.scopes() {
         if prefix.scope_quant(s + 1) == Some(Quant::Exists) {
-            to.push(b'e')?;
+            to.push('e')?;
         } else {
-            to.push(b'a')?;
+            to.push('a')?;
         }
         for v in prefix.vars_of(s + 1) {
-            let number = v.number();
-            to.extend_from_slice(format!(in alloc; " {number}")?.as_bytes())?;
+            write!(to, " {}", v.number())?;
         }
-        to.push(b'/')?;
+        to.push('/')?;
     }
     Ok(())
 }
 
-// The scopes and the clauses of a formula, with its declared numbers.
-fn written(alloc: Global, f: &Formula) -> Result<Vec<u8>, Fail> {
-    let mut to = Vec::new(alloc);
-    to.extend_from_slice(format!(in alloc;
-        "{} {}/",
-        f.declared_vars, f.declared_clauses
-    )?.as_bytes())?;
-    write_prefix(alloc, &f.prefix, &mut to)?;
-    for clause in f.clauses.clauses() {
-        for lit in clause.lits() {
-            let number = lit.number();
-            to.extend_from_slice(format!(in alloc; "{number} ")?.as_bytes())?;
-        }
-        to.extend_from_slice(b"0/")?;
+// Writes a clause.
+fn write_clause(lits: &[Lit], to: &mut String) -> Result<(), Fail> {
+    for lit in lits {
+        write!(to, "{} ", lit.number())?;
     }
-    Ok(to)
+    to.push_str("0/")?;
+    Ok(())
+}
+
+// Writes the scopes and the clauses of a formula, with its declared numbers.
+fn write_whole(f: &Formula, to: &mut String) -> Result<(), Fail> {
+    write!(to, "{} {}/", f.declared_vars, f.declared_clauses)?;
+    write_prefix(&f.prefix, to)?;
+    for clause in f.clauses.clauses() {
+        write_clause(clause.lits(), to)?;
+    }
+    Ok(())
+}
+
+// The formula of a text, or its refusal.
+fn read(alloc: Global, text: &str) -> Result<Result<Formula, ReadRefusal>, Fail> {
+    let mut desk = desk_with(alloc, text.as_bytes(), 7)?;
+    Ok(read_formula(alloc, &mut desk))
+}
+
+// Whether a text is read as the formula that is written so.
+fn is_read(alloc: Global, text: &str, want: &str) -> Result<bool, Fail> {
+    let f = read(alloc, text)??;
+    let mut found = String::new(alloc);
+    write_whole(&f, &mut found)?;
+    Ok(found.as_str() == want)
 }
 
 #[test]
@@ -66,9 +80,7 @@ fn texts_are_read_as_their_formulas(rt: HostRuntime) -> Result<(), Fail> {
         ),
         ("p cnf 1048576 0\n", "1048576 0/"),
     ] {
-        let mut desk = desk_with(alloc, text.as_bytes(), 7)?;
-        let f = read_formula(alloc, &mut desk)?;
-        assert_eq!(rt; written(alloc, &f)?.as_slice(), want.as_bytes());
+        assert!(rt; is_read(alloc, text, want)?, "{text:?}");
     }
     Ok(())
 }
@@ -92,25 +104,15 @@ fn texts_are_refused_with_number_and_line(rt: HostRuntime) -> Result<(), Fail> {
         ("p cnf 1 1\n\u{e9} 0\n", 7, 2),
         ("p cnf 1 1\n99999999999999999999 0\n", 8, 2),
     ] {
-        let mut desk = desk_with(alloc, text.as_bytes(), 7)?;
-        let answer = read_formula(alloc, &mut desk).err();
-        assert_eq!(rt;
-            answer,
-            Some(ReadRefusal::Refused { number, line }),
-            "{text}"
-        );
+        let want = ReadRefusal::Refused { number, line };
+        assert!(rt; read(alloc, text)?.err() == Some(want), "{text}");
     }
     for (text, quantity) in [
         ("p cnf 1048577 0\n", Quantity::Variables),
         ("p cnf 1 16777217\n1 0\n", Quantity::Clauses),
     ] {
-        let mut desk = desk_with(alloc, text.as_bytes(), 7)?;
-        let answer = read_formula(alloc, &mut desk).err();
-        assert_eq!(rt;
-            answer,
-            Some(ReadRefusal::Limit { quantity, line: 1 }),
-            "{text}"
-        );
+        let want = ReadRefusal::Limit { quantity, line: 1 };
+        assert!(rt; read(alloc, text)?.err() == Some(want), "{text}");
     }
     Ok(())
 }

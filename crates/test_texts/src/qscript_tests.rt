@@ -7,60 +7,96 @@ use qscript::{NumList, ScriptReader};
 use std::alloc::Global;
 use std::test::Fail;
 
-// Each command, then the end or the refusal, of a script on a desk that gives at most so many bytes a read. The calls
-// with these numbers fail.
-fn read(alloc: Global, text: &str, greatest: usize, failing: Vec<u64>) -> Result<Vec<u8>, Fail>
-    requires { 0 < greatest }
-{
-    let mut desk = failing_desk(alloc, text.as_bytes(), greatest, failing)?;
-    let mut reader = ScriptReader::new(alloc)?;
-    commands(alloc, &mut reader, &mut desk)
-}
-
-// The commands that a reader answers.
-fn commands<D: Desk>(
-    alloc: Global,
+// Writes the next command, or the end, or the refusal. Whether more may come.
+fn write_next<D: Desk>(
     reader: &mut ScriptReader,
     desk: &mut D,
-) -> Result<Vec<u8>, Fail> {
-    let mut to = Vec::new(alloc);
-    for _ in 0..40 {
-        if reader.has_failed() {
-            break;
+    to: &mut String,
+) -> Result<bool, Fail> {
+    if reader.has_failed() {
+        return Ok(false);
+    }
+    match reader.next_command(desk) {
+        Ok(Some(command)) => {
+            write!(to, "{command:?}; ")?;
+            Ok(true)
         }
-        match reader.next_command(desk) {
-            Ok(Some(command)) => {
-                to.extend_from_slice(format!(in alloc; "{command:?}; ")?.as_bytes())?
-            }
-            Ok(None) => {
-                to.extend_from_slice(b"end")?;
-                break;
-            }
-            Err(refusal) => to.extend_from_slice(format!(in alloc; "{refusal}")?.as_bytes())?,
+        Ok(None) => {
+            to.push_str("end")?;
+            Ok(false)
+        }
+        Err(refusal) => {
+            write!(to, "{refusal}")?;
+            Ok(true)
         }
     }
+}
+
+// The same for all commands.
+fn write_commands<D: Desk>(
+    reader: &mut ScriptReader,
+    desk: &mut D,
+    to: &mut String,
+) -> Result<(), Fail> {
+    for _ in 0..40 {
+        if !write_next(reader, desk, to)? {
+            break;
+        }
+    }
+    Ok(())
+}
+
+// Writes the version that the header names, or its refusal.
+fn write_header<D: Desk>(
+    reader: &mut ScriptReader,
+    desk: &mut D,
+    to: &mut String,
+) -> Result<(), Fail> {
+    match reader.read_header(desk) {
+        Ok(version) => write!(to, "{version:?}: ")?,
+        Err(refusal) => write!(to, "{refusal}")?,
+    }
+    Ok(())
+}
+
+// Each command, then the end or the refusal, of what is left on a desk, behind the version or the refusal of a header
+// that is asked for first.
+fn read_from<D: Desk>(alloc: Global, is_headed: bool, desk: &mut D) -> Result<String, Fail> {
+    let mut reader = ScriptReader::new(alloc)?;
+    let mut to = String::new(alloc);
+    if is_headed {
+        write_header(&mut reader, desk, &mut to)?;
+    }
+    write_commands(&mut reader, desk, &mut to)?;
     Ok(to)
 }
 
-// The version that the header names, or its refusal; and then each command, as `read` has them.
-fn read_headed(
+// The same for a script on a desk that gives at most so many bytes a read, and whose call with this number fails.
+fn read(
     alloc: Global,
+    is_headed: bool,
     text: &str,
     greatest: usize,
-    failing: Vec<u64>,
-) -> Result<Vec<u8>, Fail>
+    failing: u64,
+) -> Result<String, Fail>
     requires { 0 < greatest }
 {
+    let failing = vec![in alloc; failing]?;
     let mut desk = failing_desk(alloc, text.as_bytes(), greatest, failing)?;
-    let mut reader = ScriptReader::new(alloc)?;
-    let mut to = Vec::new(alloc);
-    match reader.read_header(&mut desk) {
-        Ok(version) => to.extend_from_slice(format!(in alloc; "{version:?}: ")?.as_bytes())?,
-        Err(refusal) => to.extend_from_slice(format!(in alloc; "{refusal}")?.as_bytes())?,
-    }
-    let behind = commands(alloc, &mut reader, &mut desk)?;
-    to.extend_from_slice(behind.as_slice())?;
-    Ok(to)
+    read_from(alloc, is_headed, &mut desk)
+}
+
+// Whether a script is read so, where no call fails.
+fn is_read(
+    alloc: Global,
+    is_headed: bool,
+    text: &str,
+    greatest: usize,
+    want: &str,
+) -> Result<bool, Fail>
+    requires { 0 < greatest }
+{
+    Ok(read(alloc, is_headed, text, greatest, 0)?.as_str() == want)
 }
 
 #[test]
@@ -101,8 +137,7 @@ fn headers_name_their_version(rt: HostRuntime) -> Result<(), Fail> {
         ),
     ] {
         for greatest in [1, 4096] {
-            let answer = read_headed(alloc, text, greatest, Vec::new(alloc))?;
-            assert_eq!(rt; answer.as_slice(), want.as_bytes(), "{text}");
+            assert!(rt; is_read(alloc, true, text, greatest, want)?, "{text}");
         }
     }
     Ok(())
@@ -130,10 +165,9 @@ fn other_headers_are_refused(rt: HostRuntime) -> Result<(), Fail> {
             "line 1: refused with number 8",
         ),
     ] {
-        let headed = read_headed(alloc, text, 4096, Vec::new(alloc))?;
-        assert_eq!(rt; headed.as_slice(), want.as_bytes(), "{text}");
-        let answer = read(alloc, text, 4096, Vec::new(alloc))?;
-        assert_eq!(rt; answer.as_slice(), want.as_bytes(), "{text}");
+        for is_headed in [true, false] {
+            assert!(rt; is_read(alloc, is_headed, text, 4096, want)?, "{text}");
+        }
     }
     Ok(())
 }
@@ -162,8 +196,7 @@ fn scripts_are_read_as_their_commands(rt: HostRuntime) -> Result<(), Fail> {
         ("p qscript 2\nsolve\n", "Solve; end"),
     ] {
         for greatest in [1, 4096] {
-            let answer = read(alloc, text, greatest, Vec::new(alloc))?;
-            assert_eq!(rt; answer.as_slice(), want.as_bytes(), "{text}");
+            assert!(rt; is_read(alloc, false, text, greatest, want)?, "{text}");
         }
     }
     Ok(())
@@ -190,8 +223,7 @@ fn malformed_lines_are_refused(rt: HostRuntime) -> Result<(), Fail> {
             "Solve; line 3: refused with number 7",
         ),
     ] {
-        let answer = read(alloc, text, 4096, Vec::new(alloc))?;
-        assert_eq!(rt; answer.as_slice(), want.as_bytes(), "{text}");
+        assert!(rt; is_read(alloc, false, text, 4096, want)?, "{text}");
     }
     Ok(())
 }
@@ -199,13 +231,18 @@ fn malformed_lines_are_refused(rt: HostRuntime) -> Result<(), Fail> {
 #[test]
 fn a_failed_read_is_told(rt: HostRuntime) -> Result<(), Fail> {
     let alloc = rt.alloc();
-    let answer = read(alloc, "p qscript 1\nsolve\nsolve\n", 16, vec![in alloc; 4]?)?;
-    assert_eq!(rt;
-        answer.as_slice(),
-        b"Solve; the text can't be read".as_slice()
-    );
-    let headed = read_headed(alloc, "p qscript 1\n", 16, vec![in alloc; 2]?)?;
-    assert_eq!(rt; headed.as_slice(), b"the text can't be read".as_slice());
+    for (is_headed, text, failing, want) in [
+        (
+            false,
+            "p qscript 1\nsolve\nsolve\n",
+            4,
+            "Solve; the text can't be read",
+        ),
+        (true, "p qscript 1\n", 2, "the text can't be read"),
+    ] {
+        let found = read(alloc, is_headed, text, 16, failing)?;
+        assert!(rt; found.as_str() == want, "{text}");
+    }
     Ok(())
 }
 

@@ -5,13 +5,19 @@ use reading::{Quantity, ReadRefusal};
 use std::alloc::Global;
 use std::test::Fail;
 
-// A header and so many sets of one variable each, the first of them universal, and then some more.
-fn sets(alloc: Global, clauses: u32, last: u32, more: &str) -> Result<String, Fail> {
-    let mut text = format!(in alloc; "p cnf 65537 {clauses}\n")?;
+// Writes so many sets of one variable each, the first of them universal.
+fn write_sets(text: &mut String, last: u32) -> Result<(), Fail> {
     for v in 1..=last {
         let quant = if v % 2 == 0 { 'e' } else { 'a' };
         writeln!(text, "{quant} {v} 0")?;
     }
+    Ok(())
+}
+
+// A header and so many sets, and then some more.
+fn sets(alloc: Global, clauses: u32, last: u32, more: &str) -> Result<String, Fail> {
+    let mut text = format!(in alloc; "p cnf 65537 {clauses}\n")?;
+    write_sets(&mut text, last)?;
     text.push_str(more)?;
     Ok(text)
 }
@@ -46,9 +52,8 @@ fn as_many_sets_are_read_as_may_be(rt: HostRuntime) -> Result<(), Fail> {
         (0, 65_536, "e 65537 0\n", Ok((65_536, 65_537))),
     ] {
         let text = sets(rt.alloc(), clauses, last, more)?;
-        assert_eq!(rt;
-            read(rt.alloc(), text.as_str())?,
-            want,
+        assert!(rt;
+            read(rt.alloc(), text.as_str())? == want,
             "{last} sets, {clauses} clauses"
         );
     }

@@ -1,7 +1,6 @@
 //! Certificates that are checked.
-use super::{DIFFERS, desk, report, run, words};
-use ports::MemorySink;
-use program::RunEnding;
+use super::{DIFFERS, World, desk, run_on, runs, sink};
+use program::{RunEnding, report};
 use reading::Quantity;
 use solve::Ending;
 use std::alloc::Global;
@@ -19,20 +18,15 @@ fn comes_to(
     out_text: &str,
     err_text: &str,
 ) -> Result<bool, Fail> {
-    let mut desk = desk(alloc, text.as_bytes(), 4096, Vec::new(alloc))?;
-    let mut out = MemorySink::new(alloc, 256, 5, Vec::new(alloc))?;
-    let mut err = MemorySink::new(alloc, 64, 3, Vec::new(alloc))?;
-    let mut stops = Vec::new(alloc);
-    let given = words(alloc, others)?;
-    let found = run(alloc, &given, &mut desk, &mut out, &mut err, &mut stops);
+    let mut world = World {
+        desk: desk(alloc, text.as_bytes(), 4096, 0)?,
+        out: sink(alloc, 256, 5, 0)?,
+        err: sink(alloc, 64, 3, 0)?,
+    };
+    let ended = run_on(alloc, others, &mut world)?;
     let told = out_text == "UNKNOWN\n" || out_text == "UNDECIDED\n";
-    let is_written = out.bytes() == out_text.as_bytes() && out.flushed() == out_text.as_bytes();
-    Ok(
-        found == status
-            && is_written
-            && err.bytes() == err_text.as_bytes()
-            && stops.is_empty() != told,
-    )
+    let is_told = (ended.stops > 0) == told;
+    Ok(ended.status == status && is_told && world.got(out_text, err_text))
 }
 
 #[test]
@@ -119,6 +113,13 @@ fn texts_that_are_no_formula_are_not_checked(rt: HostRuntime) -> Result<(), Fail
     Ok(())
 }
 
+// Whether a check formula that is too large in this ends with status 6, and this line.
+fn is_limit(alloc: Global, quantity: Quantity, line: &str) -> Result<bool, Fail> {
+    let mut err = sink(alloc, 64, 5, 0)?;
+    let ending = RunEnding::Worked(Ending::CheckLimit { quantity });
+    Ok(report(&mut err, &ending) == 6 && err.bytes() == line.as_bytes())
+}
+
 #[test]
 fn limits_of_check_formulas_are_told(rt: HostRuntime) -> Result<(), Fail> {
     let alloc = rt.alloc();
@@ -127,30 +128,31 @@ fn limits_of_check_formulas_are_told(rt: HostRuntime) -> Result<(), Fail> {
         (Quantity::Clauses, "qbf: limit clauses\n"),
         (Quantity::Literals, "qbf: limit literals\n"),
     ] {
-        let mut err = MemorySink::new(alloc, 64, 5, Vec::new(alloc))?;
-        let ending = RunEnding::Worked(Ending::CheckLimit { quantity });
-        assert_eq!(rt; report(&mut err, &ending), 6);
-        assert_eq!(rt; err.bytes(), line.as_bytes());
+        assert!(rt; is_limit(alloc, quantity, line)?, "{line}");
     }
     Ok(())
 }
 
+// Whether a check that is decided ends with a front of its line where the call of the output with this number fails.
+fn ends_in_front(alloc: Global, failing: u64) -> Result<bool, Fail> {
+    let mut world = World {
+        desk: desk(alloc, DIFFERS.as_bytes(), 100, 0)?,
+        out: sink(alloc, 64, 1, failing)?,
+        err: sink(alloc, 64, 64, 0)?,
+    };
+    let ended = run_on(alloc, &["qbf", "check", "--decide"], &mut world)?;
+    Ok(
+        ended.status == 4
+            && b"WINS\n".starts_with(world.out.bytes())
+            && world.err.bytes() == b"qbf: write fault\n".as_slice(),
+    )
+}
+
 #[test]
 fn a_failing_output_ends_with_a_front_of_what_a_check_writes(rt: HostRuntime) -> Result<(), Fail> {
-    let alloc = rt.alloc();
-    let given = words(alloc, &["qbf", "check", "--decide"])?;
     // The five bytes of the line, one by one, and the flush.
     for failing in 1..7 {
-        let mut desk = desk(alloc, DIFFERS.as_bytes(), 100, Vec::new(alloc))?;
-        let mut out = MemorySink::new(alloc, 64, 1, vec![in alloc; failing]?)?;
-        let mut err = MemorySink::new(alloc, 64, 64, Vec::new(alloc))?;
-        let mut stops = Vec::new(alloc);
-        assert_eq!(rt;
-            run(alloc, &given, &mut desk, &mut out, &mut err, &mut stops),
-            4
-        );
-        assert!(rt; b"WINS\n".starts_with(out.bytes()));
-        assert_eq!(rt; err.bytes(), b"qbf: write fault\n".as_slice());
+        assert!(rt; ends_in_front(rt.alloc(), failing)?, "{failing}");
     }
     Ok(())
 }
@@ -165,14 +167,8 @@ fn words_of_a_check(rt: HostRuntime) -> Result<(), Fail> {
         &["qbf", "cert", "--decide"],
         &["qbf", "solve", "--decide"],
     ] {
-        let (found, written, silent) = super::runs(alloc, others)?;
-        assert_eq!(rt; found, 7, "{others:?}");
-        assert_eq!(rt; written.as_str(), "", "{others:?}");
-        assert!(rt; !silent, "{others:?}");
+        assert!(rt; runs(alloc, others, 7, "")?, "{others:?}");
     }
-    let (found, written, silent) = super::runs(alloc, &["qbf", "check", "--decide", "f"])?;
-    assert_eq!(rt; found, 20);
-    assert_eq!(rt; written.as_str(), "WINS\n");
-    assert!(rt; silent);
+    assert!(rt; runs(alloc, &["qbf", "check", "--decide", "f"], 20, "WINS\n")?);
     Ok(())
 }

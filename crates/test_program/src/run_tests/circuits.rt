@@ -50,10 +50,9 @@ fn ends_so(
     err: &str,
 ) -> Result<bool, Fail> {
     let text = lines(alloc, text)?;
-    let found = carry_out(alloc, given, &text, Vec::new(alloc), Vec::new(alloc))?;
-    let is_written = found.out.as_str() == out && found.flushed.as_str() == out;
-    let is_told = found.err.as_str() == err && (found.stops == 1) == (status == 0);
-    Ok(found.status == status && is_written && is_told)
+    let found = carry_out(alloc, given, &text, 0, 0)?;
+    let is_told = (found.ended.stops == 1) == (status == 0);
+    Ok(found.ended.status == status && is_told && found.world.got(out, err))
 }
 
 #[test]
@@ -73,20 +72,35 @@ fn circuits_are_decided(rt: HostRuntime) -> Result<(), Fail> {
     Ok(())
 }
 
+// Whether a text is no circuit by this line and number.
+fn is_refused(alloc: Global, text: &str, line: u32, number: u32) -> Result<bool, Fail> {
+    let err = format!(in alloc; "qbf: line {line}: refused {number}\n")?;
+    ends_so(alloc, CIRCUIT, text, 2, "", err.as_str())
+}
+
 #[test]
 fn texts_that_are_no_circuits_are_refused(rt: HostRuntime) -> Result<(), Fail> {
     let alloc = rt.alloc();
     for (text, line, number) in REFUSED {
-        let err = format!(in alloc; "qbf: line {line}: refused {number}\n")?;
-        assert!(rt;
-            ends_so(alloc, CIRCUIT, text, 2, "", err.as_str())?,
-            "{text:?}"
-        );
+        assert!(rt; is_refused(alloc, text, line, number)?, "{text:?}");
     }
     // Without the flag a circuit is a malformed formula.
     let err = "qbf: line 1: refused 10\n";
     assert!(rt; ends_so(alloc, &["qbf", "solve"], DECIDED[2].0, 2, "", err)?);
     Ok(())
+}
+
+// Whether `qbf` with these words on the first circuit ends with this status and this line, tells of one search that
+// stopped where the status is 0, and of the words where it is 7.
+fn is_budgeted(alloc: Global, given: &[&str], status: u8, line: &str) -> Result<bool, Fail> {
+    let text = lines(alloc, DECIDED[0].0)?;
+    let found = carry_out(alloc, given, &text, 0, 0)?;
+    Ok(
+        found.ended.status == status
+            && found.out() == line.as_bytes()
+            && found.err().is_empty() == (status != 7)
+            && (found.ended.stops == 1) == (status == 0),
+    )
 }
 
 #[test]
@@ -121,12 +135,7 @@ fn a_circuit_has_a_budget(rt: HostRuntime) -> Result<(), Fail> {
         (&["qbf", "check", "--qcir"], 7, ""),
         (&["qbf", "script", "--qcir"], 7, ""),
     ] {
-        let text = lines(alloc, DECIDED[0].0)?;
-        let found = carry_out(alloc, given, &text, Vec::new(alloc), Vec::new(alloc))?;
-        assert_eq!(rt; found.status, status, "{given:?}");
-        assert_eq!(rt; found.out.as_str(), line, "{given:?}");
-        assert_eq!(rt; found.err.is_empty(), status != 7, "{given:?}");
-        assert_eq!(rt; found.stops == 1, status == 0, "{given:?}");
+        assert!(rt; is_budgeted(alloc, given, status, line)?, "{given:?}");
     }
     Ok(())
 }

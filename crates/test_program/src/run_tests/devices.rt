@@ -1,9 +1,7 @@
-//! Devices that give and take small pieces, and whose calls fail in turn.
+//! World that give and take small pieces, and whose calls fail in turn.
 
-use super::scripts::{carry_out, lines, written};
-use super::{DIFFERS, desk, words};
-use ports::MemorySink;
-use program::run;
+use super::scripts::{are_front, are_lines, carry_out, lines};
+use super::{DIFFERS, World, desk, run_on, sink};
 use std::alloc::Global;
 use std::test::Fail;
 
@@ -16,19 +14,23 @@ const REPLIES: &str = "SAT/UNSAT/SAT/";
 // How a script ends where the desk gives 16 bytes a read, and the call of it with this number fails: the status, and
 // whether the output is a front of the replies, and the error output tells of the fault.
 fn ends_in_pieces(alloc: Global, failing: u64) -> Result<(u8, bool), Fail> {
-    let mut desk = desk(alloc, &lines(alloc, FRAMES)?, 16, vec![in alloc; failing]?)?;
-    let mut out = MemorySink::new(alloc, 64, 64, Vec::new(alloc))?;
-    let mut err = MemorySink::new(alloc, 64, 64, Vec::new(alloc))?;
-    let mut stops = Vec::new(alloc);
-    let given = words(alloc, &["qbf", "script"])?;
-    let status = run(alloc, &given, &mut desk, &mut out, &mut err, &mut stops);
-    let replies = lines(alloc, REPLIES)?;
+    let script = lines(alloc, FRAMES)?;
+    let mut world = World {
+        desk: desk(alloc, &script, 16, failing)?,
+        out: sink(alloc, 64, 64, 0)?,
+        err: sink(alloc, 64, 64, 0)?,
+    };
+    let status = run_on(alloc, &["qbf", "script"], &mut world)?.status;
+    let (out, err) = (world.out.bytes(), world.err.bytes());
+    Ok((status, is_as_told(status, out, err)))
+}
+
+// Whether the output has all replies and the error output nothing, or, behind a fault, a front and the fault.
+fn is_as_told(status: u8, out: &[u8], err: &[u8]) -> bool {
     if status == 0 {
-        let is_whole = out.bytes() == replies.as_slice();
-        return Ok((status, is_whole && err.bytes().is_empty()));
+        return are_lines(out, REPLIES) && err.is_empty();
     }
-    let is_told = err.bytes() == b"qbf: read fault\n".as_slice();
-    Ok((status, is_told && replies.starts_with(out.bytes())))
+    err == b"qbf: read fault\n".as_slice() && are_front(out, REPLIES)
 }
 
 // The choice, the 78 bytes by 16, and the end; there is no eighth call.
@@ -56,14 +58,12 @@ fn each_failing_read_of_a_script_leaves_a_front(rt: HostRuntime) -> Result<(), F
 // Whether a command on a formula, of whose bytes each comes by itself, ends so where the call of the desk with this
 // number fails.
 fn leaves_nothing(alloc: Global, command: &str, failing: u64) -> Result<bool, Fail> {
-    let found = carry_out(
-        alloc,
-        &["qbf", command],
-        DIFFERS.as_bytes(),
-        vec![in alloc; failing]?,
-        Vec::new(alloc),
-    )?;
-    Ok(found.status == 3 && found.err.as_str() == "qbf: read fault\n" && found.out.is_empty())
+    let found = carry_out(alloc, &["qbf", command], DIFFERS.as_bytes(), failing, 0)?;
+    Ok(
+        found.ended.status == 3
+            && found.err() == b"qbf: read fault\n".as_slice()
+            && found.out().is_empty(),
+    )
 }
 
 // The choice, the 36 bytes one by one, and the end.
@@ -82,17 +82,8 @@ fn each_failing_read_of_a_formula_leaves_nothing(rt: HostRuntime) -> Result<(), 
 
 // Whether a command on that formula, of which the write with this number fails, leaves all bytes before it.
 fn leaves_front(alloc: Global, command: &str, whole: &str, failing: u64) -> Result<bool, Fail> {
-    let found = carry_out(
-        alloc,
-        &["qbf", command],
-        DIFFERS.as_bytes(),
-        Vec::new(alloc),
-        vec![in alloc; failing]?,
-    )?;
-    let whole = written(alloc, whole)?;
-    let is_front = whole.starts_with(found.out.as_str())
-        && found.out.len() as u64 == failing.saturating_sub(1);
-    Ok(found.status == 4 && found.err.as_str() == "qbf: write fault\n" && is_front)
+    let found = carry_out(alloc, &["qbf", command], DIFFERS.as_bytes(), 0, failing)?;
+    Ok(found.stopped_at(failing, whole) && found.err() == b"qbf: write fault\n".as_slice())
 }
 
 // Each byte, one by one, and the flush.
@@ -112,15 +103,17 @@ fn each_failing_write_leaves_a_front(rt: HostRuntime) -> Result<(), Fail> {
     Ok(())
 }
 
-// The status of `qbf` with these words on a text, where each write to the error output fails.
+// The status of `qbf` with these words on a text, where each write to the error output fails, and whether the outputs
+// get nothing.
 fn unheard(alloc: Global, given: &[&str], text: &str) -> Result<(u8, bool), Fail> {
-    let mut desk = desk(alloc, text.as_bytes(), 100, Vec::new(alloc))?;
-    let mut out = MemorySink::new(alloc, 64, 64, Vec::new(alloc))?;
-    let mut err = MemorySink::new(alloc, 0, 64, Vec::new(alloc))?;
-    let mut stops = Vec::new(alloc);
-    let given = words(alloc, given)?;
-    let status = run(alloc, &given, &mut desk, &mut out, &mut err, &mut stops);
-    Ok((status, out.bytes().is_empty() && err.bytes().is_empty()))
+    let mut world = World {
+        desk: desk(alloc, text.as_bytes(), 100, 0)?,
+        out: sink(alloc, 64, 64, 0)?,
+        err: sink(alloc, 0, 64, 0)?,
+    };
+    let status = run_on(alloc, given, &mut world)?.status;
+    let is_empty = world.out.bytes().is_empty() && world.err.bytes().is_empty();
+    Ok((status, is_empty))
 }
 
 #[test]
@@ -141,13 +134,13 @@ fn an_error_output_that_always_fails_changes_no_status(rt: HostRuntime) -> Resul
 // Whether a malformed text has its status where the write to the error output with this number fails, and that has
 // got a front of the line.
 fn is_half_heard(alloc: Global, failing: u64) -> Result<bool, Fail> {
-    let mut desk = desk(alloc, b"p cnf 1 2\n1 0\n", 100, Vec::new(alloc))?;
-    let mut out = MemorySink::new(alloc, 64, 64, Vec::new(alloc))?;
-    let mut err = MemorySink::new(alloc, 64, 1, vec![in alloc; failing]?)?;
-    let mut stops = Vec::new(alloc);
-    let given = words(alloc, &["qbf", "solve"])?;
-    let status = run(alloc, &given, &mut desk, &mut out, &mut err, &mut stops);
-    Ok(status == 2 && b"qbf: line 3: refused 16\n".starts_with(err.bytes()))
+    let mut world = World {
+        desk: desk(alloc, b"p cnf 1 2\n1 0\n", 100, 0)?,
+        out: sink(alloc, 64, 64, 0)?,
+        err: sink(alloc, 64, 1, failing)?,
+    };
+    let status = run_on(alloc, &["qbf", "solve"], &mut world)?.status;
+    Ok(status == 2 && b"qbf: line 3: refused 16\n".starts_with(world.err.bytes()))
 }
 
 #[test]

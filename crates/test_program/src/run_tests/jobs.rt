@@ -1,6 +1,6 @@
 //! Runs that write the trace or the circuit of a formula, in its four forms. In the tables `/` stands for a line end.
 
-use super::scripts::{carry_out, lines, written};
+use super::scripts::{Outcome, carry_out, lines};
 use std::alloc::Global;
 use std::test::Fail;
 
@@ -8,6 +8,18 @@ use std::test::Fail;
 const DIFFERS: &str = "p cnf 2 2/a 1 0/e 2 0/1 2 0/-1 -2 0/";
 
 const FALSE: &str = "p cnf 2 2/e 2 0/a 1 0/1 2 0/-1 -2 0/";
+
+// What `qbf` with these words comes to on a formula.
+fn outcome(alloc: Global, given: &[&str], text: &str, failing: u64) -> Result<Outcome, Fail> {
+    let text = lines(alloc, text)?;
+    carry_out(alloc, given, &text, 0, failing)
+}
+
+// Whether a command on a formula ends with this status and writes this, and no search stops.
+fn wrote(alloc: Global, command: &str, text: &str, status: u8, want: &str) -> Result<bool, Fail> {
+    let found = outcome(alloc, &["qbf", command], text, 0)?;
+    Ok(found.ended.status == status && found.wrote(want) && found.ended.stops == 0)
+}
 
 #[test]
 fn traces_and_circuits_are_written(rt: HostRuntime) -> Result<(), Fail> {
@@ -37,29 +49,23 @@ fn traces_and_circuits_are_written(rt: HostRuntime) -> Result<(), Fail> {
         ("trace", "p cnf 1 1/2 0/", 2, ""),
         ("cert", "p cnf 1048577 0/", 6, ""),
     ] {
-        let found = carry_out(
-            alloc,
-            &["qbf", command],
-            &lines(alloc, text)?,
-            Vec::new(alloc),
-            Vec::new(alloc),
-        )?;
-        let want = written(alloc, want)?;
-        assert_eq!(rt; found.status, status, "{command} {text:?}");
-        assert_eq!(rt; found.out.as_str(), want.as_str());
-        assert_eq!(rt; found.flushed.as_str(), want.as_str());
-        assert_eq!(rt; found.stops, 0);
+        assert!(rt;
+            wrote(alloc, command, text, status, want)?,
+            "{command} {text:?}"
+        );
     }
     Ok(())
 }
 
 // Whether `qbf` with these words on a formula ends with this status and writes this.
 fn writes(alloc: Global, given: &[&str], text: &str, status: u8, want: &str) -> Result<bool, Fail> {
-    let text = lines(alloc, text)?;
-    let found = carry_out(alloc, given, &text, Vec::new(alloc), Vec::new(alloc))?;
-    let want = written(alloc, want)?;
-    let is_written = found.out.as_str() == want.as_str() && found.flushed.as_str() == want.as_str();
-    Ok(found.status == status && is_written && found.err.is_empty() && found.stops == 0)
+    let found = outcome(alloc, given, text, 0)?;
+    Ok(
+        found.ended.status == status
+            && found.wrote(want)
+            && found.err().is_empty()
+            && found.ended.stops == 0,
+    )
 }
 
 #[test]
@@ -164,29 +170,37 @@ fn output(alloc: Global, read: &Read, first: bool, second: bool) -> Result<bool,
     Ok(value(&values, read.output))
 }
 
+// What the circuit of a conjunction is, as it is written.
+fn conjunction(alloc: Global) -> Result<Read, Fail> {
+    let text = "p cnf 3 3/a 1 2 0/e 3 0/-3 1 0/-3 2 0/3 -1 -2 0/";
+    let found = outcome(alloc, &["qbf", "cert"], text, 0)?;
+    if found.ended.status != 10 {
+        return Err("no circuit")?;
+    }
+    let written = String::from_utf8_lossy(alloc, found.out())?;
+    circuit(alloc, written.as_str())
+}
+
 #[test]
 fn the_circuit_of_a_conjunction_computes_it(rt: HostRuntime) -> Result<(), Fail> {
     let alloc = rt.alloc();
-    let text = lines(alloc, "p cnf 3 3/a 1 2 0/e 3 0/-3 1 0/-3 2 0/3 -1 -2 0/")?;
-    let found = carry_out(
-        alloc,
-        &["qbf", "cert"],
-        &text,
-        Vec::new(alloc),
-        Vec::new(alloc),
-    )?;
-    assert_eq!(rt; found.status, 10);
-    let read = circuit(alloc, found.out.as_str())?;
+    let read = conjunction(alloc)?;
     for (first, second) in [(false, false), (false, true), (true, false), (true, true)] {
-        assert_eq!(rt; output(alloc, &read, first, second)?, first && second);
+        assert!(rt; output(alloc, &read, first, second)? == (first && second));
     }
     Ok(())
+}
+
+// Whether `qbf` with these words on the false formula stops behind a front of what it writes where the call of the
+// output with this number fails.
+fn leaves_front(alloc: Global, given: &[&str], whole: &str, failing: u64) -> Result<bool, Fail> {
+    let found = outcome(alloc, given, FALSE, failing)?;
+    Ok(found.stopped_at(failing, whole) && found.err() == b"qbf: write fault\n".as_slice())
 }
 
 #[test]
 fn each_failing_call_of_an_output_leaves_a_front(rt: HostRuntime) -> Result<(), Fail> {
     let alloc = rt.alloc();
-    let text = lines(alloc, FALSE)?;
     for (given, whole) in [
         (
             ["qbf", "trace"].as_slice(),
@@ -201,17 +215,7 @@ fn each_failing_call_of_an_output_leaves_a_front(rt: HostRuntime) -> Result<(), 
         // Each byte, one by one, and the flush.
         for failing in 0..whole.len() + 1 {
             let failing = failing as u64 + 1;
-            let found = carry_out(
-                alloc,
-                given,
-                &text,
-                Vec::new(alloc),
-                vec![in alloc; failing]?,
-            )?;
-            assert_eq!(rt; found.status, 4);
-            assert_eq!(rt; found.err.as_str(), "qbf: write fault\n");
-            assert_eq!(rt; found.out.len() as u64, failing - 1);
-            assert!(rt; written(alloc, whole)?.starts_with(found.out.as_str()));
+            assert!(rt; leaves_front(alloc, given, whole, failing)?, "{failing}");
         }
     }
     Ok(())

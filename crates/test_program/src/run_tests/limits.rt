@@ -14,20 +14,31 @@ fn write_sets(text: &mut String, first: u32, last: u32) -> Result<(), Fail> {
     Ok(())
 }
 
+// A header and 65,536 sets, the last of which isn't ended.
+fn push_unended(text: &mut String) -> Result<(), Fail> {
+    text.push_str("p cnf 65537 0")?;
+    write_sets(text, 1, 65_535)?;
+    text.push_str("\na 65536")?;
+    Ok(())
+}
+
 // The 65,536th set is read up to its end, and the next one is too many.
 #[test]
 fn as_many_sets_are_read_as_may_be(rt: HostRuntime) -> Result<(), Fail> {
     let alloc = rt.alloc();
-    let mut text = String::from_str(alloc, "p cnf 65537 0")?;
-    write_sets(&mut text, 1, 65_535)?;
-    text.push_str("\na 65536")?;
-    let unended = "qbf: line 65537: refused 15\n";
-    assert!(rt; ends(alloc, text.as_bytes(), 2, "", unended)?);
-    text.push_str(" 0\n")?;
-    assert!(rt; ends(alloc, text.as_bytes(), 10, "SAT\n", "")?);
-    text.push_str("e 65537 0\n")?;
-    let beyond = "qbf: line 65538: limit scopes\n";
-    assert!(rt; ends(alloc, text.as_bytes(), 6, "", beyond)?);
+    let mut text = String::new(alloc);
+    push_unended(&mut text)?;
+    for (more, status, line, err) in [
+        ("", 2, "", "qbf: line 65537: refused 15\n"),
+        (" 0\n", 10, "SAT\n", ""),
+        ("e 65537 0\n", 6, "", "qbf: line 65538: limit scopes\n"),
+    ] {
+        text.push_str(more)?;
+        assert!(rt;
+            ends(alloc, text.as_bytes(), status, line, err)?,
+            "{more:?}"
+        );
+    }
     Ok(())
 }
 
@@ -49,10 +60,8 @@ fn repeated(
 
 // Whether a script has these replies.
 fn is_replied(alloc: Global, script: &str, want: &str) -> Result<bool, Fail> {
-    let none = Vec::new(alloc);
-    let words = ["qbf", "script"];
-    let found = carry_out(alloc, &words, script.as_bytes(), none, Vec::new(alloc))?;
-    Ok(found.status == 0 && found.out.as_str() == want && found.err.is_empty())
+    let found = carry_out(alloc, &["qbf", "script"], script.as_bytes(), 0, 0)?;
+    Ok(found.ended.status == 0 && found.out() == want.as_bytes() && found.err().is_empty())
 }
 
 #[test]

@@ -1,7 +1,8 @@
 //! Runs that make formulas from a seed, and results in the lines of QDIMACS. In the tables `/` stands for a line end.
 
-use super::scripts::{carry_out, lines, written};
+use super::scripts::{carry_out, lines};
 use generate::make;
+use std::alloc::Global;
 use std::test::Fail;
 use steps::Steps;
 use truth::decide_plain;
@@ -12,6 +13,13 @@ const UNIT: &str = "p cnf 1 1/e 1 0/1 0/";
 const DIFFERS: &str = "p cnf 2 2/a 1 0/e 2 0/1 2 0/-1 -2 0/";
 
 const FALSE: &str = "p cnf 2 2/e 2 0/a 1 0/1 2 0/-1 -2 0/";
+
+// Whether `qbf` with these words on a text ends with this status and writes this.
+fn writes(alloc: Global, given: &[&str], text: &str, status: u8, want: &str) -> Result<bool, Fail> {
+    let text = lines(alloc, text)?;
+    let found = carry_out(alloc, given, &text, 0, 0)?;
+    Ok(found.ended.status == status && found.wrote(want))
+}
 
 #[test]
 fn results_are_written_in_lines(rt: HostRuntime) -> Result<(), Fail> {
@@ -29,17 +37,8 @@ fn results_are_written_in_lines(rt: HostRuntime) -> Result<(), Fail> {
         ),
         ("192", "p cnf 1 1/2 0/", 2, ""),
     ] {
-        let found = carry_out(
-            alloc,
-            &["qbf", "solve", "--qdo", "--budget", budget],
-            &lines(alloc, text)?,
-            Vec::new(alloc),
-            Vec::new(alloc),
-        )?;
-        let want = written(alloc, want)?;
-        assert_eq!(rt; found.status, status, "{text:?}");
-        assert_eq!(rt; found.out.as_str(), want.as_str());
-        assert_eq!(rt; found.flushed.as_str(), want.as_str());
+        let given = ["qbf", "solve", "--qdo", "--budget", budget];
+        assert!(rt; writes(alloc, &given, text, status, want)?, "{text:?}");
     }
     Ok(())
 }
@@ -68,40 +67,54 @@ fn formulas_and_counts_are_written(rt: HostRuntime) -> Result<(), Fail> {
         (["qbf", "demo", "0", "10001"].as_slice(), 7, ""),
         (["qbf", "demo", "4294967296", "1"].as_slice(), 7, ""),
     ] {
-        let found = carry_out(alloc, given, b"", Vec::new(alloc), Vec::new(alloc))?;
-        let want = written(alloc, want)?;
-        assert_eq!(rt; found.status, status, "{want:?}");
-        assert_eq!(rt; found.out.as_str(), want.as_str());
-        assert_eq!(rt; found.flushed.as_str(), want.as_str());
+        assert!(rt; writes(alloc, given, "", status, want)?, "{want:?}");
     }
     Ok(())
+}
+
+// The status that the formula of this seed should have, by the plain decider.
+fn status_of(alloc: Global, seed: u32) -> Result<u8, Fail> {
+    let f = make(alloc, seed, 9, 24)?;
+    let is_true = decide_plain(alloc, &f, &mut Steps::new(u64::MAX))?;
+    Ok(if is_true { 10 } else { 20 })
+}
+
+// Whether the text of a formula is decided so.
+fn is_solved(alloc: Global, text: &[u8], status: u8) -> Result<bool, Fail> {
+    let found = carry_out(alloc, &["qbf", "solve"], text, 0, 0)?;
+    Ok(found.ended.status == status)
+}
+
+// Whether the formula of this seed is made, and decided so.
+fn is_made(alloc: Global, seed: u32, status: u8) -> Result<bool, Fail> {
+    let seed = format!(in alloc; "{seed}")?;
+    let given = ["qbf", "gen", seed.as_str(), "9", "24"];
+    let made = carry_out(alloc, &given, b"", 0, 0)?;
+    Ok(made.ended.status == 0 && is_solved(alloc, made.out(), status)?)
 }
 
 #[test]
 fn made_formulas_are_solved_from_their_texts(rt: HostRuntime) -> Result<(), Fail> {
     let alloc = rt.alloc();
     for seed in 0..100u32 {
-        let word = format!(in alloc; "{seed}")?;
-        let made = carry_out(
-            alloc,
-            &["qbf", "gen", word.as_str(), "9", "24"],
-            b"",
-            Vec::new(alloc),
-            Vec::new(alloc),
-        )?;
-        assert_eq!(rt; made.status, 0);
-        let found = carry_out(
-            alloc,
-            &["qbf", "solve"],
-            made.out.as_bytes(),
-            Vec::new(alloc),
-            Vec::new(alloc),
-        )?;
-        let f = make(alloc, seed, 9, 24)?;
-        let is_true = decide_plain(alloc, &f, &mut Steps::new(u64::MAX))?;
-        assert_eq!(rt; found.status, if is_true { 10 } else { 20 });
+        let status = status_of(alloc, seed)?;
+        assert!(rt; is_made(alloc, seed, status)?, "{seed}");
     }
     Ok(())
+}
+
+// Whether `qbf` with these words on a text stops behind a front of what it writes where the call of the output with
+// this number fails.
+fn leaves_front(
+    alloc: Global,
+    given: &[&str],
+    text: &str,
+    whole: &str,
+    failing: u64,
+) -> Result<bool, Fail> {
+    let text = lines(alloc, text)?;
+    let found = carry_out(alloc, given, &text, 0, failing)?;
+    Ok(found.stopped_at(failing, whole))
 }
 
 #[test]
@@ -127,16 +140,10 @@ fn each_failing_call_of_an_output_leaves_a_front(rt: HostRuntime) -> Result<(), 
         // Each byte, one by one, and the flush.
         for failing in 0..whole.len() + 1 {
             let failing = failing as u64 + 1;
-            let found = carry_out(
-                alloc,
-                given,
-                &lines(alloc, text)?,
-                Vec::new(alloc),
-                vec![in alloc; failing]?,
-            )?;
-            assert_eq!(rt; found.status, 4);
-            assert_eq!(rt; found.out.len() as u64, failing - 1);
-            assert!(rt; written(alloc, whole)?.starts_with(found.out.as_str()));
+            assert!(rt;
+                leaves_front(alloc, given, text, whole, failing)?,
+                "{failing}"
+            );
         }
     }
     Ok(())

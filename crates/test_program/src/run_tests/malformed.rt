@@ -1,6 +1,6 @@
 //! Malformed texts, each with what the program makes of it. In the tables `/` stands for a line end.
 
-use super::scripts::{carry_out, lines, written};
+use super::scripts::{are_lines, carry_out, lines};
 use std::alloc::Global;
 use std::test::Fail;
 
@@ -99,12 +99,13 @@ fn ends_so(
     out: &str,
     err: &str,
 ) -> Result<bool, Fail> {
-    let none = Vec::new(alloc);
-    let found = carry_out(alloc, &["qbf", command], text, none, Vec::new(alloc))?;
-    let out = written(alloc, out)?;
-    let is_flushed = found.flushed.as_str() == if status == 0 { out.as_str() } else { "" };
-    let is_told = found.out.as_str() == out.as_str() && found.err.as_str() == err;
-    Ok(found.status == status && is_flushed && is_told && found.stops == 0)
+    let found = carry_out(alloc, &["qbf", command], text, 0, 0)?;
+    let is_flushed = are_lines(
+        found.world.out.flushed(),
+        if status == 0 { out } else { "" },
+    );
+    let is_told = are_lines(found.out(), out) && found.err() == err.as_bytes();
+    Ok(found.ended.status == status && is_flushed && is_told && found.ended.stops == 0)
 }
 
 // Whether each command that reads a formula ends so on it, with nothing on the output.
@@ -118,33 +119,51 @@ fn end_so(alloc: Global, text: &str, status: u8, err: &str) -> Result<bool, Fail
     Ok(true)
 }
 
+// Whether each command that reads a formula refuses it on this line with this number.
+fn are_refused(alloc: Global, text: &str, line: u32, number: u32) -> Result<bool, Fail> {
+    let err = format!(in alloc; "qbf: line {line}: refused {number}\n")?;
+    end_so(alloc, text, 2, err.as_str())
+}
+
+// Whether each of them tells of this limit on this line.
+fn are_beyond(alloc: Global, text: &str, line: u32, quantity: &str) -> Result<bool, Fail> {
+    let err = format!(in alloc; "qbf: line {line}: limit {quantity}\n")?;
+    end_so(alloc, text, 6, err.as_str())
+}
+
 #[test]
 fn malformed_formulas_are_told_with_line_and_number(rt: HostRuntime) -> Result<(), Fail> {
     for (text, line, number) in FORMULAS {
-        let err = format!(in rt.alloc(); "qbf: line {line}: refused {number}\n")?;
-        assert!(rt; end_so(rt.alloc(), text, 2, err.as_str())?, "{text:?}");
+        assert!(rt; are_refused(rt.alloc(), text, line, number)?, "{text:?}");
     }
     for (text, line, quantity) in HEADERS {
-        let err = format!(in rt.alloc(); "qbf: line {line}: limit {quantity}\n")?;
-        assert!(rt; end_so(rt.alloc(), text, 6, err.as_str())?, "{text:?}");
+        assert!(rt; are_beyond(rt.alloc(), text, line, quantity)?, "{text:?}");
     }
     Ok(())
 }
 
+// Whether a script ends with this status, this output and this error output.
+fn replies(alloc: Global, text: &str, status: u8, out: &str, err: &str) -> Result<bool, Fail> {
+    let text = lines(alloc, text)?;
+    ends_so(alloc, "script", &text, status, out, err)
+}
+
+// Whether a script is refused on this line with this number, behind these replies.
+fn is_refused(alloc: Global, text: &str, out: &str, line: u32, number: u32) -> Result<bool, Fail> {
+    let err = format!(in alloc; "qbf: line {line}: refused {number}\n")?;
+    replies(alloc, text, 2, out, err.as_str())
+}
+
 #[test]
 fn malformed_scripts_are_told_behind_their_replies(rt: HostRuntime) -> Result<(), Fail> {
-    let alloc = rt.alloc();
     for (text, out, line, number) in SCRIPTS {
-        let err = format!(in alloc; "qbf: line {line}: refused {number}\n")?;
-        let text = lines(alloc, text)?;
         assert!(rt;
-            ends_so(alloc, "script", &text, 2, out, err.as_str())?,
+            is_refused(rt.alloc(), text, out, line, number)?,
             "{text:?}"
         );
     }
     for (text, out) in REPLIES {
-        let text = lines(alloc, text)?;
-        assert!(rt; ends_so(alloc, "script", &text, 0, out, "")?, "{text:?}");
+        assert!(rt; replies(rt.alloc(), text, 0, out, "")?, "{text:?}");
     }
     Ok(())
 }

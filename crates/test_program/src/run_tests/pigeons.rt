@@ -62,32 +62,60 @@ fn push_pigeon(
 
 // The formula of so many holes.
 pub(super) fn formula_of(alloc: Global, holes: u32, stride: u32) -> Result<String, Fail> {
+    let mut text = String::new(alloc);
+    push_formula(&mut text, holes, stride)?;
+    Ok(text)
+}
+
+fn push_formula(text: &mut String, holes: u32, stride: u32) -> Result<(), Fail> {
     let pigeons = holes.saturating_add(1);
     let vars = stride.saturating_mul(pigeons);
     let apart = holes.saturating_mul(holes.saturating_mul(pigeons) / 2);
     let clauses = apart.saturating_add(pigeons);
-    let mut text = format!(in alloc; "p cnf {vars} {clauses}\ne ")?;
+    write!(text, "p cnf {vars} {clauses}\ne ")?;
     for var in 1..=vars {
         write!(text, "{var} ")?;
     }
     text.push_str("0\n")?;
     for pigeon in 0..=holes {
-        push_pigeon(&mut text, "", holes, stride, pigeon)?;
+        push_pigeon(text, "", holes, stride, pigeon)?;
     }
-    Ok(text)
+    Ok(())
 }
 
 // The same as a script that asks for its truth.
 pub(super) fn script_of(alloc: Global, holes: u32, stride: u32) -> Result<String, Fail> {
-    let mut text = String::from_str(alloc, "p qscript 1\nscope e\n")?;
+    let mut text = String::new(alloc);
+    push_script(&mut text, holes, stride)?;
+    Ok(text)
+}
+
+fn push_script(text: &mut String, holes: u32, stride: u32) -> Result<(), Fail> {
+    text.push_str("p qscript 1\nscope e\n")?;
     for var in 1..=stride.saturating_mul(holes.saturating_add(1)) {
         write!(text, "var {var} 1\n")?;
     }
     for pigeon in 0..=holes {
-        push_pigeon(&mut text, "clause ", holes, stride, pigeon)?;
+        push_pigeon(text, "clause ", holes, stride, pigeon)?;
     }
     text.push_str("solve\n")?;
-    Ok(text)
+    Ok(())
+}
+
+// Whether a command on a formula finds it false, with this start and this end of what it writes.
+fn is_refuted(
+    alloc: Global,
+    command: &str,
+    formula: &str,
+    start: &str,
+    end: &str,
+) -> Result<bool, Fail> {
+    let found = carry_out(alloc, &["qbf", command], formula.as_bytes(), 0, 0)?;
+    Ok(
+        found.ended.status == 20
+            && found.out().starts_with(start.as_bytes())
+            && found.out().ends_with(end.as_bytes()),
+    )
 }
 
 #[test]
@@ -98,16 +126,8 @@ fn five_pigeons_are_one_too_many_for_four_holes(rt: HostRuntime) -> Result<(), F
         ("solve", "UNSAT\n", "UNSAT\n"),
         ("cert", "aag ", "\nc\nherbrand\n"),
     ] {
-        let found = carry_out(
-            alloc,
-            &["qbf", command],
-            formula.as_bytes(),
-            Vec::new(alloc),
-            Vec::new(alloc),
-        )?;
-        assert_eq!(rt; found.status, 20, "{command}");
         assert!(rt;
-            found.out.starts_with(start) && found.out.ends_with(end),
+            is_refuted(alloc, command, formula.as_str(), start, end)?,
             "{command}"
         );
     }

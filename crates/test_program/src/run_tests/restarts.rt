@@ -16,42 +16,58 @@ use truth::decide_plain;
 fn drawn(alloc: Global, seed: u32, vars: u32) -> Result<String, Fail>
     requires { vars < 5 }
 {
-    let mut draws = Draws::new(seed);
-    let clauses = 1 + draws.draw(6);
-    let mut text = format!(in alloc; "p cnf {vars} {clauses}\n")?;
-    for var in 1..vars + 1 {
-        let quant = if draws.draw(2) == 0 { "a" } else { "e" };
-        text.push_str(&format!(in alloc; "{quant} {var} 0\n")?)?;
-    }
-    for _ in 0..clauses {
-        text.push_str(&clause_drawn(alloc, &mut draws, vars)?)?;
-    }
+    let mut text = String::new(alloc);
+    draw_into(&mut text, &mut Draws::new(seed), vars)?;
     Ok(text)
 }
 
-// A clause over so many variables.
-fn clause_drawn(alloc: Global, draws: &mut Draws, vars: u32) -> Result<String, Fail>
+fn draw_into(text: &mut String, draws: &mut Draws, vars: u32) -> Result<(), Fail>
     requires { vars < 5 }
 {
-    let mut line = String::new(alloc);
+    let clauses = 1 + draws.draw(6);
+    write!(text, "p cnf {vars} {clauses}\n")?;
+    for var in 1..vars + 1 {
+        let quant = if draws.draw(2) == 0 { 'a' } else { 'e' };
+        write!(text, "{quant} {var} 0\n")?;
+    }
+    for _ in 0..clauses {
+        draw_clause(text, draws, vars)?;
+    }
+    Ok(())
+}
+
+// A clause over so many variables.
+fn draw_clause(text: &mut String, draws: &mut Draws, vars: u32) -> Result<(), Fail>
+    requires { vars < 5 }
+{
     for var in 1..vars + 1 {
         match draws.draw(3) {
-            0 => line.push_str(&format!(in alloc; "{var} ")?)?,
-            1 => line.push_str(&format!(in alloc; "-{var} ")?)?,
+            0 => write!(text, "{var} ")?,
+            1 => write!(text, "-{var} ")?,
             _ => {}
         }
     }
-    line.push_str("0\n")?;
-    Ok(line)
+    text.push_str("0\n")?;
+    Ok(())
 }
 
 // The status that the formula of a text should have, by the plain decider.
 fn status_of(alloc: Global, text: &str) -> Result<u8, Fail> {
-    let mut desk = desk(alloc, text.as_bytes(), 7, Vec::new(alloc))?;
+    let mut desk = desk(alloc, text.as_bytes(), 7, 0)?;
     desk.choose("-")?;
     let f = read_formula(alloc, &mut desk)?;
     let is_true = decide_plain(alloc, &f, &mut Steps::new(u64::MAX))?;
     Ok(if is_true { 10 } else { 20 })
+}
+
+// Whether a drawn formula is decided with this budget and two restarts as the plain decider does it.
+fn is_decided(alloc: Global, seed: u32, vars: u32, budget: &str) -> Result<bool, Fail>
+    requires { vars < 5 }
+{
+    let text = drawn(alloc, seed, vars)?;
+    let given = ["qbf", "solve", "--restarts", "2", "--budget", budget];
+    let ended = carry_out(alloc, &given, text.as_bytes(), 0, 0)?.ended;
+    Ok(ended.status == status_of(alloc, text.as_str())? && ended.stops == 0)
 }
 
 #[test]
@@ -60,16 +76,7 @@ fn enough_steps_decide_with_two_restarts(rt: HostRuntime) -> Result<(), Fail> {
     // The step limits of one to four variables with two restarts.
     for (vars, budget) in [(1, "192"), (2, "576"), (3, "1536"), (4, "3840")] {
         for seed in 0..25 {
-            let text = drawn(alloc, seed, vars)?;
-            let found = carry_out(
-                alloc,
-                &["qbf", "solve", "--restarts", "2", "--budget", budget],
-                text.as_bytes(),
-                Vec::new(alloc),
-                Vec::new(alloc),
-            )?;
-            assert_eq!(rt; found.status, status_of(alloc, text.as_str())?, "{text:?}");
-            assert_eq!(rt; found.stops, 0);
+            assert!(rt; is_decided(alloc, seed, vars, budget)?, "{vars} {seed}");
         }
     }
     Ok(())
@@ -82,14 +89,9 @@ fn stopped(
     restarts: &str,
     text: &[u8],
 ) -> Result<(u8, Option<u64>), Fail> {
-    let found = carry_out(
-        alloc,
-        &["qbf", command, "--restarts", restarts, "--budget", "2000"],
-        text,
-        Vec::new(alloc),
-        Vec::new(alloc),
-    )?;
-    Ok((found.status, found.restarts))
+    let given = ["qbf", command, "--restarts", restarts, "--budget", "2000"];
+    let ended = carry_out(alloc, &given, text, 0, 0)?.ended;
+    Ok((ended.status, ended.restarts))
 }
 
 #[test]

@@ -1,23 +1,10 @@
 //! Runs on scripts. In the tables `/` stands for a line end.
 ghost use Rattle.std.specs.Prelude.{◌<◌};
 
-use super::{desk, words};
-use ports::{Desk, MemoryDesk, MemorySink};
-use program::run;
+use super::{Ended, World, desk, run_on, sink};
+use ports::{Desk, MemoryDesk};
 use std::alloc::Global;
 use std::test::Fail;
-
-// What a run on a script came to.
-#[derive(Drop)]
-pub(super) struct Outcome {
-    pub(super) status: u8,
-    pub(super) out: String,
-    pub(super) flushed: String,
-    pub(super) err: String,
-    pub(super) stops: usize,
-    // How often the search that stopped first began anew.
-    pub(super) restarts: Option<u64>,
-}
 
 // A text whose lines end in `/`, as bytes.
 pub(super) fn lines(alloc: Global, text: &str) -> Result<Vec<u8>, Fail> {
@@ -28,40 +15,69 @@ pub(super) fn lines(alloc: Global, text: &str) -> Result<Vec<u8>, Fail> {
     Ok(bytes)
 }
 
-// A text whose lines end in `/`.
-pub(super) fn written(alloc: Global, text: &str) -> Result<String, Fail> {
-    Ok(String::from_utf8_lossy(alloc, &lines(alloc, text)?)?)
+// Whether bytes are the first ones of a text whose lines end in `/`.
+pub(super) fn are_front(bytes: &[u8], text: &str) -> bool {
+    for (byte, wanted) in bytes.iter().zip(text.as_bytes()) {
+        let wanted = if *wanted == b'/' { b'\n' } else { *wanted };
+        if *byte != wanted {
+            return false;
+        }
+    }
+    bytes.len() <= text.len()
+}
+
+// Whether bytes are such a text.
+pub(super) fn are_lines(bytes: &[u8], text: &str) -> bool {
+    bytes.len() == text.len() && are_front(bytes, text)
+}
+
+// What a run came to, with what it worked with.
+#[derive(Drop)]
+pub(super) struct Outcome {
+    pub(super) ended: Ended,
+    pub(super) world: World,
+}
+
+impl Outcome {
+    // What the output got.
+    pub(super) fn out(&self) -> &[u8] {
+        self.world.out.bytes()
+    }
+
+    // What the error output got.
+    pub(super) fn err(&self) -> &[u8] {
+        self.world.err.bytes()
+    }
+
+    // Whether a text whose lines end in `/` is all that the output got, and was flushed.
+    pub(super) fn wrote(&self, text: &str) -> bool {
+        are_lines(self.world.out.bytes(), text) && are_lines(self.world.out.flushed(), text)
+    }
+
+    // Whether the output failed at the call with this number, behind a byte a call of such a text.
+    pub(super) fn stopped_at(&self, call: u64, text: &str) -> bool {
+        self.ended.status == 4
+            && self.out().len() as u64 == call.saturating_sub(1)
+            && are_front(self.out(), text)
+    }
 }
 
 // What `qbf` with these words comes to on a script, where the calls of the desk and of the output fail that have these
-// numbers. The desk gives a byte a read, and the output takes one a write.
+// numbers, none where they are 0. The desk gives a byte a read, and the output takes one a write.
 pub(super) fn carry_out(
     alloc: Global,
     given: &[&str],
     script: &[u8],
-    failing_reads: Vec<u64>,
-    failing_writes: Vec<u64>,
+    failing_read: u64,
+    failing_write: u64,
 ) -> Result<Outcome, Fail> {
-    let mut desk = desk(alloc, script, 1, failing_reads)?;
-    let mut out = MemorySink::new(alloc, 4096, 1, failing_writes)?;
-    let mut err = MemorySink::new(alloc, 64, 3, Vec::new(alloc))?;
-    let mut stops = Vec::new(alloc);
-    let status = run(
-        alloc,
-        &words(alloc, given)?,
-        &mut desk,
-        &mut out,
-        &mut err,
-        &mut stops,
-    );
-    Ok(Outcome {
-        status,
-        out: String::from_utf8_lossy(alloc, out.bytes())?,
-        flushed: String::from_utf8_lossy(alloc, out.flushed())?,
-        err: String::from_utf8_lossy(alloc, err.bytes())?,
-        stops: stops.len(),
-        restarts: stops.first().map(|stopped| stopped.restarts()),
-    })
+    let mut world = World {
+        desk: desk(alloc, script, 1, failing_read)?,
+        out: sink(alloc, 4096, 1, failing_write)?,
+        err: sink(alloc, 64, 3, 0)?,
+    };
+    let ended = run_on(alloc, given, &mut world)?;
+    Ok(Outcome { ended, world })
 }
 
 // Whether `qbf` with these words on a script ends well, with these replies, of which so many are UNKNOWN.
@@ -72,16 +88,14 @@ fn replies(
     want: &str,
     unknown: usize,
 ) -> Result<bool, Fail> {
-    let found = carry_out(
-        alloc,
-        given,
-        &lines(alloc, script)?,
-        Vec::new(alloc),
-        Vec::new(alloc),
-    )?;
-    let want = written(alloc, want)?;
-    let is_written = found.out.as_str() == want.as_str() && found.flushed.as_str() == want.as_str();
-    Ok(found.status == 0 && is_written && found.err.is_empty() && found.stops == unknown)
+    let script = lines(alloc, script)?;
+    let found = carry_out(alloc, given, &script, 0, 0)?;
+    Ok(
+        found.ended.status == 0
+            && found.wrote(want)
+            && found.err().is_empty()
+            && found.ended.stops == unknown,
+    )
 }
 
 #[test]
@@ -254,8 +268,8 @@ fn each_unknown_of_a_script_is_told(rt: HostRuntime) -> Result<(), Fail> {
 
 // Forty existential variables, each clause of two neighbours; then 41 universal, and four clauses over 42 and 43 that
 // no values satisfy. The clauses stand in a frame, which is popped after a solve.
-fn popped_behind_forty(alloc: Global) -> Result<String, Fail> {
-    let mut text = String::from_str(alloc, "p qscript 1/scope e/")?;
+fn pop_behind_forty(text: &mut String) -> Result<(), Fail> {
+    text.push_str("p qscript 1/scope e/")?;
     for v in 1..41 {
         write!(text, "var {v} 1/")?;
     }
@@ -267,15 +281,15 @@ fn popped_behind_forty(alloc: Global) -> Result<String, Fail> {
     text.push_str(
         "clause 42 43 0/clause 42 -43 0/clause -42 43 0/clause -42 -43 0/solve/pop/solve/",
     )?;
-    Ok(text)
+    Ok(())
 }
 
 #[test]
 fn lessons_settle_a_script_within_a_thousand_steps(rt: HostRuntime) -> Result<(), Fail> {
-    let alloc = rt.alloc();
-    let script = popped_behind_forty(alloc)?;
+    let mut script = String::new(rt.alloc());
+    pop_behind_forty(&mut script)?;
     let within = ["qbf", "script", "--budget", "1000"];
-    assert!(rt; replies(alloc, &within, script.as_str(), "UNSAT/SAT/", 0)?);
+    assert!(rt; replies(rt.alloc(), &within, script.as_str(), "UNSAT/SAT/", 0)?);
     Ok(())
 }
 
@@ -296,65 +310,65 @@ fn one_pigeon(text: &mut String, before: u64) -> Result<(), Fail>
     Ok(())
 }
 
-#[test]
-fn four_pigeons_are_one_too_many_for_three_holes(rt: HostRuntime) -> Result<(), Fail> {
-    let alloc = rt.alloc();
-    let mut text = String::from_str(alloc, "p qscript 1/scope e/")?;
+// Four pigeons, one after another, and the last one gone.
+fn four_pigeons(text: &mut String) -> Result<(), Fail> {
+    text.push_str("p qscript 1/scope e/")?;
     for v in 1..13 {
         write!(text, "var {v} 1/")?;
     }
     for before in 0..4 {
-        one_pigeon(&mut text, before)?;
+        one_pigeon(text, before)?;
     }
     text.push_str("pop/solve/")?;
-    assert!(rt;
-        replies(
-            alloc,
-            &["qbf", "script"],
-            text.as_str(),
-            "SAT/SAT/SAT/UNSAT/SAT/",
-            0
-        )?
-    );
+    Ok(())
+}
+
+#[test]
+fn four_pigeons_are_one_too_many_for_three_holes(rt: HostRuntime) -> Result<(), Fail> {
+    let mut text = String::new(rt.alloc());
+    four_pigeons(&mut text)?;
+    let want = "SAT/SAT/SAT/UNSAT/SAT/";
+    assert!(rt; replies(rt.alloc(), &["qbf", "script"], text.as_str(), want, 0)?);
     Ok(())
 }
 
 // A script with two replies, a byte a call.
 const TWO_REPLIES: &str = "p qscript 1/scope e/var 1 1/clause 1 0/solve/value 1/";
 
+// Whether the script ends with these replies where the read with this number fails.
+fn read_to(alloc: Global, failing: u64, replies: &str) -> Result<bool, Fail> {
+    let script = lines(alloc, TWO_REPLIES)?;
+    let found = carry_out(alloc, &["qbf", "script"], &script, failing, 0)?;
+    Ok(
+        found.ended.status == 3
+            && found.err() == b"qbf: read fault\n".as_slice()
+            && are_lines(found.out(), replies),
+    )
+}
+
 #[test]
 fn a_failing_input_leaves_a_front_of_the_replies(rt: HostRuntime) -> Result<(), Fail> {
-    let alloc = rt.alloc();
-    let script = lines(alloc, TWO_REPLIES)?;
     // The choice, the 53 bytes one by one, and the end. With the 52nd call the word behind `solve` has ended, so that
     // this is replied to; `value` is only at the end.
     for failing in 1..56 {
-        let found = carry_out(
-            alloc,
-            &["qbf", "script"],
-            &script,
-            vec![in alloc; failing]?,
-            Vec::new(alloc),
-        )?;
-        assert_eq!(rt; found.status, 3, "{failing}");
-        assert_eq!(rt; found.err.as_str(), "qbf: read fault\n");
-        let replies = if failing > 52 { "SAT\n" } else { "" };
-        assert_eq!(rt; found.out.as_str(), replies, "{failing}");
+        let replies = if failing > 52 { "SAT/" } else { "" };
+        assert!(rt; read_to(rt.alloc(), failing, replies)?, "{failing}");
     }
     Ok(())
 }
 
 // How many bytes of a script are still to be read where the first call of the output fails.
 fn left_at_the_first_reply(alloc: Global, script: &[u8]) -> Result<Option<usize>, Fail> {
-    let mut desk = desk(alloc, script, 1, Vec::new(alloc))?;
-    let mut out = MemorySink::new(alloc, 64, 1, vec![in alloc; 1]?)?;
-    let mut err = MemorySink::new(alloc, 64, 64, Vec::new(alloc))?;
-    let mut stops = Vec::new(alloc);
-    let given = words(alloc, &["qbf", "script"])?;
-    if run(alloc, &given, &mut desk, &mut out, &mut err, &mut stops) != 4 {
+    let mut world = World {
+        desk: desk(alloc, script, 1, 0)?,
+        out: sink(alloc, 64, 1, 1)?,
+        err: sink(alloc, 64, 64, 0)?,
+    };
+    let ended = run_on(alloc, &["qbf", "script"], &mut world)?;
+    if ended.status != 4 {
         return Ok(None);
     }
-    Ok(bytes_left(&mut desk, script.len()))
+    Ok(bytes_left(&mut world.desk, script.len()))
 }
 
 // How many bytes of its chosen input a desk still gives, of this many at most.
@@ -377,23 +391,28 @@ fn a_reply_is_written_before_the_script_is_read_on(rt: HostRuntime) -> Result<()
     Ok(())
 }
 
-#[test]
-fn twenty_solves_without_a_step_are_unknown(rt: HostRuntime) -> Result<(), Fail> {
-    let alloc = rt.alloc();
-    let mut script = String::from_str(alloc, "p qscript 1/scope e/var 1 1/clause 1 0/")?;
-    let mut want = String::new(alloc);
+// A clause and twenty solves, and what these come to without a step.
+fn twenty_solves(script: &mut String, want: &mut String) -> Result<(), Fail> {
+    script.push_str("p qscript 1/scope e/var 1 1/clause 1 0/")?;
     for _ in 0..20 {
         script.push_str("solve/")?;
         want.push_str("UNKNOWN/")?;
     }
+    Ok(())
+}
+
+#[test]
+fn twenty_solves_without_a_step_are_unknown(rt: HostRuntime) -> Result<(), Fail> {
+    let (mut script, mut want) = (String::new(rt.alloc()), String::new(rt.alloc()));
+    twenty_solves(&mut script, &mut want)?;
     let spent = ["qbf", "script", "--budget", "0"];
-    assert!(rt; replies(alloc, &spent, script.as_str(), want.as_str(), 20)?);
+    assert!(rt; replies(rt.alloc(), &spent, script.as_str(), want.as_str(), 20)?);
     Ok(())
 }
 
 // A clause that some of a thousand variables is false, of which the first is assumed to be true.
-fn thousand_literals(alloc: Global) -> Result<String, Fail> {
-    let mut script = String::from_str(alloc, "p qscript 1/scope e/")?;
+fn thousand_literals(script: &mut String) -> Result<(), Fail> {
+    script.push_str("p qscript 1/scope e/")?;
     for v in 1..1001 {
         write!(script, "var {v} 1/")?;
     }
@@ -402,55 +421,48 @@ fn thousand_literals(alloc: Global) -> Result<String, Fail> {
         write!(script, " -{v}")?;
     }
     script.push_str(" 0/assume 1/solve/value 1/")?;
-    Ok(script)
+    Ok(())
 }
 
 #[test]
 fn a_clause_may_have_a_thousand_literals(rt: HostRuntime) -> Result<(), Fail> {
-    let alloc = rt.alloc();
-    let script = thousand_literals(alloc)?;
-    assert!(rt;
-        replies(
-            alloc,
-            &["qbf", "script"],
-            script.as_str(),
-            "SAT/value 1/",
-            0
-        )?
-    );
+    let mut script = String::new(rt.alloc());
+    thousand_literals(&mut script)?;
+    let want = "SAT/value 1/";
+    assert!(rt; replies(rt.alloc(), &["qbf", "script"], script.as_str(), want, 0)?);
+    Ok(())
+}
+
+// Ten thousand clauses, all alike, and a solve.
+fn ten_thousand_clauses(script: &mut String) -> Result<(), Fail> {
+    script.push_str("p qscript 1/scope e/var 1 1/")?;
+    for _ in 0..10_000 {
+        script.push_str("clause 1 0/")?;
+    }
+    script.push_str("solve/")?;
     Ok(())
 }
 
 #[test]
 fn a_script_may_have_ten_thousand_commands(rt: HostRuntime) -> Result<(), Fail> {
-    let alloc = rt.alloc();
-    let mut script = String::from_str(alloc, "p qscript 1/scope e/var 1 1/")?;
-    for _ in 0..10_000 {
-        script.push_str("clause 1 0/")?;
-    }
-    script.push_str("solve/")?;
-    assert!(rt; replies(alloc, &["qbf", "script"], script.as_str(), "SAT/", 0)?);
+    let mut script = String::new(rt.alloc());
+    ten_thousand_clauses(&mut script)?;
+    assert!(rt; replies(rt.alloc(), &["qbf", "script"], script.as_str(), "SAT/", 0)?);
     Ok(())
+}
+
+// Whether the script ends with a front of its replies where the call of the output with this number fails.
+fn written_to(alloc: Global, failing: u64) -> Result<bool, Fail> {
+    let script = lines(alloc, TWO_REPLIES)?;
+    let found = carry_out(alloc, &["qbf", "script"], &script, 0, failing)?;
+    Ok(found.stopped_at(failing, "SAT/value 1/") && found.err() == b"qbf: write fault\n".as_slice())
 }
 
 #[test]
 fn a_failing_output_leaves_a_front_of_the_replies(rt: HostRuntime) -> Result<(), Fail> {
-    let alloc = rt.alloc();
-    let script = lines(alloc, TWO_REPLIES)?;
-    let want = written(alloc, "SAT/value 1/")?;
     // The twelve bytes of the replies, one by one, and the flush.
     for failing in 1..14 {
-        let found = carry_out(
-            alloc,
-            &["qbf", "script"],
-            &script,
-            Vec::new(alloc),
-            vec![in alloc; failing]?,
-        )?;
-        assert_eq!(rt; found.status, 4, "{failing}");
-        assert_eq!(rt; found.err.as_str(), "qbf: write fault\n");
-        assert!(rt; want.starts_with(found.out.as_str()), "{failing}");
-        assert_eq!(rt; found.out.len() as u64, failing - 1);
+        assert!(rt; written_to(rt.alloc(), failing)?, "{failing}");
     }
     Ok(())
 }
