@@ -1,5 +1,5 @@
 //! Scripts and what is read of them.
-ghost use Rattle.std.specs.Prelude.{◌<◌};
+ghost use Rattle.std.specs.Prelude.{◌≡◌, ◌<◌, None, false};
 
 use crate::build::failing_desk;
 use ports::Desk;
@@ -51,7 +51,10 @@ fn write_header<D: Desk>(
     reader: &mut ScriptReader,
     desk: &mut D,
     to: &mut String,
-) -> Result<(), Fail> {
+) -> Result<(), Fail>
+    requires front { reader.old.version ≡ None }
+    requires ready { reader.old.failed ≡ false }
+{
     match reader.read_header(desk) {
         Ok(version) => write!(to, "{version:?}: ")?,
         Err(refusal) => write!(to, "{refusal}")?,
