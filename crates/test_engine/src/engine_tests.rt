@@ -6,10 +6,12 @@ mod limits;
 mod play;
 mod saves;
 
-use asks::falls_silent;
+use asks::{Case, answers, falls_silent};
 use engine::Engine;
+use forgets::forgets_many;
 use play::{are_frames_right, is_budget_kept, put, put_scope, truth_within};
 use prefix::Quant;
+use saves::leaves_no_more;
 use std::alloc::Global;
 use std::test::Fail;
 
@@ -74,6 +76,12 @@ pub(crate) enum Job {
     Budget(u32, u64, u64),
     // A verdict answers until a change comes.
     Silence,
+    // A formula is decided, and its verdict answers, as it should.
+    Answers(Case),
+    // A thousand lessons are forgotten.
+    Forgets,
+    // So many rounds of push, solve and pop leave no more behind than one.
+    Rounds(u32),
 }
 
 fn has_truth(
@@ -93,6 +101,9 @@ fn is_done(engine: &mut Engine, alloc: Global, job: Job) -> Result<bool, Fail> {
         Job::Frames(seed) => are_frames_right(engine, alloc, seed),
         Job::Budget(seed, budget, enough) => is_budget_kept(engine, alloc, seed, budget, enough),
         Job::Silence => falls_silent(engine),
+        Job::Answers(case) => answers(engine, alloc, &case),
+        Job::Forgets => forgets_many(engine, alloc),
+        Job::Rounds(rounds) => leaves_no_more(engine, rounds),
     }
 }
 
@@ -114,11 +125,29 @@ fn cubes_spare_the_values_of_universal_variables(rt: HostRuntime) -> Result<(), 
     Ok(())
 }
 
+// The verdicts of formulas from so many seeds are right. Fails with the first seed whose verdicts aren't.
+fn go_through_frames(alloc: Global, seeds: u32) -> Result<(), Fail> {
+    for seed in 0..seeds {
+        if !holds(alloc, Job::Frames(seed))? {
+            return Err(("seed", seed))?;
+        }
+    }
+    Ok(())
+}
+
 // Clauses come in and go, variables are assumed, and each verdict is that of the plain recursion.
 #[test]
 fn verdicts_are_those_of_the_plain_recursion(rt: HostRuntime) -> Result<(), Fail> {
-    for seed in 0..1000 {
-        assert!(rt; holds(rt.alloc(), Job::Frames(seed))?, "seed {seed}");
+    go_through_frames(rt.alloc(), 1000)
+}
+
+// Budgets are kept with the formula from a seed. Fails with the first one that isn't.
+fn keep_budgets(alloc: Global, seed: u32) -> Result<(), Fail> {
+    let enough = 3 * (8 * 6 + 8) * 128;
+    for budget in [0, 1, 20, enough - 1, enough] {
+        if !holds(alloc, Job::Budget(seed, budget, enough))? {
+            return Err((seed, budget))?;
+        }
     }
     Ok(())
 }
@@ -126,12 +155,8 @@ fn verdicts_are_those_of_the_plain_recursion(rt: HostRuntime) -> Result<(), Fail
 // With too few steps a solve stops where they are spent, and the next one is right; with enough it never stops.
 #[test]
 fn budgets_are_kept(rt: HostRuntime) -> Result<(), Fail> {
-    let enough = 3 * (8 * 6 + 8) * 128;
     for seed in 0..300 {
-        for budget in [0, 1, 20, enough - 1, enough] {
-            let is_kept = holds(rt.alloc(), Job::Budget(seed, budget, enough))?;
-            assert!(rt; is_kept, "seed {seed}, {budget} steps");
-        }
+        keep_budgets(rt.alloc(), seed)?;
     }
     Ok(())
 }

@@ -137,21 +137,29 @@ struct Derived<'a> {
     moves: &'a [Move],
 }
 
-// Puts in clauses, each with a 0 behind it; or cubes.
-fn put_clauses(shop: &mut Workshop, alloc: Global, numbers: &[i32]) -> Result<(), Fail> {
-    let clauses = rows(alloc, numbers)?;
-    for clause in &clauses {
+fn put_each_clause(shop: &mut Workshop, clauses: &[LitList]) -> Result<(), Fail> {
+    for clause in clauses {
         shop.clause(clause.lits(), 0)?;
     }
     Ok(())
 }
 
-fn put_cubes(shop: &mut Workshop, alloc: Global, numbers: &[i32]) -> Result<(), Fail> {
-    let cubes = rows(alloc, numbers)?;
-    for cube in &cubes {
+fn put_each_cube(shop: &mut Workshop, cubes: &[LitList]) -> Result<(), Fail> {
+    for cube in cubes {
         shop.cube(cube.lits())?;
     }
     Ok(())
+}
+
+// Puts in clauses, each with a 0 behind it; or cubes.
+fn put_clauses(shop: &mut Workshop, alloc: Global, numbers: &[i32]) -> Result<(), Fail> {
+    let clauses = rows(alloc, numbers)?;
+    put_each_clause(shop, &clauses)
+}
+
+fn put_cubes(shop: &mut Workshop, alloc: Global, numbers: &[i32]) -> Result<(), Fail> {
+    let cubes = rows(alloc, numbers)?;
+    put_each_cube(shop, &cubes)
 }
 
 fn play(shop: &mut Workshop, moves: &[Move]) -> Result<(), Fail> {
@@ -217,15 +225,19 @@ fn value(values: &[bool], v: Var) -> bool {
     values.get(v.number() as usize).copied().unwrap_or(false)
 }
 
-// The bits of a number, from the lowest on, as values of the variables below 9.
-fn values_of(alloc: Global, bits: u32) -> Result<Vec<bool>, Fail> {
-    let mut values = Vec::new(alloc);
+fn put_at(values: &mut [bool], at: usize, value: bool) {
+    if at < values.len() {
+        values[at] = value;
+    }
+}
+
+// Puts in the bits of a number, from the lowest on, as values of the variables below 9.
+fn put_bits(values: &mut [bool], bits: u32) {
     let mut rest = bits;
-    for _ in 0..9 {
-        values.push(rest % 2 == 1)?;
+    for at in 0..9 {
+        put_at(values, at, rest % 2 == 1);
         rest /= 2;
     }
-    Ok(values)
 }
 
 // Whether a literal of a row is true.
@@ -245,27 +257,16 @@ fn all_true(values: &[bool], rows: &[LitList]) -> bool {
     rows.iter().all(|row| has_true(values, row.lits()))
 }
 
-// The values of the inputs.
-fn inputs_of(alloc: Global, strategy: &Strategy, values: &[bool]) -> Result<Vec<bool>, Fail> {
-    let mut inputs = Vec::new(alloc);
-    for v in strategy.inputs.vars() {
-        inputs.push(value(values, *v))?;
+// Puts in the values of the inputs, of which there are as many as the circuit has.
+fn put_inputs(strategy: &Strategy, values: &[bool], inputs: &mut [bool]) -> Result<(), Fail> {
+    let vars = strategy.inputs.vars();
+    if vars.len() != strategy.aig.inputs() as usize {
+        return Err("other inputs")?;
     }
-    Ok(inputs)
-}
-
-// A place for the value of each gate.
-fn scratch_for(alloc: Global, strategy: &Strategy) -> Result<Vec<bool>, Fail> {
-    let mut scratch = Vec::new(alloc);
-    scratch.resize(strategy.aig.gates(), false)?;
-    Ok(scratch)
-}
-
-fn put(values: &mut Vec<bool>, v: Var, value: bool) {
-    let at = v.number() as usize;
-    if at < values.len() {
-        values[at] = value;
+    for (at, v) in vars.iter().enumerate() {
+        put_at(inputs, at, value(values, *v));
     }
+    Ok(())
 }
 
 // Puts the values of the outputs in, where there are values of the inputs and places for those of the gates.
@@ -273,7 +274,7 @@ fn put_outputs(
     strategy: &Strategy,
     inputs: &[bool],
     scratch: &mut [bool],
-    values: &mut Vec<bool>,
+    values: &mut [bool],
 ) -> Result<(), Fail>
     requires { IsStrategy strategy.now }
 {
@@ -282,26 +283,24 @@ fn put_outputs(
     }
     for output in strategy.outputs.outputs() {
         let value = strategy.aig.value(output.edge, inputs, scratch);
-        put(values, output.var, value);
+        put_at(values, output.var.number() as usize, value);
     }
     Ok(())
 }
 
-// The values with those of the outputs put in.
-fn played(alloc: Global, strategy: &Strategy, values: &[bool]) -> Result<Vec<bool>, Fail>
+// Puts in the values of the outputs where those of the inputs are these.
+fn answer(strategy: &Strategy, values: &mut [bool]) -> Result<(), Fail>
     requires { IsStrategy strategy.now }
 {
-    let inputs = inputs_of(alloc, strategy, values)?;
-    let mut scratch = scratch_for(alloc, strategy)?;
-    let mut all = Vec::from_slice(alloc, values)?;
-    put_outputs(strategy, &inputs, &mut scratch, &mut all)?;
-    Ok(all)
+    let mut inputs = [false; 9];
+    let mut scratch = [false; 64];
+    put_inputs(strategy, values, &mut inputs)?;
+    put_outputs(strategy, &inputs, &mut scratch, values)
 }
 
 // Whether, with these values of the inputs, the matrix is decided for the winner and its own variables keep to the
 // assumptions, where those values do.
 fn wins_at(
-    alloc: Global,
     strategy: &Strategy,
     clauses: &[LitList],
     assumptions: &[Lit],
@@ -309,26 +308,22 @@ fn wins_at(
 ) -> Result<bool, Fail>
     requires { IsStrategy strategy.now }
 {
-    let given = values_of(alloc, bits)?;
-    if !are_true(&given, assumptions) {
+    let mut values = [false; 9];
+    put_bits(&mut values, bits);
+    if !are_true(&values, assumptions) {
         return Ok(true);
     }
-    let all = played(alloc, strategy, &given)?;
+    answer(strategy, &mut values)?;
     let is_true = strategy.winner == Quant::Exists;
-    Ok(all_true(&all, clauses) == is_true && are_true(&all, assumptions))
+    Ok(all_true(&values, clauses) == is_true && are_true(&values, assumptions))
 }
 
 // The same for all values. Fails with the first that don't.
-fn wins(
-    alloc: Global,
-    strategy: &Strategy,
-    clauses: &[LitList],
-    assumptions: &[Lit],
-) -> Result<(), Fail>
+fn wins(strategy: &Strategy, clauses: &[LitList], assumptions: &[Lit]) -> Result<(), Fail>
     requires { IsStrategy strategy.now }
 {
     for bits in 0..512 {
-        if !wins_at(alloc, strategy, clauses, assumptions, bits)? {
+        if !wins_at(strategy, clauses, assumptions, bits)? {
             return Err(("values", bits))?;
         }
     }
@@ -347,23 +342,27 @@ fn has_edges(strategy: &Strategy, numbers: &[u128]) -> bool {
 }
 
 // Whether 3 is true exactly where 1 is and 2 isn't, and 6 where 4 is and 5 isn't.
-fn is_first_at(alloc: Global, strategy: &Strategy, bits: u32) -> Result<bool, Fail>
+fn is_first(values: &[bool], bits: u32) -> bool {
+    values.get(3).copied() == Some(bits / 2 % 2 == 1 && bits / 4 % 2 == 0)
+        && values.get(6).copied() == Some(bits / 16 % 2 == 1 && bits / 32 % 2 == 0)
+}
+
+// Whether it is so of the values that a circuit answers to these of the inputs.
+fn is_first_at(strategy: &Strategy, bits: u32) -> Result<bool, Fail>
     requires { IsStrategy strategy.now }
 {
-    let given = values_of(alloc, bits)?;
-    let all = played(alloc, strategy, &given)?;
-    Ok(
-        all.get(3).copied() == Some(bits / 2 % 2 == 1 && bits / 4 % 2 == 0)
-            && all.get(6).copied() == Some(bits / 16 % 2 == 1 && bits / 32 % 2 == 0),
-    )
+    let mut values = [false; 9];
+    put_bits(&mut values, bits);
+    answer(strategy, &mut values)?;
+    Ok(is_first(&values, bits))
 }
 
 // The same for all values of the inputs.
-fn are_first(alloc: Global, strategy: &Strategy) -> Result<bool, Fail>
+fn are_first(strategy: &Strategy) -> Result<bool, Fail>
     requires { IsStrategy strategy.now }
 {
     for bits in 0..512 {
-        if !is_first_at(alloc, strategy, bits)? {
+        if !is_first_at(strategy, bits)? {
             return Ok(false);
         }
     }
@@ -371,7 +370,7 @@ fn are_first(alloc: Global, strategy: &Strategy) -> Result<bool, Fail>
 }
 
 // What a circuit is, beside that it wins: it has no gate and such edges; anything; or the values of 3 and of 6 are
-// those that `is_first_at` looks for.
+// those that `is_first` looks for.
 #[derive(Clone, Copy)]
 enum Form {
     Edges,
@@ -388,13 +387,13 @@ struct Case<'a> {
     edges: &'a [u128],
 }
 
-fn has_form(alloc: Global, strategy: &Strategy, case: Case) -> Result<bool, Fail>
+fn has_form(strategy: &Strategy, case: Case) -> Result<bool, Fail>
     requires { IsStrategy strategy.now }
 {
     match case.form {
         Form::Edges => Ok(strategy.aig.gates() == 0 && has_edges(strategy, case.edges)),
         Form::Any => Ok(true),
-        Form::First => are_first(alloc, strategy),
+        Form::First => are_first(strategy),
     }
 }
 
@@ -406,11 +405,11 @@ fn check_circuit(
 ) -> Result<(), Fail>
     requires { IsStrategy strategy.now }
 {
-    if !has_form(alloc, strategy, case)? {
+    if !has_form(strategy, case)? {
         return Err("another circuit")?;
     }
     let clauses = rows(alloc, case.derived.clauses)?;
-    wins(alloc, strategy, &clauses, assumptions)
+    wins(strategy, &clauses, assumptions)
 }
 
 // Against all inputs that keep to the assumptions the matrix is decided for the winner, and its own variables keep to
@@ -421,12 +420,19 @@ fn check(alloc: Global, case: Case) -> Result<(), Fail> {
     check_circuit(alloc, &strategy, case, &assumptions)
 }
 
+fn check_each(alloc: Global, cases: &[Case]) -> Result<(), Fail> {
+    for case in cases {
+        check(alloc, *case)?;
+    }
+    Ok(())
+}
+
 // Formulas whose circuits have no gate: one false, one true, one true by a single cube, and three under assumptions.
 #[test]
 fn small_circuits(rt: HostRuntime) -> Result<(), Fail> {
     use Move::{Reduce, Resolve};
     use Quant::{Exists, Forall};
-    for case in [
+    let cases = [
         Case {
             derived: Derived {
                 quants: &[Exists, Forall],
@@ -499,10 +505,8 @@ fn small_circuits(rt: HostRuntime) -> Result<(), Fail> {
             form: Form::Edges,
             edges: &[],
         },
-    ] {
-        check(rt.alloc(), case)?;
-    }
-    Ok(())
+    ];
+    check_each(rt.alloc(), &cases)
 }
 
 // 3 is to be the conjunction of 1 and 2.

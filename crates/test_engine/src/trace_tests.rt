@@ -97,10 +97,17 @@ fn is_so_of(alloc: Global, shop: &Workshop, end: StepId, look: Look) -> Result<b
     is_so(alloc, &core, shop.prefix(), look)
 }
 
+// A clause of two literals, with its reduction.
+fn put_clause(shop: &mut Workshop, first: i32, second: i32) -> Result<(), Fail> {
+    let lits = [literal(first)?, literal(second)?];
+    shop.clause(&lits, 0)?;
+    Ok(())
+}
+
 // The clauses 1 2 and -1 -2 with their reductions, and the empty resolvent of these.
 fn refute(shop: &mut Workshop) -> Result<StepId, Fail> {
-    shop.clause(&[literal(1)?, literal(2)?], 0)?;
-    shop.clause(&[literal(-1)?, literal(-2)?], 0)?;
+    put_clause(shop, 1, 2)?;
+    put_clause(shop, -1, -2)?;
     shop.resolve(1, 3, 2)
 }
 

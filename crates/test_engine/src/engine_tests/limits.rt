@@ -3,9 +3,8 @@ ghost use Rattle.std.specs.Prelude.{◌<◌};
 
 use super::play::{plain_truth, push_clauses, put};
 use engine::{Engine, SolveStop};
-use fixtures::prefix_of;
 use generate::Draws;
-use prefix::Quant;
+use prefix::{Prefix, Quant};
 use std::alloc::Global;
 use std::test::Fail;
 use steps::Steps;
@@ -74,24 +73,53 @@ fn solve(engine: &mut Engine, budget: u64) -> Result<Solved, Fail> {
     }
 }
 
+// Puts the quantifiers of so many scopes at the end of a list.
+fn put_quants(quants: &mut Vec<Quant>, vars: u32, bits: u32) -> Result<(), Fail> {
+    for scope in 1..=vars {
+        quants.push(quant_of(bits, scope))?;
+    }
+    Ok(())
+}
+
+// Puts two clauses for each variable, which are drawn from a seed, at the end of a list.
+fn draw_clauses(clauses: &mut Vec<i32>, vars: u32, seed: u32) -> Result<(), Fail>
+    requires { vars < 5 }
+{
+    let mut draws = Draws::new(seed);
+    for _ in 0..2 * vars {
+        draw_clause(&mut draws, clauses, vars as u16)?;
+    }
+    Ok(())
+}
+
+// Puts in a scope of each of these quantifiers, with the variable of its number.
+fn put_scopes(prefix: &mut Prefix, quants: &[Quant]) -> Result<(), Fail> {
+    for quant in quants {
+        prefix.add_scope(*quant, None)?;
+        let last = prefix.scopes() as u64;
+        prefix.add_var(last, last)?;
+    }
+    Ok(())
+}
+
 impl Shape {
     fn new(alloc: Global, vars: u32, bits: u32, seed: u32) -> Result<Self, Fail>
         requires { vars < 5 }
     {
-        let mut draws = Draws::new(seed);
-        let mut quants = Vec::new(alloc);
-        for scope in 1..=vars {
-            quants.push(quant_of(bits, scope))?;
-        }
-        let mut clauses = Vec::new(alloc);
-        for _ in 0..2 * vars {
-            draw_clause(&mut draws, &mut clauses, vars as u16)?;
-        }
-        Ok(Self {
+        let mut shape = Self {
             alloc,
-            quants,
-            clauses,
-        })
+            quants: Vec::new(alloc),
+            clauses: Vec::new(alloc),
+        };
+        shape.fill(vars, bits, seed)?;
+        Ok(shape)
+    }
+
+    fn fill(&mut self, vars: u32, bits: u32, seed: u32) -> Result<(), Fail>
+        requires { vars < 5 }
+    {
+        put_quants(&mut self.quants, vars, bits)?;
+        draw_clauses(&mut self.clauses, vars, seed)
     }
 
     // Puts the formula into a new engine.
@@ -102,19 +130,23 @@ impl Shape {
         put(self.alloc, engine, &self.clauses)
     }
 
-    // The verdict of the plain recursion.
-    fn plain(&self) -> Result<bool, Fail> {
-        let mut scopes = Vec::new(self.alloc);
-        for scope in 1..=self.quants.len() {
-            scopes.push(scope as u64)?;
-        }
+    fn prefix(&self) -> Result<Prefix, Fail> {
+        let mut prefix = Prefix::new(self.alloc);
+        put_scopes(&mut prefix, &self.quants)?;
+        Ok(prefix)
+    }
+
+    fn clause_list(&self) -> Result<ClauseList, Fail> {
         let mut clauses = ClauseList::new(self.alloc);
         push_clauses(self.alloc, &mut clauses, &self.clauses)?;
-        plain_truth(
-            self.alloc,
-            prefix_of(self.alloc, &self.quants, &scopes)?,
-            clauses,
-        )
+        Ok(clauses)
+    }
+
+    // The verdict of the plain recursion.
+    fn plain(&self) -> Result<bool, Fail> {
+        let clauses = self.clause_list()?;
+        let prefix = self.prefix()?;
+        plain_truth(self.alloc, prefix, clauses)
     }
 
     // The truth that a solve in a new engine finds, unless it spends its budget, and the steps that it takes.
@@ -166,25 +198,49 @@ impl Shape {
     }
 }
 
+// Whether the formula of these quantifiers that is drawn from a seed keeps the limits.
+fn is_kept(
+    alloc: Global,
+    vars: u32,
+    bits: u32,
+    seed: u32,
+    once: u64,
+    thrice: u64,
+) -> Result<bool, Fail>
+    requires { vars < 5 }
+{
+    let shape = Shape::new(alloc, vars, bits, seed)?;
+    shape.keeps_limits(once, thrice)
+}
+
 // Whether the formulas of these quantifiers keep the limits.
 fn are_kept(alloc: Global, vars: u32, bits: u32, once: u64, thrice: u64) -> Result<bool, Fail>
     requires { vars < 5 }
 {
     for seed in 0..10 {
-        if !Shape::new(alloc, vars, bits, seed)?.keeps_limits(once, thrice)? {
+        if !is_kept(alloc, vars, bits, seed, once, thrice)? {
             return Ok(false);
         }
     }
     Ok(true)
 }
 
+// The same for all quantifiers of so many variables. Fails with those where it isn't so.
+fn keep_all(alloc: Global, vars: u32, choices: u32, once: u64, thrice: u64) -> Result<(), Fail>
+    requires { vars < 5 }
+{
+    for bits in 0..choices {
+        if !are_kept(alloc, vars, bits, once, thrice)? {
+            return Err((vars, bits))?;
+        }
+    }
+    Ok(())
+}
+
 #[test]
 fn limits_are_met_exactly(rt: HostRuntime) -> Result<(), Fail> {
     for (vars, choices, once, thrice) in LIMITS {
-        for bits in 0..choices {
-            let is_kept = are_kept(rt.alloc(), vars.min(4), bits, once, thrice)?;
-            assert!(rt; is_kept, "{vars} variables, quantifiers {bits}");
-        }
+        keep_all(rt.alloc(), vars.min(4), choices, once, thrice)?;
     }
     Ok(())
 }

@@ -3,7 +3,7 @@ ghost use Rattle.std.specs.Prelude.{◌<◌};
 
 use engine::{Engine, SolveStop};
 use fixtures::{Random, literal, prefix_of, rows};
-use prefix::{LitList, Prefix, Quant};
+use prefix::{Lit, LitList, Prefix, Quant};
 use std::alloc::Global;
 use std::test::Fail;
 use steps::Steps;
@@ -32,18 +32,23 @@ pub(crate) fn put_scope(
     Ok(())
 }
 
-// Puts in clauses, each with a 0 behind it.
-pub(crate) fn put(alloc: Global, engine: &mut Engine, numbers: &[i32]) -> Result<(), Fail> {
-    let mut row = Vec::new(alloc);
+// Puts in clauses, each with a 0 behind it, by a row that is empty.
+fn put_by(engine: &mut Engine, row: &mut Vec<i64>, numbers: &[i32]) -> Result<(), Fail> {
     for number in numbers {
         if *number != 0 {
             row.push(i64::from(*number))?;
             continue;
         }
-        engine.clause(&row)?;
+        engine.clause(row.as_slice())?;
         row.clear();
     }
     Ok(())
+}
+
+// Puts in clauses, each with a 0 behind it.
+pub(crate) fn put(alloc: Global, engine: &mut Engine, numbers: &[i32]) -> Result<(), Fail> {
+    let mut row = Vec::new(alloc);
+    put_by(engine, &mut row, numbers)
 }
 
 // Assumes literals.
@@ -66,16 +71,15 @@ fn draw_row(random: &mut Random, row: &mut Vec<i32>, vars: u16) -> Result<(), Fa
     Ok(())
 }
 
-// Clauses, each with a 0 behind it, one to so many.
-fn draw_clauses(alloc: Global, random: &mut Random, most: u32) -> Result<Vec<i32>, Fail>
+// Puts clauses, each with a 0 behind it, at the end of a list, one to so many.
+fn draw_clauses(random: &mut Random, numbers: &mut Vec<i32>, most: u32) -> Result<(), Fail>
     requires { 0 < most }
 {
-    let mut numbers = Vec::new(alloc);
     for _ in 0..=random.below(most) {
-        draw_row(random, &mut numbers, 6)?;
+        draw_row(random, numbers, 6)?;
         numbers.push(0)?;
     }
-    Ok(numbers)
+    Ok(())
 }
 
 // The quantifier of the first, the second or the third scope, by the bits of a number.
@@ -105,19 +109,22 @@ struct Drawn {
 
 impl Drawn {
     fn new(alloc: Global, seed: u32) -> Result<Self, Fail> {
-        let mut random = Random::new(seed);
-        let quants = random.below(8);
-        let clauses = draw_clauses(alloc, &mut random, 9)?;
-        let pushed = draw_clauses(alloc, &mut random, 4)?;
-        let mut assumed = Vec::new(alloc);
-        draw_row(&mut random, &mut assumed, 2)?;
-        Ok(Self {
+        let mut drawn = Self {
             alloc,
-            quants,
-            clauses,
-            pushed,
-            assumed,
-        })
+            quants: 0,
+            clauses: Vec::new(alloc),
+            pushed: Vec::new(alloc),
+            assumed: Vec::new(alloc),
+        };
+        drawn.fill(&mut Random::new(seed))?;
+        Ok(drawn)
+    }
+
+    fn fill(&mut self, random: &mut Random) -> Result<(), Fail> {
+        self.quants = random.below(8);
+        draw_clauses(random, &mut self.clauses, 9)?;
+        draw_clauses(random, &mut self.pushed, 4)?;
+        draw_row(random, &mut self.assumed, 2)
     }
 
     // Puts the scopes and the clauses of frame 0 into a new engine.
@@ -129,20 +136,31 @@ impl Drawn {
         put(self.alloc, engine, &self.clauses)
     }
 
-    // Whether verdicts are right: of frame 0, again, under assumptions, with the pushed frame too, under assumptions
-    // there, and without it again.
-    fn goes_through_frames(&self, engine: &mut Engine) -> Result<bool, Fail> {
-        self.put_into(engine)?;
+    // Whether verdicts are right: of frame 0, again, and under assumptions.
+    fn goes_alone(&self, engine: &mut Engine) -> Result<bool, Fail> {
         let alone = self.is_right(engine, false, false)?;
         let again = self.is_right(engine, false, false)?;
         let assuming = self.is_right(engine, false, true)?;
-        engine.push()?;
+        Ok(alone && again && assuming)
+    }
+
+    // The same with the clauses of the pushed frame too, and under assumptions there.
+    fn goes_pushed(&self, engine: &mut Engine) -> Result<bool, Fail> {
         put(self.alloc, engine, &self.pushed)?;
         let pushed = self.is_right(engine, true, false)?;
         let both = self.is_right(engine, true, true)?;
+        Ok(pushed && both)
+    }
+
+    // Whether verdicts are right before a frame is pushed, with it, and without it again.
+    fn goes_through_frames(&self, engine: &mut Engine) -> Result<bool, Fail> {
+        self.put_into(engine)?;
+        let alone = self.goes_alone(engine)?;
+        engine.push()?;
+        let pushed = self.goes_pushed(engine)?;
         engine.pop()?;
         let popped = self.is_right(engine, false, false)?;
-        Ok(alone && again && assuming && pushed && both && popped)
+        Ok(alone && pushed && popped)
     }
 
     // Solves, with the pushed frame where it is, under the assumptions where that is asked for, and compares the
@@ -160,15 +178,30 @@ impl Drawn {
         Ok(truth_within(engine, u64::MAX)? == plain)
     }
 
+    // Puts the clauses at the end of a list, those of the pushed frame where it is, and what is assumed.
+    fn push_all(
+        &self,
+        clauses: &mut ClauseList,
+        is_pushed: bool,
+        assumed: &[i32],
+    ) -> Result<(), Fail> {
+        push_clauses(self.alloc, clauses, &self.clauses)?;
+        if is_pushed {
+            push_clauses(self.alloc, clauses, &self.pushed)?;
+        }
+        push_units(self.alloc, clauses, assumed)
+    }
+
+    fn clause_list(&self, is_pushed: bool, assumed: &[i32]) -> Result<ClauseList, Fail> {
+        let mut clauses = ClauseList::new(self.alloc);
+        self.push_all(&mut clauses, is_pushed, assumed)?;
+        Ok(clauses)
+    }
+
     // The verdict of the plain recursion, where assumed literals are clauses over variables that are tried first.
     fn plain(&self, is_pushed: bool, is_assuming: bool) -> Result<bool, Fail> {
-        let mut clauses = ClauseList::new(self.alloc);
-        push_clauses(self.alloc, &mut clauses, &self.clauses)?;
-        if is_pushed {
-            push_clauses(self.alloc, &mut clauses, &self.pushed)?;
-        }
         let assumed: &[i32] = if is_assuming { &self.assumed } else { &[] };
-        push_units(self.alloc, &mut clauses, assumed)?;
+        let clauses = self.clause_list(is_pushed, assumed)?;
         let prefix = assuming(self.alloc, self.quants, assumed)?;
         plain_truth(self.alloc, prefix, clauses)
     }
@@ -233,12 +266,18 @@ pub(crate) fn push_clauses(
     Ok(())
 }
 
+// The clause of one literal.
+fn unit_of(alloc: Global, lit: Lit) -> Result<LitList, Fail> {
+    let mut unit = LitList::new(alloc);
+    unit.push(lit)?;
+    Ok(unit)
+}
+
 // Puts clauses of one literal each at the end of a list.
 fn push_units(alloc: Global, clauses: &mut ClauseList, numbers: &[i32]) -> Result<(), Fail> {
     for number in numbers {
-        let mut unit = LitList::new(alloc);
-        unit.push(literal(*number)?)?;
-        clauses.push(unit)?;
+        let lit = literal(*number)?;
+        clauses.push(unit_of(alloc, lit)?)?;
     }
     Ok(())
 }
@@ -261,10 +300,14 @@ fn assuming(alloc: Global, quants: u32, assumed: &[i32]) -> Result<Prefix, Fail>
         quant_of(quants, 2),
         quant_of(quants, 3),
     ];
-    let mut scopes = Vec::new(alloc);
-    for var in 1..=VARS {
-        scopes.push(scope_of(assumed, var))?;
-    }
+    let scopes = [
+        scope_of(assumed, 1),
+        scope_of(assumed, 2),
+        scope_of(assumed, 3),
+        scope_of(assumed, 4),
+        scope_of(assumed, 5),
+        scope_of(assumed, 6),
+    ];
     prefix_of(alloc, &quants, &scopes)
 }
 

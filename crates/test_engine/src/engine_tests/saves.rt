@@ -4,6 +4,7 @@
 ghost use Rattle.std.specs.Prelude.{◌<◌};
 
 use super::play::{put, put_scope};
+use super::{Job, holds};
 use engine::{Engine, SolveStop};
 use fixtures::Random;
 use prefix::Quant;
@@ -12,7 +13,7 @@ use std::test::Fail;
 use steps::Steps;
 
 // How a solve within so many steps ended: with a truth, or stopped after so many restarts.
-#[derive(Debug, Clone, Copy, PartialEq, Eq)]
+#[derive(Clone, Copy, PartialEq, Eq)]
 pub(crate) enum Ended {
     Answered(bool),
     Stopped(u64),
@@ -35,16 +36,24 @@ fn sits(pigeon: u16, hole: u16) -> u16
     8 * pigeon + hole + 1
 }
 
+// Puts the clause that a pigeon sits in a hole, with a 0 behind it, at the end of a list.
+fn push_home(clause: &mut Vec<i32>, holes: u16, pigeon: u16) -> Result<(), Fail>
+    requires holes { holes < 8 }
+    requires pigeon { pigeon < 8 }
+{
+    for hole in 0..holes {
+        clause.push(i32::from(sits(pigeon, hole)))?;
+    }
+    Ok(clause.push(0)?)
+}
+
 // A pigeon sits in a hole.
 fn put_home(engine: &mut Engine, alloc: Global, holes: u16, pigeon: u16) -> Result<(), Fail>
     requires holes { holes < 8 }
     requires pigeon { pigeon < 8 }
 {
     let mut clause = Vec::new(alloc);
-    for hole in 0..holes {
-        clause.push(i32::from(sits(pigeon, hole)))?;
-    }
-    clause.push(0)?;
+    push_home(&mut clause, holes, pigeon)?;
     put(alloc, engine, &clause)
 }
 
@@ -162,7 +171,7 @@ fn solve_each(engine: &mut Engine, turns: &[(u64, Ended)]) -> Result<(), Fail> {
     for (budget, want) in turns {
         let ended = solve(engine, *budget)?;
         if ended != *want {
-            return Err((*budget, ended))?;
+            return Err(("steps", *budget))?;
         }
     }
     Ok(())
@@ -220,23 +229,27 @@ fn go_round(engine: &mut Engine) -> Result<(), Fail> {
     Ok(engine.pop()?)
 }
 
-// How many steps are live behind the first such round, and behind so many more.
-fn left_behind(engine: &mut Engine, rounds: u32) -> Result<(usize, usize), Fail> {
-    put_scope(engine, Quant::Exists, 1, 1)?;
-    go_round(engine)?;
-    let first = engine.derivation().live_steps();
+// So many such rounds.
+fn go_rounds(engine: &mut Engine, rounds: u32) -> Result<(), Fail> {
     for _ in 0..rounds {
         go_round(engine)?;
     }
-    Ok((first, engine.derivation().live_steps()))
+    Ok(())
+}
+
+// Whether as many steps are live in a new engine behind the first such round as behind so many more.
+pub(crate) fn leaves_no_more(engine: &mut Engine, rounds: u32) -> Result<bool, Fail> {
+    put_scope(engine, Quant::Exists, 1, 1)?;
+    go_round(engine)?;
+    let first = engine.derivation().live_steps();
+    go_rounds(engine, rounds)?;
+    Ok(engine.derivation().live_steps() == first)
 }
 
 // A later round makes no initial cube, since that of the first one serves.
 #[test]
 fn rounds_with_the_same_clause_leave_no_more_behind(rt: HostRuntime) -> Result<(), Fail> {
-    let mut engine = Engine::new(rt.alloc())?;
-    let (first, last) = left_behind(&mut engine, 20)?;
-    assert_eq!(rt; first, last);
+    assert!(rt; holds(rt.alloc(), Job::Rounds(20))?);
     Ok(())
 }
 
