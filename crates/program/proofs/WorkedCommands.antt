@@ -145,24 +145,28 @@ no_sample_of_cert h = h
 
 -- each leaves what its job does, on its terms
 module _ (known : Option Text) (written : Option Text × Option Text) (stops : List Account) (status : ℕ) where
-  pub qdo_leaves : IsOutputOf (task_of qdo) known written stops status → IsJobOutput QdoJob seven known written stops status
+  pub qdo_leaves : IsOutputOf (task_of qdo) known written stops status → IsJobOutput QdoJob seven known written stops
+      status
   qdo_leaves h = h
 
   pub circuit_leaves : IsOutputOf (task_of circuit) known written stops status
       → IsJobOutput QcirJob seven known written stops status
   circuit_leaves h = h
 
-  pub trace_leaves : IsOutputOf (task_of trace) known written stops status → IsJobOutput TraceJob seven known written stops status
+  pub trace_leaves : IsOutputOf (task_of trace) known written stops status → IsJobOutput TraceJob seven known written
+      stops status
   trace_leaves h = h
 
   pub cert_leaves : IsOutputOf (task_of cert) known written stops status
       → IsJobOutput (CertJob true false) seven known written stops status
   cert_leaves h = h
 
-  pub check_leaves : IsOutputOf (task_of check) known written stops status → IsCheckOutput true seven known written stops status
+  pub check_leaves : IsOutputOf (task_of check) known written stops status → IsCheckOutput true seven known written
+      stops status
   check_leaves h = h
 
-  pub demo_leaves : IsOutputOf (task_of demo) known written stops status → IsSampleOutput (counts_text 0 1) written stops status
+  pub demo_leaves : IsOutputOf (task_of demo) known written stops status → IsSampleOutput (counts_text 0 1) written
+      stops status
   demo_leaves h = h
 
 -- and wants no more room

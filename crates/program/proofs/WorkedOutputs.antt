@@ -43,19 +43,22 @@ module _ (input output : Text) (stops : List Account) (status : ℕ) where
   of_solve : (output ≡ [] → ⊥) → Leaves solve_words input output stops status
       → IsJobOutput SolveJob plain (Some input) (Some [], Some output) stops status
   of_solve some h = ⊎_elim (λ q. absurd (some (quiet q)))
-      (λ r. subst (λ c. IsOutputOf (task_of c) (known_for (holds input) (task_of c)) (Some [], Some output) stops status)
+      (λ r. subst (λ c. IsOutputOf (task_of c) (known_for (holds input) (task_of c)) (Some [], Some output) stops
+          status)
       (only_solve r.0 r.1) r.2) h
 
   of_script : (output ≡ [] → ⊥) → Leaves script_words input output stops status
       → IsScriptOutput plain (Some input) (Some [], Some output) stops status
   of_script some h = ⊎_elim (λ q. absurd (some (quiet q)))
-      (λ r. subst (λ c. IsOutputOf (task_of c) (known_for (holds input) (task_of c)) (Some [], Some output) stops status)
+      (λ r. subst (λ c. IsOutputOf (task_of c) (known_for (holds input) (task_of c)) (Some [], Some output) stops
+          status)
       (only_script r.0 r.1) r.2) h
 
   of_gen : (output ≡ [] → ⊥) → Leaves gen_words input output stops status
       → IsSampleOutput (formula_text (made 0 3 1)) (Some [], Some output) stops status
   of_gen some h = ⊎_elim (λ q. absurd (some (quiet q)))
-      (λ r. subst (λ c. IsOutputOf (task_of c) (known_for (holds input) (task_of c)) (Some [], Some output) stops status)
+      (λ r. subst (λ c. IsOutputOf (task_of c) (known_for (holds input) (task_of c)) (Some [], Some output) stops
+          status)
       (only_gen r.0 r.1) r.2) h
 
 -- the line of an answer, flushed or not
@@ -151,7 +154,8 @@ writes_nothing = inl ((0, omega arith, refl), refl, refl)
 told_none : (status : ℕ) → Contains (2 ∷ 3 ∷ 5 ∷ 6 ∷ []) status → Leaves solve_words bare [] (at_thirty_six ∷ []) status
     → at_thirty_six ∷ [] ≡ []
 told_none status ends h = ⊎_elim (λ q. q.2)
-    (λ r. ((subst (λ c. IsOutputOf (task_of c) (known_for (holds bare) (task_of c)) (Some [], Some []) (at_thirty_six ∷ []) status)
+    (λ r. ((subst (λ c. IsOutputOf (task_of c) (known_for (holds bare) (task_of c)) (Some [], Some []) (at_thirty_six ∷
+        []) status)
     (only_solve r.0 r.1) r.2).nothing ends).1) h
 
 pub tells_more : (status : ℕ) → Contains (2 ∷ 3 ∷ 5 ∷ 6 ∷ []) status
@@ -291,7 +295,8 @@ sample_no_front h =
 
 -- the room that a run wants: eight bytes for a solve, 22 for the replies, and the length of what is made
 pub room_for_solve : RoomForOutput solve_words (holds bare) (λ n. n ≤ 8)
-room_for_solve c asks = subst (λ d. RoomForTask (task_of d) (known_for (holds bare) (task_of d)) (λ n. n ≤ 8)) (sym (only_solve c asks))
+room_for_solve c asks = subst (λ d. RoomForTask (task_of d) (known_for (holds bare) (task_of d)) (λ n. n ≤ 8)) (sym
+    (only_solve c asks))
     (λ f a text read right says. line_length plain f a text says)
 
 pub no_room_for_solve : RoomForOutput solve_words (holds bare) (λ n. n ≤ 3) → ⊥

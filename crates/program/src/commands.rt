@@ -139,7 +139,8 @@ fn carry_out<D: Desk, O: Sink>(
     requires { (words : List Text) × Asks words command }
     ensures work { IsWorkOf (task_of command.entry) (known_for (D.content desk.old) (task_of command.entry))
         (D.left desk.new) (O.written out.old, O.written out.new) (stops.old.items, stops.new.items) result }
-    ensures outside { IsDue D.faults O.written O.flushed O.faults (SteadyFor (task_of command.entry) (D.steady desk.old))
+    ensures outside { IsDue D.faults O.written O.flushed O.faults
+        (SteadyFor (task_of command.entry) (D.steady desk.old))
         (RoomForTask (task_of command.entry) (known_for (D.content desk.old) (task_of command.entry))
         (O.has_room out.old))
         (desk.old, desk.new) (out.old, out.new) (λ e. result ≡ e) (IsDone result) }

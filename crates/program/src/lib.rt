@@ -1,8 +1,8 @@
 //! The program `qbf` as a function over a desk and two sinks: the words of a command line, carried out.
 //!
-//! `specs/Run` says what a run comes to, `specs/Asked` which task the words ask for, with which input, `specs/Told` what
-//! stands on the output, `specs/Complete` which inputs are answered, and `specs/Words` what is said of words that the
-//! system doesn't give. `specs/Work` has what private calls say on the way.
+//! `specs/Run` says what a run comes to, `specs/Asked` which task the words ask for, with which input, `specs/Told`
+//! what stands on the output, `specs/Complete` which inputs are answered, and `specs/Words` what is said of words that
+//! the system doesn't give. `specs/Work` has what private calls say on the way.
 #![tactic(auto)]
 
 mod commands;

@@ -38,7 +38,8 @@ pub record WorkedGaps : Type 0 where
       (record { winner = Exists; lines = cubes_with_gaps })
       ≡ codes "p qrp 12 5\na 12 2 0\ne 5 0\n1 2 5 0 0\n2 -2 -5 0 0\n3 2 0 1 0\n4 -2 0 2 0\n5 0 3 4 0\nr SAT\n"
 
--- texts: of the core of the empty clause; of an assumed clause that is its own proof; of a cube with its finish; of no variables
+-- texts: of the core of the empty clause; of an assumed clause that is its own proof; of a cube with its finish; of no
+-- variables
 pub record WorkedTexts : Type 0 where
   pub refutation_text : qrp_text existential_first (record { winner = Forall; lines = refuted })
       ≡ codes "p qrp 2 5\ne 2 0\na 1 0\n1 1 2 0 0\n2 -1 -2 0 0\n3 2 0 1 0\n4 -2 0 2 0\n5 0 3 4 0\nr UNSAT\n"

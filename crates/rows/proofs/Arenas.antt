@@ -1,11 +1,11 @@
 -- Lemmas on what a contract sees of an arena, for this crate and its callers.
 use Rattle.std.proofs.Common.{◌≡◌, ◌≢◌, ℕ, ◌+◌, ◌<◌, ◌≤◌, List, [], ◌∷◌, ◌++◌, length, replicate, get_or, set, Option, Some, None, is_some, IsTrue, refl, sym, ap, ap₂, ◌∙◌, ◌⊎◌, false, inl, inr, arith}
-use Rattle.std.proofs.lemmas.List.{get_or-set_same, get_or-set_other, get_or_past, get_or_at, get_or_append_left, length-append, length-set, length-map, map-append, same_lists, get_or_default}
+use Rattle.std.proofs.lemmas.List.{get_or-set_same, get_or-set_other, get_or_past, get_or_at, get_or_append_left, length-append, length-set, length-map, map-append, same_lists, get_or_default, set-set}
 use Rattle.std.proofs.lemmas.Bool.{cases_eq, cases_lt}
 use Rattle.std.specs.Option.{option_map}
 use Rattle.prefix.specs.Literal.{Literal}
 use Rattle.rows.specs.declared.places.Place.{Place}
-use Rattle.rows.specs.Arena.{StoredRow, Arena, row_at, is_live, literals_of, links_of, link_at, new_row, ThreeLinks, with_row, with_link, with_links, set_link_of, set_links_of, ChangesAt, ChangesLink, ChangesLinks}
+use Rattle.rows.specs.Arena.{StoredRow, Arena, row_at, is_live, literals_of, links_of, link_at, new_row, set_three, ThreeLinks, with_row, with_link, with_links, set_link_of, set_links_of, ChangesAt, ChangesLink, ChangesLinks}
 use Rattle.rows.specs.Places.{AreSpread, KeepsParts, Reblocks, blocks_of, part, part_in, place_at}
 use Rattle.rows.specs.Blocks.{Block, LosesBlock, block_in, links_in}
 use Rattle.rows.specs.Stored.{arena_of, stored}
@@ -194,6 +194,34 @@ same_stored literals blocks new_blocks p q s l k =
 -- a row with other link fields
 abbrev pub relinked : (List (Option ℕ) → List (Option ℕ)) → StoredRow → StoredRow
 relinked f row = record { literals = row.literals; links = f row.links }
+
+-- the row whose first six link fields are written, three and three
+
+six_of : (o : Option StoredRow) (one two : ThreeLinks) → option_map (relinked (λ ls. set_three 3 two
+    (set_three 0 one ls))) o ≡ option_map (set_links_of 3 two) (option_map (set_links_of 0 one) o)
+six_of None one two = refl
+six_of (Some row) one two = refl
+
+pub linked_twice : (arena : Arena) (id : ℕ) (one two : ThreeLinks) → IsTrue (is_live arena id)
+    → set arena id (option_map (relinked (λ ls. set_three 3 two (set_three 0 one ls))) (row_at arena id))
+    ≡ with_links (with_links arena id 0 one) id 3 two
+linked_twice arena id one two live =
+    let was = option_map (set_links_of 0 one) (row_at arena id) in
+    ap (set arena id) (six_of (row_at arena id) one two)
+    ∙ sym (set-set arena id was (option_map (set_links_of 3 two) was))
+    ∙ ap (λ o. set (set arena id was) id (option_map (set_links_of 3 two) o))
+    (sym (get_or-set_same arena id was None (is_live-given arena id live)))
+
+pub ChangesLinks-again : (arena : Arena) (id : ℕ) (one two : ThreeLinks) (row : StoredRow)
+    → IsTrue (is_live arena id) → row_at arena id ≡ Some row → length row.links ≡ 8
+    → ChangesLinks (with_links arena id 0 one) (with_links (with_links arena id 0 one) id 3 two) id 3 two
+ChangesLinks-again arena id one two row live at eight =
+    let at_now = changed_there arena id row (set_links_of 0 one) live at in
+    let a = length-set row.links 0 one.0 in
+    let b = length-set (set row.links 0 one.0) 1 one.1 in
+    let c = length-set (set (set row.links 0 one.0) 1 one.1) 2 one.2 in
+    ChangesLinks-with_links (with_links arena id 0 one) id 3 two (set_links_of 0 one row) (ap is_some at_now) at_now
+    (omega arith)
 
 -- a row whose link fields are written
 pub arena_linked : (literals : List Literal) (blocks middle new : List Block) (places new_places : List (Option Place))

@@ -128,6 +128,21 @@ impl Blocks {
         self.set(block, base + 2, values.2);
     }
 
+    // Writes the first six link fields of a block.
+    #[inline(always)]
+    pub(crate) fn set_six(&mut self, block: usize, one: ThreeLinks, two: ThreeLinks)
+        requires { block < length self.old.items }
+        ensures items { self.new.items ≡ slice_set self.old.items block (record {
+          owner = (block_at self.old.items block).owner;
+          links = set_three 3 two (set_three 0 one (block_at self.old.items block).links);
+        }) }
+        ensures room { self.old.room ≤ self.new.room }
+        ensures eight { length (block_at self.old.items block).links ≡ 8 }
+    {
+        self.set_three(block, 0, one);
+        self.set_three(block, 3, two);
+    }
+
     // Reads three link fields of a block, of which the first is none from then on.
     #[inline(always)]
     pub(crate) fn take_three(&mut self, block: usize, base: usize) -> ThreeLinks

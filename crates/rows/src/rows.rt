@@ -22,8 +22,8 @@ pub type RowId = usize;
 /// which goes over all ids but those of one gap, none of whose rows is live.
 ///
 /// The literals of all rows stand in one list. A row that goes leaves a hole there, until `compact` or `tidy` moves the
-/// others together, and makes the gap as long as it can. Room for the link fields of all live rows is taken as rows come
-/// in, and written only for rows that have had a link.
+/// others together, and makes the gap as long as it can. Room for the link fields of all live rows is taken as rows
+/// come in, and written only for rows that have had a link.
 #[derive(Debug, Drop)]
 pub struct Rows {
     // The literals of the rows, in the order of their ids.
@@ -142,6 +142,19 @@ impl Rows {
     {
         let block = block_for(&mut self.places, &mut self.blocks, id);
         self.blocks.set_three(block, base, values);
+    }
+
+    /// Writes the first six link fields of a live row, three and three, and changes nothing else.
+    #[inline(always)]
+    pub fn set_six(&mut self, id: RowId, one: ThreeLinks, two: ThreeLinks)
+        requires { IsTrue (is_live self.old id) }
+        ensures arena { self.new ≡ with_links (with_links self.old id 0 one) id 3 two }
+        ensures first { ChangesLinks self.old (with_links self.old id 0 one) id 0 one }
+        ensures second { ChangesLinks (with_links self.old id 0 one) self.new id 3 two }
+        ensures next { next_id self.new ≡ next_id self.old }
+    {
+        let block = block_for(&mut self.places, &mut self.blocks, id);
+        self.blocks.set_six(block, one, two);
     }
 
     /// Three link fields of a live row, that of a number and the two behind it. The first of them is none from then on,

@@ -60,8 +60,8 @@ fn number_of(block: Option<usize>) -> u32
     }
 }
 
-// The slot of a row with these literals, which stand from there on, and without a block. There is no memory for a longer
-// row than a slot can tell of.
+// The slot of a row with these literals, which stand from there on, and without a block. There is no memory for a
+// longer row than a slot can tell of.
 pub(crate) fn slot_from(start: usize, lits: &[Lit]) -> Result<Slot, NoMemory>
     ensures { IfOk result (λ slot. slot ≡ Some (record { start = start; len = length lits.now; block = None })) }
 {

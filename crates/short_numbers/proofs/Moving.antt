@@ -10,7 +10,8 @@ abbrev pub so_far : List (Option ℕ) → ℕ → ℕ → ℕ → List (Option �
 so_far items to count k = paste items to (drop (length items - count) items) k
 
 -- what stands behind what a turn has written is as it was
-pub not_reached : (d : List (Option ℕ)) (at : ℕ) (s : List (Option ℕ)) (k i : ℕ) → at ≤ length d → k ≤ length s → at + k ≤ i
+pub not_reached : (d : List (Option ℕ)) (at : ℕ) (s : List (Option ℕ)) (k i : ℕ) → at ≤ length d → k ≤ length s → at +
+    k ≤ i
     → get_or (paste d at s k) i None ≡ get_or d i None
 not_reached d at s k i within short behind =
     let is : (at + k) + (i - (at + k)) ≡ i = omega arith in

@@ -194,7 +194,8 @@ module _ (scopes : List Scope) (clauses : List (List Literal)) (valid : IsPrefix
       }
       → HoldsFormula scopes (take (i + 1) clauses) new
   clause_fed old new holds is_new = record {
-    formula = ap (λ (e : EngineState). e.formula) is_new ∙ ap (λ f. formula_after f (AddClause (numbers row))) holds.formula
+    formula = ap (λ (e : EngineState). e.formula) is_new ∙ ap (λ f. formula_after f (AddClause (numbers row)))
+        holds.formula
         ∙ clause_given scopes (take i clauses) row valid this_over ∙ ap (λ rows. formula_with scopes rows)
         (ap (λ r. take i clauses ++ r ∷ []) is ∙ sym (take_more clauses i row low));
     undecided = ap (λ (e : EngineState). e.verdict) is_new;

@@ -40,6 +40,8 @@ module _ (pivot : Quant) (old new : Arena) (id : ℕ) (at value : Option ℕ) (m
     ones = hint_linked 0 first (omega arith) board.ones;
     twos = hint_linked 3 second (omega arith) board.twos;
     somewhere = λ i t. ap is_some (hint_owner 0 i (omega arith)) ∙ board.somewhere i (sym (hint_attached i) ∙ t);
+    alone = λ i w. hint_owner 3 i (omega arith)
+        ∙ board.alone i (sym (ap waits (hint_owner 0 i (omega arith))) ∙ w);
   }
 
   pub hint_kept : is_attached pivot old id ≡ true → KeepsRows pivot old new

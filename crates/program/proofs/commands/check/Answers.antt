@@ -48,6 +48,7 @@ returns-clause-outside g c =
       write_fault = done_counted (c.run_check.result ≡ WriteFault) c.run_check.result _ _ did.write_fault;
       steady = λ steady. (did.flows
           (c.choose.ensures.steady (subst (g.D.Desk.steady c.args.desk.now) (sym c.input_name.ensures) steady)).1).0;
-      room = λ room. did.room (subst (λ known. RoomForCheck c.args.decide (terms_of c.args.budget c.args.restarts) known (g.O.Sink.has_room c.args.out.now)) (sym same) room);
+      room = λ room. did.room (subst (λ known. RoomForCheck c.args.decide (terms_of c.args.budget c.args.restarts)
+          known (g.O.Sink.has_room c.args.out.now)) (sym same) room);
       flushed = λ done. did.flushed (done_finished c.run_check.result done);
     }

@@ -54,6 +54,7 @@ returns-clause-outside g c =
       write_fault = did.write_fault;
       steady = λ steady. (did.flows
           (c.choose.ensures.steady (subst (g.D.Desk.steady c.args.desk.now) (sym c.input_name.ensures) steady)).1).0;
-      room = λ room. did.room (subst (λ known. RoomForReplies (terms_of c.args.budget c.args.restarts) known (g.O.Sink.has_room c.args.out.now)) (sym same) room);
+      room = λ room. did.room (subst (λ known. RoomForReplies (terms_of c.args.budget c.args.restarts) known
+          (g.O.Sink.has_room c.args.out.now)) (sym same) room);
       flushed = did.flushed;
     }

@@ -150,11 +150,13 @@ returns c =
         certifies = always_certifies;
         reached = λ trim. absurd (false≢true trim);
       };
-      otherwise_assumed = λ h. not_constant h.strategy (have_one_circuit true_text always h.strategy always_denotes h.denotes)
+      otherwise_assumed = λ h. not_constant h.strategy (have_one_circuit true_text always h.strategy always_denotes
+          h.denotes)
           (h.certifies.assumed 3 false refl (λ e. absurd (let f : Some Exists ≡ Some Forall = e in cc)));
       other_value = λ h. false≢true
           (sym (h.certifies.first_values refl (minus 3) (contains_head (minus 3) []) (λ x. true))
-          ∙ three_is_true h.strategy (have_one_circuit true_text always h.strategy always_denotes h.denotes) (λ x. true));
+          ∙ three_is_true h.strategy (have_one_circuit true_text always h.strategy always_denotes h.denotes) (λ x.
+              true));
       herbrand = record {
         strategy = bare Forall;
         denotes = bare_denotes Forall;
@@ -197,7 +199,8 @@ returns c =
       in_bytes = λ h. absurd (let f : 105 ≡ 97 = ap second_byte h.denotes.lines in omega (arith, f));
       other_first_value = λ h. false≢true
           (sym (h.certifies.first_values refl (minus 3) (contains_head (minus 3) []) (λ x. true))
-          ∙ three_is_true h.strategy (have_one_circuit true_text always h.strategy always_denotes h.denotes) (λ x. true));
+          ∙ three_is_true h.strategy (have_one_circuit true_text always h.strategy always_denotes h.denotes) (λ x.
+              true));
       other_assumed_value = λ h.
           not_constant h.strategy (have_one_circuit true_text always h.strategy always_denotes h.denotes)
           (h.certifies.assumed 3 false refl (λ e. absurd (let f : Some Exists ≡ Some Forall = e in cc)));
