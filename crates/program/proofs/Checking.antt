@@ -185,7 +185,7 @@ module _ (words : List Text) (content : Content) (left : Option Text) (output : 
       → IsCheckOn decide terms (content input) told outcome text → IsVerdict words content s
   done_verdict outcome text s end on =
       ⊎_elim (λ a. answer_verdict words content left output told SolveJob terms task input asks of s (has_answer
-          outcome s end)
+      outcome s end)
       (some_map (content input) (λ bytes. Reads bytes (parsed on.formula))
       (λ bytes. OfAnswer s (Solves as_formula terms bytes))
       (λ bytes reads. (a.0, a.1, (on.formula, reads, a.2))) on.read))

@@ -84,7 +84,7 @@ module _ (words : List Text) (content : Content) (left : Option Text) (output : 
   each P usage early work (Usage text) c = usage text c.0 c.1 c.2
   each P usage early work (Worked f) c =
       ⊎_elim (λ h. subst (λ g. P (Worked g)) (sym h.0) (early h.1 h.2)) (λ h. work (task_of h.0) f (h.0, h.1, refl)
-          h.2) c
+      h.2) c
 
   pub verdict : (e : RunEnding) → Carried words content left output told e → IsVerdict words content (status_of e)
   verdict e carried = each (λ e. IsVerdict words content (status_of e))

@@ -85,8 +85,10 @@ pub valid_check : IsValid check_words (holds bare)
 valid_check = record {
   command = check;
   asks = asks_check;
-  valid = λ c asks. subst (λ d. IsValidFor (task_of d) (holds bare)) (sym (only_check c asks)) (anything_fits,
-      bare_reads);
+  valid = λ c asks. subst (λ d. IsValidFor (task_of d) (holds bare)) (sym (only_check c asks)) (
+    anything_fits,
+    bare_reads,
+  );
 }
 
 same_status : (n m : ℕ) → Done n ≡ Done m → n ≡ m

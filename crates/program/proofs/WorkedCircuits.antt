@@ -112,8 +112,10 @@ pub valid_circuit : IsValid circuit_words (holds one_text)
 valid_circuit = record {
   command = decide_circuit;
   asks = asks_circuit;
-  valid = λ c asks. subst (λ d. IsValidFor (task_of d) (holds one_text)) (sym (only_circuit c asks)) (alone Exists,
-      one_reads);
+  valid = λ c asks. subst (λ d. IsValidFor (task_of d) (holds one_text)) (sym (only_circuit c asks)) (
+    alone Exists,
+    one_reads,
+  );
 }
 
 no_circuit : (c : Circuit) × ReadsCircuit formula_text (circuit c) → ⊥

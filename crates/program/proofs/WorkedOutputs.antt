@@ -44,21 +44,21 @@ module _ (input output : Text) (stops : List Account) (status : ℕ) where
       → IsJobOutput SolveJob plain (Some input) (Some [], Some output) stops status
   of_solve some h = ⊎_elim (λ q. absurd (some (quiet q)))
       (λ r. subst (λ c. IsOutputOf (task_of c) (known_for (holds input) (task_of c)) (Some [], Some output) stops
-          status)
+      status)
       (only_solve r.0 r.1) r.2) h
 
   of_script : (output ≡ [] → ⊥) → Leaves script_words input output stops status
       → IsScriptOutput plain (Some input) (Some [], Some output) stops status
   of_script some h = ⊎_elim (λ q. absurd (some (quiet q)))
       (λ r. subst (λ c. IsOutputOf (task_of c) (known_for (holds input) (task_of c)) (Some [], Some output) stops
-          status)
+      status)
       (only_script r.0 r.1) r.2) h
 
   of_gen : (output ≡ [] → ⊥) → Leaves gen_words input output stops status
       → IsSampleOutput (formula_text (made 0 3 1)) (Some [], Some output) stops status
   of_gen some h = ⊎_elim (λ q. absurd (some (quiet q)))
       (λ r. subst (λ c. IsOutputOf (task_of c) (known_for (holds input) (task_of c)) (Some [], Some output) stops
-          status)
+      status)
       (only_gen r.0 r.1) r.2) h
 
 -- the line of an answer, flushed or not
@@ -155,7 +155,7 @@ told_none : (status : ℕ) → Contains (2 ∷ 3 ∷ 5 ∷ 6 ∷ []) status → 
     → at_thirty_six ∷ [] ≡ []
 told_none status ends h = ⊎_elim (λ q. q.2)
     (λ r. ((subst (λ c. IsOutputOf (task_of c) (known_for (holds bare) (task_of c)) (Some [], Some []) (at_thirty_six ∷
-        []) status)
+    []) status)
     (only_solve r.0 r.1) r.2).nothing ends).1) h
 
 pub tells_more : (status : ℕ) → Contains (2 ∷ 3 ∷ 5 ∷ 6 ∷ []) status

@@ -352,8 +352,10 @@ pub valid_formula : IsValid solve_words (holds bare)
 valid_formula = record {
   command = solve;
   asks = asks_solve;
-  valid = λ c asks. subst (λ d. IsValidFor (task_of d) (holds bare)) (sym (only_solve c asks)) (anything_fits,
-      bare_reads);
+  valid = λ c asks. subst (λ d. IsValidFor (task_of d) (holds bare)) (sym (only_solve c asks)) (
+    anything_fits,
+    bare_reads,
+  );
 }
 
 pub valid_script : IsValid script_words (holds header)

@@ -5,7 +5,7 @@ use Rattle.std.proofs.lemmas.Bool.{cond-false, ne_eqb, true≢false}
 use Rattle.prefix.specs.declared.quant.Quant.{Quant}
 use Rattle.rows.specs.Arena.{Arena, link_at}
 use Rattle.watch.specs.Links.{IsLinked, LeadsOnElsewhere, Moves, Writes, first_of, is_at, is_attached, mark_of, owner}
-use Rattle.watch.specs.State.{IsBoard, KeepsRows}
+use Rattle.watch.specs.State.{IsBoard, KeepsRows, waits}
 use Rattle.watch.proofs.Boards.{KeepsRows-more}
 use Rattle.watch.proofs.Threads.{Linked-same}
 

@@ -1,5 +1,5 @@
 -- A row that waits and is put in front of a list of each family.
-use Rattle.std.proofs.Common.{◌≡◌, ◌≢◌, ℕ, ◌+◌, ◌<◌, true, cond, List, length, set, Option, Some, None, sym, ap, ◌∙◌, arith, nat_eq}
+use Rattle.std.proofs.Common.{◌≡◌, ◌≢◌, ℕ, ◌+◌, ◌<◌, true, false, cond, List, length, set, Option, Some, None, sym, ap, ◌∙◌, arith, nat_eq}
 use Rattle.std.proofs.lemmas.Bool.{true≢false}
 use Rattle.prefix.specs.declared.quant.Quant.{Quant}
 use Rattle.rows.specs.Arena.{Arena, ChangesLinks, ThreeLinks, is_live, link_at, next_id}

@@ -53,4 +53,4 @@ returns-clause-ok c =
     subst (λ xs. HoldsFormula scopes xs c.loop-clause.engine)
     (all_given c.loop-clause.yielded c.loop-clause.clause-iterator.rest.items c.args.clauses.items
     (sym c.loop-clause.clause-iterator.rest.ok.0 ∙ c.in-None.ensures.steps.0) c.loop-clause.invariant.1)
-        c.loop-clause.invariant.0
+    c.loop-clause.invariant.0

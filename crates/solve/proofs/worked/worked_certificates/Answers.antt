@@ -156,7 +156,7 @@ returns c =
       other_value = λ h. false≢true
           (sym (h.certifies.first_values refl (minus 3) (contains_head (minus 3) []) (λ x. true))
           ∙ three_is_true h.strategy (have_one_circuit true_text always h.strategy always_denotes h.denotes) (λ x.
-              true));
+          true));
       herbrand = record {
         strategy = bare Forall;
         denotes = bare_denotes Forall;
@@ -200,7 +200,7 @@ returns c =
       other_first_value = λ h. false≢true
           (sym (h.certifies.first_values refl (minus 3) (contains_head (minus 3) []) (λ x. true))
           ∙ three_is_true h.strategy (have_one_circuit true_text always h.strategy always_denotes h.denotes) (λ x.
-              true));
+          true));
       other_assumed_value = λ h.
           not_constant h.strategy (have_one_circuit true_text always h.strategy always_denotes h.denotes)
           (h.certifies.assumed 3 false refl (λ e. absurd (let f : Some Exists ≡ Some Forall = e in cc)));

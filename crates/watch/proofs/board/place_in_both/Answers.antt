@@ -26,33 +26,34 @@ returns-clause-board g c =
     ∙ c.requires.board.alone id c.requires.waits.waits_now in
     let one_in : one < length c.take_out.new.lists = omega (arith, c.requires.one, c.take_out.ensures.size) in
     let ones = both_ones pivot c.take_out.new.lists c.args.second.now a0 a1 c.set_six.new.self c.write.new.rows
-        c.write-2.new.rows id one
+    c.write-2.new.rows id one
     two next_one next_two c.take_out.ensures.linked twos attached out_one out_two one_in c.requires.two
     c.swap_first-next_one.ensures.was c.swap_first-next_two.ensures.was c.set_six.ensures.first
     c.set_six.ensures.second c.set_six.ensures.next c.write.ensures c.write-2.ensures in
     let seconds = both_twos pivot c.take_out.new.lists c.args.second.now a0 a1 c.set_six.new.self c.write.new.rows
-        c.write-2.new.rows id one
+    c.write-2.new.rows id one
     two next_one next_two c.take_out.ensures.linked twos attached out_one out_two one_in c.requires.two
     c.swap_first-next_one.ensures.was c.swap_first-next_two.ensures.was c.set_six.ensures.first
     c.set_six.ensures.second c.set_six.ensures.next c.write.ensures c.write-2.ensures in
     let rest = both_kept pivot c.take_out.new.lists c.args.second.now a0 a1 c.set_six.new.self c.write.new.rows
-        c.write-2.new.rows id one
+    c.write-2.new.rows id one
     two next_one next_two c.take_out.ensures.linked twos attached out_one out_two one_in c.requires.two
     c.swap_first-next_one.ensures.was c.swap_first-next_two.ensures.was c.set_six.ensures.first
     c.set_six.ensures.second c.set_six.ensures.next c.write.ensures c.write-2.ensures in
+    rw (c.swap_first-next_one.ensures.now, c.swap_first-next_two.ensures.now) (
     settled_board pivot c.args.first.now (set c.take_out.new.lists one (Some id)) c.args.second.now
     (set c.args.second.now two (Some id)) old a0 c.write-2.new.rows id one two c.requires.board
     c.take_out.ensures.moved kept ones seconds rest c.requires.apart
     (both_first pivot c.take_out.new.lists c.args.second.now a0 a1 c.set_six.new.self c.write.new.rows
-        c.write-2.new.rows id one
+    c.write-2.new.rows id one
     two next_one next_two c.take_out.ensures.linked twos attached out_one out_two one_in c.requires.two
     c.swap_first-next_one.ensures.was c.swap_first-next_two.ensures.was c.set_six.ensures.first
     c.set_six.ensures.second c.set_six.ensures.next c.write.ensures c.write-2.ensures)
     (both_second pivot c.take_out.new.lists c.args.second.now a0 a1 c.set_six.new.self c.write.new.rows
-        c.write-2.new.rows id one
+    c.write-2.new.rows id one
     two next_one next_two c.take_out.ensures.linked twos attached out_one out_two one_in c.requires.two
     c.swap_first-next_one.ensures.was c.swap_first-next_two.ensures.was c.set_six.ensures.first
-    c.set_six.ensures.second c.set_six.ensures.next c.write.ensures c.write-2.ensures)
+    c.set_six.ensures.second c.set_six.ensures.next c.write.ensures c.write-2.ensures))
 
 pub returns-clause-ones : goal.returns-clause-ones
 returns-clause-ones g c =
@@ -74,17 +75,17 @@ returns-clause-ones g c =
     ∙ c.requires.board.alone id c.requires.waits.waits_now in
     let one_in : one < length c.take_out.new.lists = omega (arith, c.requires.one, c.take_out.ensures.size) in
     let ones = both_ones pivot c.take_out.new.lists c.args.second.now a0 a1 c.set_six.new.self c.write.new.rows
-        c.write-2.new.rows id one
+    c.write-2.new.rows id one
     two next_one next_two c.take_out.ensures.linked twos attached out_one out_two one_in c.requires.two
     c.swap_first-next_one.ensures.was c.swap_first-next_two.ensures.was c.set_six.ensures.first
     c.set_six.ensures.second c.set_six.ensures.next c.write.ensures c.write-2.ensures in
     let seconds = both_twos pivot c.take_out.new.lists c.args.second.now a0 a1 c.set_six.new.self c.write.new.rows
-        c.write-2.new.rows id one
+    c.write-2.new.rows id one
     two next_one next_two c.take_out.ensures.linked twos attached out_one out_two one_in c.requires.two
     c.swap_first-next_one.ensures.was c.swap_first-next_two.ensures.was c.set_six.ensures.first
     c.set_six.ensures.second c.set_six.ensures.next c.write.ensures c.write-2.ensures in
     let rest = both_kept pivot c.take_out.new.lists c.args.second.now a0 a1 c.set_six.new.self c.write.new.rows
-        c.write-2.new.rows id one
+    c.write-2.new.rows id one
     two next_one next_two c.take_out.ensures.linked twos attached out_one out_two one_in c.requires.two
     c.swap_first-next_one.ensures.was c.swap_first-next_two.ensures.was c.set_six.ensures.first
     c.set_six.ensures.second c.set_six.ensures.next c.write.ensures c.write-2.ensures in
@@ -112,17 +113,17 @@ returns-clause-twos g c =
     ∙ c.requires.board.alone id c.requires.waits.waits_now in
     let one_in : one < length c.take_out.new.lists = omega (arith, c.requires.one, c.take_out.ensures.size) in
     let ones = both_ones pivot c.take_out.new.lists c.args.second.now a0 a1 c.set_six.new.self c.write.new.rows
-        c.write-2.new.rows id one
+    c.write-2.new.rows id one
     two next_one next_two c.take_out.ensures.linked twos attached out_one out_two one_in c.requires.two
     c.swap_first-next_one.ensures.was c.swap_first-next_two.ensures.was c.set_six.ensures.first
     c.set_six.ensures.second c.set_six.ensures.next c.write.ensures c.write-2.ensures in
     let seconds = both_twos pivot c.take_out.new.lists c.args.second.now a0 a1 c.set_six.new.self c.write.new.rows
-        c.write-2.new.rows id one
+    c.write-2.new.rows id one
     two next_one next_two c.take_out.ensures.linked twos attached out_one out_two one_in c.requires.two
     c.swap_first-next_one.ensures.was c.swap_first-next_two.ensures.was c.set_six.ensures.first
     c.set_six.ensures.second c.set_six.ensures.next c.write.ensures c.write-2.ensures in
     let rest = both_kept pivot c.take_out.new.lists c.args.second.now a0 a1 c.set_six.new.self c.write.new.rows
-        c.write-2.new.rows id one
+    c.write-2.new.rows id one
     two next_one next_two c.take_out.ensures.linked twos attached out_one out_two one_in c.requires.two
     c.swap_first-next_one.ensures.was c.swap_first-next_two.ensures.was c.set_six.ensures.first
     c.set_six.ensures.second c.set_six.ensures.next c.write.ensures c.write-2.ensures in
@@ -150,21 +151,20 @@ returns-clause-kept g c =
     ∙ c.requires.board.alone id c.requires.waits.waits_now in
     let one_in : one < length c.take_out.new.lists = omega (arith, c.requires.one, c.take_out.ensures.size) in
     let ones = both_ones pivot c.take_out.new.lists c.args.second.now a0 a1 c.set_six.new.self c.write.new.rows
-        c.write-2.new.rows id one
+    c.write-2.new.rows id one
     two next_one next_two c.take_out.ensures.linked twos attached out_one out_two one_in c.requires.two
     c.swap_first-next_one.ensures.was c.swap_first-next_two.ensures.was c.set_six.ensures.first
     c.set_six.ensures.second c.set_six.ensures.next c.write.ensures c.write-2.ensures in
     let seconds = both_twos pivot c.take_out.new.lists c.args.second.now a0 a1 c.set_six.new.self c.write.new.rows
-        c.write-2.new.rows id one
+    c.write-2.new.rows id one
     two next_one next_two c.take_out.ensures.linked twos attached out_one out_two one_in c.requires.two
     c.swap_first-next_one.ensures.was c.swap_first-next_two.ensures.was c.set_six.ensures.first
     c.set_six.ensures.second c.set_six.ensures.next c.write.ensures c.write-2.ensures in
     let rest = both_kept pivot c.take_out.new.lists c.args.second.now a0 a1 c.set_six.new.self c.write.new.rows
-        c.write-2.new.rows id one
+    c.write-2.new.rows id one
     two next_one next_two c.take_out.ensures.linked twos attached out_one out_two one_in c.requires.two
     c.swap_first-next_one.ensures.was c.swap_first-next_two.ensures.was c.set_six.ensures.first
     c.set_six.ensures.second c.set_six.ensures.next c.write.ensures c.write-2.ensures in
     settled_kept pivot c.args.first.now (set c.take_out.new.lists one (Some id)) c.args.second.now
     (set c.args.second.now two (Some id)) old a0 c.write-2.new.rows id one two c.requires.board
     c.take_out.ensures.moved kept ones seconds rest
-

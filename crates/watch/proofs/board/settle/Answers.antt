@@ -19,11 +19,11 @@ place_in_both-requires-clause-board g c = hint_board g.S.Side.PIVOT c.args.rows.
 pub place_in_both-requires-clause-waits : goal.place_in_both-requires-clause-waits
 place_in_both-requires-clause-waits g c = record {
   attached = hint_attached g.S.Side.PIVOT c.args.rows.now c.write.new.rows c.args.id c.keeper.result
-    c.args.found c.keeper.ensures c.write.ensures c.args.id
-    ∙ c.requires.waits.attached;
+      c.args.found c.keeper.ensures c.write.ensures c.args.id
+      ∙ c.requires.waits.attached;
   waits_now = ap waits (hint_owner g.S.Side.PIVOT c.args.rows.now c.write.new.rows c.args.id c.keeper.result
-    c.args.found c.keeper.ensures c.write.ensures
-    0 c.args.id (omega arith)) ∙ c.requires.waits.waits_now;
+      c.args.found c.keeper.ensures c.write.ensures
+      0 c.args.id (omega arith)) ∙ c.requires.waits.waits_now;
 }
 
 pub returns-clause-ones : goal.returns-clause-ones

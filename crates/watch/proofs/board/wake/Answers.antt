@@ -49,7 +49,7 @@ loop-at-smaller-then-is_good_watch g c =
     let lists = lists_of family first second in
     let linked = linked_of g.S.Side.PIVOT family first second c.loop-at.rows c.loop-at.invariant.0.board in
     sifting_falls g.S.Side.PIVOT values (base_of family) (base_of (other_of family)) c.args.name lists lists
-        c.loop-at.at
+    c.loop-at.at
     c.link-at.result c.loop-at.rows c.loop-at.rows linked linked c.loop-at.invariant.1 t.0 t.1
 
 pub loop-at-preserved-then-is_good_watch : goal.loop-at-preserved-then-is_good_watch

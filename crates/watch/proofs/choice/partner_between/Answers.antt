@@ -9,6 +9,6 @@ loop-place-preserved g c =
     let test = c.loop-place-test.true in
     let within = c.requires in
     between_more (is_partner g.S.Side.PIVOT c.args.prefix.now (value_on c.args.trail.now.placed) c.args.first)
-        c.args.lits.now
+    c.args.lits.now
     c.args.from c.loop-place.place c.index-lits-place.result (omega arith) c.index-lits-place.is
     (sym c.if-is_match.ensures) c.loop-place.invariant

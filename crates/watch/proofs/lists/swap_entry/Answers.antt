@@ -1,4 +1,4 @@
-use Rattle.std.proofs.Common.{◌≡◌, ◌*◌, ◌+◌, ◌/◌, ◌%◌, ◌<◌, length, set, ap, ◌∙◌, arith}
+use Rattle.std.proofs.Common.{◌≡◌, ◌*◌, ◌+◌, ◌/◌, ◌%◌, ◌<◌, length, get_or, set, ap, ◌∙◌, arith, None}
 use Rattle.std.proofs.lemmas.List.{get_or_read}
 use Rattle.watch.specs.Entries.{heads_of, no_slot, slot_at}
 use Rattle.watch.proofs.Laying.{entry_heads, head_read}

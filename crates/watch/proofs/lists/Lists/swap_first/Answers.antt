@@ -19,8 +19,8 @@ returns-then-name-lt4-clause-now c =
     sym (set-append_left c.self.inside.low heads c.args.name c.args.first below)
     ∙ ap (λ hs. set hs c.args.name c.args.first) c.self.view_is
 
-pub returns-else-name-lt4-clause-now : goal.returns-else-name-lt4-clause-now
-returns-else-name-lt4-clause-now c =
+pub returns-clause-now : goal.returns-clause-now
+returns-clause-now c =
     let heads = heads_of c.self.inside.entries.items c.self.inside.slots.items in
     let past : 4 ≤ c.args.name = omega arith in
     ap (λ hs. c.self.inside.low ++ hs) c.swap_entry.ensures.heads
