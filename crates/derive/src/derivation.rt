@@ -465,6 +465,7 @@ impl Derivation {
 
     /// Hands out the rows. Then only `step`, `is_live`, `tag` and `next_id` are called, until they are put back. This
     /// takes no memory.
+    #[inline(always)]
     pub fn take_rows(&mut self) -> Rows
         requires { IsTrue (has_rows self.old) }
         ensures rows { Some result ≡ self.old.rows }
@@ -476,6 +477,7 @@ impl Derivation {
 
     /// Takes the rows back, under the ids that they were taken with. Their links are those of these rows. This takes
     /// no memory.
+    #[inline(always)]
     pub fn put_rows(&mut self, rows: Rows)
         requires taken { IsFalse (has_rows self.old) }
         requires fits { Fits self.old.notes rows }
