@@ -155,19 +155,10 @@ pub(crate) fn checked(
 }
 
 // The check formula of a rule, in the formula where 2 is to differ from 1.
-fn check_player(alloc: Global, game: &Formula, rule: Rule) -> Result<Formula, Fail>
-    requires prefix { game.now.prefix ≡ record { quantifier = Forall; variables = 1 ∷ [] }
-        ∷ record { quantifier = Exists; variables = 2 ∷ [] } ∷ [] }
-    requires clauses { game.now.clauses ≡ differ }
-{
-    let player = player(alloc, rule)?;
-    checked(alloc, game, &[], &player)
-}
-
-// The same of the formula that is made for it.
 pub(crate) fn check_rule(alloc: Global, rule: Rule) -> Result<Formula, Fail> {
     let game = differing(alloc)?;
-    check_player(alloc, &game, rule)
+    let player = player(alloc, rule)?;
+    Ok(check_formula(alloc, &game, &[], &player)?)
 }
 
 // A circuit without inputs and outputs.
