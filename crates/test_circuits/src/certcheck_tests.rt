@@ -4,9 +4,10 @@ use crate::games::{Rule, check_nothing, check_rule};
 use ports::MemorySink;
 use prefix::Quant;
 use qdimacs_out::write_formula;
+use std::alloc::Global;
 use std::test::Fail;
 use steps::Steps;
-use truth::decide_plain;
+use truth::{Formula, decide_plain};
 
 const OPPOSITE: &str = "p cnf 3 5\ne 1 2 3 0\n-1 -2 0\n1 -2 0\n1 -3 0\n-1 -3 0\n2 3 0\n";
 
@@ -19,63 +20,101 @@ const ASSUMED_OUTPUT: &str = "p cnf 4 5\ne 1 2 3 4 0\n2 -3 0\n1 -3 0\n-1 -2 3 0\
 const ASSUMED_INPUT: &str =
     "p cnf 4 6\ne 1 2 3 4 0\n-1 0\n2 -3 0\n1 -3 0\n-1 -2 3 0\n-3 -4 0\n4 0\n";
 
-#[test]
-fn circuits_have_these_formulas(rt: HostRuntime) -> Result<(), Fail> {
-    for (rule, want) in [
-        (Rule::Opposite, OPPOSITE),
-        (Rule::False, FALSE),
-        (Rule::True, TRUE),
-    ] {
-        let mut sink = MemorySink::new(rt.alloc(), 128, 128, Vec::new(rt.alloc()))?;
-        write_formula(&check_rule(rt.alloc(), rule)?, &mut sink)?;
-        assert_eq!(rt; sink.bytes(), want.as_bytes(), "{rule:?}");
+// A circuit that plays a formula: by a rule; without inputs and outputs, for a winner; or with an assumed variable.
+#[derive(Clone, Copy, Debug)]
+enum Game {
+    Rule(Rule),
+    Nothing(Quant),
+    AssumedOutput,
+    AssumedInput,
+}
+
+// The check formula of a game.
+fn formula_of(alloc: Global, game: Game) -> Result<Formula, Fail> {
+    match game {
+        Game::Rule(rule) => check_rule(alloc, rule),
+        Game::Nothing(winner) => check_nothing(alloc, winner),
+        Game::AssumedOutput => check_assumed_output(alloc),
+        Game::AssumedInput => check_assumed_input(alloc),
+    }
+}
+
+// Whether a formula is written so.
+fn is_written(sink: &mut MemorySink, f: &Formula, text: &str) -> Result<bool, Fail> {
+    write_formula(f, sink)?;
+    Ok(sink.bytes() == text.as_bytes())
+}
+
+// The same in a new sink.
+fn is_text(alloc: Global, f: &Formula, text: &str) -> Result<bool, Fail> {
+    let mut sink = MemorySink::new(alloc, 128, 128, Vec::new(alloc))?;
+    is_written(&mut sink, f, text)
+}
+
+// Whether the check formula of a game has this text.
+fn has_text(alloc: Global, game: Game, text: &str) -> Result<bool, Fail> {
+    let f = formula_of(alloc, game)?;
+    is_text(alloc, &f, text)
+}
+
+// The same of each game. Fails with the first one that isn't so.
+fn have_texts(alloc: Global, games: &[(Game, &str)]) -> Result<(), Fail> {
+    for (game, text) in games {
+        if !has_text(alloc, *game, text)? {
+            return Err(*game)?;
+        }
     }
     Ok(())
+}
+
+#[test]
+fn circuits_have_these_formulas(rt: HostRuntime) -> Result<(), Fail> {
+    let games = [
+        (Game::Rule(Rule::Opposite), OPPOSITE),
+        (Game::Rule(Rule::False), FALSE),
+        (Game::Rule(Rule::True), TRUE),
+    ];
+    have_texts(rt.alloc(), &games)
 }
 
 #[test]
 fn without_variables_there_is_no_scope(rt: HostRuntime) -> Result<(), Fail> {
-    for (winner, want) in [
-        (Quant::Exists, "p cnf 0 1\n0\n"),
-        (Quant::Forall, "p cnf 1 1\ne 1 0\n1 0\n"),
-    ] {
-        let mut sink = MemorySink::new(rt.alloc(), 128, 128, Vec::new(rt.alloc()))?;
-        write_formula(&check_nothing(rt.alloc(), winner)?, &mut sink)?;
-        assert_eq!(rt; sink.bytes(), want.as_bytes(), "{winner:?}");
-    }
-    Ok(())
+    let games = [
+        (Game::Nothing(Quant::Exists), "p cnf 0 1\n0\n"),
+        (Game::Nothing(Quant::Forall), "p cnf 1 1\ne 1 0\n1 0\n"),
+    ];
+    have_texts(rt.alloc(), &games)
 }
 
 #[test]
 fn assumed_outputs_have_selectors(rt: HostRuntime) -> Result<(), Fail> {
-    let mut sink = MemorySink::new(rt.alloc(), 128, 128, Vec::new(rt.alloc()))?;
-    write_formula(&check_assumed_output(rt.alloc())?, &mut sink)?;
-    assert_eq!(rt; sink.bytes(), ASSUMED_OUTPUT.as_bytes());
-    Ok(())
+    have_texts(rt.alloc(), &[(Game::AssumedOutput, ASSUMED_OUTPUT)])
 }
 
 #[test]
 fn assumed_inputs_have_their_values(rt: HostRuntime) -> Result<(), Fail> {
-    let mut sink = MemorySink::new(rt.alloc(), 128, 128, Vec::new(rt.alloc()))?;
-    write_formula(&check_assumed_input(rt.alloc())?, &mut sink)?;
-    assert_eq!(rt; sink.bytes(), ASSUMED_INPUT.as_bytes());
-    Ok(())
+    have_texts(rt.alloc(), &[(Game::AssumedInput, ASSUMED_INPUT)])
+}
+
+// What the plain decider finds within a hundred steps.
+fn is_true(alloc: Global, f: &Formula) -> Result<bool, Fail> {
+    Ok(decide_plain(alloc, f, &mut Steps::new(100))?)
+}
+
+// Whether the circuit of a rule loses, by its check formula.
+fn loses(alloc: Global, rule: Rule) -> Result<bool, Fail> {
+    let f = check_rule(alloc, rule)?;
+    is_true(alloc, &f)
 }
 
 #[test]
 fn a_circuit_that_loses_has_values_that_show_it(rt: HostRuntime) -> Result<(), Fail> {
-    for (rule, loses) in [
+    for (rule, want) in [
         (Rule::Opposite, false),
         (Rule::False, true),
         (Rule::True, true),
     ] {
-        let mut steps = Steps::new(100);
-        let f = check_rule(rt.alloc(), rule)?;
-        assert_eq!(rt;
-            decide_plain(rt.alloc(), &f, &mut steps)?,
-            loses,
-            "{rule:?}"
-        );
+        assert_eq!(rt; loses(rt.alloc(), rule)?, want, "{rule:?}");
     }
     Ok(())
 }

@@ -22,11 +22,9 @@ fn first_edges(alloc: Global, aig: &Aig) -> Result<Vec<Edge>, Fail>
     requires { aig.now.inputs ≡ 2 }
     ensures { IfOk result (λ edges. All (IsEdge aig.now) edges.items) }
 {
-    let mut edges = Vec::new(alloc);
-    edges.push(Edge::constant(false))?;
-    edges.push(aig.input(0))?;
-    edges.push(aig.input(1))?;
-    Ok(edges)
+    let first = aig.input(0);
+    let second = aig.input(1);
+    Ok(Vec::from_slice(alloc, &[Edge::constant(false), first, second])?)
 }
 
 // Puts a gate.
@@ -60,13 +58,31 @@ fn variable(n: u32) -> Result<Var, Fail> {
 }
 
 // The inputs' variables.
-fn two_inputs(alloc: Global) -> Result<Vec<Var>, Fail>
-    ensures { IfOk result (λ vars. length vars.items ≡ 2) }
+fn two_inputs(alloc: Global) -> Result<VarList, Fail>
+    ensures { IfOk result (λ vars. length vars ≡ 2) }
 {
-    let mut vars = Vec::new(alloc);
-    vars.push(variable(1)?)?;
-    vars.push(variable(2)?)?;
-    Ok(vars)
+    let first = variable(1)?;
+    let second = variable(2)?;
+    Ok(VarList::from_vec(Vec::from_slice(alloc, &[first, second])?))
+}
+
+// Puts the outputs with these variables and literals in a list.
+fn put_outputs(
+    aig: &Aig,
+    edges: &[Edge],
+    list: &mut Vec<Output>,
+    outputs: &[(u32, usize)],
+) -> Result<(), Fail>
+    requires edges { All (IsEdge aig.now) edges.now }
+    requires list { All (λ o. IsEdge aig.now o.edge) list.old.items }
+    ensures { OnOk result (All (λ o. IsEdge aig.now o.edge) list.new.items) }
+{
+    for (var, literal) in outputs {
+        let var = variable(*var)?;
+        let edge = edge_of(aig, edges, *literal)?;
+        list.push(Output { var, edge })?;
+    }
+    Ok(())
 }
 
 // The outputs with these variables and literals.
@@ -75,17 +91,44 @@ fn outputs_of(
     aig: &Aig,
     edges: &[Edge],
     outputs: &[(u32, usize)],
-) -> Result<Vec<Output>, Fail>
+) -> Result<OutputList, Fail>
     requires { All (IsEdge aig.now) edges.now }
-    ensures { IfOk result (λ list. All (λ o. IsEdge aig.now o.edge) list.items) }
+    ensures { IfOk result (λ list. All (λ o. IsEdge aig.now o.edge) list) }
 {
     let mut list = Vec::new(alloc);
-    for (var, literal) in outputs {
-        let var = variable(*var)?;
-        let edge = edge_of(aig, edges, *literal)?;
-        list.push(Output { var, edge })?;
-    }
-    Ok(list)
+    put_outputs(aig, edges, &mut list, outputs)?;
+    Ok(OutputList::from_vec(list))
+}
+
+// Puts gates behind these edges, and finds the outputs.
+fn put_behind(
+    alloc: Global,
+    aig: &mut Aig,
+    edges: &mut Vec<Edge>,
+    gates: &[(usize, usize)],
+    outputs: &[(u32, usize)],
+) -> Result<OutputList, Fail>
+    requires { All (IsEdge aig.old) edges.old.items }
+    ensures outputs { IfOk result (λ list. All (λ o. IsEdge aig.new o.edge) list) }
+    ensures inputs { OnOk result (aig.new.inputs ≡ aig.old.inputs) }
+{
+    put_gates(aig, edges, gates)?;
+    outputs_of(alloc, aig, edges, outputs)
+}
+
+// Puts gates behind the two inputs, and finds the outputs.
+fn put_all(
+    alloc: Global,
+    aig: &mut Aig,
+    gates: &[(usize, usize)],
+    outputs: &[(u32, usize)],
+) -> Result<OutputList, Fail>
+    requires { aig.old.inputs ≡ 2 }
+    ensures outputs { IfOk result (λ list. All (λ o. IsEdge aig.new o.edge) list) }
+    ensures inputs { OnOk result (aig.new.inputs ≡ 2) }
+{
+    let mut edges = first_edges(alloc, aig)?;
+    put_behind(alloc, aig, &mut edges, gates, outputs)
 }
 
 // The strategy with these gates and outputs.
@@ -98,14 +141,12 @@ pub(crate) fn strategy(
     ensures { IfOk result IsStrategy }
 {
     let mut aig = Aig::new(alloc, 2)?;
-    let mut edges = first_edges(alloc, &aig)?;
-    put_gates(&mut aig, &mut edges, gates)?;
+    let outputs = put_all(alloc, &mut aig, gates, outputs)?;
     let inputs = two_inputs(alloc)?;
-    let outputs = outputs_of(alloc, &aig, &edges, outputs)?;
     Ok(Strategy {
         aig,
         winner,
-        inputs: VarList::from_vec(inputs),
-        outputs: OutputList::from_vec(outputs),
+        inputs,
+        outputs,
     })
 }

@@ -1,8 +1,12 @@
 //! Texts of trimmed circuits.
+ghost use Rattle.aig.specs.Strategies.{IsStrategy};
+
 use crate::gates::strategy;
+use aig::Strategy;
 use aiger_out::write_aag;
 use ports::MemorySink;
 use prefix::Quant;
+use std::alloc::Global;
 use std::test::Fail;
 use trim::trim;
 
@@ -71,37 +75,89 @@ const ROWS: [Row; 9] = [
     },
 ];
 
-#[test]
-fn trimmed_circuits_have_these_texts(rt: HostRuntime) -> Result<(), Fail> {
-    for row in ROWS {
-        let mut sink = MemorySink::new(rt.alloc(), 256, 256, Vec::new(rt.alloc()))?;
-        let s = strategy(rt.alloc(), Quant::Exists, row.gates, row.outputs)?;
-        write_aag(&trim(rt.alloc(), &s)?, &mut sink)?;
-        assert_eq!(rt; sink.bytes(), row.text.as_bytes(), "{:?}", row.text);
+// The first row's circuit with another output, of the universal player.
+const HERBRAND: Row = Row {
+    gates: &[(4, 2)],
+    outputs: &[(3, 3)],
+    text: "aag 2 2 0 1 0\n2\n4\n3\ni0 1\ni1 2\no0 3\nc\nherbrand\n",
+};
+
+// Whether a circuit is written so.
+fn is_written(sink: &mut MemorySink, strategy: &Strategy, text: &str) -> Result<bool, Fail>
+    requires { IsStrategy strategy.now }
+{
+    write_aag(strategy, sink)?;
+    Ok(sink.bytes() == text.as_bytes())
+}
+
+// The same in a new sink.
+fn has_text(alloc: Global, strategy: &Strategy, text: &str) -> Result<bool, Fail>
+    requires { IsStrategy strategy.now }
+{
+    let mut sink = MemorySink::new(alloc, 256, 256, Vec::new(alloc))?;
+    is_written(&mut sink, strategy, text)
+}
+
+// Whether a circuit has this text once it is trimmed.
+fn is_trimmed(alloc: Global, strategy: &Strategy, text: &str) -> Result<bool, Fail>
+    requires { IsStrategy strategy.now }
+{
+    let trimmed = trim(alloc, strategy)?;
+    has_text(alloc, &trimmed, text)
+}
+
+// Whether it has this text once it is trimmed twice.
+fn is_trimmed_again(alloc: Global, strategy: &Strategy, text: &str) -> Result<bool, Fail>
+    requires { IsStrategy strategy.now }
+{
+    let once = trim(alloc, strategy)?;
+    is_trimmed(alloc, &once, text)
+}
+
+// How often a circuit is trimmed.
+#[derive(Clone, Copy)]
+enum Times {
+    Once,
+    Twice,
+}
+
+fn is_right(alloc: Global, strategy: &Strategy, text: &str, times: Times) -> Result<bool, Fail>
+    requires { IsStrategy strategy.now }
+{
+    match times {
+        Times::Once => is_trimmed(alloc, strategy, text),
+        Times::Twice => is_trimmed_again(alloc, strategy, text),
+    }
+}
+
+// Whether the circuit of a row has the row's text once it is trimmed so often.
+fn holds(alloc: Global, winner: Quant, row: Row, times: Times) -> Result<bool, Fail> {
+    let strategy = strategy(alloc, winner, row.gates, row.outputs)?;
+    is_right(alloc, &strategy, row.text, times)
+}
+
+// The same of each row. Fails with the text of the first one that isn't so.
+fn hold(alloc: Global, rows: &[Row], times: Times) -> Result<(), Fail> {
+    for row in rows {
+        if !holds(alloc, Quant::Exists, *row, times)? {
+            return Err(row.text)?;
+        }
     }
     Ok(())
+}
+
+#[test]
+fn trimmed_circuits_have_these_texts(rt: HostRuntime) -> Result<(), Fail> {
+    hold(rt.alloc(), &ROWS, Times::Once)
 }
 
 #[test]
 fn trimmed_again_they_stay(rt: HostRuntime) -> Result<(), Fail> {
-    for row in ROWS {
-        let mut sink = MemorySink::new(rt.alloc(), 256, 256, Vec::new(rt.alloc()))?;
-        let s = strategy(rt.alloc(), Quant::Exists, row.gates, row.outputs)?;
-        let once = trim(rt.alloc(), &s)?;
-        write_aag(&trim(rt.alloc(), &once)?, &mut sink)?;
-        assert_eq!(rt; sink.bytes(), row.text.as_bytes(), "{:?}", row.text);
-    }
-    Ok(())
+    hold(rt.alloc(), &ROWS, Times::Twice)
 }
 
 #[test]
 fn the_winner_stays(rt: HostRuntime) -> Result<(), Fail> {
-    let mut sink = MemorySink::new(rt.alloc(), 128, 128, Vec::new(rt.alloc()))?;
-    let s = strategy(rt.alloc(), Quant::Forall, &[(4, 2)], &[(3, 3)])?;
-    write_aag(&trim(rt.alloc(), &s)?, &mut sink)?;
-    assert_eq!(rt;
-        sink.bytes(),
-        b"aag 2 2 0 1 0\n2\n4\n3\ni0 1\ni1 2\no0 3\nc\nherbrand\n".as_slice()
-    );
+    assert!(rt; holds(rt.alloc(), Quant::Forall, HERBRAND, Times::Once)?);
     Ok(())
 }

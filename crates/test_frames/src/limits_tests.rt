@@ -1,10 +1,11 @@
 //! As many scopes as may stand, and what is refused then.
 use frames::Frames;
 use prefix::{Prefix, PrefixRefusal, Quant};
+use std::alloc::Global;
 use std::test::Fail;
 
 // Puts in as many scopes as may stand, the quantifiers in turn.
-fn fill(prefix: &mut Prefix) -> Result<(), Fail> {
+fn fill(prefix: &mut Prefix) -> Result<(), PrefixRefusal> {
     for number in 0..Prefix::MAX_SCOPES {
         let quant = if number % 2 == 0 {
             Quant::Exists
@@ -41,12 +42,21 @@ fn has_last_scope(prefix: &mut Prefix) -> bool {
         && prefix.len() == 1
 }
 
+// Whether as many are put in as may, and no more.
+fn takes_all(prefix: &mut Prefix) -> Result<bool, Fail> {
+    fill(prefix)?;
+    Ok(is_full(prefix) && has_last_scope(prefix))
+}
+
+// The same of a new prefix.
+fn has_limit(alloc: Global) -> Result<bool, Fail> {
+    let mut prefix = Prefix::new(alloc);
+    takes_all(&mut prefix)
+}
+
 #[test]
 fn as_many_scopes_are_added_as_may(rt: HostRuntime) -> Result<(), Fail> {
-    let mut prefix = Prefix::new(rt.alloc());
-    fill(&mut prefix)?;
-    let is_right = is_full(&mut prefix) && has_last_scope(&mut prefix);
-    assert!(rt; is_right);
+    assert!(rt; has_limit(rt.alloc())?);
     Ok(())
 }
 
@@ -60,9 +70,13 @@ fn scopes_of(frames: &mut Frames) -> (usize, Option<u8>) {
     (frames.prefix().scopes(), None)
 }
 
+// The same of new frames.
+fn limit_of(alloc: Global) -> (usize, Option<u8>) {
+    let mut frames = Frames::new(alloc);
+    scopes_of(&mut frames)
+}
+
 #[test]
-fn a_scope_too_many_is_refused_by_its_number(rt: HostRuntime) -> Result<(), Fail> {
-    let mut frames = Frames::new(rt.alloc());
-    assert_eq!(rt; scopes_of(&mut frames), (65_536, Some(4)));
-    Ok(())
+fn a_scope_too_many_is_refused_by_its_number(rt: HostRuntime) {
+    assert_eq!(rt; limit_of(rt.alloc()), (65_536, Some(4)));
 }

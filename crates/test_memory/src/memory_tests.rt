@@ -140,10 +140,10 @@ fn has_answer(engine: &mut Engine, turn: Turn, want: Answer) -> bool {
     told(engine) == left && after(engine, turn) == want
 }
 
-// Whether all calls have their answers.
-fn have_answers(engine: &mut Engine) -> bool {
-    for (turn, want) in TURNS {
-        if !has_answer(engine, turn, want) {
+// Whether all these calls have their answers.
+fn have_answers(engine: &mut Engine, turns: &[(Turn, Answer)]) -> bool {
+    for (turn, want) in turns {
+        if !has_answer(engine, *turn, *want) {
             return false;
         }
     }
@@ -170,19 +170,19 @@ fn pops(engine: &mut Engine, open: usize) -> bool {
     engine.pop() == Err(FrameRefusal::NoFrame) && (open > 0 || told(engine) == before)
 }
 
-// Whether the calls up to the first that wants memory have their answers, and there as many frames are popped as are
-// open.
-fn pops_where_refused(engine: &mut Engine) -> bool {
+// Whether those of these calls up to the first that wants memory have their answers, and there as many frames are
+// popped as are open.
+fn pops_where_refused(engine: &mut Engine, turns: &[(Turn, Answer)]) -> bool {
     let mut open = 0;
-    for (turn, want) in TURNS {
-        let answer = after(engine, turn);
+    for (turn, want) in turns {
+        let answer = after(engine, *turn);
         if answer == Answer::NoMemory {
             return pops(engine, open);
         }
-        if answer != want {
+        if answer != *want {
             return false;
         }
-        open = open_behind(open, turn);
+        open = open_behind(open, *turn);
     }
     pops(engine, 0)
 }
@@ -204,8 +204,8 @@ enum Look {
 
 fn is_right(engine: &mut Engine, look: Look) -> bool {
     match look {
-        Look::Again => have_answers(engine),
-        Look::Popping => pops_where_refused(engine),
+        Look::Again => have_answers(engine, &TURNS),
+        Look::Popping => pops_where_refused(engine, &TURNS),
     }
 }
 

@@ -2,9 +2,10 @@
 use crate::circuits::{Case, formula_of};
 use ports::MemorySink;
 use qdimacs_out::write_formula;
+use std::alloc::Global;
 use std::test::Fail;
 use steps::Steps;
-use truth::decide_plain;
+use truth::{Formula, decide_plain};
 
 const SAME_AFTER: &str =
     "p cnf 12 10\na 7 0\ne 3 5 9 12 0\n7 -12 0\n3 -12 0\n-3 -7 12 0\n-5 -7 0\n-3 -5 0\n\
@@ -20,32 +21,67 @@ const DOUBLED: &str =
 
 const NOTHING: &str = "p cnf 2 2\ne 2 0\n-2 0\n2 0\n";
 
+// Whether a formula is written as this text.
+fn writes(sink: &mut MemorySink, formula: &Formula, want: &str) -> Result<bool, Fail> {
+    write_formula(formula, sink)?;
+    Ok(sink.bytes() == want.as_bytes())
+}
+
+fn is_written(alloc: Global, formula: &Formula, want: &str) -> Result<bool, Fail> {
+    let mut sink = MemorySink::new(alloc, 256, 256, Vec::new(alloc))?;
+    writes(&mut sink, formula, want)
+}
+
+// Whether the formula of a circuit is written so.
+fn has_text(alloc: Global, case: Case, want: &str) -> Result<bool, Fail> {
+    let formula = formula_of(alloc, case)?;
+    is_written(alloc, &formula, want)
+}
+
+// The same of each. Fails with the place of the first one that has another text.
+fn have_texts(alloc: Global, cases: &[(Case, &str)]) -> Result<(), Fail> {
+    for (place, (case, want)) in cases.iter().enumerate() {
+        if !has_text(alloc, *case, want)? {
+            return Err(("circuit", place))?;
+        }
+    }
+    Ok(())
+}
+
 #[test]
 fn circuits_have_these_formulas(rt: HostRuntime) -> Result<(), Fail> {
-    for (case, want) in [
+    let cases = [
         (Case::SameAfter, SAME_AFTER),
         (Case::SameBefore, SAME_BEFORE),
         (Case::Doubled, DOUBLED),
         (Case::Nothing, NOTHING),
-    ] {
-        let mut sink = MemorySink::new(rt.alloc(), 256, 256, Vec::new(rt.alloc()))?;
-        write_formula(&formula_of(rt.alloc(), case)?, &mut sink)?;
-        assert_eq!(rt; sink.bytes(), want.as_bytes(), "{case:?}");
+    ];
+    have_texts(rt.alloc(), &cases)
+}
+
+// The truth of the formula of a circuit.
+fn truth_of(alloc: Global, case: Case) -> Result<bool, Fail> {
+    let formula = formula_of(alloc, case)?;
+    Ok(decide_plain(alloc, &formula, &mut Steps::new(1000))?)
+}
+
+// Circuits have these truths. Fails with the place of the first one that has the other one.
+fn have_truths(alloc: Global, cases: &[(Case, bool)]) -> Result<(), Fail> {
+    for (place, (case, want)) in cases.iter().enumerate() {
+        if truth_of(alloc, *case)? != *want {
+            return Err(("circuit", place))?;
+        }
     }
     Ok(())
 }
 
 #[test]
 fn formulas_are_true_where_circuits_are(rt: HostRuntime) -> Result<(), Fail> {
-    for (case, want) in [
+    let cases = [
         (Case::SameAfter, true),
         (Case::SameBefore, false),
         (Case::Doubled, true),
         (Case::Nothing, false),
-    ] {
-        let mut steps = Steps::new(1000);
-        let f = formula_of(rt.alloc(), case)?;
-        assert_eq!(rt; decide_plain(rt.alloc(), &f, &mut steps)?, want, "{case:?}");
-    }
-    Ok(())
+    ];
+    have_truths(rt.alloc(), &cases)
 }

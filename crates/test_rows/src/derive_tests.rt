@@ -6,7 +6,7 @@ ghost use Rattle.derive.specs.State.{has_rows};
 use super::rows_tests::{has_link, has_lits};
 use derive::{Derivation, Step, StepId};
 use fixtures::{Workshop, by_turns, row, rows, variable};
-use prefix::{Prefix, Quant};
+use prefix::{LitList, Prefix, Quant};
 use rows::Rows;
 use std::alloc::Global;
 use std::test::Fail;
@@ -231,18 +231,55 @@ fn are_left(derivation: &Derivation) -> bool {
         && derivation.is_live(4)
 }
 
-// Whether of the steps 0 to 4 the first and the last are left, where of the variables 1 and 2 are.
+// Whether of the steps 0 to 4 the first and the last are left, where those go that name a variable outside a prefix.
+fn go_outside(derivation: &mut Derivation, prefix: &Prefix) -> bool
+    requires { IsTrue (has_rows derivation.old) }
+{
+    let is_right = names_first(derivation, prefix);
+    derivation.drop_outside(0, prefix);
+    is_right && are_left(derivation)
+}
+
+// The same where of the variables 1 and 2 are.
 fn go_with_variables(alloc: Global, derivation: &mut Derivation) -> Result<bool, Fail>
     requires { IsTrue (has_rows derivation.old) }
 {
     let prefix = by_turns(alloc, Quant::Exists, &[2])?;
-    let is_right = names_first(derivation, &prefix);
-    derivation.drop_outside(0, &prefix);
-    Ok(is_right && are_left(derivation))
+    Ok(go_outside(derivation, &prefix))
 }
 
 // The frame of a group's clauses.
 const GROUP: usize = 65_537;
+
+// Puts in a group's clauses at once, and the ids of their reductions at the end of a list; whether that holds these.
+fn list_group(
+    derivation: &mut Derivation,
+    prefix: &Prefix,
+    clauses: &[LitList],
+    reductions: &mut Vec<StepId>,
+    ids: [StepId; 2],
+) -> Result<bool, Fail>
+    requires { IsTrue (has_rows derivation.old) }
+    ensures { IsTrue (has_rows derivation.new) }
+{
+    derivation.input_clauses(prefix, clauses, GROUP, reductions)?;
+    Ok(reductions.as_slice() == ids.as_slice())
+}
+
+// The same with a list of its own.
+fn put_group(
+    alloc: Global,
+    derivation: &mut Derivation,
+    prefix: &Prefix,
+    clauses: &[LitList],
+    ids: [StepId; 2],
+) -> Result<bool, Fail>
+    requires { IsTrue (has_rows derivation.old) }
+    ensures { IsTrue (has_rows derivation.new) }
+{
+    let mut reductions = Vec::new(alloc);
+    list_group(derivation, prefix, clauses, &mut reductions, ids)
+}
 
 // Puts in the clauses 1 2 and -1 at once; whether their reductions have these ids.
 fn come_at_once(
@@ -255,9 +292,7 @@ fn come_at_once(
     ensures { IsTrue (has_rows derivation.new) }
 {
     let clauses = rows(alloc, &[1, 2, 0, -1, 0])?;
-    let mut reductions = Vec::new(alloc);
-    derivation.input_clauses(prefix, &clauses, GROUP, &mut reductions)?;
-    Ok(reductions.as_slice() == ids.as_slice())
+    put_group(alloc, derivation, prefix, &clauses, ids)
 }
 
 // Whether the steps from an id on are an input clause of the group, its reduction, and another such clause, and the
@@ -277,17 +312,33 @@ fn is_grouped(derivation: &Derivation, id: StepId, step: Step) -> bool {
     derivation.is_live(id) && derivation.tag(id) == GROUP && derivation.step(id) == step
 }
 
+// Whether of the steps 0, 1 and 3 the first is left.
+fn is_first_left(derivation: &Derivation) -> bool {
+    derivation.is_live(0) && !derivation.is_live(1) && !derivation.is_live(3)
+}
+
 // Whether the clauses of a group come in behind the steps 0 and 1, of which the second goes, a cube that hits the first
 // of them alone; and whether they go with the group's frame, and come in again.
+fn group_goes_between(
+    alloc: Global,
+    derivation: &mut Derivation,
+    prefix: &Prefix,
+) -> Result<bool, Fail>
+    requires { IsTrue (has_rows derivation.old) }
+{
+    let came = come_at_once(alloc, derivation, prefix, [3, 4])? && are_grouped(derivation, 2);
+    derivation.drop_frame(GROUP);
+    let went = is_first_left(derivation);
+    let again = come_at_once(alloc, derivation, prefix, [6, 7])? && are_grouped(derivation, 5);
+    Ok(came && went && again)
+}
+
+// The same over existential 1 and universal 2.
 fn group_comes_again(alloc: Global, derivation: &mut Derivation) -> Result<bool, Fail>
     requires { IsTrue (has_rows derivation.old) }
 {
     let prefix = by_turns(alloc, Quant::Exists, &[1, 1])?;
-    let came = come_at_once(alloc, derivation, &prefix, [3, 4])? && are_grouped(derivation, 2);
-    derivation.drop_frame(GROUP);
-    let went = derivation.is_live(0) && !derivation.is_live(1) && !derivation.is_live(3);
-    let again = come_at_once(alloc, derivation, &prefix, [6, 7])? && are_grouped(derivation, 5);
-    Ok(came && went && again)
+    group_goes_between(alloc, derivation, &prefix)
 }
 
 // Whether step 1, while the rows are taken, is the clause of frame 1 that it was, and the last step.
@@ -326,14 +377,19 @@ fn link_taken(derivation: &mut Derivation) -> bool
     is_right
 }
 
+// Whether the first row has its literal and its link, and the second isn't live.
+fn is_as_it_was(rows: &Rows, alloc: Global) -> Result<bool, Fail> {
+    let has_its_link = !rows.is_live(1) && has_link(rows, 0, 5, Some(9));
+    Ok(has_lits(rows, alloc, 0, &[1])? && has_its_link)
+}
+
 // Whether the first row has its literal and its link, and the second goes with frame 1.
 fn is_linked(alloc: Global, derivation: &mut Derivation) -> Result<bool, Fail>
     requires { IsTrue (has_rows derivation.old) }
 {
     derivation.drop_frame(1);
     let rows = derivation.take_rows();
-    let is_as_it_was = !rows.is_live(1) && has_link(&rows, 0, 5, Some(9));
-    Ok(has_lits(&rows, alloc, 0, &[1])? && is_as_it_was)
+    is_as_it_was(&rows, alloc)
 }
 
 // Whether links and steps are right while the rows are taken, and after they are put back.
@@ -398,15 +454,13 @@ fn a_clause_comes_with_its_reduction(rt: HostRuntime) -> Result<(), Fail> {
     play(rt.alloc(), Quant::Exists, &turns)
 }
 
+// Whether the pivot quantifier stands first, a row, what is left of it, and the id of that step.
+type Reduction = (bool, [i32; 2], [i32; 2], StepId);
+
 // What is left of a clause and of a cube, and the id of that step, where 1 stands before 2 and is of the side's pivot
 // quantifier or not.
-fn reduce_both(
-    alloc: Global,
-    pivot_first: bool,
-    numbers: [i32; 2],
-    want: [i32; 2],
-    id: StepId,
-) -> Result<(), Fail> {
+fn reduce_both(alloc: Global, case: Reduction) -> Result<(), Fail> {
+    let (pivot_first, numbers, want, id) = case;
     let outer = if pivot_first {
         Quant::Exists
     } else {
@@ -422,20 +476,25 @@ fn reduce_both(
     play(alloc, outer.other(), &cube)
 }
 
+fn reduce_each(alloc: Global, cases: &[Reduction]) -> Result<(), Fail> {
+    for case in cases {
+        reduce_both(alloc, *case)?;
+    }
+    Ok(())
+}
+
 // What nothing blocks goes, and else the step itself is the answer.
 #[test]
 fn reductions_on_both_sides(rt: HostRuntime) -> Result<(), Fail> {
-    for (pivot_first, numbers, want, id) in [
+    let cases = [
         (true, [1, 2], [1, 0], 1),
         (true, [-1, -2], [-1, 0], 1),
         (true, [2, 0], [2, 0], 0),
         (false, [1, 2], [1, 2], 0),
         (false, [1, 0], [1, 0], 0),
         (false, [0, 0], [0, 0], 0),
-    ] {
-        reduce_both(rt.alloc(), pivot_first, numbers, want, id)?;
-    }
-    Ok(())
+    ];
+    reduce_each(rt.alloc(), &cases)
 }
 
 // Two cubes, what rests on each and on both: a clause that both hit takes none of them, one that the second misses

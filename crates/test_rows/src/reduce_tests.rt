@@ -14,12 +14,18 @@ fn two_then_one<S: Side>(alloc: Global, pivot_first: bool) -> Result<Prefix, Fai
     }
 }
 
-// A row as it is before it is written: with the literal of a number, or empty for 0.
-fn row_before(alloc: Global, number: i32) -> Result<Row, Fail> {
-    let mut row = Row::new(alloc);
+// Puts the literal of a number into a row, or nothing for 0.
+fn put(row: &mut Row, number: i32) -> Result<(), Fail> {
     if number != 0 {
         row.push(literal(number)?)?;
     }
+    Ok(())
+}
+
+// A row as it is before it is written: with the literal of a number, or empty for 0.
+fn row_before(alloc: Global, number: i32) -> Result<Row, Fail> {
+    let mut row = Row::new(alloc);
+    put(&mut row, number)?;
     Ok(row)
 }
 
@@ -43,6 +49,17 @@ fn is_case<S: Side>(prefix: &Prefix, case: &[LitList], out: &mut Row) -> Result<
 }
 
 // The same for rows that are given by numbers, each with a 0 behind it.
+fn is_listed_case<S: Side>(
+    alloc: Global,
+    prefix: &Prefix,
+    numbers: &[i32],
+    out: &mut Row,
+) -> Result<bool, Fail> {
+    let case = rows(alloc, numbers)?;
+    is_case::<S>(prefix, &case, out)
+}
+
+// The same for each case. Fails with the place of the first one that isn't so.
 fn are_cases<S: Side>(
     alloc: Global,
     prefix: &Prefix,
@@ -50,14 +67,25 @@ fn are_cases<S: Side>(
     out: &mut Row,
 ) -> Result<(), Fail> {
     for (place, case) in cases.iter().enumerate() {
-        if !is_case::<S>(prefix, &rows(alloc, case)?, out)? {
+        if !is_listed_case::<S>(alloc, prefix, case, out)? {
             return Err(("case", place))?;
         }
     }
     Ok(())
 }
 
-// The same of one side, written over a row with the literal of a number, or over an empty one for 0.
+// The same written over a row with the literal of a number, or over an empty one for 0.
+fn reduces_over<S: Side>(
+    alloc: Global,
+    prefix: &Prefix,
+    before: i32,
+    cases: &[[i32; 6]],
+) -> Result<(), Fail> {
+    let mut out = row_before(alloc, before)?;
+    are_cases::<S>(alloc, prefix, cases, &mut out)
+}
+
+// The same of one side.
 fn reduces<S: Side>(
     alloc: Global,
     pivot_first: bool,
@@ -65,8 +93,7 @@ fn reduces<S: Side>(
     cases: &[[i32; 6]],
 ) -> Result<(), Fail> {
     let prefix = two_then_one::<S>(alloc, pivot_first)?;
-    let mut out = row_before(alloc, before)?;
-    are_cases::<S>(alloc, &prefix, cases, &mut out)
+    reduces_over::<S>(alloc, &prefix, before, cases)
 }
 
 #[test]
@@ -105,13 +132,25 @@ fn is_resolution(case: &[LitList], out: &mut Row) -> Result<bool, Fail> {
 }
 
 // The same for rows that are given by numbers, each with a 0 behind it.
+fn is_listed_resolution(alloc: Global, numbers: &[i32], out: &mut Row) -> Result<bool, Fail> {
+    let case = rows(alloc, numbers)?;
+    is_resolution(&case, out)
+}
+
+// The same for each case. Fails with the place of the first one that isn't so.
 fn are_resolutions(alloc: Global, cases: &[[i32; 12]], out: &mut Row) -> Result<(), Fail> {
     for (place, case) in cases.iter().enumerate() {
-        if !is_resolution(&rows(alloc, case)?, out)? {
+        if !is_listed_resolution(alloc, case, out)? {
             return Err(("case", place))?;
         }
     }
     Ok(())
+}
+
+// The same written over a row with the literal of a number.
+fn resolves(alloc: Global, before: i32, cases: &[[i32; 12]]) -> Result<(), Fail> {
+    let mut out = row_before(alloc, before)?;
+    are_resolutions(alloc, cases, &mut out)
 }
 
 #[test]
@@ -121,8 +160,7 @@ fn a_resolvent_has_each_literal_once(rt: HostRuntime) -> Result<(), Fail> {
         [2, 0, -2, 0, 0, 0, 0, 0, 0, 0, 0, 0],
         [2, 7, 0, -2, 4, 6, 0, 4, 6, 7, 0, 0],
     ];
-    let mut out = row_before(rt.alloc(), 5)?;
-    are_resolutions(rt.alloc(), &cases, &mut out)
+    resolves(rt.alloc(), 5, &cases)
 }
 
 // Whether two rows clash but over a variable; none where one of them doesn't ascend.

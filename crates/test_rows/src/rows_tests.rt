@@ -1,5 +1,6 @@
 //! Tests of `rows`.
 use fixtures::row;
+use prefix::Lit;
 use rows::{RowId, Rows, ThreeLinks};
 use std::alloc::Global;
 use std::test::Fail;
@@ -34,6 +35,17 @@ fn add(rows: &mut Rows, alloc: Global, numbers: &[i32], id: RowId) -> Result<boo
     Ok(rows.add(&lits)? == id)
 }
 
+fn add_behind(
+    rows: &mut Rows,
+    alloc: Global,
+    first: &[Lit],
+    numbers: &[i32],
+    ids: (RowId, RowId),
+) -> Result<bool, Fail> {
+    let second = row(alloc, numbers)?;
+    Ok(rows.add_pair(first, &second)? == ids)
+}
+
 fn add_pair(
     rows: &mut Rows,
     alloc: Global,
@@ -41,8 +53,8 @@ fn add_pair(
     second: &[i32],
     ids: (RowId, RowId),
 ) -> Result<bool, Fail> {
-    let (first, second) = (row(alloc, first)?, row(alloc, second)?);
-    Ok(rows.add_pair(&first, &second)? == ids)
+    let first = row(alloc, first)?;
+    add_behind(rows, alloc, &first, second, ids)
 }
 
 fn free(rows: &mut Rows, id: RowId) -> bool {
@@ -73,6 +85,10 @@ fn take_links(rows: &mut Rows, id: RowId, base: usize, values: ThreeLinks) -> bo
     base <= 5 && rows.is_live(id) && rows.take_links(id, base) == values
 }
 
+fn is_row(rows: &Rows, id: RowId, lits: &[Lit]) -> bool {
+    rows.is_live(id) && rows.lits(id) == lits
+}
+
 pub(crate) fn has_lits(
     rows: &Rows,
     alloc: Global,
@@ -80,7 +96,7 @@ pub(crate) fn has_lits(
     numbers: &[i32],
 ) -> Result<bool, Fail> {
     let lits = row(alloc, numbers)?;
-    Ok(rows.is_live(id) && rows.lits(id) == lits.as_slice())
+    Ok(is_row(rows, id, &lits))
 }
 
 pub(crate) fn has_link(rows: &Rows, id: RowId, k: usize, value: Option<usize>) -> bool {

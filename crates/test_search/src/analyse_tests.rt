@@ -285,6 +285,14 @@ enum Told {
     NoMemory,
 }
 
+// What is told, with which row, after so many steps.
+#[derive(Clone, Copy)]
+struct Asked {
+    told: Told,
+    row: StepId,
+    taken: u64,
+}
+
 fn told_by_stop(stop: &Stop) -> (Told, StepId) {
     match stop {
         Stop::Spent => (Told::Spent, 0),
@@ -437,6 +445,16 @@ impl<S: Side> Board<S> {
     fn has_row(&self, id: StepId, lits: &[Lit]) -> bool {
         self.derivation.is_live(id) && self.derivation.lits(id) == lits
     }
+
+    // The id that comes next.
+    fn next_id(&self) -> StepId {
+        self.derivation.next_id()
+    }
+
+    // Whether the reason of a variable is marked.
+    fn is_marked(&self, v: Var) -> bool {
+        self.trail.is_clean(v)
+    }
 }
 
 // What a test does. A row is given by the numbers of its literals, filled up with 0.
@@ -481,29 +499,55 @@ impl<S: Side> Game<S> {
         Ok(())
     }
 
+    fn put_row(&mut self, numbers: &[i32]) -> Result<(), Fail> {
+        let lits = row(self.alloc, numbers)?;
+        self.put(&lits)
+    }
+
     fn assign(&mut self, lit: Lit, why: Why) -> Result<(), Fail> {
         self.board.assign(lit, why, &mut self.steps)
     }
 
+    fn propagate(&mut self, number: i32, index: usize) -> Result<(), Fail> {
+        let reason = *self.rows.get(index).ok_or("no row")?;
+        self.assign(literal(number)?, Why::Propagated(reason))
+    }
+
     fn make(&mut self, next: Move) -> Result<(), Fail> {
         match next {
-            Move::Put(numbers) => self.put(&row(self.alloc, &numbers)?),
+            Move::Put(numbers) => self.put_row(&numbers),
             Move::Assume(number) => self.assign(literal(number)?, Why::Assumed),
             Move::Decide(number) => self.assign(literal(number)?, Why::Decided),
-            Move::Propagate(number, index) => {
-                let reason = *self.rows.get(index).ok_or("no row")?;
-                self.assign(literal(number)?, Why::Propagated(reason))
-            }
+            Move::Propagate(number, index) => self.propagate(number, index),
             Move::Ask(ask, budget, told, numbers, taken) => {
                 self.see(ask, budget, told, &numbers, taken)
             }
-            Move::Marked(number, marked) => {
-                if self.board.trail.is_clean(variable(number)?) != marked {
-                    return Err("another mark")?;
-                }
-                Ok(())
-            }
+            Move::Marked(number, marked) => self.see_mark(number, marked),
         }
+    }
+
+    fn make_all(&mut self, moves: &[Move]) -> Result<(), Fail> {
+        for next in moves {
+            self.make(*next)?;
+        }
+        Ok(())
+    }
+
+    // Sees that the reason of a variable is marked, or isn't.
+    fn see_mark(&self, number: u32, marked: bool) -> Result<(), Fail> {
+        if self.board.is_marked(variable(number)?) != marked {
+            return Err("another mark")?;
+        }
+        Ok(())
+    }
+
+    // Asks for the last row with so many steps.
+    fn ask(&mut self, ask: Ask, budget: u64) -> Result<Asked, Fail> {
+        let last = *self.rows.last().ok_or("no row")?;
+        let mut steps = Steps::new(budget);
+        let (told, row) = self.board.ask(ask, last, &mut steps)?;
+        let taken = steps.spent();
+        Ok(Asked { told, row, taken })
     }
 
     // Sees that this is told, with a row of these literals unless it is a stop, and at most two rows a step come in.
@@ -515,34 +559,50 @@ impl<S: Side> Game<S> {
         numbers: &[i32],
         taken: u64,
     ) -> Result<(), Fail> {
-        let last = *self.rows.last().ok_or("no row")?;
         let lits = row(self.alloc, numbers)?;
-        let before = self.board.derivation.next_id();
-        let mut steps = Steps::new(budget);
-        let (answer, id) = self.board.ask(ask, last, &mut steps)?;
-        if answer != told || steps.spent() != taken {
+        self.see_lits(ask, budget, told, &lits, taken)
+    }
+
+    // The same of literals.
+    fn see_lits(
+        &mut self,
+        ask: Ask,
+        budget: u64,
+        told: Told,
+        lits: &[Lit],
+        taken: u64,
+    ) -> Result<(), Fail> {
+        let before = self.board.next_id();
+        let answer = self.ask(ask, budget)?;
+        if answer.told != told || answer.taken != taken {
             return Err("another answer")?;
         }
-        if told != Told::Spent && !self.board.has_row(id, &lits) {
+        if told != Told::Spent && !self.board.has_row(answer.row, lits) {
             return Err("another row")?;
         }
         let most = before.saturating_add((taken as usize).saturating_mul(2));
-        if self.board.derivation.next_id() > most {
+        if self.board.next_id() > most {
             return Err("too many rows")?;
         }
         Ok(())
     }
 }
 
-// The same table of moves on both sides, over scopes of so many variables each by turns.
+// A table of moves on one side, over scopes of so many variables each by turns.
+fn run_on<S: Side>(
+    alloc: Global,
+    pivot_first: bool,
+    sizes: &[u64],
+    moves: &[Move],
+) -> Result<(), Fail> {
+    let mut game = Game::<S>::new(alloc, pivot_first, sizes)?;
+    game.make_all(moves)
+}
+
+// The same table on both sides.
 fn run(alloc: Global, pivot_first: bool, sizes: &[u64], moves: &[Move]) -> Result<(), Fail> {
-    let mut clauses = Game::<Clauses>::new(alloc, pivot_first, sizes)?;
-    let mut cubes = Game::<Cubes>::new(alloc, pivot_first, sizes)?;
-    for next in moves {
-        clauses.make(*next)?;
-        cubes.make(*next)?;
-    }
-    Ok(())
+    run_on::<Clauses>(alloc, pivot_first, sizes, moves)?;
+    run_on::<Cubes>(alloc, pivot_first, sizes, moves)
 }
 
 // The blocker 3 of the open 2 is resolved away; no pivot-type literal is left.

@@ -140,39 +140,76 @@ fn played(
     player.losers(clauses, group, alone, both)
 }
 
+// The same with a matrix of its own for both.
+fn joined(
+    alloc: Global,
+    clauses: &[LitList],
+    group: &[LitList],
+    alone: &Matrix<'_>,
+) -> Result<[Quant; 3], Fail>
+    requires { alone.now ≡ clauses.now }
+{
+    let mut both = Matrix::new(alloc, clauses);
+    both.push(group)?;
+    played(alloc, clauses, group, alone, &both)
+}
+
 // The same with matrices of their own.
 fn lent(alloc: Global, clauses: &[LitList], group: &[LitList]) -> Result<[Quant; 3], Fail> {
     let alone = Matrix::new(alloc, clauses);
-    let mut both = Matrix::new(alloc, clauses);
-    both.push(group)?;
-    played(alloc, clauses, group, &alone, &both)
+    joined(alloc, clauses, group, &alone)
+}
+
+// The same of a group's clauses that end in 0.
+fn grouped(alloc: Global, clauses: &[LitList], group: &[i32]) -> Result<[Quant; 3], Fail> {
+    let group = rows(alloc, group)?;
+    lent(alloc, clauses, &group)
 }
 
 // The same of clauses that end in 0.
 fn losers(alloc: Global, clauses: &[i32], group: &[i32]) -> Result<[Quant; 3], Fail> {
     let clauses = rows(alloc, clauses)?;
-    let group = rows(alloc, group)?;
-    lent(alloc, &clauses, &group)
+    grouped(alloc, &clauses, group)
+}
+
+// Clauses and a group's, each with a 0 behind it, and the sides that lose.
+#[derive(Clone, Copy)]
+struct Case {
+    clauses: &'static [i32],
+    group: &'static [i32],
+    sides: [Quant; 3],
+}
+
+const CASES: [Case; 3] = [
+    Case {
+        clauses: &[1, 2, 3, 0, -2, -3, 0],
+        group: &[-1, 2, 0, 1, 2, -3, 0],
+        sides: [Quant::Exists, Quant::Forall, Quant::Exists],
+    },
+    Case {
+        clauses: &[1, 0, 2, 3, 0],
+        group: &[1, 2, 0, 1, -3, 0],
+        sides: [Quant::Forall, Quant::Forall, Quant::Forall],
+    },
+    Case {
+        clauses: &[1, 0, -1, 0],
+        group: &[3, 0],
+        sides: [Quant::Exists, Quant::Exists, Quant::Exists],
+    },
+];
+
+// These sides lose. Fails with the place of the first case where others do.
+fn come_and_go(alloc: Global, cases: &[Case]) -> Result<(), Fail> {
+    for (place, case) in cases.iter().enumerate() {
+        if losers(alloc, case.clauses, case.group)? != case.sides {
+            return Err(("case", place))?;
+        }
+    }
+    Ok(())
 }
 
 // A group makes a true formula false, goes, and makes it false again; and one that changes nothing changes nothing.
 #[test]
 fn a_group_comes_and_goes(rt: HostRuntime) -> Result<(), Fail> {
-    let (a, e) = (Quant::Forall, Quant::Exists);
-    for (clauses, group, sides) in [
-        (
-            [1, 2, 3, 0, -2, -3, 0].as_slice(),
-            [-1, 2, 0, 1, 2, -3, 0].as_slice(),
-            [e, a, e],
-        ),
-        (
-            [1, 0, 2, 3, 0].as_slice(),
-            [1, 2, 0, 1, -3, 0].as_slice(),
-            [a, a, a],
-        ),
-        ([1, 0, -1, 0].as_slice(), [3, 0].as_slice(), [e, e, e]),
-    ] {
-        assert!(rt; losers(rt.alloc(), clauses, group)? == sides);
-    }
-    Ok(())
+    come_and_go(rt.alloc(), &CASES)
 }

@@ -59,15 +59,13 @@ impl Model for Game {
 }
 
 impl Game {
-    // An empty trail over so many existential variables and then a universal one, and a decider with room for so many
-    // variables.
-    fn new(alloc: Global, first: u64, room: usize) -> Result<Self, Fail> {
-        let mut decider = Decider::new(alloc);
-        decider.reserve(room)?;
+    // An empty trail over so many existential variables and then a universal one, and a decider without room.
+    fn new(alloc: Global, first: u64) -> Result<Self, Fail> {
+        let prefix = by_turns(alloc, Quant::Exists, &[first, 1])?;
         Ok(Self {
-            prefix: by_turns(alloc, Quant::Exists, &[first, 1])?,
+            prefix,
             trail: Trail::new(alloc),
-            decider,
+            decider: Decider::new(alloc),
             steps: Steps::new(100),
         })
     }
@@ -181,12 +179,18 @@ impl Game {
         }
         Ok(())
     }
+
+    // The same once there is room for so many variables.
+    fn play(&mut self, room: usize, turns: &[Turn]) -> Result<(), Fail> {
+        self.reserve(room)?;
+        self.make_all(turns)
+    }
 }
 
-// The same with a new decider, which has room for so many variables, over so many existential ones.
+// The same with a new decider, over so many existential variables.
 fn play_over(alloc: Global, first: u64, room: usize, turns: &[Turn]) -> Result<(), Fail> {
-    let mut game = Game::new(alloc, first, room)?;
-    game.make_all(turns)
+    let mut game = Game::new(alloc, first)?;
+    game.play(room, turns)
 }
 
 // The same over the existential variables 1 and 2 and the universal 3.

@@ -321,16 +321,30 @@ fn assumed_value(trail: &Trail, v: Var) -> Option<bool> {
     }
 }
 
-// Assumes 1 and not 2 where the budget is this.
-fn assume_two(trail: &mut Trail, prefix: &Prefix, budget: u64) -> Result<Assumed, Fail>
+// What assuming left on a trail, where there were steps for both or weren't, and the second literal is over a variable.
+fn left(trail: &Trail, is_paid: bool, second: Var) -> Assumed {
+    let value = assumed_value(trail, second);
+    (is_paid, trail.len(), trail.level(), trail.assigned(), value)
+}
+
+// Assumes 1 and not 2 by these steps.
+fn assume_by(trail: &mut Trail, prefix: &Prefix, steps: &mut Steps) -> Result<Assumed, Fail>
     requires kept { IsTrailFor prefix.now trail.old }
     requires allowed { trail.old.allowed ≢ Nothing }
 {
     let (one, two) = (variable(1)?, variable(2)?);
     let (first, second) = (Lit::new(one, true), Lit::new(two, false));
-    let is_paid = assume(trail, prefix, first, second, &mut Steps::new(budget))?;
-    let value = assumed_value(trail, two);
-    Ok((is_paid, trail.len(), trail.level(), trail.assigned(), value))
+    let is_paid = assume(trail, prefix, first, second, steps)?;
+    Ok(left(trail, is_paid, two))
+}
+
+// The same where the budget is this.
+fn assume_two(trail: &mut Trail, prefix: &Prefix, budget: u64) -> Result<Assumed, Fail>
+    requires kept { IsTrailFor prefix.now trail.old }
+    requires allowed { trail.old.allowed ≢ Nothing }
+{
+    let mut steps = Steps::new(budget);
+    assume_by(trail, prefix, &mut steps)
 }
 
 // The same on a new trail.
@@ -340,15 +354,20 @@ fn assume_anew(alloc: Global, budget: u64) -> Result<Assumed, Fail> {
     assume_two(&mut trail, &prefix, budget)
 }
 
-#[test]
-fn assumptions_that_cant_all_be_paid_are_undone(rt: HostRuntime) -> Result<(), Fail> {
-    if assume_anew(rt.alloc(), 1)? != (false, 0, 0, 1, None) {
+// Assuming leaves what it should with one step, and with two. Fails with the budget where it doesn't.
+fn are_undone(alloc: Global) -> Result<(), Fail> {
+    if assume_anew(alloc, 1)? != (false, 0, 0, 1, None) {
         return Err("with one step")?;
     }
-    if assume_anew(rt.alloc(), 2)? != (true, 2, 0, 2, Some(false)) {
+    if assume_anew(alloc, 2)? != (true, 2, 0, 2, Some(false)) {
         return Err("with two steps")?;
     }
     Ok(())
+}
+
+#[test]
+fn assumptions_that_cant_all_be_paid_are_undone(rt: HostRuntime) -> Result<(), Fail> {
+    are_undone(rt.alloc())
 }
 
 #[test]

@@ -1,6 +1,9 @@
 //! Conflicts that come up in games that are drawn.
-use super::{Board, Game, Told, is_pending, is_unit};
-use derive::StepId;
+ghost use Rattle.std.specs.Prelude.{IsTrue};
+ghost use Rattle.derive.specs.State.{has_rows};
+
+use super::{Asked, Board, Game, Told, is_pending, is_unit};
+use derive::{Derivation, StepId};
 use fixtures::{Random, literal, variable};
 use prefix::{Clauses, Cubes, Lit, Prefix, Side, Var};
 use std::alloc::Global;
@@ -8,15 +11,20 @@ use std::test::Fail;
 use steps::Steps;
 use trail::{Trail, Why};
 
-// A row over most of six variables.
-fn draw_row(alloc: Global, random: &mut Random) -> Result<Vec<Lit>, Fail> {
-    let mut lits = Vec::new(alloc);
+// Puts a row over most of six variables at the end of a list.
+fn draw_lits(random: &mut Random, lits: &mut Vec<Lit>) -> Result<(), Fail> {
     for number in 1..7 {
         let drawn = random.below(5);
         if drawn != 0 {
             lits.push(Lit::new(variable(number)?, drawn % 2 == 0))?;
         }
     }
+    Ok(())
+}
+
+fn draw_row(alloc: Global, random: &mut Random) -> Result<Vec<Lit>, Fail> {
+    let mut lits = Vec::new(alloc);
+    draw_lits(random, &mut lits)?;
     Ok(lits)
 }
 
@@ -52,27 +60,59 @@ impl<S: Side> Board<S> {
         None
     }
 
-    // Whether a lesson is right by the plain definitions, where nothing is assumed: no literal is pivot-type; or the
-    // row is unit in the literal once the trail is cut to the level, and not once it is cut to the one below.
-    fn is_lesson(self, told: Told, id: StepId) -> Result<bool, Fail> {
+    // Whether what was learned, if anything was, took a resolution. Fails where it is no lesson.
+    fn teaches(self, learned: Option<Asked>) -> Result<bool, Fail> {
         let Self {
             prefix,
             derivation,
             mut trail,
             ..
         } = self;
-        if !derivation.is_live(id) {
-            return Ok(false);
-        }
-        let lits = derivation.lits(id);
-        match told {
-            Told::End => Ok(is_end::<S>(&prefix, lits)),
-            Told::Learn(number, level) => {
-                let lit = literal(number)?;
-                Ok(is_unit_first_at::<S>(&mut trail, &prefix, lits, lit, level))
+        has_resolved::<S>(&prefix, &derivation, &mut trail, learned)
+    }
+}
+
+// The same of what a board has.
+fn has_resolved<S: Side>(
+    prefix: &Prefix,
+    derivation: &Derivation,
+    trail: &mut Trail,
+    learned: Option<Asked>,
+) -> Result<bool, Fail>
+    requires { IsTrue (has_rows derivation.now) }
+{
+    match learned {
+        None => Ok(false),
+        Some(asked) => {
+            if !is_lesson::<S>(prefix, derivation, trail, asked)? {
+                return Err("another lesson than the plain definitions")?;
             }
-            _ => Ok(false),
+            Ok(asked.taken > 0)
         }
+    }
+}
+
+// Whether a lesson is right by the plain definitions, where nothing is assumed: no literal is pivot-type; or the row is
+// unit in the literal once the trail is cut to the level, and not once it is cut to the one below.
+fn is_lesson<S: Side>(
+    prefix: &Prefix,
+    derivation: &Derivation,
+    trail: &mut Trail,
+    asked: Asked,
+) -> Result<bool, Fail>
+    requires { IsTrue (has_rows derivation.now) }
+{
+    if !derivation.is_live(asked.row) {
+        return Ok(false);
+    }
+    let lits = derivation.lits(asked.row);
+    match asked.told {
+        Told::End => Ok(is_end::<S>(prefix, lits)),
+        Told::Learn(number, level) => {
+            let lit = literal(number)?;
+            Ok(is_unit_first_at::<S>(trail, prefix, lits, lit, level))
+        }
+        _ => Ok(false),
     }
 }
 
@@ -142,16 +182,47 @@ impl<S: Side> Game<S> {
         }
     }
 
+    // Puts in a row that is drawn.
+    fn put_drawn(&mut self, random: &mut Random) -> Result<(), Fail> {
+        let lits = draw_row(self.alloc, random)?;
+        self.put(&lits)
+    }
+
+    fn put_many(&mut self, random: &mut Random) -> Result<(), Fail> {
+        for _row in 0..32 {
+            self.put_drawn(random)?;
+        }
+        Ok(())
+    }
+
     // Rows that are drawn, and six turns, as there are six variables.
     fn play(&mut self, random: &mut Random) -> Result<(), Fail> {
-        for _row in 0..32 {
-            let lits = draw_row(self.alloc, random)?;
-            self.put(&lits)?;
-        }
+        self.put_many(random)?;
         for _turn in 0..6 {
             self.turn(random)?;
         }
         Ok(())
+    }
+
+    fn analyse(&mut self, id: StepId) -> Result<Asked, Fail> {
+        let mut steps = Steps::new(1000);
+        let (told, row) = self.board.analyse(id, &mut steps)?;
+        let taken = steps.spent();
+        Ok(Asked { told, row, taken })
+    }
+
+    // What is learned of a conflict, if there is one.
+    fn learn(&mut self) -> Result<Option<Asked>, Fail> {
+        match self.bad_row() {
+            None => Ok(None),
+            Some(id) => Ok(Some(self.analyse(id)?)),
+        }
+    }
+
+    // Plays at random, and learns.
+    fn play_and_learn(&mut self, seed: u32) -> Result<Option<Asked>, Fail> {
+        self.play(&mut Random::new(seed))?;
+        self.learn()
     }
 }
 
@@ -165,20 +236,9 @@ fn game_of<S: Side>(alloc: Global, pivot_first: bool) -> Result<Game<S>, Fail> {
 
 // Plays a game at random up to a conflict, if there is one, and analyses it; whether that took a resolution.
 fn conflict_teaches<S: Side>(alloc: Global, seed: u32) -> Result<bool, Fail> {
-    let mut random = Random::new(seed);
-    let mut steps = Steps::new(1000);
     let mut game = game_of::<S>(alloc, seed % 2 == 0)?;
-    game.play(&mut random)?;
-    match game.bad_row() {
-        None => Ok(false),
-        Some(id) => {
-            let (told, learned) = game.board.analyse(id, &mut steps)?;
-            if !game.board.is_lesson(told, learned)? {
-                return Err("another lesson than the plain definitions")?;
-            }
-            Ok(steps.spent() > 0)
-        }
-    }
+    let learned = game.play_and_learn(seed)?;
+    game.board.teaches(learned)
 }
 
 // At least fifty conflicts of one side that take a resolution.

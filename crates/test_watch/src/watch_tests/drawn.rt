@@ -47,12 +47,17 @@ fn draw_lit(random: &mut Random) -> Result<Lit, Fail> {
     Ok(Lit::new(variable(number)?, positive))
 }
 
-// A row of at most five of them, now and then twice the same or one with its negation.
-fn draw_row(alloc: Global, random: &mut Random) -> Result<Vec<Lit>, Fail> {
-    let mut row = Vec::new(alloc);
+// Puts at most five of them at the end of a list, now and then twice the same or one with its negation.
+fn draw_lits(random: &mut Random, row: &mut Vec<Lit>) -> Result<(), Fail> {
     for _ in 0..random.below(6) {
         row.push(draw_lit(random)?)?;
     }
+    Ok(())
+}
+
+fn draw_row(alloc: Global, random: &mut Random) -> Result<Vec<Lit>, Fail> {
+    let mut row = Vec::new(alloc);
+    draw_lits(random, &mut row)?;
     Ok(row)
 }
 
@@ -147,6 +152,31 @@ fn move_some<S: Side>(
     }
 }
 
+// Many of these; whether all is right.
+fn move_often<S: Side>(
+    desk: &mut Desk<S>,
+    alloc: Global,
+    random: &mut Random,
+    tally: &mut Tally,
+) -> Result<bool, Fail> {
+    for _ in 0..2500 {
+        if !move_some(desk, alloc, random, tally)? {
+            return Ok(false);
+        }
+    }
+    Ok(true)
+}
+
+// The same, and whether each event came at times.
+fn fills<S: Side>(
+    desk: &mut Desk<S>,
+    alloc: Global,
+    random: &mut Random,
+    tally: &mut Tally,
+) -> Result<bool, Fail> {
+    Ok(move_often(desk, alloc, random, tally)? && tally.is_full())
+}
+
 // Many of these, from a seed; whether all is right, and each event comes at times.
 pub(crate) fn are_right<S: Side>(
     desk: &mut Desk<S>,
@@ -155,10 +185,5 @@ pub(crate) fn are_right<S: Side>(
 ) -> Result<bool, Fail> {
     let mut random = Random::new(seed);
     let mut tally = Tally::new();
-    for _ in 0..2500 {
-        if !move_some(desk, alloc, &mut random, &mut tally)? {
-            return Ok(false);
-        }
-    }
-    Ok(tally.is_full())
+    fills(desk, alloc, &mut random, &mut tally)
 }
