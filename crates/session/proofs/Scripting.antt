@@ -18,7 +18,7 @@ use Rattle.qscript.specs.State.{EndsReading, Heads}
 use Rattle.solve.specs.declared.ending.Ending.{Ending}
 use Rattle.solve.specs.declared.ending.Ending.TheVariants.{Done, Limit, CheckLimit, NoMemory, ReadFault, Refused, WriteFault}
 use Rattle.solve.specs.Outputs.{Text, says}
-use Rattle.session.specs.Scripts.{Answers, AreAnswered, AreFirst, EndsScript, IsLeftAt, IsReadOut, IsScriptEnding, IsSentAt, RoomForReplies, ending_of, start_in}
+use Rattle.session.specs.Scripts.{Answers, AreAnswered, AreFirst, EndsScript, IsLeftAt, IsOfText, IsReadOut, IsScriptEnding, IsSentAt, RoomForReplies, ending_of, start_in}
 use Rattle.solve.specs.Endings.{ending_for, IsDone}
 use Rattle.solve.specs.Terms.{Terms}
 use Rattle.solve.proofs.Written.{some_map, front_all, flushed_kept}
@@ -30,11 +30,6 @@ AllRead = (text : List ℕ) → (version : Option Version) × (cs : List Command
 
 pub each_script : AllRead
 each_script text = let r = reading_of text in (r.version, r.script.0, r.script.1, computed_reading text)
-
--- the script that is known is that of the text
-abbrev pub IsOfText : Option (List ℕ) → Option Version → Option Script → Type 0
-IsOfText known version script = IfSome known (λ text. (cs : List Command) × (e : ScriptEnding)
-    × ReadsScript text version cs e × (script ≡ Some (cs, e)))
 
 -- what a reader in front of a text is to read
 abbrev pub IsReader : (Option (List ℕ) → Option Reading) → Type 0

@@ -1,5 +1,5 @@
 -- What the work on a script comes to.
-use Rattle.std.specs.Prelude.{◌≡◌, ◌≢◌, ℕ, List, ◌++◌, length, Option, Some, IfSome, Result, Ok, Err, ⊤, None}
+use Rattle.std.specs.Prelude.{◌≡◌, ◌≢◌, ℕ, List, ◌++◌, length, Option, Some, IfErr, IfSome, Result, Ok, Err, ⊤, None}
 use Rattle.std.specs.Io.KnownBytes.{Appends}
 use Rattle.ports.specs.Bytes.{AppendsFront}
 use Rattle.trail.specs.State.{Account}
@@ -17,6 +17,8 @@ use Rattle.solve.specs.Outputs.{Output, Text}
 use Rattle.solve.specs.Standing.{Standing, start, start_of}
 use Rattle.solve.specs.Holding.{Holds}
 use Rattle.solve.specs.Terms.{Terms}
+use Rattle.solve.specs.Endings.{IsDone}
+use Rattle.solve.specs.Outside.{SendsReply}
 
 -- the same by what a header names; where it names no version, no command is given
 abbrev pub start_in : Option Version → Standing
@@ -139,3 +141,18 @@ pub record IsUnderWay (terms : Terms) (s : Standing) (script to_come : Option Sc
     (IsSent : Text → Type 0) (stops : List Account × List Account) : Type 0 where
   pub so_far : Answers terms s script (λ rest. to_come ≡ Some rest) IsSent stops
   pub holds : Holds terms e so_far.after
+
+-- the script that is known is that of the text
+abbrev pub IsOfText : Option (List ℕ) → Option Version → Option Script → Type 0
+IsOfText known version script = IfSome known (λ text. (cs : List Command) × (e : ScriptEnding)
+    × ReadsScript text version cs e × (script ≡ Some (cs, e)))
+
+-- What the work on the commands of a text comes to, once the header was read: its ending is that of the script, the
+-- replies were sent, and flushed where it ends well.
+pub record IsWorkedOff {S : Type 0} (written flushed : S → Option (List ℕ)) (faults : S → ℕ)
+    (has_room : S → ℕ → Type 0) (terms : Terms) (known : Option (List ℕ)) (old new : S)
+    (stops : List Account × List Account) (result : Result (Unit {0}) Ending) : Type 0 where
+  pub ending : IfSome known (λ text. IsScriptEnding text (ending_of result))
+  pub err : IfErr result (λ e. ¬ IsDone e)
+  pub sent : SendsReply written flushed faults (RoomForReplies terms known (has_room old)) old new result
+  pub answered : AreAnswered terms known (written old, written new) stops (ending_of result)

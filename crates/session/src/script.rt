@@ -1,17 +1,18 @@
 //! A script, read from the chosen input and replied to.
-ghost use Rattle.std.specs.Prelude.{◌≡◌, ◌≢◌, ℕ, false, List, IfErr, IfOk, IfSome, IsErrOf, IsOk, OnErr, OnOk, [], Some, None};
+ghost use Rattle.std.specs.Prelude.{◌≡◌, ◌≢◌, ℕ, false, List, Option, IfErr, IfOk, IfSome, IsErrOf, IsOk, OnErr, OnOk, [], Some, None};
 ghost use Rattle.ports.specs.Bytes.{AllFlushed};
 ghost use Rattle.ports.specs.Causes.{IsCounted};
 ghost use Rattle.qscript.specs.declared.command.Command.{Command as AnyCommand};
 ghost use Rattle.qscript.specs.Reads.{Ending as ScriptEnding};
 ghost use Rattle.qscript.specs.State.{EndsWith, is_fault, upcoming};
-ghost use Rattle.session.specs.Scripts.{Answers, AreAnswered, IsLeftAt, IsScriptEnding, IsScriptOf, IsSentAt, RoomForReplies, ending_of};
+ghost use Rattle.session.specs.Scripts.{Answers, AreAnswered, IsLeftAt, IsOfText, IsScriptEnding, IsScriptOf, IsSentAt, IsWorkedOff, RoomForReplies, ending_of};
 ghost use Rattle.session.specs.Steps.{Goes};
 ghost use Rattle.solve.specs.Endings.{IsDone};
 ghost use Rattle.solve.specs.Outside.{SendsReply, TakesInput};
 ghost use Rattle.solve.specs.Standing.{Standing, start_of};
 ghost use Rattle.solve.specs.Holding.{Holds};
 ghost use Rattle.solve.specs.Terms.{terms_of};
+ghost use Rattle.versions.specs.declared.version.Version.{Version as AnyVersion};
 
 use crate::reply::{Reply, SessionStop};
 use crate::session::Session;
@@ -82,7 +83,28 @@ fn answer_script<D: Desk, S: Sink>(
     let mut reader = ScriptReader::new(alloc)?;
     let version = reader.read_header(desk)?;
     let mut session = session_with(alloc, version, budget, restarts)?;
-    answer_commands(&mut session, &mut reader, desk, sink, stops)?;
+    answer_all(&mut session, &mut reader, desk, sink, stops)
+}
+
+// Replies to the commands that a reader has before it, and flushes.
+fn answer_all<D: Desk, S: Sink>(
+    session: &mut Session,
+    reader: &mut ScriptReader,
+    desk: &mut D,
+    sink: &mut S,
+    stops: &mut Vec<Stopped>,
+) -> Result<(), Ending>
+    requires ready { reader.old.failed ≡ false }
+    requires end { EndsWith reader.old.ahead (D.left desk.old) }
+    ensures all { (known : Option (List ℕ)) (version : AnyVersion)
+        → IsOfText known (Some version) (upcoming reader.old (D.left desk.old))
+        → Holds session.old.terms session.old.engine (start_of version)
+        → IsWorkedOff S.written S.flushed S.faults S.has_room session.old.terms known sink.old sink.new
+        (stops.old.items, stops.new.items) result }
+    ensures unstopped { OnOk result (is_fault reader.old.ahead ≡ false) }
+    ensures desk { TakesInput D.content D.left D.faults D.steady D.flows desk.old desk.new result }
+{
+    answer_commands(session, reader, desk, sink, stops)?;
     Ok(sink.flush()?)
 }
 
