@@ -82,7 +82,8 @@ front_same (f ∷ fs) (g ∷ gs) (x ∷ rest) same = at_first f g fs gs x.0 x.1 
 
 -- the scopes in front of which the variables stand that were found by marks
 pub scopes_are : (sets : List QuantSet) (clauses : List (List ℤ)) (found : List ℕ) (occur marks seen known : List Bool)
-    (old new : List QuantSet) → AreMarks occur (map nat_abs (literals_of clauses ++ [])) → AreMarks marks (declared sets)
+    (old new : List QuantSet) → AreMarks occur (map nat_abs (literals_of clauses ++ []))
+    → AreMarks marks (declared sets)
     → ((v : ℕ) → is_among v found ≡ (slice_index_or seen v false && not (slice_index_or known v false)))
     → seen ≡ occur → known ≡ marks → new ≡ put_front found old → old ≡ merged sets
     → map in_order new ≡ map in_order (scopes_of sets clauses)

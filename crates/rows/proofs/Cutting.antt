@@ -1,107 +1,94 @@
--- Blocks, and the lists of owners and of link fields that stand for them.
-use Rattle.std.proofs.Common.{◌≡◌, ◌≢◌, ℕ, zero, suc, ◌+◌, ◌-◌, ◌*◌, ◌^◌, ◌<◌, ◌≤◌, List, [], ◌∷◌, ◌++◌, length, take, drop, get_or, set, replicate, Option, Some, None, refl, sym, ap, ap₂, ◌∙◌, inl, inr, arith}
-use Rattle.std.proofs.Math.Nat.{mul-suc, mul-zero, mul-le-mul_left}
+-- Blocks, and the list of numbers that stands for them.
+use Rattle.std.proofs.Common.{◌≡◌, ◌≢◌, ℕ, zero, suc, ◌+◌, ◌-◌, ◌*◌, ◌/◌, ◌^◌, ◌<◌, ◌≤◌, List, [], ◌∷◌, ◌++◌, length, take, drop, get_or, set, replicate, Option, Some, None, refl, sym, ap, ap₂, ◌∙◌, inl, inr, arith}
 use Rattle.std.proofs.Math.Seq.{take-set-lt}
 use Rattle.std.proofs.lemmas.Bool.{cases_lt}
-use Rattle.std.proofs.lemmas.List.{drop-append-le, drop-drop, drop-set-add, drop-set-lt, ext_get_or, get_or-append_right, get_or-drop, get_or-take, get_or_append_left, length-append, length-drop, length-take-le, take-append-le, take-replicate, take-set-le}
+use Rattle.std.proofs.lemmas.List.{drop-append-le, drop-drop, drop-set-add, drop-set-lt, ext_get_or, get_or-append_right, get_or-drop, get_or-take, get_or_append_left, length-append, length-drop, length-take-le, take-append-le, get_or-set_other, take-set-le}
 use Rattle.short_numbers.specs.Lists.{last_moved}
-use Rattle.rows.specs.Blocks.{AreKept, Block, BlocksState, block_at, blocks_from, owner_of}
+use Rattle.rows.specs.Blocks.{AreKept, Block, block_at, blocks_from, owner_of}
 
--- there is a block for each owner
-pub blocks_length : (w : ℕ) (owners links : List (Option ℕ)) → length (blocks_from w owners links) ≡ length owners
-blocks_length w [] links = refl
-blocks_length w (owner ∷ owners) links = ap suc (blocks_length w owners (drop w links))
-
--- and so an owner for each block
-pub owner_within : (owners links : List (Option ℕ)) (room b : ℕ) (now : BlocksState)
-    → record { items = blocks_from 8 owners links; room = room } ≡ now → b < length now.items → b < length owners
-owner_within owners links room b now view h =
-    let was : length (blocks_from 8 owners links) ≡ length now.items = ap (λ (s : BlocksState). length s.items) view in
-    let n = blocks_length 8 owners links in
-    omega (arith, was, n, h)
-
--- numbers of places
-
-pub next_block : (w b : ℕ) → w * suc b ≡ w + w * b
-next_block w b = let m = mul-suc w b in omega (arith, m)
-
-pub block_ends : (w b n : ℕ) → b < n → w * b + w ≤ w * n
-block_ends w b n h = let m = mul-suc w b in let l : w * suc b ≤ w * n = mul-le-mul_left w (omega arith) in omega
-    (arith, m, l)
+-- there are so many blocks
+pub blocks_length : (n : ℕ) (numbers : List (Option ℕ)) → length (blocks_from n numbers) ≡ n
+blocks_length zero numbers = refl
+blocks_length (suc n) numbers = ap suc (blocks_length n (drop 9 numbers))
 
 -- a block
-pub block_cut : (w : ℕ) (owners links : List (Option ℕ)) (b : ℕ) → b < length owners
-    → block_at (blocks_from w owners links) b
-    ≡ record { owner = owner_of (get_or owners b None); links = take w (drop (w * b) links) }
-block_cut w [] links b h = absurd (omega arith)
-block_cut w (owner ∷ owners) links zero h =
-    ap (λ n. record { owner = owner_of owner; links = take w (drop n links) }) (sym (mul-zero w))
-block_cut w (owner ∷ owners) links (suc b) h =
-    block_cut w owners (drop w links) b (omega arith)
-    ∙ ap (λ (ls : List (Option ℕ)). record { owner = owner_of (get_or owners b None); links = take w ls })
-    (drop-drop (w * b) w links ∙ ap (λ n. drop n links) (sym (next_block w b)))
+pub block_cut : (n : ℕ) (numbers : List (Option ℕ)) (b : ℕ) → b < n → block_at (blocks_from n numbers) b
+    ≡ record { owner = owner_of (get_or numbers (9 * b + 8) None); links = take 8 (drop (9 * b) numbers) }
+block_cut zero numbers b h = absurd (omega arith)
+block_cut (suc n) numbers zero h = refl
+block_cut (suc n) numbers (suc b) h =
+    block_cut n (drop 9 numbers) b (omega arith)
+    ∙ ap₂ (λ (o : Option ℕ) (ls : List (Option ℕ)). record { owner = owner_of o; links = take 8 ls })
+    (get_or-drop 9 numbers (9 * b + 8) None
+    ∙ ap (λ i. get_or numbers i None) (let same : 9 + (9 * b + 8) ≡ 9 * suc b + 8 = omega arith in same))
+    (drop-drop (9 * b) 9 numbers
+    ∙ ap (λ i. drop i numbers) (let same : 9 + 9 * b ≡ 9 * suc b = omega arith in same))
 
 -- the owner of a block
-pub owner_cut : (w : ℕ) (owners links : List (Option ℕ)) (b : ℕ) → b < length owners
-    → owner_of (get_or owners b None) ≡ (block_at (blocks_from w owners links) b).owner
-owner_cut w owners links b within = sym (ap (λ (block : Block). block.owner) (block_cut w owners links b within))
+pub owner_cut : (n : ℕ) (numbers : List (Option ℕ)) (b : ℕ) → b < n
+    → owner_of (get_or numbers (9 * b + 8) None) ≡ (block_at (blocks_from n numbers) b).owner
+owner_cut n numbers b within = sym (ap (λ (block : Block). block.owner) (block_cut n numbers b within))
 
 -- a link field of a block
-pub field_cut : (w : ℕ) (owners links : List (Option ℕ)) (b k : ℕ) → k < w → b < length owners
-    → get_or links (w * b + k) None ≡ get_or (block_at (blocks_from w owners links) b).links k None
-field_cut w owners links b k low within =
-    sym (ap (λ (block : Block). get_or block.links k None) (block_cut w owners links b within)
-    ∙ get_or-take w (drop (w * b) links) k None low
-    ∙ get_or-drop (w * b) links k None)
+pub field_cut : (n : ℕ) (numbers : List (Option ℕ)) (b k : ℕ) → k < 8 → b < n
+    → get_or numbers (9 * b + k) None ≡ get_or (block_at (blocks_from n numbers) b).links k None
+field_cut n numbers b k low within =
+    sym (ap (λ (block : Block). get_or block.links k None) (block_cut n numbers b within)
+    ∙ get_or-take 8 (drop (9 * b) numbers) k None low
+    ∙ get_or-drop (9 * b) numbers k None)
 
--- so many link fields
-pub fields_cut : (w : ℕ) (owners links : List (Option ℕ)) (b : ℕ) → length links ≡ w * length owners
-    → b < length owners → length (block_at (blocks_from w owners links) b).links ≡ w
-fields_cut w owners links b size within =
-    let e = block_ends w b (length owners) within in
-    let l = length-drop (w * b) links in
-    let long : w ≤ length (drop (w * b) links) = omega (arith, e, l, size) in
-    ap (λ (block : Block). length block.links) (block_cut w owners links b within)
-    ∙ length-take-le w (drop (w * b) links) long
+-- eight link fields
+pub fields_cut : (n : ℕ) (numbers : List (Option ℕ)) (b : ℕ) → length numbers ≡ 9 * n → b < n
+    → length (block_at (blocks_from n numbers) b).links ≡ 8
+fields_cut n numbers b size within =
+    let l = length-drop (9 * b) numbers in
+    let long : 8 ≤ length (drop (9 * b) numbers) = omega (arith, l, size) in
+    ap (λ (block : Block). length block.links) (block_cut n numbers b within)
+    ∙ length-take-le 8 (drop (9 * b) numbers) long
 
 -- its places are there
-pub place_there : (owners links : List (Option ℕ)) (b k : ℕ) → AreKept owners links
-    → b < length (blocks_from 8 owners links) → k < 8 → 8 * b + k < length links
-place_there owners links b k kept within low =
-    let c = blocks_length 8 owners links in
-    let e = kept.eight in
+pub place_there : (numbers : List (Option ℕ)) (b k : ℕ) → AreKept numbers
+    → b < length (blocks_from (length numbers / 9) numbers) → k < 9 → 9 * b + k < length numbers
+place_there numbers b k kept within low =
+    let c = blocks_length (length numbers / 9) numbers in
+    let e = kept.nine in
     omega (arith, c, e, within, low)
 
 -- and their numbers are small
-pub place_fits : (owners links : List (Option ℕ)) (b k : ℕ) → AreKept owners links
-    → b < length (blocks_from 8 owners links) → k < 8 → 8 * b + k < 2 ^ 64
-place_fits owners links b k kept within low =
-    let c = blocks_length 8 owners links in
+pub place_fits : (numbers : List (Option ℕ)) (b k : ℕ) → AreKept numbers
+    → b < length (blocks_from (length numbers / 9) numbers) → k < 9 → 9 * b + k < 2 ^ 64
+place_fits numbers b k kept within low =
+    let c = blocks_length (length numbers / 9) numbers in
     let f = kept.few in
     omega (arith, c, f, within, low)
 
 -- another value of a link field
-pub field_set : (w : ℕ) (owners links : List (Option ℕ)) (b k : ℕ) (value : Option ℕ) → k < w → b < length owners
-    → blocks_from w owners (set links (w * b + k) value) ≡ set (blocks_from w owners links) b (record {
-      owner = (block_at (blocks_from w owners links) b).owner;
-      links = set (block_at (blocks_from w owners links) b).links k value;
+pub field_set : (n : ℕ) (numbers : List (Option ℕ)) (b k : ℕ) (value : Option ℕ) → k < 8 → b < n
+    → blocks_from n (set numbers (9 * b + k) value) ≡ set (blocks_from n numbers) b (record {
+      owner = (block_at (blocks_from n numbers) b).owner;
+      links = set (block_at (blocks_from n numbers) b).links k value;
     })
-field_set w [] links b k value low h = absurd (omega arith)
-field_set w (owner ∷ owners) links zero k value low h =
-    let z = mul-zero w in
-    let at : w * zero + k ≡ k = omega (arith, z) in
-    ap (λ n. blocks_from w (owner ∷ owners) (set links n value)) at
-    ∙ ap₂ (λ (these others : List (Option ℕ)). record { owner = owner_of owner; links = these }
-    ∷ blocks_from w owners others)
-    (take-set-lt w links k value low) (drop-set-lt w links k value low)
-field_set w (owner ∷ owners) links (suc b) k value low h =
-    let at : w * suc b + k ≡ w + (w * b + k) = let m = next_block w b in omega (arith, m) in
-    ap (λ n. blocks_from w (owner ∷ owners) (set links n value)) at
-    ∙ ap₂ (λ (these others : List (Option ℕ)). record { owner = owner_of owner; links = these }
-    ∷ blocks_from w owners others)
-    (take-set-le w links (w + (w * b + k)) value (omega arith)) (drop-set-add w links (w * b + k) value)
-    ∙ ap (λ (blocks : List Block). record { owner = owner_of owner; links = take w links } ∷ blocks)
-    (field_set w owners (drop w links) b k value low (omega arith))
+field_set zero numbers b k value low h = absurd (omega arith)
+field_set (suc n) numbers zero k value low h =
+    ap (λ i. blocks_from (suc n) (set numbers i value)) (let same : 9 * zero + k ≡ k = omega arith in same)
+    ∙ ap₂ (λ (o : Option ℕ) (these : List (Option ℕ)). record { owner = owner_of o; links = these }
+    ∷ blocks_from n (drop 9 (set numbers k value)))
+    (get_or-set_other numbers k 8 value None (λ e. absurd (omega arith))) (take-set-lt 8 numbers k value low)
+    ∙ ap (λ (others : List (Option ℕ)). record {
+      owner = owner_of (get_or numbers 8 None);
+      links = set (take 8 numbers) k value;
+    } ∷ blocks_from n others) (drop-set-lt 9 numbers k value (omega arith))
+field_set (suc n) numbers (suc b) k value low h =
+    let at : 9 * suc b + k ≡ 9 + (9 * b + k) = omega arith in
+    ap (λ i. blocks_from (suc n) (set numbers i value)) at
+    ∙ ap₂ (λ (o : Option ℕ) (these : List (Option ℕ)). record { owner = owner_of o; links = these }
+    ∷ blocks_from n (drop 9 (set numbers (9 + (9 * b + k)) value)))
+    (get_or-set_other numbers (9 + (9 * b + k)) 8 value None (λ e. absurd (omega arith)))
+    (take-set-le 8 numbers (9 + (9 * b + k)) value (omega arith))
+    ∙ ap (λ (others : List (Option ℕ)). record { owner = owner_of (get_or numbers 8 None); links = take 8 numbers }
+    ∷ blocks_from n others) (drop-set-add 9 numbers (9 * b + k) value)
+    ∙ ap (λ (blocks : List Block). record { owner = owner_of (get_or numbers 8 None); links = take 8 numbers } ∷ blocks)
+    (field_set n (drop 9 numbers) b k value low (omega arith))
 
 -- a block whose links are written twice
 
@@ -117,22 +104,25 @@ written_again (block ∷ blocks) (suc b) f g h = ap (λ (bs : List Block). block
     (written_again blocks b f g (omega arith))
 
 -- one more block
-pub block_more : (w : ℕ) (owners links : List (Option ℕ)) (owner : ℕ) → length links ≡ w * length owners
-    → blocks_from w (owners ++ Some owner ∷ []) (links ++ replicate w None)
-    ≡ blocks_from w owners links ++ record { owner = owner; links = replicate w None } ∷ []
-block_more w [] [] owner size =
-    ap (λ (ls : List (Option ℕ)). record { owner = owner; links = ls } ∷ []) (take-replicate w w None (omega arith))
-block_more w [] (link ∷ links) owner size = absurd (let z = mul-zero w in omega (arith, z, size))
-block_more w (first ∷ owners) links owner size =
-    let m = next_block w (length owners) in
-    let long : w ≤ length links = omega (arith, m, size) in
-    let l = length-drop w links in
-    let rest : length (drop w links) ≡ w * length owners = omega (arith, m, l, size) in
-    ap₂ (λ (these others : List (Option ℕ)). record { owner = owner_of first; links = these }
-    ∷ blocks_from w (owners ++ Some owner ∷ []) others)
-    (take-append-le w links (replicate w None) long) (drop-append-le w links (replicate w None) long)
-    ∙ ap (λ (blocks : List Block). record { owner = owner_of first; links = take w links } ∷ blocks)
-    (block_more w owners (drop w links) owner rest)
+abbrev pub one_block : ℕ → List (Option ℕ)
+one_block owner = replicate 8 None ++ Some owner ∷ []
+
+pub block_more : (n : ℕ) (numbers : List (Option ℕ)) (owner : ℕ) → length numbers ≡ 9 * n
+    → blocks_from (suc n) (numbers ++ one_block owner)
+    ≡ blocks_from n numbers ++ record { owner = owner; links = replicate 8 None } ∷ []
+block_more zero [] owner size = refl
+block_more zero (first ∷ numbers) owner size = absurd (omega (arith, size))
+block_more (suc n) numbers owner size =
+    let more = one_block owner in
+    let l = length-drop 9 numbers in
+    let rest : length (drop 9 numbers) ≡ 9 * n = omega (arith, l, size) in
+    ap₂ (λ (o : Option ℕ) (these : List (Option ℕ)). record { owner = owner_of o; links = these }
+    ∷ blocks_from (suc n) (drop 9 (numbers ++ more)))
+    (get_or_append_left numbers more None 8 (omega (arith, size))) (take-append-le 8 numbers more (omega (arith, size)))
+    ∙ ap (λ (others : List (Option ℕ)). record { owner = owner_of (get_or numbers 8 None); links = take 8 numbers }
+    ∷ blocks_from (suc n) others) (drop-append-le 9 numbers more (omega (arith, size)))
+    ∙ ap (λ (blocks : List Block). record { owner = owner_of (get_or numbers 8 None); links = take 8 numbers } ∷ blocks)
+    (block_more n (drop 9 numbers) owner rest)
 
 -- the last places come into the place of others
 
@@ -205,111 +195,54 @@ same_fields w a b xs ys h g same =
 
 -- the last block comes into the place of another
 
-module _ (w : ℕ) (owners links : List (Option ℕ)) (b : ℕ) (size : length links ≡ w * length owners)
-    (within : b < length owners) where
-  abbrev new_owners : List (Option ℕ)
-  new_owners = last_moved b 1 owners
-
-  abbrev new_links : List (Option ℕ)
-  new_links = last_moved (w * b) w links
+module _ (numbers : List (Option ℕ)) (n b : ℕ) (size : length numbers ≡ 9 * n) (within : b < n) where
+  abbrev new_numbers : List (Option ℕ)
+  new_numbers = last_moved (9 * b) 9 numbers
 
   abbrev old_blocks : List Block
-  old_blocks = blocks_from w owners links
+  old_blocks = blocks_from n numbers
 
   abbrev new_blocks : List Block
-  new_blocks = blocks_from w new_owners new_links
+  new_blocks = blocks_from (n - 1) new_numbers
 
-  pub owners_less : length new_owners + 1 ≡ length owners
-  owners_less = moved_length b 1 owners (omega arith)
+  pub numbers_fit : 9 * b + 9 ≤ length numbers
+  numbers_fit = omega (arith, size)
 
-  pub links_fit : w * b + w ≤ length links
-  links_fit = let e = block_ends w b (length owners) within in omega (arith, e, size)
-
-  links_less : length new_links + w ≡ length links
-  links_less = moved_length (w * b) w links links_fit
-
-  pub size_less : length new_links ≡ w * length new_owners
-  size_less =
-      let l = links_less in
-      let o = owners_less in
-      let n : length owners ≡ suc (length new_owners) = omega (arith, o) in
-      let m : w * length owners ≡ w + w * length new_owners = ap (λ k. w * k) n ∙ next_block w (length new_owners) in
-      omega (arith, l, m, size)
+  pub numbers_less : length new_numbers + 9 ≡ length numbers
+  numbers_less = moved_length (9 * b) 9 numbers numbers_fit
 
   pub blocks_less : length new_blocks + 1 ≡ length old_blocks
   blocks_less =
-      let o = owners_less in
-      let n = blocks_length w new_owners new_links in
-      let m = blocks_length w owners links in
-      omega (arith, o, n, m)
+      let one = blocks_length n numbers in
+      let other = blocks_length (n - 1) new_numbers in
+      omega (arith, one, other)
 
-  abbrev owned : Option ℕ → List (Option ℕ) → Block
-  owned owner fields = record { owner = owner_of owner; links = fields }
+  same_block : (j k : ℕ) → j + 1 < n → k < n
+      → ((i : ℕ) → i < 9 → get_or new_numbers (9 * j + i) None ≡ get_or numbers (9 * k + i) None)
+      → block_at new_blocks j ≡ block_at old_blocks k
+  same_block j k new_in old_in same =
+      let l = numbers_less in
+      block_cut (n - 1) new_numbers j (omega arith)
+      ∙ ap₂ (λ (o : Option ℕ) (ls : List (Option ℕ)). record { owner = owner_of o; links = ls })
+      (same 8 (omega arith))
+      (same_fields 8 (9 * j) (9 * k) new_numbers numbers (omega (arith, l, size)) (omega (arith, size))
+      (λ i low. same i (omega arith)))
+      ∙ sym (block_cut n numbers k old_in)
 
-  -- a block with the owner and the fields of another
-  same_block : (k m : ℕ) → k + 1 < length owners → m < length owners
-      → get_or new_owners k None ≡ get_or owners m None
-      → ((i : ℕ) → i < w → get_or new_links (w * k + i) None ≡ get_or links (w * m + i) None)
-      → block_at new_blocks k ≡ block_at old_blocks m
-  same_block k m h g owner fields =
-      let o = owners_less in
-      let low : k < length new_owners = omega (arith, o, h) in
-      let s = size_less in
-      let x = block_ends w k (length new_owners) low in
-      let y = block_ends w m (length owners) g in
-      block_cut w new_owners new_links k low
-      ∙ ap₂ owned owner
-      (same_fields w (w * k) (w * m) new_links links (omega (arith, s, x)) (omega (arith, size, y)) fields)
-      ∙ sym (block_cut w owners links m g)
+  pub block_moved : b + 1 < n → block_at new_blocks b ≡ block_at old_blocks (n - 1)
+  block_moved h =
+      same_block b (n - 1) h (omega arith)
+      (λ i low.
+      let from : length numbers - 9 + i ≡ 9 * (n - 1) + i = omega (arith, size, h) in
+      moved_there (9 * b) 9 numbers numbers_fit i low (omega (arith, size, h))
+      ∙ ap (λ m. get_or numbers m None) from)
 
-  -- the places of a block that isn't the last one
-  stays : (k i : ℕ) → k + 1 < length owners → i < w → w * k + i < length links - w
-  stays k i h g =
-      let e = block_ends w (suc k) (length owners) (omega arith) in
-      let m = next_block w k in
-      omega (arith, e, m, g, size)
-
-  pub block_moved : b + 1 < length old_blocks → block_at new_blocks b ≡ block_at old_blocks (length old_blocks - 1)
-  block_moved more =
-      let c = blocks_length w owners links in
-      let h : b + 1 < length owners = omega (arith, c, more) in
-      ap (λ n. block_at new_blocks n) refl
-      ∙ same_block b (length owners - 1) h (omega (arith, h))
-      (ap (λ n. get_or new_owners n None) (omega arith)
-      ∙ moved_there b 1 owners (omega arith) 0 (omega arith) (omega arith)
-      ∙ ap (λ n. get_or owners n None) (omega arith))
-      (λ i low. moved_there (w * b) w links links_fit i low (stays b i h low)
-      ∙ ap (λ n. get_or links (n + i) None) (last_place h))
-      ∙ ap (λ n. block_at old_blocks (n - 1)) (sym c)
-    where
-      last_place : b + 1 < length owners → length links - w ≡ w * (length owners - 1)
-      last_place h =
-          let n : length owners ≡ suc (length owners - 1) = omega (arith, h) in
-          let m : w * length owners ≡ w + w * (length owners - 1) = ap (λ k. w * k) n
-          ∙ next_block w (length owners - 1) in
-          omega (arith, m, size)
-
-  pub block_stays : (k : ℕ) → k ≢ b → k + 1 < length old_blocks → block_at new_blocks k ≡ block_at old_blocks k
-  block_stays k differs more =
-      let c = blocks_length w owners links in
-      let h : k + 1 < length owners = omega (arith, c, more) in
-      same_block k k h (omega (arith, h)) (owner h) (fields h)
-    where
-      owner : k + 1 < length owners → get_or new_owners k None ≡ get_or owners k None
-      owner h =
-          elim (cases_lt k b) [
-            | inl below ↦ moved_before b 1 owners (omega arith) k below (omega arith)
-            | inr above ↦ moved_after b 1 owners (omega arith) k (omega arith) (omega arith)
-          ]
-
-      fields : k + 1 < length owners → (i : ℕ) → i < w
-          → get_or new_links (w * k + i) None ≡ get_or links (w * k + i) None
-      fields h i low =
-          elim (cases_lt k b) [
-            | inl below ↦
-                let e = block_ends w k b below in
-                moved_before (w * b) w links links_fit (w * k + i) (omega (arith, e, low)) (stays k i h low)
-            | inr above ↦
-                let e = block_ends w b k (omega arith) in
-                moved_after (w * b) w links links_fit (w * k + i) (omega (arith, e)) (stays k i h low)
-          ]
+  pub block_stays : (k : ℕ) → k ≢ b → k + 1 < n → block_at new_blocks k ≡ block_at old_blocks k
+  block_stays k differs h =
+      same_block k k h (omega arith)
+      (λ i low.
+      elim (cases_lt k b) [
+        | inl below ↦ moved_before (9 * b) 9 numbers numbers_fit (9 * k + i) (omega arith) (omega (arith, size))
+        | inr above ↦ moved_after (9 * b) 9 numbers numbers_fit (9 * k + i)
+            (let apart : b + 1 ≤ k = omega arith in omega arith) (omega (arith, size))
+      ])

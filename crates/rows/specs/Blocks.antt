@@ -1,5 +1,5 @@
 -- Which rows have link fields of their own.
-use Rattle.std.specs.Prelude.{◌≡◌, ◌≢◌, ℕ, ◌*◌, ◌<◌, ◌≤◌, Bool, false, List, [], ◌∷◌, length, take, drop, count_by, replicate, Option, None, Some, is_some, slice_index_or}
+use Rattle.std.specs.Prelude.{◌≡◌, ◌≢◌, ℕ, zero, suc, ◌*◌, ◌/◌, ◌<◌, ◌≤◌, Bool, false, List, [], ◌∷◌, length, take, drop, count_by, replicate, Option, None, Some, is_some, slice_index_or}
 use Rattle.rows.specs.Places.{most_blocks}
 
 -- a block: the row that owns it, and its link fields, each a number or none
@@ -17,16 +17,16 @@ abbrev pub owner_of : Option ℕ → ℕ
 owner_of None = 0
 owner_of (Some owner) = owner
 
--- the blocks of some owners, whose link fields stand one behind the other, so many a block
-abbrev pub blocks_from : ℕ → List (Option ℕ) → List (Option ℕ) → List Block
-blocks_from width [] links = []
-blocks_from width (owner ∷ owners) links =
-    record { owner = owner_of owner; links = take width links } ∷ blocks_from width owners (drop width links)
+-- so many blocks, whose numbers stand one behind the other, nine a block: its link fields, and the row that owns it
+abbrev pub blocks_from : ℕ → List (Option ℕ) → List Block
+blocks_from zero numbers = []
+blocks_from (suc n) numbers = record { owner = owner_of (slice_index_or numbers 8 None); links = take 8 numbers }
+    ∷ blocks_from n (drop 9 numbers)
 
--- how blocks are kept: with eight link fields each, and a number for each
-pub record AreKept (owners links : List (Option ℕ)) : Type 0 where
-  pub eight : length links ≡ 8 * length owners
-  pub few : length owners ≤ most_blocks
+-- how blocks are kept: with nine numbers each, and a number for each
+pub record AreKept (numbers : List (Option ℕ)) : Type 0 where
+  pub nine : length numbers ≡ 9 * (length numbers / 9)
+  pub few : length numbers / 9 ≤ most_blocks
 
 -- link fields without a link, of no row
 abbrev pub no_block : Block

@@ -14,6 +14,9 @@ use std::marker::Model;
 // How many link fields a block has.
 const LINKS: usize = 8;
 
+// How many numbers a block takes: its link fields, and the row that owns it.
+const BLOCK: usize = 9;
+
 /// The values of three link fields, that of a number and the two behind it.
 pub type ThreeLinks = (Option<usize>, Option<usize>, Option<usize>);
 
@@ -21,24 +24,22 @@ pub type ThreeLinks = (Option<usize>, Option<usize>, Option<usize>);
 // more memory.
 #[derive(Debug, Drop)]
 pub(crate) struct Blocks {
-    // The row that owns each block.
-    owners: Numbers,
-    // The link fields of all blocks, one block behind the other.
-    links: Numbers,
+    // The link fields of each block, and behind them the row that owns it, one block behind the other.
+    numbers: Numbers,
 }
 
 impl Model for Blocks {
-    ghost use Rattle.std.specs.Prelude.{◌/◌, min};
+    ghost use Rattle.std.specs.Prelude.{◌/◌, length};
     ghost use Rattle.rows.specs.Blocks.{AreKept, BlocksState, blocks_from};
 
     ghost Value = { BlocksState };
 
     ghost view = { λ b. record {
-      items = blocks_from 8 b.owners.items b.links.items;
-      room = min b.owners.room (b.links.room / 8);
+      items = blocks_from (length b.numbers.items / 9) b.numbers.items;
+      room = b.numbers.room / 9;
     } };
 
-    ghost invariant = { λ b. AreKept b.owners.items b.links.items };
+    ghost invariant = { λ b. AreKept b.numbers.items };
 }
 
 impl Blocks {
@@ -47,8 +48,7 @@ impl Blocks {
         ensures { result.items ≡ [] }
     {
         Self {
-            owners: Numbers::new(alloc),
-            links: Numbers::new(alloc),
+            numbers: Numbers::new(alloc),
         }
     }
 
@@ -56,7 +56,7 @@ impl Blocks {
     pub(crate) fn len(&self) -> usize
         ensures { result ≡ length self.now.items }
     {
-        self.owners.len()
+        self.numbers.len() / BLOCK
     }
 
     // The row that owns a block.
@@ -64,7 +64,7 @@ impl Blocks {
         requires { block < length self.now.items }
         ensures { result ≡ (block_at self.now.items block).owner }
     {
-        match self.owners.get(block) {
+        match self.numbers.get(BLOCK * block + LINKS) {
             Some(owner) => owner,
             None => 0,
         }
@@ -77,7 +77,7 @@ impl Blocks {
         requires block { block < length self.now.items }
         ensures { result ≡ slice_index_or (block_at self.now.items block).links k None }
     {
-        self.links.get(LINKS * block + k)
+        self.numbers.get(BLOCK * block + k)
     }
 
     // Reads three link fields of a block.
@@ -108,7 +108,7 @@ impl Blocks {
         ensures room { self.old.room ≤ self.new.room }
         ensures eight { length (block_at self.old.items block).links ≡ 8 }
     {
-        self.links.set(LINKS * block + k, value);
+        self.numbers.set(BLOCK * block + k, value);
     }
 
     // Writes three link fields of a block.
@@ -170,8 +170,7 @@ impl Blocks {
         ensures room { self.old.room ≤ self.new.room }
         ensures ok { OnOk result (length self.old.items + more ≤ self.new.room) }
     {
-        self.owners.reserve(more)?;
-        self.links.reserve(LINKS * more)
+        self.numbers.reserve(BLOCK * more)
     }
 
     // Puts the block of a row in that has no link. There is room for it.
@@ -181,10 +180,9 @@ impl Blocks {
         ensures items { self.new.items ≡ self.old.items ++ (record { owner = owner; links = replicate 8 None }) ∷ [] }
         ensures room { self.old.room ≤ self.new.room }
     {
-        let block = self.owners.len();
-        self.owners.push_none(1);
-        self.owners.set(block, Some(owner));
-        self.links.push_none(LINKS);
+        let at = self.numbers.len();
+        self.numbers.push_none(BLOCK);
+        self.numbers.set(at + LINKS, Some(owner));
     }
 
     // Takes a block out. The last one comes into its place.
@@ -197,8 +195,7 @@ impl Blocks {
             → block_at self.new.items k ≡ block_at self.old.items k }
         ensures room { self.old.room ≤ self.new.room }
     {
-        self.owners.move_last(block, 1);
-        self.links.move_last(LINKS * block, LINKS);
+        self.numbers.move_last(BLOCK * block, BLOCK);
     }
 }
 

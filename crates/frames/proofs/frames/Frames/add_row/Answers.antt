@@ -29,5 +29,6 @@ returns-clause-refused c =
     let ns = numbers c.args.row in
     let facts = row_refused f.scopes c.args.row c.prefix-valid.ensures.valid c.requires in
     let same = ap (is_beyond (all_clauses f)) (sym facts.2) in
-    put_answers (list_all (is_known f.scopes) ns) (is_tautology ns) (is_beyond (all_clauses f) (length (variables_of ns)))
+    let beyond = is_beyond (all_clauses f) (length (variables_of ns)) in
+    put_answers (list_all (is_known f.scopes) ns) (is_tautology ns) beyond
     c.put.result facts.0 facts.1 (λ t. c.put.ensures.limit (same ∙ t)) (λ t. c.put.ensures.within (same ∙ t))

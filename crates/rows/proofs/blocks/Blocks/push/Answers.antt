@@ -1,68 +1,56 @@
-use Rattle.std.proofs.Common.{◌≡◌, ◌≤◌, ◌+◌, ◌*◌, ◌/◌, ◌∷◌, ◌++◌, [], List, None, Option, Some, ℕ, length, min, replicate, set, ap, ap₂, ◌∙◌, arith}
-use Rattle.std.proofs.Math.Seq.{set-append_seam}
-use Rattle.std.proofs.lemmas.List.{length-append}
+use Rattle.std.proofs.Common.{◌≡◌, ◌≤◌, ◌+◌, ◌-◌, ◌/◌, ◌∷◌, ◌++◌, [], List, None, Option, Some, ℕ, suc, length, replicate, set, ap, ap₂, refl, ◌∙◌, arith}
+use Rattle.std.proofs.lemmas.List.{length-append, set-append_right}
 use Rattle.rows.specs.Blocks.{BlocksState, blocks_from}
-use Rattle.rows.proofs.Cutting.{block_more, blocks_length}
+use Rattle.rows.proofs.Cutting.{block_more, blocks_length, one_block}
 use Rattle.rows.proofs.blocks.Blocks.push.Goals as goal
+
+-- the numbers of a block are put in
+added : (numbers more new : List (Option ℕ)) (at owner : ℕ) → more ≡ numbers ++ replicate 9 None
+    → at ≡ length numbers → new ≡ set more (at + 8) (Some owner) → new ≡ numbers ++ one_block owner
+added numbers more new at owner nine begins is =
+    let eight : length numbers + 8 - length numbers ≡ 8 = omega arith in
+    is ∙ ap₂ (λ (ns : List (Option ℕ)) (n : ℕ). set ns (n + 8) (Some owner)) nine begins
+    ∙ set-append_right numbers (replicate 9 None) (length numbers) (length numbers + 8) (Some owner) refl (omega arith)
+    ∙ ap (λ n. numbers ++ set (replicate 9 None) n (Some owner)) eight
 
 pub push_none-requires : goal.push_none-requires
 push_none-requires c =
-    let owners = c.self.inside.owners in
-    let links = c.self.inside.links in
-    let was : length (blocks_from 8 owners.items links.items) ≡ length c.args.self.now.items =
+    let numbers = c.self.inside.numbers.items in
+    let was : length (blocks_from (length numbers / 9) numbers) ≡ length c.args.self.now.items =
     ap (λ (s : BlocksState). length s.items) c.self.view_is in
-    let room : min owners.room (links.room / 8) ≡ c.args.self.now.room =
+    let room : c.self.inside.numbers.room / 9 ≡ c.args.self.now.room =
     ap (λ (s : BlocksState). s.room) c.self.view_is in
-    let n = blocks_length 8 owners.items links.items in
+    let n = blocks_length (length numbers / 9) numbers in
     let h : length c.args.self.now.items + 1 ≤ c.args.self.now.room = c.requires.room in
-    omega (arith, was, room, n, h)
-
-pub push_none-requires-2 : goal.push_none-requires-2
-push_none-requires-2 c =
-    let owners = c.self.inside.owners in
-    let links = c.self.inside.links in
-    let was : length (blocks_from 8 owners.items links.items) ≡ length c.args.self.now.items =
-    ap (λ (s : BlocksState). length s.items) c.self.view_is in
-    let room : min owners.room (links.room / 8) ≡ c.args.self.now.room =
-    ap (λ (s : BlocksState). s.room) c.self.view_is in
-    let n = blocks_length 8 owners.items links.items in
-    let h : length c.args.self.now.items + 1 ≤ c.args.self.now.room = c.requires.room in
-    let e : length links.items ≡ 8 * length owners.items = c.self.invariant.eight in
+    let e = c.self.invariant.nine in
     omega (arith, was, room, n, h, e)
-
-owned : (owners more new : List (Option ℕ)) (block owner : ℕ) → more ≡ owners ++ replicate 1 None
-    → block ≡ length owners → new ≡ set more block (Some owner) → new ≡ owners ++ Some owner ∷ []
-owned owners more new block owner one last is =
-    is ∙ ap₂ (λ (os : List (Option ℕ)) (n : ℕ). set os n (Some owner)) one last
-    ∙ set-append_seam owners None [] (Some owner)
 
 pub invariant_of-self : goal.invariant_of-self
 invariant_of-self c =
-    let owners = c.self.inside.owners.items in
-    let links = c.self.inside.links.items in
-    let was : length (blocks_from 8 owners links) ≡ length c.args.self.now.items =
+    let numbers = c.self.inside.numbers.items in
+    let was : length (blocks_from (length numbers / 9) numbers) ≡ length c.args.self.now.items =
     ap (λ (s : BlocksState). length s.items) c.self.view_is in
-    let n = blocks_length 8 owners links in
+    let n = blocks_length (length numbers / 9) numbers in
     let few = c.requires.few in
-    let own = owned owners c.push_none.new.self.items c.set.new.self.items c.len-block.result c.args.owner
-    c.push_none.ensures.items c.len-block.ensures c.set.ensures.items in
-    let e : length links ≡ 8 * length owners = c.self.invariant.eight in
-    let o : length c.set.new.self.items ≡ length owners + 1 = ap (λ (os : List (Option ℕ)). length os) own
-    ∙ length-append owners (Some c.args.owner ∷ []) in
-    let l : length c.push_none-2.new.self.items ≡ length links + 8 =
-    ap (λ (ls : List (Option ℕ)). length ls) c.push_none-2.ensures.items
-    ∙ length-append links (replicate 8 None) in
+    let e = c.self.invariant.nine in
+    let new = added numbers c.push_none.new.self.items c.set.new.self.items c.len-at.result c.args.owner
+    c.push_none.ensures.items c.len-at.ensures c.set.ensures.items in
+    let l : length c.set.new.self.items ≡ length numbers + 9 = ap (λ (ns : List (Option ℕ)). length ns) new
+    ∙ length-append numbers (one_block c.args.owner) in
     record {
-      eight = omega (arith, e, o, l);
-      few = omega (arith, was, n, few, o);
+      nine = omega (arith, e, l);
+      few = omega (arith, was, n, few, e, l);
     }
 
 pub returns-clause-items : goal.returns-clause-items
 returns-clause-items c =
-    let owners = c.self.inside.owners.items in
-    let links = c.self.inside.links.items in
-    let own = owned owners c.push_none.new.self.items c.set.new.self.items c.len-block.result c.args.owner
-    c.push_none.ensures.items c.len-block.ensures c.set.ensures.items in
-    ap₂ (blocks_from 8) own c.push_none-2.ensures.items
-    ∙ block_more 8 owners links c.args.owner c.self.invariant.eight
+    let numbers = c.self.inside.numbers.items in
+    let e = c.self.invariant.nine in
+    let new = added numbers c.push_none.new.self.items c.set.new.self.items c.len-at.result c.args.owner
+    c.push_none.ensures.items c.len-at.ensures c.set.ensures.items in
+    let l = length-append numbers (one_block c.args.owner) in
+    let count : length (numbers ++ one_block c.args.owner) / 9 ≡ suc (length numbers / 9) = omega (arith, e, l) in
+    ap (λ (ns : List (Option ℕ)). blocks_from (length ns / 9) ns) new
+    ∙ ap (λ m. blocks_from m (numbers ++ one_block c.args.owner)) count
+    ∙ block_more (length numbers / 9) numbers c.args.owner e
     ∙ ap (λ (s : BlocksState). s.items ++ record { owner = c.args.owner; links = replicate 8 None } ∷ []) c.self.view_is
