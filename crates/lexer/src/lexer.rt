@@ -110,6 +110,7 @@ impl Lexer {
     }
 
     // Reads bytes where none is ahead.
+    #[inline(never)]
     fn refill<D: Desk>(&mut self, desk: &mut D) -> Result<(), Failed>
         requires { slice_get self.old.ahead 0 ≡ None }
         ensures same { self.new ≡ record self.old { ahead = self.new.ahead } }
@@ -127,6 +128,7 @@ impl Lexer {
     }
 
     // The next byte, which is not taken. None is the end.
+    #[inline(always)]
     fn peek<D: Desk>(&mut self, desk: &mut D) -> Result<Option<u8>, LexRefusal>
         ensures same { self.new ≡ record self.old { ahead = self.new.ahead } }
         ensures bytes { Keeps (bytes_ahead self.old (D.left desk.old)) (bytes_ahead self.new (D.left desk.new)) }

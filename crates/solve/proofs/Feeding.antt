@@ -1,11 +1,11 @@
 -- What an engine is given of a formula that was read: no refusal, and what it then holds.
-use Rattle.std.proofs.Common.{◌≡◌, ℕ, zero, suc, ◌+◌, ◌-◌, ◌<◌, ◌≤◌, ℤ, Bool, true, false, ◌||◌, List, [], ◌∷◌, ◌++◌, length, take, get_or, Option, None, Some, refl, sym, ap, subst, ◌∙◌, arith, length-append}
+use Rattle.std.proofs.Common.{◌≡◌, ℕ, zero, suc, ◌+◌, ◌-◌, ◌<◌, ◌≤◌, Bool, true, false, ◌||◌, List, [], ◌∷◌, ◌++◌, length, reverse, take, get_or, Option, None, Some, refl, sym, ap, subst, ◌∙◌, arith, length-append}
 use Rattle.std.specs.Prelude.{◌==◌, ◌^◌, min, drop, slice_get, unwrap_or, nat_lt, nat_le, if◌then◌else◌, is_some, flat_map, IsOkUnless, MatchOption, Result, Err}
 use Rattle.std.specs.Option.{option_map}
 use Rattle.std.specs.List.{AllByRecursion, list_all}
 use Rattle.std.proofs.lemmas.Bool.{eqb-true, ne_eqb, or_right}
 use Rattle.std.proofs.lemmas.Bool.Decides.{nat_tests}
-use Rattle.std.proofs.lemmas.List.{append-nil, append_assoc, get_or_at, length-take-le, take_at, take_more}
+use Rattle.std.proofs.lemmas.List.{append-nil, append_assoc, get_or_at, length-take-le, reverse-append, take_at, take_more}
 use Rattle.prefix.specs.declared.quant.Quant.{Quant}
 use Rattle.prefix.specs.Literal.{Literal}
 use Rattle.prefix.specs.Scopes.{Scope, all_variables, insert_ascending, is_among, level_of, quantifier_at, variables_at, with_variable_at, AreDistinct, IsAscending, IsPrefix}
@@ -88,6 +88,12 @@ pub next_front : (xs : List (List Literal)) (y : List Literal) (ys all : List (L
 next_front xs y ys all e =
     let long : length (xs ++ y ∷ []) ≡ length xs + 1 = length-append xs (y ∷ []) in
     ap (take (length xs + 1)) (sym (more_is xs y ys all e)) ∙ take_at (xs ++ y ∷ []) ys (length xs + 1) long
+
+-- the same where those to come stand in reverse, and the next is taken from their end
+pub turned_next : (moved rest old all : List (List Literal)) (y : List Literal) → old ≡ rest ++ y ∷ []
+    → moved ++ reverse old ≡ all → moved ++ y ∷ reverse rest ≡ all
+turned_next moved rest old all y e parts = ap (λ ys. moved ++ ys) (sym (reverse-append rest (y ∷ [])))
+    ∙ (ap (λ xs. moved ++ reverse xs) (sym e) ∙ parts)
 
 none_left : (ys : List (List Literal)) → length ys ≡ 0 → ys ≡ []
 none_left [] e = refl

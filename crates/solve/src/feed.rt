@@ -1,5 +1,5 @@
 //! A formula that was read, fed to an engine.
-ghost use Rattle.std.specs.Prelude.{◌≡◌, ◌∷◌, ◌++◌, ◌<◌, ◌≤◌, ◌^◌, [], length, IfOk, IsOkUnless, OnOk};
+ghost use Rattle.std.specs.Prelude.{◌≡◌, ◌∷◌, ◌++◌, ◌<◌, ◌≤◌, ◌^◌, [], length, reverse, IfOk, IsOkUnless, OnOk};
 ghost use Rattle.std.specs.List.{AllByRecursion};
 ghost use Rattle.prefix.specs.Scopes.{IsAscending, IsPrefix};
 ghost use Rattle.truth.specs.Formed.{IsClauseOver, IsFormed};
@@ -14,6 +14,9 @@ use std::alloc::{AllocError, Global};
 use std::collections::BTreeSet;
 use truth::Formula;
 
+// After so many clauses that have moved their room is given back.
+const MOVED: usize = 65_536;
+
 // Gives the scopes, the variables and copies of the clauses of a formula to an engine that has none. They are refused
 // for want of memory alone. The time is linear in the variables and literals.
 pub(crate) fn feed(alloc: Global, engine: &mut Engine, f: &Formula) -> Result<(), FrameRefusal>
@@ -26,7 +29,7 @@ pub(crate) fn feed(alloc: Global, engine: &mut Engine, f: &Formula) -> Result<()
     feed_clauses(alloc, engine, f.clauses.clauses())
 }
 
-// The same of a formula whose clauses move in, so that they stand once.
+// The same of a formula whose clauses move in, so that they stand once; its prefix goes before they come.
 pub(crate) fn feed_whole(engine: &mut Engine, f: Formula) -> Result<(), FrameRefusal>
     requires empty { HoldsFormula [] [] engine.old }
     requires formed { IsFormed f }
@@ -34,6 +37,7 @@ pub(crate) fn feed_whole(engine: &mut Engine, f: Formula) -> Result<(), FrameRef
     ensures memory { IsOkUnless result FrameRefusal.NoMemory }
 {
     feed_scopes(engine, &f.prefix)?;
+    drop(f.prefix);
     move_clauses(engine, f.clauses.into_vec())
 }
 
@@ -87,7 +91,7 @@ fn feed_clauses(alloc: Global, engine: &mut Engine, clauses: &[LitList]) -> Resu
     Ok(())
 }
 
-// Gives the clauses, which move in.
+// Gives the clauses, which move in from the first on. The room of those that have moved is given back as they go.
 fn move_clauses(engine: &mut Engine, clauses: Vec<LitList>) -> Result<(), FrameRefusal>
     requires holds { HoldsFormula engine.old.formula.scopes [] engine.old }
     requires valid { IsPrefix engine.old.formula.scopes }
@@ -97,10 +101,35 @@ fn move_clauses(engine: &mut Engine, clauses: Vec<LitList>) -> Result<(), FrameR
     ensures ok { OnOk result (HoldsFormula engine.old.formula.scopes clauses.items engine.new) }
     ensures memory { IsOkUnless result FrameRefusal.NoMemory }
 {
-    for clause in clauses {
+    let mut to_come = clauses;
+    to_come.reverse();
+    move_all(engine, &mut to_come)
+}
+
+// Gives the clauses, which move in from the last on.
+fn move_all(engine: &mut Engine, clauses: &mut Vec<LitList>) -> Result<(), FrameRefusal>
+    requires holds { HoldsFormula engine.old.formula.scopes [] engine.old }
+    requires valid { IsPrefix engine.old.formula.scopes }
+    requires rows { AllByRecursion (IsClauseOver engine.old.formula.scopes) (reverse clauses.old.items) }
+    requires count { length (reverse clauses.old.items) ≤ 2 ^ 24 }
+    requires amount { literals_in (reverse clauses.old.items) ≤ 2 ^ 28 }
+    ensures ok { OnOk result (HoldsFormula engine.old.formula.scopes (reverse clauses.old.items) engine.new) }
+    ensures memory { IsOkUnless result FrameRefusal.NoMemory }
+{
+    while let Some(clause) = clauses.pop() {
         engine.row(clause)?;
+        give_back(clauses);
     }
     Ok(())
+}
+
+// Gives back the room of the clauses that have moved, each time so many have.
+fn give_back(clauses: &mut Vec<LitList>)
+    ensures { clauses.new.items ≡ clauses.old.items }
+{
+    if clauses.len() % MOVED == 0 {
+        clauses.shrink_to_fit();
+    }
 }
 
 // A copy of a clause.

@@ -18,10 +18,10 @@ pub(crate) fn literal(n: i32) -> Result<Lit, Fail> {
 // The clauses with these literals, each ended by 0.
 pub(crate) fn clause_list(alloc: Global, numbers: &[i32]) -> Result<ClauseList, Fail> {
     let mut list = ClauseList::new(alloc);
-    let mut lits = LitList::new(alloc);
+    let mut lits = Vec::new(alloc);
     for n in numbers {
         if *n == 0 {
-            list.push(mem::replace(&mut lits, LitList::new(alloc)))?;
+            list.push(LitList::from_vec(mem::replace(&mut lits, Vec::new(alloc))))?;
             continue;
         }
         lits.push(literal(*n)?)?;

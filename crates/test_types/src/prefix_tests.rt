@@ -1,6 +1,7 @@
 //! Prefixes, their refusals, and the numbers of literals.
 use crate::build::{literal, variable};
 use prefix::{Clauses, Cubes, Lit, LitList, Prefix, PrefixRefusal, Quant};
+use std::alloc::Global;
 use std::test::Fail;
 
 // Whether the variables of a scope have these numbers.
@@ -149,9 +150,43 @@ fn refusals_come_in_order(rt: HostRuntime) -> Result<(), Fail> {
 #[test]
 fn literals_have_signed_numbers(rt: HostRuntime) -> Result<(), Fail> {
     let four = literal(4)?;
-    let mut lits = LitList::new(rt.alloc());
-    lits.push(four)?;
-    lits.push(four.negate())?;
+    let lits = LitList::from_vec(vec![in rt.alloc(); four, four.negate()]?);
     assert!(rt; matches!(lits.lits(), [a, b] if a.number() == 4 && b.number() == -4));
     Ok(())
+}
+
+// Up to six literals stand in place, more of them in a vector.
+#[test]
+fn lists_of_any_length_keep_their_literals(rt: HostRuntime) -> Result<(), Fail> {
+    let alloc = rt.alloc();
+    assert!(rt; keeps(alloc, &[])? && keeps(alloc, &[5])?);
+    assert!(rt; keeps(alloc, &[7, -2])? && keeps(alloc, &[3, 1, -2])?);
+    assert!(rt; keeps(alloc, &[4, -3, 2, 1])? && keeps(alloc, &[1, 2, 3, 5, -4])?);
+    assert!(rt; keeps(alloc, &[6, 5, -4, 3, 2, -1])? && keeps(alloc, &[1, -3, 2, 4, 7, 6, 5])?);
+    Ok(())
+}
+
+// Whether a list of the literals with these numbers has these.
+fn keeps(alloc: Global, numbers: &[i32]) -> Result<bool, Fail> {
+    let list = list_of(alloc, numbers)?;
+    Ok(list.lits().len() == numbers.len() && are_numbered(list.lits(), numbers))
+}
+
+// The list of the literals with these numbers.
+fn list_of(alloc: Global, numbers: &[i32]) -> Result<LitList, Fail> {
+    let mut lits = Vec::new(alloc);
+    for n in numbers {
+        lits.push(literal(*n)?)?;
+    }
+    Ok(LitList::from_vec(lits))
+}
+
+// Whether literals have these numbers.
+fn are_numbered(lits: &[Lit], numbers: &[i32]) -> bool {
+    for (lit, n) in lits.iter().zip(numbers) {
+        if lit.number() != *n {
+            return false;
+        }
+    }
+    true
 }

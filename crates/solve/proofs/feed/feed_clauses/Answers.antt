@@ -1,4 +1,4 @@
-use Rattle.std.proofs.Common.{◌≡◌, Err, ap}
+use Rattle.std.proofs.Common.{Err, ap}
 use Rattle.std.proofs.lemmas.Result.{err_from_is_err_and}
 use Rattle.frames.specs.State.{OpenFormula}
 use Rattle.solve.proofs.Feeding.{clause_fed, clause_memory, only_memory, this_over}
