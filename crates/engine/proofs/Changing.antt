@@ -505,6 +505,12 @@ pub turned : (o : Option FrameRefusal) (may : Result ℕ FrameRefusal) (n m : �
 turned None may n m r P was asked turns ok = on_ok_at r P turns ok
 turned (Some e) may n m r P was asked turns ok = absurd (let f : Ok n ≡ Err e = sym was ∙ asked in cc)
 
+-- nothing refuses a group's turn that was found to be allowed
+pub turn_allowed : (o : Option FrameRefusal) (may : Result ℕ FrameRefusal) (n m : ℕ) → may ≡ Ok n
+    → MatchOption o (may ≡ Ok m) (λ e. may ≡ Err e) → o ≡ None
+turn_allowed None may n m was asked = refl
+turn_allowed (Some e) may n m was asked = absurd (let f : Ok n ≡ Err e = sym was ∙ asked in cc)
+
 -- long learned rows
 
 -- none is attached where no row is to be watched

@@ -1,6 +1,7 @@
-use Rattle.std.proofs.Common.{ℕ, sym, subst}
+use Rattle.std.proofs.Common.{ℕ, ap, refl, sym, subst, ◌∙◌}
 use Rattle.frames.specs.State.{FramesState}
 use Rattle.search.specs.Changing.{IsRoomy}
+use Rattle.search.specs.Long.{long_in}
 use Rattle.engine.specs.Kept.{IsEngine}
 use Rattle.engine.proofs.Changing.{accepted, cubes_kept, reserved, roomier, variable_added, variable_is}
 use Rattle.engine.proofs.Marked.{older_marked, variable_marked}
@@ -51,3 +52,12 @@ invariant_of-self-in_err-var c =
     c.self.inside.marks.items) (sym c.in_err-var.ensures.err)
     (roomier c.self.inside.frames.formula c.self.inside.search c.reserve.new.self c.self.inside.verdict
     c.self.inside.counts c.self.inside.marks.items e.resting e.derivation e.watched c.self.invariant)
+
+pub returns-clause-ok : goal.returns-clause-ok
+returns-clause-ok c =
+    let scopes = c.self.inside.frames.formula.scopes in
+    let was = c.self.invariant.tied.resting in
+    let is = c.reserve.ensures.resting scopes was in
+    let long = c.forget_outcome.ensures.long
+    ∙ (is.tallied ∙ (ap long_in c.reserve.ensures.derivation ∙ sym was.tallied)) in
+    rw (← c.self.view_is, long, c.in_ok-var.ensures.ok) refl
