@@ -5,3 +5,4 @@ pub mod Parts
 pub mod Shortening
 pub mod Storing
 pub mod Gone
+pub mod Standing

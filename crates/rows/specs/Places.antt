@@ -1,22 +1,35 @@
 -- Where rows stand.
-use Rattle.std.specs.Prelude.{◌≡◌, ℕ, ◌+◌, ◌<◌, ◌≤◌, ◌==◌, if◌then◌else◌, List, [], ◌++◌, length, map, replicate, take, drop, Option, None, Some, is_some, slice_index_or}
+use Rattle.std.specs.Prelude.{◌≡◌, ℕ, ◌+◌, ◌*◌, ◌/◌, ◌%◌, ◌<◌, ◌≤◌, ◌==◌, if◌then◌else◌, List, [], ◌++◌, length, map, replicate, take, drop, Option, None, Some, is_some, slice_index_or}
 use Rattle.std.specs.Option.{option_map}
 use Rattle.prefix.specs.Literal.{Literal}
 use Rattle.rows.specs.declared.places.Place.{Place}
 
--- how many blocks there may be; this number itself stands for none
+-- how many blocks there may be
 abbrev pub most_blocks : ℕ
 most_blocks = 4294967294
 
--- the block that a number stands for, if it stands for one
-abbrev pub block_numbered : ℕ → Option ℕ
-block_numbered number = if number == most_blocks then None else Some number
+-- the start of a row, by its last 32 bits and a number whose last 8 bits are those before them
+abbrev pub start_of : ℕ → ℕ → ℕ
+start_of low rest = rest % 256 * 4294967296 + low
 
--- the place that three numbers stand for, if they stand for one: 4294967295 in place of a block says that no row is
--- live
-abbrev pub slot_of : ℕ → ℕ → ℕ → Option Place
-slot_of start len number =
-    if number == 4294967295 then None else Some (record { start = start; len = len; block = block_numbered number })
+-- the length of a row, which are the bits of that number before its last 8
+abbrev pub len_of : ℕ → ℕ
+len_of rest = rest / 256
+
+-- a place of which only the block is told
+abbrev pub only_block : ℕ → Place
+only_block block = record { start = 0; len = 0; block = Some block }
+
+-- the place that the two numbers of a slot stand for, if they stand for one: 4294967295 as the second says that no row
+-- is live, and 4294967294 that the first is the number of the row's block, which alone is told
+abbrev pub slot_of : ℕ → ℕ → Option Place
+slot_of low rest =
+    if rest == 4294967295
+    then None
+    else (
+    if rest == 4294967294
+    then Some (only_block low)
+    else Some (record { start = start_of low rest; len = len_of rest; block = None }))
 
 -- a place from another literal on
 abbrev pub moved_to : ℕ → Place → Place

@@ -6,7 +6,7 @@ ghost use Rattle.rows.specs.Blocks.{AreBlocks, LosesBlock, block_at, block_in, l
 
 use super::places::set_block;
 use super::rows::RowId;
-use super::table::Table;
+use super::spots::Places;
 use short_numbers::Numbers;
 use std::alloc::{AllocError, Global};
 use std::marker::Model;
@@ -229,7 +229,7 @@ pub(crate) fn read_three(blocks: &Blocks, block: Option<usize>, base: usize) -> 
 
 // The block of a live row. Where it has none it gets one, for which there is room.
 #[inline(always)]
-pub(crate) fn block_for(places: &mut Table, blocks: &mut Blocks, id: RowId) -> usize
+pub(crate) fn block_for(places: &mut Places, blocks: &mut Blocks, id: RowId) -> usize
     requires live { IsTrue (is_some (place_at places.old id)) }
     requires blocks { AreBlocks (blocks_of places.old) blocks.old.items }
     requires room { count_by is_some (blocks_of places.old) ≤ blocks.old.room }
@@ -251,7 +251,7 @@ pub(crate) fn block_for(places: &mut Table, blocks: &mut Blocks, id: RowId) -> u
 // Gives a row that has none a block, for which there is room.
 #[cold]
 #[inline(never)]
-fn give_block(places: &mut Table, blocks: &mut Blocks, id: RowId) -> usize
+fn give_block(places: &mut Places, blocks: &mut Blocks, id: RowId) -> usize
     requires live { block_in (blocks_of places.old) id ≡ Some None }
     requires blocks { AreBlocks (blocks_of places.old) blocks.old.items }
     requires room { count_by is_some (blocks_of places.old) ≤ blocks.old.room }
@@ -264,12 +264,12 @@ fn give_block(places: &mut Table, blocks: &mut Blocks, id: RowId) -> usize
 {
     let block = blocks.len();
     blocks.push(id);
-    set_block(places, id, Some(block));
+    set_block(places, id, block);
     block
 }
 
 // Takes a live row out. Where it has a block, the last block comes into its place.
-pub(crate) fn forget(places: &mut Table, blocks: &mut Blocks, id: RowId)
+pub(crate) fn forget(places: &mut Places, blocks: &mut Blocks, id: RowId)
     requires live { IsTrue (is_some (place_at places.old id)) }
     requires blocks { AreBlocks (blocks_of places.old) blocks.old.items }
     requires few { count_by is_some (blocks_of places.old) ≤ most_blocks }
@@ -287,6 +287,6 @@ pub(crate) fn forget(places: &mut Table, blocks: &mut Blocks, id: RowId)
     blocks.remove(block);
     if block < blocks.len() {
         let owner = blocks.owner(block);
-        set_block(places, owner, Some(block));
+        set_block(places, owner, block);
     }
 }

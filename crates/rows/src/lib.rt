@@ -6,7 +6,10 @@ mod blocks;
 mod places;
 mod rows;
 mod slots;
+mod spots;
 mod table;
+mod worked;
 
 pub use blocks::ThreeLinks;
 pub use rows::{RowId, Rows};
+pub use worked::worked_slots;

@@ -1,9 +1,10 @@
 //! Where rows stand.
-ghost use Rattle.std.specs.Prelude.{◌≡◌, ◌+◌, ◌<◌, ◌≤◌, ◌∷◌, ◌++◌, [], None, Some, IfSome, IsTrue, is_some, length, slice_set, vec_len, vec_capacity};
-ghost use Rattle.rows.specs.Places.{AreMoving, AreSpread, KeepsParts, Reblocks, blocks_of, most_blocks, place_at};
+ghost use Rattle.std.specs.Prelude.{◌≡◌, ◌+◌, ◌<◌, ◌≤◌, ◌∷◌, ◌++◌, [], None, Some, IsTrue, is_some, length, slice_set, vec_len, vec_capacity};
+ghost use Rattle.rows.specs.Places.{AreMoving, AreSpread, KeepsParts, Reblocks, blocks_of, place_at};
+ghost use Rattle.rows.specs.Spots.{IsFirstFree};
 
 use super::rows::RowId;
-use super::table::Table;
+use super::spots::Places;
 use prefix::Lit;
 
 // Where the literals of a row stand, and which block of link fields it has, if it has one.
@@ -14,17 +15,18 @@ pub(crate) struct Place {
     pub block: Option<usize>,
 }
 
-// Gives a row another block, or none.
-pub(crate) fn set_block(places: &mut Table, id: RowId, block: Option<usize>)
+// Gives a row another block, the first one that no row has.
+pub(crate) fn set_block(places: &mut Places, id: RowId, block: usize)
     requires live { IsTrue (is_some (place_at places.old id)) }
-    requires fits { IfSome block (λ b. b < most_blocks) }
-    ensures blocks { blocks_of places.new ≡ slice_set (blocks_of places.old) id (Some block) }
+    requires number { IsFirstFree (blocks_of places.old) block }
+    ensures blocks { blocks_of places.new ≡ slice_set (blocks_of places.old) id (Some (Some block)) }
     ensures same { Reblocks places.old places.new }
 {
     places.set_block(id, block);
 }
 
 // Puts the literals of a row in behind those of all others, where there is room for them.
+#[inline(always)]
 pub(crate) fn put(all: &mut Vec<Lit>, lits: &[Lit])
     requires { length all.old.items + length lits.now ≤ vec_capacity all.old }
     ensures lits { all.new.items ≡ all.old.items ++ lits.now }
@@ -35,7 +37,7 @@ pub(crate) fn put(all: &mut Vec<Lit>, lits: &[Lit])
 }
 
 // Moves the literals of all rows together, down to the front.
-pub(crate) fn slide(lits: &mut Vec<Lit>, places: &mut Table)
+pub(crate) fn slide(lits: &mut Vec<Lit>, places: &mut Places)
     requires { AreSpread (length lits.old.items) places.old }
     ensures spread { AreSpread (length lits.new.items) places.new }
     ensures kept { KeepsParts lits.old.items places.old lits.new.items places.new }
@@ -48,7 +50,13 @@ pub(crate) fn slide(lits: &mut Vec<Lit>, places: &mut Table)
 }
 
 // Moves the literals of all rows from one id up to another down, as `settle` does one by one.
-fn settle_all(lits: &mut Vec<Lit>, places: &mut Table, first: RowId, end: RowId, to: usize) -> usize
+fn settle_all(
+    lits: &mut Vec<Lit>,
+    places: &mut Places,
+    first: RowId,
+    end: RowId,
+    to: usize,
+) -> usize
     requires order { first ≤ end }
     requires given { end ≤ length places.old }
     requires moving { AreMoving (length lits.old.items) places.old first to }
@@ -64,7 +72,7 @@ fn settle_all(lits: &mut Vec<Lit>, places: &mut Table, first: RowId, end: RowId,
 
 // Moves the literals of a row, if it is live, down to a place that no row before it reaches, and answers the place
 // behind them.
-fn settle(lits: &mut Vec<Lit>, places: &mut Table, id: RowId, to: usize) -> usize
+fn settle(lits: &mut Vec<Lit>, places: &mut Places, id: RowId, to: usize) -> usize
     requires given { id < length places.old }
     requires moving { AreMoving (length lits.old.items) places.old id to }
     ensures moving { AreMoving (length lits.new.items) places.new (id + 1) result }
@@ -80,7 +88,7 @@ fn settle(lits: &mut Vec<Lit>, places: &mut Table, id: RowId, to: usize) -> usiz
 }
 
 // Moves the literals of a row down.
-fn move_down(lits: &mut Vec<Lit>, places: &mut Table, id: RowId, place: Place, to: usize)
+fn move_down(lits: &mut Vec<Lit>, places: &mut Places, id: RowId, place: Place, to: usize)
     requires place { place_at places.old id ≡ Some place }
     requires moving { AreMoving (length lits.old.items) places.old id to }
     ensures moving { AreMoving (length lits.new.items) places.new (id + 1) (to + place.len) }

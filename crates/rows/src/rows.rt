@@ -5,7 +5,7 @@ ghost use Rattle.rows.specs.Arena.{ChangesAt, ChangesLink, ChangesLinks, next_id
 use super::blocks::{Blocks, ThreeLinks, block_for, forget, read, read_three};
 use super::places::{put, slide};
 use super::slots::{slot_from, within};
-use super::table::Table;
+use super::spots::Places;
 use memory::NoMemory;
 use prefix::Lit;
 use std::alloc::Global;
@@ -22,14 +22,15 @@ pub type RowId = usize;
 /// which goes over all ids but those of one gap, none of whose rows is live.
 ///
 /// The literals of all rows stand in one list. A row that goes leaves a hole there, until `compact` or `tidy` moves the
-/// others together, and makes the gap as long as it can. Room for the link fields of all live rows is taken as rows
-/// come in, and written only for rows that have had a link.
+/// others together, and makes the gap as long as it can. A row takes 8 bytes beside its literals, until it has a link.
+/// Room for what it takes then, its link fields and 8 bytes more, is taken as rows come in, and written only for rows
+/// that have had a link.
 #[derive(Debug, Drop)]
 pub struct Rows {
     // The literals of the rows, in the order of their ids.
     lits: Vec<Lit>,
     // Where the row of each id stands, if it is live.
-    places: Table,
+    places: Places,
     // The link fields of the rows that have had a link, with room for those of all live rows.
     blocks: Blocks,
     // How many rows are live.
@@ -58,7 +59,7 @@ impl Rows {
     {
         Self {
             lits: Vec::new(alloc),
-            places: Table::new(alloc),
+            places: Places::new(alloc),
             blocks: Blocks::new(alloc),
             live: 0,
             holes: 0,
@@ -177,7 +178,8 @@ impl Rows {
     }
 
     /// Puts in a row with a copy of these literals and no links, under the id that comes next. With no memory the
-    /// arena stays as it was; there is none for a row of 2^32 literals or more, nor for more than 2^32 - 2 live rows.
+    /// arena stays as it was; there is none for a row of 2^24 - 1 literals or more, nor where 2^40 literals stand in
+    /// the arena, nor for more than 2^32 - 2 live rows.
     pub fn add(&mut self, lits: &[Lit]) -> Result<RowId, NoMemory>
         ensures arena { IfOk result (λ id. (id ≡ next_id self.old) × (self.new ≡ with_row self.old lits.now)) }
         ensures rest { IfOk result (λ id. ChangesAt self.old self.new id (Some (new_row lits.now))) }
@@ -189,7 +191,7 @@ impl Rows {
         within(self.live, 1)?;
         self.blocks.reserve(self.live + 1 - self.blocks.len())?;
         self.lits.reserve(lits.len())?;
-        self.places.push(slot)?;
+        self.places.push(self.live, slot)?;
         put(&mut self.lits, lits);
         self.live += 1;
         Ok(id)
@@ -207,7 +209,7 @@ impl Rows {
         within(self.live, 2)?;
         self.blocks.reserve(self.live + 2 - self.blocks.len())?;
         self.lits.reserve(first.len() + second.len())?;
-        self.places.push_pair(slot, next)?;
+        self.places.push_pair(self.live, slot, next)?;
         put(&mut self.lits, first);
         put(&mut self.lits, second);
         self.live += 2;

@@ -1,28 +1,51 @@
-//! Places as they are kept, in 16 bytes each.
+//! Places as they are kept, in 8 bytes each, and 8 bytes more for a row that has a block.
 ghost use Rattle.std.specs.Prelude.{◌≡◌, ◌+◌, ◌<◌, ◌≤◌, IfOk, IfSome, OnOk, IsTrue, None, Some, is_some, length};
 ghost use Rattle.std.specs.Option.{option_map};
-ghost use Rattle.rows.specs.Places.{block_numbered, moved_to, most_blocks, with_block};
+ghost use Rattle.rows.specs.Places.{len_of, moved_to, most_blocks, only_block, start_of};
 
 use super::places::Place;
 use memory::NoMemory;
 use prefix::Lit;
 use std::marker::Model;
 
-// What stands in place of a block's number for a row that has no block.
-const NO_BLOCK: u32 = u32::MAX - 1;
+// What stands in place of a length, and of a start's first bits, for a row that has a block.
+const HAS_BLOCK: u32 = u32::MAX - 1;
 
-// What stands in place of a block's number for a row that isn't live.
+// The same for a row that isn't live.
 const NOT_LIVE: u32 = u32::MAX;
 
 // How many blocks there may be.
-const MOST_BLOCKS: usize = NO_BLOCK as usize;
+const MOST_BLOCKS: usize = HAS_BLOCK as usize;
 
-// The place of a row, or that the row isn't live.
+// How many starts a slot can tell of, those of 40 bits.
+const STARTS: usize = 1 << 40;
+
+// How many lengths a slot can tell of, those of 24 bits but for the last one, which the two numbers above have.
+const LENGTHS: usize = (1 << 24) - 1;
+
+// How many starts there are with the same bits before the last 32.
+const LOW: usize = 1 << 32;
+
+// How many values those bits have.
+const HIGH: u32 = 1 << 8;
+
+// Where the literals of a row stand.
+#[derive(Clone, Copy, Debug)]
+pub(crate) struct Spot {
+    // The last 32 bits of where they start.
+    pub low: u32,
+    // How many there are, and, in the last 8 bits, the bits of the start before its last 32.
+    pub rest: u32,
+}
+
+// The place of a row, or that the row isn't live. A row without a block has its spot here, and one with a block has
+// only the block's number here, its spot elsewhere.
 #[derive(Debug, Drop)]
 pub(crate) struct Slot {
-    start: usize,
-    len: u32,
-    block: u32,
+    // The first number of the spot, or the block's number.
+    low: u32,
+    // The second number of the spot, or that the row has a block, or that it isn't live.
+    rest: u32,
 }
 
 impl Model for Slot {
@@ -33,47 +56,18 @@ impl Model for Slot {
 
     ghost use Rattle.rows.specs.Places.{slot_of};
 
-    ghost view = { λ s. slot_of s.start s.len s.block };
-}
-
-// The block that a number stands for, if it stands for one.
-#[inline]
-fn block_of(number: u32) -> Option<usize>
-    ensures { result ≡ block_numbered number }
-{
-    if number == NO_BLOCK {
-        None
-    } else {
-        Some(number as usize)
-    }
-}
-
-// The number that stands for a block, or for none.
-fn number_of(block: Option<usize>) -> u32
-    requires { IfSome block (λ b. b < most_blocks) }
-    ensures block { block_numbered result ≡ block }
-    ensures live { result < 4294967295 }
-{
-    match block {
-        None => NO_BLOCK,
-        Some(block) => block as u32,
-    }
+    ghost view = { λ s. slot_of s.low s.rest };
 }
 
 // The slot of a row with these literals, which stand from there on, and without a block. There is no memory for a
-// longer row than a slot can tell of.
+// longer row than a slot can tell of, nor for one further on.
 pub(crate) fn slot_from(start: usize, lits: &[Lit]) -> Result<Slot, NoMemory>
     ensures { IfOk result (λ slot. slot ≡ Some (record { start = start; len = length lits.now; block = None })) }
 {
-    let len = short(lits.len())?;
-    Ok(Slot::new(start, len))
-}
-
-// The length of a row as a slot keeps it.
-fn short(len: usize) -> Result<u32, NoMemory>
-    ensures { IfOk result (λ n. n ≡ len) }
-{
-    u32::try_from(len).map_err(|_| NoMemory)
+    if start >= STARTS || lits.len() >= LENGTHS {
+        return Err(NoMemory);
+    }
+    Ok(Slot::new(start, lits.len()))
 }
 
 // Whether there are numbers for the blocks of all live rows with some more of them. There is no memory for others.
@@ -87,15 +81,63 @@ pub(crate) fn within(live: usize, more: usize) -> Result<(), NoMemory>
     Ok(())
 }
 
-impl Slot {
-    // The slot of a row without a block.
-    pub(crate) fn new(start: usize, len: u32) -> Self
-        ensures { result ≡ Some (record { start = start; len = len; block = None }) }
+impl Spot {
+    // The spot of so many literals from there on.
+    pub(crate) fn new(start: usize, len: usize) -> Self
+        requires place { start < 1099511627776 }
+        requires short { len < 16777216 }
+        ensures start { start_of result.low result.rest ≡ start }
+        ensures len { len_of result.rest ≡ len }
     {
         Self {
-            start,
-            len,
-            block: NO_BLOCK,
+            low: (start % LOW) as u32,
+            rest: len as u32 * HIGH + (start / LOW) as u32,
+        }
+    }
+
+    // Where the literals start.
+    #[inline(always)]
+    pub(crate) fn start(self) -> usize
+        ensures value { result ≡ start_of self.low self.rest }
+        ensures place { result < 1099511627776 }
+    {
+        (self.rest % HIGH) as usize * LOW + self.low as usize
+    }
+
+    // How many literals there are.
+    #[inline(always)]
+    pub(crate) fn len(self) -> usize
+        ensures value { result ≡ len_of self.rest }
+        ensures short { result < 16777216 }
+    {
+        (self.rest / HIGH) as usize
+    }
+
+    // The spot of as many literals that start no further on.
+    pub(crate) fn moved_to(self, start: usize) -> Self
+        requires down { start ≤ start_of self.low self.rest }
+        ensures start { start_of result.low result.rest ≡ start }
+        ensures len { len_of result.rest ≡ len_of self.rest }
+        ensures rest { result.rest ≤ self.rest }
+    {
+        Self {
+            low: (start % LOW) as u32,
+            rest: self.rest / HIGH * HIGH + (start / LOW) as u32,
+        }
+    }
+}
+
+impl Slot {
+    // The slot of a row without a block.
+    pub(crate) fn new(start: usize, len: usize) -> Self
+        requires place { start < 1099511627776 }
+        requires short { len < 16777215 }
+        ensures { result ≡ Some (record { start = start; len = len; block = None }) }
+    {
+        let spot = Spot::new(start, len);
+        Self {
+            low: spot.low,
+            rest: spot.rest,
         }
     }
 
@@ -104,21 +146,33 @@ impl Slot {
     pub(crate) fn is_live(&self) -> bool
         ensures { result ≡ is_some self.now }
     {
-        self.block != NOT_LIVE
+        self.rest != NOT_LIVE
     }
 
-    // The place of the row, if it is live.
-    #[inline]
+    // The place of the row, if it is live. Where it has a block, only that is told.
+    #[inline(always)]
     pub(crate) fn place(&self) -> Option<Place>
-        ensures { result ≡ self.now }
+        ensures value { result ≡ self.now }
+        ensures small { IfSome result (λ p. (p.start < 1099511627776) × (p.len < 16777216)) }
     {
-        if self.block == NOT_LIVE {
+        if self.rest == NOT_LIVE {
             return None;
         }
+        if self.rest == HAS_BLOCK {
+            return Some(Place {
+                start: 0,
+                len: 0,
+                block: Some(self.low as usize),
+            });
+        }
+        let spot = Spot {
+            low: self.low,
+            rest: self.rest,
+        };
         Some(Place {
-            start: self.start,
-            len: self.len as usize,
-            block: block_of(self.block),
+            start: spot.start(),
+            len: spot.len(),
+            block: None,
         })
     }
 
@@ -126,22 +180,31 @@ impl Slot {
     pub(crate) fn clear(&mut self)
         ensures { self.new ≡ None }
     {
-        self.block = NOT_LIVE;
+        self.rest = NOT_LIVE;
     }
 
-    // Gives a live row another block, or none.
-    pub(crate) fn set_block(&mut self, block: Option<usize>)
-        requires live { IsTrue (is_some self.old) }
-        requires fits { IfSome block (λ b. b < most_blocks) }
-        ensures { self.new ≡ option_map (with_block block) self.old }
+    // Gives a row a block, of which alone the slot tells from then on.
+    pub(crate) fn set_block(&mut self, block: usize)
+        requires { block < most_blocks }
+        ensures { self.new ≡ Some (only_block block) }
     {
-        self.block = number_of(block);
+        self.low = block as u32;
+        self.rest = HAS_BLOCK;
     }
 
-    // Gives a row another place, if it is live.
+    // Gives a live row without a block another place, which is no further on.
     pub(crate) fn set_start(&mut self, start: usize)
+        requires live { IsTrue (is_some self.old) }
+        requires own { IfSome self.old (λ p. p.block ≡ None) }
+        requires down { IfSome self.old (λ p. start ≤ p.start) }
         ensures { self.new ≡ option_map (moved_to start) self.old }
     {
-        self.start = start;
+        let spot = Spot {
+            low: self.low,
+            rest: self.rest,
+        };
+        let spot = spot.moved_to(start);
+        self.low = spot.low;
+        self.rest = spot.rest;
     }
 }

@@ -1,7 +1,7 @@
-//! The slots of all ids.
+//! The slots of all ids, in which a place has either a block or a start and a length.
 ghost use Rattle.std.specs.Prelude.{◌≡◌, ◌∷◌, ◌++◌, ◌<◌, ◌≤◌, [], None, IfSome, IsTrue, OnErr, OnOk, is_some, length, slice_set, take};
 ghost use Rattle.std.specs.Option.{option_map};
-ghost use Rattle.rows.specs.Places.{AreDead, Swaps, moved_to, most_blocks, place_at, with_block};
+ghost use Rattle.rows.specs.Places.{AreDead, Swaps, moved_to, most_blocks, only_block, place_at};
 
 use super::places::Place;
 use super::rows::RowId;
@@ -91,22 +91,13 @@ impl Table {
         }
     }
 
-    // The place of the row of an id, if it is live.
-    pub(crate) fn place(&self, id: RowId) -> Option<Place>
-        ensures { result ≡ place_at self.now id }
-    {
-        if self.is_live(id) {
-            Some(self.place_of(id))
-        } else {
-            None
-        }
-    }
-
-    // The place of a live row.
+    // The place of a live row. Where it has a block, only that is told.
     #[inline(always)]
     pub(crate) fn place_of(&self, id: RowId) -> Place
         requires { IsTrue (is_some (place_at self.now id)) }
-        ensures { place_at self.now id ≡ Some result }
+        ensures value { place_at self.now id ≡ Some result }
+        ensures start { result.start < 1099511627776 }
+        ensures len { result.len < 16777216 }
     {
         match self.slots[id - gone_before(id, self.split, self.gone)].place() {
             Some(place) => place,
@@ -148,18 +139,20 @@ impl Table {
         self.slots[id - gone_before(id, self.split, self.gone)].clear();
     }
 
-    // Gives a live row another block, or none.
-    pub(crate) fn set_block(&mut self, id: RowId, block: Option<usize>)
+    // Gives a live row a block, of which alone its slot tells from then on.
+    pub(crate) fn set_block(&mut self, id: RowId, block: usize)
         requires live { IsTrue (is_some (place_at self.old id)) }
-        requires fits { IfSome block (λ b. b < most_blocks) }
-        ensures { self.new ≡ slice_set self.old id (option_map (with_block block) (place_at self.old id)) }
+        requires fits { block < most_blocks }
+        ensures { self.new ≡ slice_set self.old id (Some (only_block block)) }
     {
         self.slots[id - gone_before(id, self.split, self.gone)].set_block(block);
     }
 
-    // Gives a live row another place.
+    // Gives a live row without a block another place, which is no further on.
     pub(crate) fn set_start(&mut self, id: RowId, start: usize)
-        requires { IsTrue (is_some (place_at self.old id)) }
+        requires live { IsTrue (is_some (place_at self.old id)) }
+        requires own { IfSome (place_at self.old id) (λ p. p.block ≡ None) }
+        requires down { IfSome (place_at self.old id) (λ p. start ≤ p.start) }
         ensures { self.new ≡ slice_set self.old id (option_map (moved_to start) (place_at self.old id)) }
     {
         self.slots[id - gone_before(id, self.split, self.gone)].set_start(start);

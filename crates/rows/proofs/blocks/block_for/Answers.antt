@@ -10,7 +10,7 @@ returns-in-None-clause-blocks c =
     let rows = blocks_of c.args.places.now in
     let blocks = c.args.blocks.now.items in
     let there : block_in rows c.args.id ≡ Some None = block_there c.args.places.now c.args.id c.place_of.result
-    c.place_of.ensures ∙ ap Some c.in-None.is in
+    c.place_of.ensures.value ∙ ap Some c.in-None.is in
     let rows_are : blocks_of c.give_block.new.places ≡ set rows c.args.id (Some (Some (length blocks))) =
     c.give_block.ensures.block ∙ ap (λ n. set rows c.args.id (Some (Some n))) c.give_block.ensures.result in
     let P : List Block → Type 0 = λ bs. AreBlocks (set rows c.args.id (Some (Some (length blocks)))) bs in
@@ -23,7 +23,7 @@ returns-in-None-clause-live c =
     let rows = blocks_of c.args.places.now in
     let blocks = c.args.blocks.now.items in
     let there : block_in rows c.args.id ≡ Some None = block_there c.args.places.now c.args.id c.place_of.result
-    c.place_of.ensures ∙ ap Some c.in-None.is in
+    c.place_of.ensures.value ∙ ap Some c.in-None.is in
     let rows_are : blocks_of c.give_block.new.places ≡ set rows c.args.id (Some (Some (length blocks))) =
     c.give_block.ensures.block ∙ ap (λ n. set rows c.args.id (Some (Some n))) c.give_block.ensures.result in
     ap (λ (rs : List (Option (Option ℕ))). count_by is_some rs) rows_are ∙ live_given rows blocks c.requires.blocks

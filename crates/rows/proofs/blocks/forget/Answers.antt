@@ -5,7 +5,9 @@ use Rattle.std.proofs.lemmas.List.{map-set, get_or-set_other}
 use Rattle.rows.specs.declared.places.Place.{Place}
 use Rattle.rows.specs.Places.{blocks_of, place_at}
 use Rattle.rows.specs.Blocks.{Block, LosesBlock, block_at, block_in}
-use Rattle.rows.proofs.Blocking.{block_there, count_le, live_block, live_less, live_swapped, loses_last, loses_none, loses_swapped, owner_row, owner_differs}
+use Rattle.rows.specs.Spots.{IsFirstFree}
+use Rattle.rows.proofs.Blocking.{block_there, live_block, live_less, live_swapped, loses_last, loses_none, loses_swapped, owner_row, owner_differs}
+use Rattle.rows.proofs.Standing.{free_again}
 use Rattle.rows.proofs.blocks.forget.Goals as goal
 
 abbrev Rows : Type 0
@@ -22,7 +24,7 @@ returns-in_default-clause-loses c =
     let blocks = c.args.blocks.now.items in
     let none : c.place_of-place.result.block ≡ None = c.in_default.is in
     let there : block_in (blocks_of places) c.args.id ≡ Some None = block_there places c.args.id c.place_of-place.result
-    c.place_of-place.ensures ∙ ap Some none in
+    c.place_of-place.ensures.value ∙ ap Some none in
     let P : Rows → Type 0 = λ rows. LosesBlock (blocks_of places) blocks rows blocks c.args.id in
     subst P (sym (gone places c.args.id c.clear.new.self c.clear.ensures))
     (loses_none (blocks_of places) blocks c.args.id c.requires.blocks there)
@@ -32,7 +34,7 @@ returns-in_default-clause-live c =
     let places = c.args.places.now in
     let none : c.place_of-place.result.block ≡ None = c.in_default.is in
     let there : block_in (blocks_of places) c.args.id ≡ Some None = block_there places c.args.id c.place_of-place.result
-    c.place_of-place.ensures ∙ ap Some none in
+    c.place_of-place.ensures.value ∙ ap Some none in
     ap (λ (rows : Rows). count_by is_some rows + 1) (gone places c.args.id c.clear.new.self c.clear.ensures)
     ∙ live_less (blocks_of places) c.args.id None there
 
@@ -40,7 +42,7 @@ pub remove-requires : goal.remove-requires
 remove-requires c =
     let places = c.args.places.now in
     let there : block_in (blocks_of places) c.args.id ≡ Some (Some c.in-Some.block) = block_there places c.args.id
-    c.place_of-place.result c.place_of-place.ensures ∙ ap Some c.in-Some.is in
+    c.place_of-place.result c.place_of-place.ensures.value ∙ ap Some c.in-Some.is in
     (c.requires.blocks.has c.args.id c.in-Some.block there).0
 
 pub set_block-requires : goal.set_block-requires
@@ -52,7 +54,7 @@ set_block-requires c =
     let test = c.if-block-len.true in
     let is = c.len.ensures in
     let there : block_in (blocks_of places) c.args.id ≡ Some (Some b) = block_there places c.args.id
-    c.place_of-place.result c.place_of-place.ensures ∙ ap Some c.in-Some.is in
+    c.place_of-place.result c.place_of-place.ensures.value ∙ ap Some c.in-Some.is in
     let short : length new + 1 ≡ length blocks = c.remove.ensures.count in
     let more : b + 1 < length blocks = omega arith in
     let moved : b + 1 < length blocks → block_at new b ≡ block_at blocks (length blocks - 1) = c.remove.ensures.moved in
@@ -64,14 +66,12 @@ set_block-requires c =
     c.owner-owner.result owner_is in
     let apart = owner_differs (blocks_of places) blocks c.requires.blocks c.args.id b there new short moved others more
     c.owner-owner.result owner_is in
-    let count = c.requires.blocks.counted in
-    let le = count_le (blocks_of places) in
-    let few = c.requires.few in
     record {
       live = ap (λ (ps : List (Option Place)). is_some (place_at ps c.owner-owner.result)) c.clear.ensures
           ∙ ap is_some (get_or-set_other places c.args.id c.owner-owner.result None None apart)
           ∙ live_block places c.owner-owner.result (Some (length blocks - 1)) row;
-      fits = omega arith;
+      number = subst (λ rows. IsFirstFree rows b) (sym (gone places c.args.id c.clear.new.self c.clear.ensures))
+          (free_again (blocks_of places) blocks c.requires.blocks c.args.id b there more c.requires.few);
     }
 
 pub returns-then-block-len-clause-loses : goal.returns-then-block-len-clause-loses
@@ -83,7 +83,7 @@ returns-then-block-len-clause-loses c =
     let test = c.if-block-len.true in
     let is = c.len.ensures in
     let there : block_in (blocks_of places) c.args.id ≡ Some (Some b) = block_there places c.args.id
-    c.place_of-place.result c.place_of-place.ensures ∙ ap Some c.in-Some.is in
+    c.place_of-place.result c.place_of-place.ensures.value ∙ ap Some c.in-Some.is in
     let short : length new + 1 ≡ length blocks = c.remove.ensures.count in
     let more : b + 1 < length blocks = omega arith in
     let moved : b + 1 < length blocks → block_at new b ≡ block_at blocks (length blocks - 1) = c.remove.ensures.moved in
@@ -108,7 +108,7 @@ returns-then-block-len-clause-live c =
     let test = c.if-block-len.true in
     let is = c.len.ensures in
     let there : block_in (blocks_of places) c.args.id ≡ Some (Some b) = block_there places c.args.id
-    c.place_of-place.result c.place_of-place.ensures ∙ ap Some c.in-Some.is in
+    c.place_of-place.result c.place_of-place.ensures.value ∙ ap Some c.in-Some.is in
     let short : length new + 1 ≡ length blocks = c.remove.ensures.count in
     let more : b + 1 < length blocks = omega arith in
     let moved : b + 1 < length blocks → block_at new b ≡ block_at blocks (length blocks - 1) = c.remove.ensures.moved in
@@ -134,7 +134,7 @@ returns-else-block-len-clause-loses c =
     let test = c.if-block-len.false in
     let is = c.len.ensures in
     let there : block_in (blocks_of places) c.args.id ≡ Some (Some b) = block_there places c.args.id
-    c.place_of-place.result c.place_of-place.ensures ∙ ap Some c.in-Some.is in
+    c.place_of-place.result c.place_of-place.ensures.value ∙ ap Some c.in-Some.is in
     let short : length new + 1 ≡ length blocks = c.remove.ensures.count in
     let last : length blocks ≤ b + 1 = omega arith in
     let moved : b + 1 < length blocks → block_at new b ≡ block_at blocks (length blocks - 1) = c.remove.ensures.moved in
@@ -148,6 +148,6 @@ pub returns-else-block-len-clause-live : goal.returns-else-block-len-clause-live
 returns-else-block-len-clause-live c =
     let places = c.args.places.now in
     let there : block_in (blocks_of places) c.args.id ≡ Some (Some c.in-Some.block) = block_there places c.args.id
-    c.place_of-place.result c.place_of-place.ensures ∙ ap Some c.in-Some.is in
+    c.place_of-place.result c.place_of-place.ensures.value ∙ ap Some c.in-Some.is in
     ap (λ (rows : Rows). count_by is_some rows + 1) (gone places c.args.id c.clear.new.self c.clear.ensures)
     ∙ live_less (blocks_of places) c.args.id (Some c.in-Some.block) there

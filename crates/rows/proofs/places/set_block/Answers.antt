@@ -10,7 +10,8 @@ pub returns-clause-blocks : goal.returns-clause-blocks
 returns-clause-blocks c =
     let places = c.args.places.now in
     let p = some_is (place_at places c.args.id) c.requires.live in
-    let is : c.set_block.new.self ≡ set places c.args.id (Some (with_block c.args.block p.0)) = c.set_block.ensures
-    ∙ ap (λ (o : Option Place). set places c.args.id (option_map (with_block c.args.block) o)) p.1 in
+    let is : c.set_block.new.self ≡ set places c.args.id (Some (with_block (Some c.args.block) p.0)) =
+    c.set_block.ensures
+    ∙ ap (λ (o : Option Place). set places c.args.id (option_map (with_block (Some c.args.block)) o)) p.1 in
     ap (λ (ps : List (Option Place)). blocks_of ps) is
-    ∙ map-set (option_map (λ (q : Place). q.block)) places c.args.id (Some (with_block c.args.block p.0))
+    ∙ map-set (option_map (λ (q : Place). q.block)) places c.args.id (Some (with_block (Some c.args.block) p.0))

@@ -5,4 +5,4 @@ use Rattle.rows.proofs.rows.Rows.links_from.Goals as goal
 pub read_three-requires-clause-block : goal.read_three-requires-clause-block
 read_three-requires-clause-block c b e =
     (c.self.invariant.blocked.has c.args.id b
-    (block_there c.self.inside.places c.args.id c.place_of.result c.place_of.ensures ∙ ap Some e)).0
+    (block_there c.self.inside.places c.args.id c.place_of.result c.place_of.ensures.value ∙ ap Some e)).0

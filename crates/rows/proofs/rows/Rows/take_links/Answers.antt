@@ -17,7 +17,7 @@ there places id b p e is = block_there places id p e ∙ ap Some is
 pub take_three-requires-clause-block : goal.take_three-requires-clause-block
 take_three-requires-clause-block c =
     (c.self.invariant.blocked.has c.args.id c.in-Some.block
-    (there c.self.inside.places c.args.id c.in-Some.block c.place_of.result c.place_of.ensures
+    (there c.self.inside.places c.args.id c.in-Some.block c.place_of.result c.place_of.ensures.value
     c.in-Some.is)).0
 
 pub invariant_of-self : goal.invariant_of-self
@@ -25,7 +25,7 @@ invariant_of-self c =
     let blocks = c.self.inside.blocks.items in
     let places = c.self.inside.places in
     let b = c.in-Some.block in
-    let has = there places c.args.id b c.place_of.result c.place_of.ensures c.in-Some.is in
+    let has = there places c.args.id b c.place_of.result c.place_of.ensures.value c.in-Some.is in
     let links = set (block_at blocks b).links c.args.base None in
     let P : List Block → Type 0 = λ bs. AreStored (length c.self.inside.lits.items) places bs c.self.inside.live
     c.take_three.new.self.room in
@@ -40,7 +40,7 @@ returns-in-Some-clause-arena c =
     let blocks = c.self.inside.blocks.items in
     let lits = c.self.inside.lits.items in
     let b = c.in-Some.block in
-    let has = there places c.args.id b c.place_of.result c.place_of.ensures c.in-Some.is in
+    let has = there places c.args.id b c.place_of.result c.place_of.ensures.value c.in-Some.is in
     let links = set (block_at blocks b).links c.args.base None in
     let are = c.self.invariant.blocked in
     let within : b < length blocks = (are.has c.args.id b has).0 in
@@ -66,7 +66,7 @@ returns-in-Some-clause-rest c =
     let within : c.args.base < length (links_in blocks c.place_of.result.block) = omega (arith, eight, field) in
     let at : row_at c.args.self.now c.args.id ≡ Some (stored lits blocks c.place_of.result) =
     ap (λ (a : Arena). row_at a c.args.id) (sym c.self.view_is)
-    ∙ stored_place lits blocks places c.args.id c.place_of.result c.place_of.ensures in
+    ∙ stored_place lits blocks places c.args.id c.place_of.result c.place_of.ensures.value in
     let P : Arena → Type 0 = λ a. ChangesLink c.args.self.now a c.args.id c.args.base None in
     subst P (sym (returns-in-Some-clause-arena c)) (ChangesLink-with_link c.args.self.now c.args.id c.args.base None
     (stored lits blocks c.place_of.result) c.requires.live at within)

@@ -1,29 +1,17 @@
-use Rattle.std.proofs.Common.{◌≡◌, ◌-◌, List, Option, None, is_some, set, true, ap, sym, ◌∙◌}
-use Rattle.std.specs.Option.{option_map}
-use Rattle.std.proofs.lemmas.List.{get_or_default}
+use Rattle.std.proofs.Common.{◌≡◌, ◌-◌, List, Option, Some, is_some, set, true, ap, ◌∙◌}
 use Rattle.rows.specs.declared.places.Place.{Place}
-use Rattle.rows.specs.Places.{around_gone, with_block, place_at}
-use Rattle.rows.proofs.Gone.{Before, live_given, live_kept, live_set}
+use Rattle.rows.specs.Places.{around_gone, only_block, place_at}
+use Rattle.rows.proofs.Gone.{Before, live_set}
 use Rattle.rows.proofs.table.Table.set_block.Goals as goal
 
 pub returns : goal.returns
 returns c =
     let t = c.self.inside in
-    let slots = t.slots.items in
     let id = c.args.id in
     let before = c.gone_before.result in
-    let within = c.self.invariant.0 in
     let is : Before t.split t.gone id before = (c.gone_before.ensures.front, c.gone_before.ensures.behind) in
-    let live : is_some (place_at (around_gone t.split t.gone slots) id) ≡ true =
+    let live : is_some (place_at (around_gone t.split t.gone t.slots.items) id) ≡ true =
     ap (λ (ps : List (Option Place)). is_some (place_at ps id)) c.self.view_is ∙ c.requires.live in
-    let there : c.index_mut.result.now ≡ place_at (around_gone t.split t.gone slots) id =
-    c.index_mut.ensures.value
-    ∙ (get_or_default slots (id - before) c.index_mut.result.now None
-    (live_given t.split t.gone id before slots within is live)
-    ∙ sym (live_kept t.split t.gone id before slots within is live)) in
-    ap (λ (o : Option Place). around_gone t.split t.gone (set slots (id - before) o))
-    (c.set_block.ensures ∙ ap (option_map (with_block c.args.block)) there)
-    ∙ (live_set t.split t.gone id before slots within is live
-    (option_map (with_block c.args.block) (place_at (around_gone t.split t.gone slots) id))
-    ∙ ap (λ (ps : List (Option Place)). set ps id (option_map (with_block c.args.block) (place_at ps id)))
-    c.self.view_is)
+    ap (λ (o : Option Place). around_gone t.split t.gone (set t.slots.items (id - before) o)) c.set_block.ensures
+    ∙ (live_set t.split t.gone id before t.slots.items c.self.invariant.0 is live (Some (only_block c.args.block))
+    ∙ ap (λ (ps : List (Option Place)). set ps id (Some (only_block c.args.block))) c.self.view_is)
