@@ -1,5 +1,5 @@
--- Worked values: which initial cubes miss a clause, and what goes with them; what goes with a variable; and the tags
--- of steps.
+-- Worked values: which initial cubes miss a clause, and what goes with them; what goes with a variable; the tags of
+-- steps; and what is kept of them.
 use Rattle.std.specs.Prelude.{◌≡◌, ℕ, Bool, true, false, if◌then◌else◌, List, [], ◌∷◌, Option, Some, None}
 use Rattle.prefix.specs.declared.quant.Quant.{Quant}
 use Rattle.prefix.specs.declared.quant.Quant.TheVariants.{Exists, Forall}
@@ -14,6 +14,7 @@ use Rattle.derive.specs.Inputs.{AddsClauses, GainsClauses, shortened}
 use Rattle.derive.specs.State.{Note, Notes, State, arena_of, with_step}
 use Rattle.derive.specs.Dropping.{Drops, NoneOutsideBelow, is_outside, names}
 use Rattle.derive.specs.Cubes.{hits_clause, misses, misses_one, misses_some}
+use Rattle.derive.specs.Packed.{slot_of}
 
 abbrev pub note : Quant → Why → Note
 note side why = record { side = side; why = why; tag = 0 }
@@ -222,3 +223,22 @@ pub record WorkedTags : Type 0 where
   pub greatest : IsGreatestFrame three_frames 4 2
   pub not_less : IsGreatestFrame three_frames 4 0 → ⊥
   pub not_more : IsGreatestFrame three_frames 4 5 → ⊥
+
+pub record WorkedNotes : Type 0 where
+  -- a resolvent on the last variable, of a step whose id has more than 32 bits and of that with the last id that four
+  -- numbers can tell of
+  pub resolvent : slot_of 5 4294967295 9 2147485503 ≡ tagged Forall (ResolvedFrom 12884901893 68719476735 1048576) 9
+  -- not so with the last bits of the two ids in each other's place, on the other side, or on the variable before
+  pub turned : slot_of 4294967295 5 9 2147485503
+      ≡ tagged Forall (ResolvedFrom 12884901893 68719476735 1048576) 9 → ⊥
+  pub other_side : slot_of 5 4294967295 9 2147485247
+      ≡ tagged Forall (ResolvedFrom 12884901893 68719476735 1048576) 9 → ⊥
+  pub other_variable : slot_of 5 4294967295 9 2147483455
+      ≡ tagged Forall (ResolvedFrom 12884901893 68719476735 1048576) 9 → ⊥
+  -- no step
+  pub none : slot_of 5 4294967295 9 4294967295 ≡ None
+  -- the other kinds
+  pub reduction : slot_of 7 0 2 544 ≡ tagged Exists (ReducedFrom 8589934599) 2
+  pub finish : slot_of 8 0 0 1280 ≡ tagged Forall (FinishedFrom 8) 0
+  pub clause : slot_of 0 0 3 0 ≡ tagged Exists Given 3
+  pub cube : slot_of 0 0 0 256 ≡ tagged Forall Given 0

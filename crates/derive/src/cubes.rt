@@ -10,7 +10,9 @@ ghost use Rattle.derive.specs.Roots.{is_root};
 
 use super::StepId;
 use super::dropping::{Roots, drop_roots};
+use super::live::note_in;
 use super::note::Note;
+use super::packed::Slot;
 use memory::NoMemory;
 use pages::Pages;
 use prefix::{Lit, LitList};
@@ -31,7 +33,7 @@ pub(crate) fn list_cube(cubes: &mut Vec<StepId>, note: &Note, next: StepId) -> R
 // are left are listed then. Only where one of them goes are other steps looked at, and these from the first such cube
 // on.
 pub(crate) fn drop_cubes(
-    notes: &mut Pages<Option<Note>>,
+    notes: &mut Pages<Slot>,
     rows: &mut Rows,
     cubes: &mut Vec<StepId>,
     roots: &Roots,
@@ -51,7 +53,7 @@ pub(crate) fn drop_cubes(
 // The least id of some initial cubes, and else the id that comes next.
 pub(crate) fn first_cube(
     cubes: &[StepId],
-    notes: &Pages<Option<Note>>,
+    notes: &Pages<Slot>,
     rows: &Rows,
     roots: &Roots,
 ) -> StepId
@@ -71,13 +73,13 @@ pub(crate) fn first_cube(
 }
 
 // Whether a live step is a root.
-fn is_root(notes: &Pages<Option<Note>>, rows: &Rows, id: StepId, roots: &Roots) -> bool
+fn is_root(notes: &Pages<Slot>, rows: &Rows, id: StepId, roots: &Roots) -> bool
     requires { (note : Kept) → note_in notes.now id ≡ Some note → IsTrue (is_stored rows.now id) }
     ensures { result ≡ holds_in (is_root roots.now rows.now) id (note_in notes.now id) }
 {
-    match notes.get(id) {
-        Some(Some(note)) => roots.contains(id, note, rows),
-        _ => false,
+    match note_in(notes, id) {
+        Some(note) => roots.contains(id, &note, rows),
+        None => false,
     }
 }
 
@@ -128,18 +130,18 @@ fn is_same(a: Lit, b: Lit) -> bool
 }
 
 // Takes the ids out of a list under which no initial cube is live any more.
-pub(crate) fn retain_cubes(cubes: &mut Vec<StepId>, notes: &Pages<Option<Note>>)
+pub(crate) fn retain_cubes(cubes: &mut Vec<StepId>, notes: &Pages<Slot>)
     ensures { cubes.new.items ≡ filter (λ id. is_cube_in (note_in notes.now id)) cubes.old.items }
 {
     cubes.retain(|id| is_cube(notes, *id));
 }
 
 // Whether there is an initial cube under an id.
-fn is_cube(notes: &Pages<Option<Note>>, id: StepId) -> bool
+fn is_cube(notes: &Pages<Slot>, id: StepId) -> bool
     ensures { result ≡ is_cube_in (note_in notes.now id) }
 {
-    match notes.get(id) {
-        Some(Some(note)) => note.is_initial_cube(),
-        _ => false,
+    match note_in(notes, id) {
+        Some(note) => note.is_initial_cube(),
+        None => false,
     }
 }

@@ -23,9 +23,11 @@ ghost use Rattle.derive.specs.Told.{told, why_of};
 use super::cubes::{drop_cubes, first_cube, list_cube, retain_cubes};
 use super::dropping::{Roots, drop_roots};
 use super::entry::{enter, enter_both};
+use super::live::{is_live, note_in};
 use super::new_step::NewStep;
 use super::note::Note;
 use super::outside::{first_outside, is_outside};
+use super::packed::Slot;
 use super::removal::{is_reduced_of, push_assumed, reduce_of};
 use super::sweeping::{sweep_all, widen_marks};
 use super::{Step, StepId};
@@ -46,11 +48,11 @@ use steps::{Steps, Stop};
 /// 0 for cubes. No step rests on a finish. The rows can be taken and put back; between the two only `step`, `is_live`,
 /// `tag` and `next_id` are called.
 ///
-/// There is no memory for a step that rests on one with an id of 2^40 or more, nor for a tag of 2^32 or more.
+/// There is no memory for a step that rests on one with an id of 2^36 or more, nor for a tag of 2^32 or more.
 #[derive(Debug, Drop)]
 pub struct Derivation {
     // What is kept of the step of each id, if it is live.
-    notes: Pages<Option<Note>>,
+    notes: Pages<Slot>,
     rows: Option<Rows>,
     // No step with a tag is live under an id before that at the place of its tag, nor with a tag that has no place. The
     // greatest number stands where none came in since the last drop.
@@ -106,7 +108,7 @@ impl Derivation {
     pub fn is_live(&self, id: StepId) -> bool
         ensures { result ≡ is_live self.now id }
     {
-        matches!(self.notes.get(id), Some(Some(_)))
+        is_live(&self.notes, id)
     }
 
     /// How many steps are live.
@@ -493,12 +495,12 @@ impl Derivation {
     }
 
     // What is kept of a live step.
-    fn note(&self, id: StepId) -> &Note
+    fn note(&self, id: StepId) -> Note
         requires { IsTrue (is_live self.now id) }
-        ensures value { note_at self.now id ≡ Some result.now }
+        ensures value { note_at self.now id ≡ Some result }
         ensures supported { AreSupported self.now.notes }
     {
-        self.notes.get(id).unwrap().as_ref().unwrap()
+        note_in(&self.notes, id).unwrap()
     }
 
     // Whether the reduction of a step is the step itself.
@@ -520,6 +522,7 @@ impl Derivation {
     }
 
     // Adds a step with its row.
+    #[inline(always)]
     fn add(&mut self, step: NewStep, lits: &[Lit]) -> Result<StepId, NoMemory>
         requires rows { IsTrue (has_rows self.old) }
         requires support { IsSupportedAt self.old.notes (next_id self.old) step }
@@ -665,6 +668,7 @@ fn forget_frame(frames_from: &mut Vec<StepId>, frame: usize)
 }
 
 // Notes that a step of a frame comes in under the next id, and makes places for the frames up to it.
+#[inline(always)]
 fn widen(frames_from: &mut Vec<StepId>, frame: usize, next: StepId) -> Result<(), NoMemory>
     ensures told { (f : ℕ) → min (slice_index_or frames_from.new.items f next) next
         ≤ slice_index_or frames_from.old.items f next }

@@ -9,9 +9,10 @@ ghost use Rattle.derive.specs.Missing.{falls_now};
 
 use super::StepId;
 use super::cubes::{misses, misses_one};
-use super::live::next_live;
+use super::live::{next_live, note_in};
 use super::note::Note;
 use super::outside::is_outside;
+use super::packed::Slot;
 use pages::Pages;
 use prefix::{Lit, LitList, Prefix};
 use rows::Rows;
@@ -51,12 +52,7 @@ impl Roots<'_> {
 
 // Drops the roots with all that rests on them, and frees their rows, of which the others are moved together where many
 // went. No root has an id below `from`.
-pub(crate) fn drop_roots(
-    notes: &mut Pages<Option<Note>>,
-    rows: &mut Rows,
-    from: StepId,
-    roots: &Roots,
-)
+pub(crate) fn drop_roots(notes: &mut Pages<Slot>, rows: &mut Rows, from: StepId, roots: &Roots)
     requires supported { AreSupported notes.old }
     requires fits { Fits notes.old rows.old }
     requires below { (id : ℕ) (note : Kept) → note_in notes.old id ≡ Some note → id < from →
@@ -76,12 +72,12 @@ pub(crate) fn drop_roots(
 }
 
 // Whether a live step is a root, or rests on one that is gone.
-fn falls(notes: &Pages<Option<Note>>, rows: &Rows, id: StepId, roots: &Roots) -> bool
+fn falls(notes: &Pages<Slot>, rows: &Rows, id: StepId, roots: &Roots) -> bool
     requires { (note : Kept) → note_in notes.now id ≡ Some note → IsTrue (is_stored rows.now id) }
     ensures { result ≡ falls_now (is_root roots.now rows.now) notes.now id }
 {
-    match notes.get(id) {
-        Some(Some(note)) => roots.contains(id, note, rows) || note.misses_antecedent(notes),
-        _ => false,
+    match note_in(notes, id) {
+        Some(note) => roots.contains(id, &note, rows) || note.misses_antecedent(notes),
+        None => false,
     }
 }

@@ -4,14 +4,16 @@ ghost use Rattle.rows.specs.Arena.{next_id as next_row, with_row};
 
 use super::StepId;
 use super::note::Note;
+use super::packed::Slot;
 use memory::NoMemory;
 use pages::Pages;
 use prefix::Lit;
 use rows::Rows;
 
 // Puts in a note with its row. With no memory nothing changes.
+#[inline(always)]
 pub(crate) fn enter(
-    notes: &mut Pages<Option<Note>>,
+    notes: &mut Pages<Slot>,
     rows: &mut Rows,
     note: Note,
     lits: &[Lit],
@@ -23,7 +25,7 @@ pub(crate) fn enter(
     ensures no_row { OnErr result (rows.new ≡ rows.old) }
 {
     let count = notes.len();
-    notes.push(Some(note))?;
+    notes.push(note.packed())?;
     match rows.add(lits) {
         Ok(id) => Ok(id),
         Err(error) => {
@@ -35,7 +37,7 @@ pub(crate) fn enter(
 
 // Puts in two notes with their rows. With no memory nothing changes.
 pub(crate) fn enter_both(
-    notes: &mut Pages<Option<Note>>,
+    notes: &mut Pages<Slot>,
     rows: &mut Rows,
     both: (Note, Note),
     first: &[Lit],
@@ -59,7 +61,7 @@ pub(crate) fn enter_both(
 
 // The same, but with no memory some of the notes may be there.
 fn put_both(
-    notes: &mut Pages<Option<Note>>,
+    notes: &mut Pages<Slot>,
     rows: &mut Rows,
     both: (Note, Note),
     first: &[Lit],
@@ -71,7 +73,7 @@ fn put_both(
     ensures front { take (length notes.old) notes.new ≡ notes.old }
     ensures no_row { OnErr result (rows.new ≡ rows.old) }
 {
-    notes.push(Some(both.0))?;
-    notes.push(Some(both.1))?;
+    notes.push(both.0.packed())?;
+    notes.push(both.1.packed())?;
     rows.add_pair(first, second)
 }

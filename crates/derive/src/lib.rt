@@ -12,6 +12,7 @@ mod live;
 mod new_step;
 mod note;
 mod outside;
+mod packed;
 mod removal;
 mod step;
 mod sweeping;
@@ -23,4 +24,4 @@ pub use laws::{
     smaller_prefixes_agree, steps_are_listed,
 };
 pub use step::{Step, StepId};
-pub use worked::{worked_cubes, worked_inputs, worked_leaving, worked_tags};
+pub use worked::{worked_cubes, worked_inputs, worked_leaving, worked_notes, worked_tags};

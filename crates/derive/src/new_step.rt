@@ -1,5 +1,5 @@
 //! A step that comes in, and how it is kept.
-ghost use Rattle.std.specs.Prelude.{◌≡◌, IfOk};
+ghost use Rattle.std.specs.Prelude.{◌≡◌, ◌<◌, IfOk};
 ghost use Rattle.derive.specs.Packed.{joined};
 ghost use Rattle.derive.specs.Told.{told, why_of};
 
@@ -36,7 +36,7 @@ impl NewStep {
         Self { side, step, tag }
     }
 
-    // The step as it is kept. There is no memory for more than 2^40 steps, nor for as many as 2^32 frames.
+    // The step as it is kept. There is no memory for more than 2^36 steps, nor for as many as 2^32 frames.
     pub(crate) fn kept(&self) -> Result<Note, NoMemory>
         ensures { IfOk result (λ note. note ≡ self.now) }
     {
@@ -62,10 +62,14 @@ impl NewStep {
     }
 }
 
-// The last 32 bits of an id, and the 8 bits before them.
+// The last 32 bits of an id, and the 4 bits before them.
 fn split(id: StepId) -> Result<(u32, u8), NoMemory>
-    ensures { IfOk result (λ parts. joined parts.0 parts.1 ≡ id) }
+    ensures id { IfOk result (λ parts. joined parts.0 parts.1 ≡ id) }
+    ensures high { IfOk result (λ parts. parts.1 < 16) }
 {
-    let high = u8::try_from(id / HALF).map_err(|_| NoMemory)?;
-    Ok(((id % HALF) as u32, high))
+    let high = id / HALF;
+    if high >= 16 {
+        return Err(NoMemory);
+    }
+    Ok(((id % HALF) as u32, high as u8))
 }

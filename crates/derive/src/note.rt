@@ -1,5 +1,5 @@
 //! What is kept of a step beside its row.
-ghost use Rattle.std.specs.Prelude.{◌≡◌, ◌<◌, ◌≤◌, ◌==◌, ◌||◌, ℕ, false, is_none, length, slice_index_or};
+ghost use Rattle.std.specs.Prelude.{◌≡◌, ◌<◌, ◌≤◌, ◌==◌, ◌||◌, ℕ, Some, false, is_none, length, slice_index_or};
 ghost use Rattle.calculus.specs.Derivations.{RestsOn, rests_on};
 ghost use Rattle.derive.specs.State.{is_finish as finish, note_in};
 ghost use Rattle.derive.specs.Dropping.{is_cube};
@@ -9,6 +9,8 @@ ghost use Rattle.derive.specs.declared.note.Kind.TheVariants.{Resolved};
 ghost use Rattle.derive.specs.Missing.{misses_antecedent};
 ghost use Rattle.derive.specs.Sweeping.{is_input_clause};
 
+use super::live::is_live;
+use super::packed::Slot;
 use super::{Step, StepId};
 use pages::{Bits, Pages};
 use prefix::{Quant, Var};
@@ -26,7 +28,7 @@ pub(crate) enum Kind {
     Resolved,
 }
 
-// The side of a step, what it is, and the greatest frame in its support, in 20 bytes.
+// The side of a step, what it is, and the greatest frame in its support.
 #[derive(Debug, Drop)]
 pub(crate) struct Note {
     // The last 32 bits of the ids that it rests on; 0 where there is none.
@@ -35,7 +37,7 @@ pub(crate) struct Note {
     // The number of the variable of a resolution, else 0.
     pivot: u32,
     tag: u32,
-    // The 8 bits before the last 32 of these ids.
+    // The 4 bits before the last 32 of these ids.
     first_high: u8,
     second_high: u8,
     kind: Kind,
@@ -43,13 +45,12 @@ pub(crate) struct Note {
 }
 
 impl Model for Note {
-    ghost use Rattle.std.specs.Prelude.{◌≡◌, ◌≤◌};
+    ghost use Rattle.std.specs.Prelude.{◌<◌};
     ghost use Rattle.derive.specs.State.{Note as Kept};
-    ghost use Rattle.derive.specs.declared.note.Kind.TheVariants.{Resolved};
 
     ghost Value = { Kept };
 
-    ghost use Rattle.derive.specs.Packed.{joined, why_kept};
+    ghost use Rattle.derive.specs.Packed.{NamesPivot, joined, why_kept};
 
     ghost view = { λ n. record {
       side = n.side;
@@ -57,11 +58,12 @@ impl Model for Note {
       tag = n.tag;
     } };
 
-    ghost invariant = { λ n. n.kind ≡ Resolved → (1 ≤ n.pivot) × (n.pivot ≤ 1048576) };
+    ghost invariant = { λ n. NamesPivot n.kind n.pivot × (n.first_high < 16) × (n.second_high < 16) };
 }
 
 impl Note {
     // A note of a step of a kind, which rests on these ids, each in two parts.
+    #[inline]
     pub(crate) fn over(
         kind: Kind,
         side: Quant,
@@ -70,7 +72,10 @@ impl Note {
         pivot: u32,
         tag: u32,
     ) -> Self
-        requires { kind ≡ Resolved → (1 ≤ pivot) × (pivot ≤ 1048576) }
+        requires positive { kind ≡ Resolved → 1 ≤ pivot }
+        requires bound { pivot ≤ 1048576 }
+        requires first { first.1 < 16 }
+        requires second { second.1 < 16 }
         ensures { result ≡ record {
           side = side;
           why = why_kept kind (joined first.0 first.1) (joined second.0 second.1) pivot;
@@ -87,6 +92,21 @@ impl Note {
             kind,
             side,
         }
+    }
+
+    // The same as it is kept.
+    #[inline]
+    pub(crate) fn packed(&self) -> Slot
+        ensures { result ≡ Some self.now }
+    {
+        Slot::new(
+            self.kind,
+            self.side,
+            (self.first, self.first_high),
+            (self.second, self.second_high),
+            self.pivot,
+            self.tag,
+        )
     }
 
     pub(crate) fn side(&self) -> Quant
@@ -153,7 +173,7 @@ impl Note {
     }
 
     // Whether no step is live any more under an id that it rests on.
-    pub(crate) fn misses_antecedent(&self, notes: &Pages<Option<Note>>) -> bool
+    pub(crate) fn misses_antecedent(&self, notes: &Pages<Slot>) -> bool
         ensures { result ≡ misses_antecedent notes.now self.now.why }
     {
         match self.step() {
@@ -182,8 +202,8 @@ fn set_mark(marks: &mut Bits, id: StepId)
 }
 
 // Whether no step is live under an id.
-fn is_gone(notes: &Pages<Option<Note>>, id: StepId) -> bool
+fn is_gone(notes: &Pages<Slot>, id: StepId) -> bool
     ensures { result ≡ is_none (note_in notes.now id) }
 {
-    !matches!(notes.get(id), Some(Some(_)))
+    !is_live(notes, id)
 }

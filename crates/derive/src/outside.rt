@@ -6,8 +6,8 @@ ghost use Rattle.derive.specs.Antecedents.{Fits};
 ghost use Rattle.derive.specs.Dropping.{is_outside, mentions, names};
 
 use super::StepId;
-use super::live::next_live;
-use super::note::Note;
+use super::live::{next_live, note_in};
+use super::packed::Slot;
 use pages::Pages;
 use prefix::{Lit, Prefix, Quant};
 use rows::Rows;
@@ -22,7 +22,7 @@ pub(crate) fn is_outside(lits: &[Lit], prefix: &Prefix) -> bool
 // The least id from `from` on of a step of a side that names a variable outside a prefix, and else the id that comes
 // next.
 pub(crate) fn first_outside(
-    notes: &Pages<Option<Note>>,
+    notes: &Pages<Slot>,
     rows: &Rows,
     side: Quant,
     from: StepId,
@@ -44,19 +44,13 @@ pub(crate) fn first_outside(
 }
 
 // Whether a step of a side is live under an id, and names a variable outside a prefix.
-fn is_root(
-    notes: &Pages<Option<Note>>,
-    rows: &Rows,
-    id: StepId,
-    side: Quant,
-    prefix: &Prefix,
-) -> bool
+fn is_root(notes: &Pages<Slot>, rows: &Rows, id: StepId, side: Quant, prefix: &Prefix) -> bool
     requires { (note : Kept) → note_in notes.now id ≡ Some note → IsTrue (is_stored rows.now id) }
     ensures { (note : Kept) → note_in notes.now id ≡ Some note → note.side ≡ side →
         result ≡ names (is_outside prefix.now) rows.now id note }
 {
-    match notes.get(id) {
-        Some(Some(note)) => note.side() == side && is_outside(rows.lits(id), prefix),
-        _ => false,
+    match note_in(notes, id) {
+        Some(note) => note.side() == side && is_outside(rows.lits(id), prefix),
+        None => false,
     }
 }

@@ -7,13 +7,15 @@ ghost use Rattle.derive.specs.Dropping.{DropsFrom};
 ghost use Rattle.derive.specs.Sweeping.{AreClosed, AreMarked, MarksNamed, goes, is_marked, is_unmarked, rests_in};
 
 use super::StepId;
-use super::live::next_live;
+use super::live::{next_live, note_in};
 use super::note::Note;
+use super::packed::Slot;
 use memory::NoMemory;
 use pages::{Bits, Pages};
 use rows::Rows;
 
 // Makes places for the marks of so many ids behind those given.
+#[inline(always)]
 pub(crate) fn widen_marks(marks: &mut Bits, given: usize, more: usize) -> Result<(), NoMemory>
     ensures ok { OnOk result (given + more ≤ length marks.new) }
     ensures grown { length marks.old ≤ length marks.new }
@@ -25,12 +27,7 @@ pub(crate) fn widen_marks(marks: &mut Bits, given: usize, more: usize) -> Result
 
 // Keeps the input clauses, the steps with these ids and all that they rest on, and drops the other steps with their
 // rows, which are moved together.
-pub(crate) fn sweep_all(
-    notes: &mut Pages<Option<Note>>,
-    rows: &mut Rows,
-    marks: &mut Bits,
-    keep: &[StepId],
-)
+pub(crate) fn sweep_all(notes: &mut Pages<Slot>, rows: &mut Rows, marks: &mut Bits, keep: &[StepId])
     requires supported { AreSupported notes.old }
     requires fits { Fits notes.old rows.old }
     requires room { length notes.old ≤ length marks.old }
@@ -45,7 +42,7 @@ pub(crate) fn sweep_all(
 }
 
 // Marks the steps with these ids and all that they rest on, and no others.
-fn mark(marks: &mut Bits, notes: &Pages<Option<Note>>, keep: &[StepId])
+fn mark(marks: &mut Bits, notes: &Pages<Slot>, keep: &[StepId])
     requires supported { AreSupported notes.now }
     requires room { length notes.now ≤ length marks.old }
     requires live { (id : ℕ) → Contains keep.now id → IsTrue (is_some (note_in notes.now id)) }
@@ -69,7 +66,7 @@ fn mark_named(marks: &mut Bits, keep: &[StepId])
 }
 
 // Marks what marked steps rest on, from the last live step down.
-fn mark_down(marks: &mut Bits, notes: &Pages<Option<Note>>)
+fn mark_down(marks: &mut Bits, notes: &Pages<Slot>)
     requires supported { AreSupported notes.now }
     requires room { length notes.now ≤ length marks.old }
     ensures marked { (keep : List ℕ) → AreMarked keep notes.now marks.old (length notes.now) →
@@ -84,7 +81,7 @@ fn mark_down(marks: &mut Bits, notes: &Pages<Option<Note>>)
 }
 
 // Marks what a step rests on, if it is marked and live.
-fn mark_under(marks: &mut Bits, notes: &Pages<Option<Note>>, id: StepId)
+fn mark_under(marks: &mut Bits, notes: &Pages<Slot>, id: StepId)
     requires supported { AreSupported notes.now }
     requires given { id < length notes.now }
     requires room { length notes.now ≤ length marks.old }
@@ -95,14 +92,14 @@ fn mark_under(marks: &mut Bits, notes: &Pages<Option<Note>>, id: StepId)
     if !marks.get(id) {
         return;
     }
-    match notes.get(id) {
-        Some(Some(note)) => mark_for(marks, notes, id, note),
-        _ => (),
+    match note_in(notes, id) {
+        Some(note) => mark_for(marks, notes, id, &note),
+        None => (),
     }
 }
 
 // Marks what a live step rests on.
-fn mark_for(marks: &mut Bits, notes: &Pages<Option<Note>>, id: StepId, note: &Note)
+fn mark_for(marks: &mut Bits, notes: &Pages<Slot>, id: StepId, note: &Note)
     requires there { note_in notes.now id ≡ Some note.now }
     requires supported { AreSupported notes.now }
     requires given { id < length notes.now }
@@ -116,7 +113,7 @@ fn mark_for(marks: &mut Bits, notes: &Pages<Option<Note>>, id: StepId, note: &No
 
 // Drops the steps that aren't marked, but for input clauses, and frees their rows. What a marked step rests on is
 // marked.
-fn drop_unmarked(notes: &mut Pages<Option<Note>>, rows: &mut Rows, marks: &Bits)
+fn drop_unmarked(notes: &mut Pages<Slot>, rows: &mut Rows, marks: &Bits)
     requires supported { AreSupported notes.old }
     requires fits { Fits notes.old rows.old }
     requires closed { AreClosed notes.old marks.now 0 }
@@ -135,13 +132,13 @@ fn drop_unmarked(notes: &mut Pages<Option<Note>>, rows: &mut Rows, marks: &Bits)
 }
 
 // Whether a live step is no input clause and isn't marked.
-fn is_unneeded(notes: &Pages<Option<Note>>, marks: &Bits, id: StepId) -> bool
+fn is_unneeded(notes: &Pages<Slot>, marks: &Bits, id: StepId) -> bool
     requires given { id < length notes.now }
     requires room { length notes.now ≤ length marks.now }
     ensures { result ≡ goes marks.now id (note_in notes.now id) }
 {
-    match notes.get(id) {
-        Some(Some(note)) => !note.is_input_clause() && !marks.get(id),
-        _ => false,
+    match note_in(notes, id) {
+        Some(note) => !note.is_input_clause() && !marks.get(id),
+        None => false,
     }
 }

@@ -1,5 +1,5 @@
 //! Worked values of the definitions, each proved.
-ghost use Rattle.derive.specs.Worked.{WorkedCubes, WorkedInputs, WorkedLeaving, WorkedTags};
+ghost use Rattle.derive.specs.Worked.{WorkedCubes, WorkedInputs, WorkedLeaving, WorkedNotes, WorkedTags};
 
 /// Initial cubes that miss a clause, and what goes with them.
 pub fn worked_cubes()
@@ -19,4 +19,9 @@ pub fn worked_leaving()
 /// The tags of steps: the greatest frame of what they rest on.
 pub fn worked_tags()
     ensures { WorkedTags }
+{}
+
+/// What four numbers keep of a step.
+pub fn worked_notes()
+    ensures { WorkedNotes }
 {}

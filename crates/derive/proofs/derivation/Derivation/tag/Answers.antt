@@ -4,11 +4,11 @@ use Rattle.derive.proofs.Tags.{greatest, cube_tag}
 use Rattle.derive.proofs.derivation.Derivation.tag.Goals as goal
 
 pub returns-clause-greatest : goal.returns-clause-greatest
-returns-clause-greatest c = greatest c.args.self.now.notes c.note.ensures.supported c.args.id c.note.result.now
+returns-clause-greatest c = greatest c.args.self.now.notes c.note.ensures.supported c.args.id c.note.result
     c.tag.result c.note.ensures.value c.tag.ensures
 
 pub returns-clause-cubes : goal.returns-clause-cubes
 returns-clause-cubes c side =
-    cube_tag c.args.self.now.notes c.note.ensures.supported c.args.id c.note.result.now c.tag.result
+    cube_tag c.args.self.now.notes c.note.ensures.supported c.args.id c.note.result c.tag.result
     c.note.ensures.value c.tag.ensures
     (ap side_in (sym c.note.ensures.value) ∙ side)
