@@ -153,5 +153,5 @@ fn row_of(alloc: Global, codes: &[u32]) -> Result<LitList, AllocError>
             lits.push(Lit::new(v, *code % 2 == 0))?;
         }
     }
-    Ok(LitList::from_vec(lits))
+    LitList::from_vec(lits)
 }

@@ -81,5 +81,5 @@ fn literals_of(alloc: Global, codes: &[u32]) -> Result<LitList, AllocError>
             lits.push(Lit::new(v, *code % 2 == 1))?;
         }
     }
-    Ok(LitList::from_vec(lits))
+    LitList::from_vec(lits)
 }

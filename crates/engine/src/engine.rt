@@ -13,12 +13,12 @@ ghost use Rattle.engine.specs.Verdicts.{HasProof, IsStopFor};
 use crate::counts::Counts;
 use crate::lookup::keep_mentioned;
 use crate::tied::{decide, forget_outcome};
-use crate::verdict::{Held, Verdict};
+use crate::verdict::{Held, Literals, Verdict};
 use calculus::{end_rows_give_proofs, proofs_decide};
 use derive::{StepId, steps_are_listed};
 use frames::{Assumptions, Frames};
 use memory::NoMemory;
-use prefix::{Lit, LitList, Prefix};
+use prefix::{Lit, Prefix};
 use search::{Search, SolveStop};
 use std::alloc::Global;
 use std::marker::Model;
@@ -159,8 +159,8 @@ impl Engine {
         self.frames.clear_assumptions();
         self.verdict = Some(Held {
             verdict,
-            assumed: LitList::from_vec(assumed),
-            relevant: LitList::from_vec(relevant),
+            assumed: Literals::from_vec(assumed),
+            relevant: Literals::from_vec(relevant),
         });
         Ok(verdict)
     }

@@ -4,7 +4,8 @@ ghost use Rattle.prefix.specs.Sides.{bad_of};
 ghost use Rattle.engine.specs.Refusals.{winner_of};
 
 use derive::StepId;
-use prefix::{LitList, Quant};
+use prefix::{Lit, Quant};
+use std::marker::Model;
 
 /// What a solve found: the truth of the open formula under its assumptions, and the step that its proof ends in.
 #[derive(Clone, Copy, Debug, PartialEq, Eq)]
@@ -19,8 +20,39 @@ pub struct Verdict {
 #[derive(Debug, Drop)]
 pub(crate) struct Held {
     pub(crate) verdict: Verdict,
-    pub(crate) assumed: LitList,
-    pub(crate) relevant: LitList,
+    pub(crate) assumed: Literals,
+    pub(crate) relevant: Literals,
+}
+
+// Literals in their order; contracts see them as that list.
+#[derive(Debug, Drop)]
+pub(crate) struct Literals {
+    lits: Vec<Lit>,
+}
+
+impl Model for Literals {
+    ghost use Rattle.std.specs.Prelude.{List};
+    ghost use Rattle.prefix.specs.Literal.{Literal};
+
+    ghost Value = { List Literal };
+
+    ghost view = { λ l. l.lits.items };
+}
+
+impl Literals {
+    // These literals. This takes no memory.
+    pub(crate) fn from_vec(lits: Vec<Lit>) -> Self
+        ensures { result ≡ lits.items }
+    {
+        Self { lits }
+    }
+
+    // Those literals.
+    pub(crate) fn lits(&self) -> &[Lit]
+        ensures { result.now ≡ self.now }
+    {
+        &self.lits
+    }
 }
 
 // The truth where this side loses.

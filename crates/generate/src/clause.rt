@@ -73,5 +73,6 @@ fn row_of(alloc: Global, lits: [Lit; 3]) -> Result<LitList, AllocError>
 {
     let mut row = Vec::from_array(alloc, lits)?;
     row.sort_unstable_by_key(|l| l.var());
-    Ok(LitList::from_vec(row))
+    let clause = LitList::from_vec(row)?;
+    Ok(clause)
 }

@@ -2,7 +2,7 @@
 use Rattle.std.specs.Prelude.{List, []}
 use Rattle.prefix.specs.Literal.{Literal}
 use Rattle.prefix.specs.declared.lit_list.Kept.{Kept}
-use Rattle.prefix.specs.declared.lit_list.Kept.TheVariants.{None, One, Two, Three, Four, Five, Six, More}
+use Rattle.prefix.specs.declared.lit_list.Kept.TheVariants.{None, One, Two, Three, Four, Five, More}
 
 -- the literals that stand in place, or in a vector
 abbrev pub literals_kept : Kept → List Literal
@@ -12,5 +12,4 @@ literals_kept (Two lits) = lits
 literals_kept (Three lits) = lits
 literals_kept (Four lits) = lits
 literals_kept (Five lits) = lits
-literals_kept (Six lits) = lits
-literals_kept (More lits) = lits.items
+literals_kept (More lits) = lits.value.items

@@ -299,10 +299,11 @@ impl Reader {
         self.amount += inputs.len() + 1;
         self.sets.marks[self.name as usize] = true;
         if let Some(var) = Var::new(self.name) {
+            let list = LitList::from_vec(inputs)?;
             self.gates.push(Gate {
                 var,
                 kind: self.kind,
-                inputs: LitList::from_vec(inputs),
+                inputs: list,
             })?;
         }
         Ok(())

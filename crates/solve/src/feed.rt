@@ -15,7 +15,7 @@ use std::collections::BTreeSet;
 use truth::Formula;
 
 // After so many clauses that have moved their room is given back.
-const MOVED: usize = 65_536;
+const MOVED: usize = 4_096;
 
 // Gives the scopes, the variables and copies of the clauses of a formula to an engine that has none. They are refused
 // for want of memory alone. The time is linear in the variables and literals.
@@ -138,5 +138,5 @@ fn copied(alloc: Global, clause: &LitList) -> Result<LitList, AllocError>
 {
     let mut lits = Vec::with_capacity(alloc, clause.lits().len())?;
     lits.extend_from_slice(clause.lits())?;
-    Ok(LitList::from_vec(lits))
+    LitList::from_vec(lits)
 }

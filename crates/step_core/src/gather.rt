@@ -96,5 +96,5 @@ fn numbered(derivation: &Derivation, end: StepId, numbers: &[usize], id: StepId)
 fn copied(alloc: Global, lits: &[Lit]) -> Result<LitList, NoMemory>
     ensures { IfOk result (λ list. list ≡ lits.now) }
 {
-    Ok(LitList::from_vec(Vec::from_slice(alloc, lits)?))
+    Ok(LitList::from_vec(Vec::from_slice(alloc, lits)?)?)
 }

@@ -109,7 +109,7 @@ fn output(alloc: Global) -> Result<LitList, Fail>
     ensures { IfOk result (λ c. c ≡ record { variable = 3; positive = true } ∷ []) }
 {
     let three = literal(3, true)?;
-    Ok(LitList::from_vec(Vec::from_slice(alloc, &[three])?))
+    Ok(LitList::from_vec(Vec::from_slice(alloc, &[three])?)?)
 }
 
 // The one clause 3.

@@ -106,7 +106,7 @@ fn clause(alloc: Global, first: bool, second: bool) -> Result<LitList, Fail>
 {
     let one = Lit::new(variable(1)?, first);
     let two = Lit::new(variable(2)?, second);
-    Ok(LitList::from_vec(Vec::from_slice(alloc, &[one, two])?))
+    Ok(LitList::from_vec(Vec::from_slice(alloc, &[one, two])?)?)
 }
 
 // Puts the clauses 1 2 and -1 -2 in.

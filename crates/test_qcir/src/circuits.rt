@@ -47,7 +47,7 @@ fn gate(alloc: Global, n: u32, kind: GateKind, inputs: &[Lit]) -> Result<Gate, F
     ensures { IfOk result (λ g. g ≡ is_gate n kind inputs.now) }
 {
     let var = variable(n)?;
-    let inputs = LitList::from_vec(Vec::from_slice(alloc, inputs)?);
+    let inputs = LitList::from_vec(Vec::from_slice(alloc, inputs)?)?;
     Ok(Gate { var, kind, inputs })
 }
 

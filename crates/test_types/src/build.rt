@@ -21,7 +21,7 @@ pub(crate) fn clause_list(alloc: Global, numbers: &[i32]) -> Result<ClauseList, 
     let mut lits = Vec::new(alloc);
     for n in numbers {
         if *n == 0 {
-            list.push(LitList::from_vec(mem::replace(&mut lits, Vec::new(alloc))))?;
+            list.push(LitList::from_vec(mem::replace(&mut lits, Vec::new(alloc)))?)?;
             continue;
         }
         lits.push(literal(*n)?)?;

@@ -150,12 +150,12 @@ fn refusals_come_in_order(rt: HostRuntime) -> Result<(), Fail> {
 #[test]
 fn literals_have_signed_numbers(rt: HostRuntime) -> Result<(), Fail> {
     let four = literal(4)?;
-    let lits = LitList::from_vec(vec![in rt.alloc(); four, four.negate()]?);
+    let lits = LitList::from_vec(vec![in rt.alloc(); four, four.negate()]?)?;
     assert!(rt; matches!(lits.lits(), [a, b] if a.number() == 4 && b.number() == -4));
     Ok(())
 }
 
-// Up to six literals stand in place, more of them in a vector.
+// Up to five literals stand in place, more of them in a vector of their own.
 #[test]
 fn lists_of_any_length_keep_their_literals(rt: HostRuntime) -> Result<(), Fail> {
     let alloc = rt.alloc();
@@ -178,7 +178,7 @@ fn list_of(alloc: Global, numbers: &[i32]) -> Result<LitList, Fail> {
     for n in numbers {
         lits.push(literal(*n)?)?;
     }
-    Ok(LitList::from_vec(lits))
+    Ok(LitList::from_vec(lits)?)
 }
 
 // Whether literals have these numbers.

@@ -268,7 +268,7 @@ pub(crate) fn push_clauses(
 
 // The clause of one literal.
 fn unit_of(alloc: Global, lit: Lit) -> Result<LitList, Fail> {
-    Ok(LitList::from_vec(Vec::from_slice(alloc, &[lit])?))
+    Ok(LitList::from_vec(Vec::from_slice(alloc, &[lit])?)?)
 }
 
 // Puts clauses of one literal each at the end of a list.
