@@ -57,6 +57,7 @@ impl<T: Blank> Page<T> {
     }
 
     // Puts a place in behind the others. With no memory nothing changes.
+    #[inline(always)]
     pub(crate) fn push(&mut self, value: T) -> Result<(), AllocError>
         requires { length self.old < 64 }
         ensures ok { OnOk result (self.new ≡ self.old ++ value ∷ []) }

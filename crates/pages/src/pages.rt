@@ -63,6 +63,7 @@ impl<T: Blank> Pages<T> {
     }
 
     /// Puts a place in behind the others. With no memory nothing changes.
+    #[inline(always)]
     pub fn push(&mut self, value: T) -> Result<(), AllocError>
         ensures ok { OnOk result (self.new ≡ self.old ++ value ∷ []) }
         ensures err { OnErr result (self.new ≡ self.old) }

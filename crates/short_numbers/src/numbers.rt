@@ -79,6 +79,7 @@ impl Numbers {
 
     /// Makes room for more places. With no memory the list stays as it was.
     #[tactic(auto, using(crate::proofs::Kept::numbers_length))]
+    #[inline(always)]
     pub fn reserve(&mut self, more: usize) -> Result<(), AllocError>
         ensures items { self.new.items ≡ self.old.items }
         ensures room { self.old.room ≤ self.new.room }
