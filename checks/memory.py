@@ -6,7 +6,8 @@ usage: memory.py PROGRAM
 Each row is run with the first of its requests for memory refused, then with the second, and so on, until a run meets no
 refusal: once with that request alone, and once with all behind it. Each refused run is to end with status 5, with
 `qbf: no memory` on the error output, and on the output with a front of what the row says; the last one as the row does.
-Behind the first 3,000 requests each number is twice the one before.
+Behind the first 3,000 requests each number is twice the one before. A verdict stands where there is no memory for its
+end row to be kept: the few requests for that, refused alone, change nothing.
 
 This needs a C compiler and the GNU C library; without a compiler a line says that all was skipped, and the status is 0.
 It is no part of the gate. Prints a line a case and ends with status 1 if one failed.
@@ -27,6 +28,9 @@ EXAMPLES = Path(__file__).resolve().parent.parent / "examples"
 EACH = 3000
 # As few requests of the program as no row makes; fewer mean that the library has not seen them.
 FEWEST = 5
+# How many requests of a row are for an end row that is kept.
+KEPT = {"conflict": 2, "demo": 1}
+SAME = "it ends as where nothing is refused"
 
 
 def text(lines):
@@ -73,33 +77,38 @@ def check_refused(ample, run):
     if (run.status, run.err) == (5, "qbf: no memory\n") and ample.out.startswith(run.out):
         return None
     if (run.status, run.out, run.err) == (ample.status, ample.out, ""):
-        return "it ends as where nothing is refused"
+        return SAME
     return str(run)
 
 
-def check_in_turn(program, words, text, ample, behind):
-    """Answers how many requests there are: all, or where those are many the first ones and some behind them."""
+def check_in_turn(program, words, text, ample, behind, kept):
+    """Answers how many requests there are: all, or where those are many the first ones and some behind them. So many of
+    them, refused alone, are to change nothing."""
     wrong = []
+    same = 0
     numbers = itertools.chain(range(1, EACH + 1), doubled(2 * EACH))
     for number, run in program.in_turn(words, text, numbers, refuse_memory=True, refuse_all=behind):
         why = check_refused(ample, run)
-        if run.told and why:
+        if run.told and why == SAME and not behind:
+            same += 1
+        elif run.told and why:
             wrong.append(f"without request {number}{' and all behind it' if behind else ''}: {why}")
     require((run.status, run.out, run.err) == (ample.status, ample.out, ""), f"{run} where nothing was refused")
     require(number > FEWEST, f"{number - 1} requests were seen")
+    require(same == kept, f"{same} refused requests changed nothing, and not {kept}")
     require(not wrong, "; ".join([*wrong[:5], *(["and others"] if wrong[5:] else [])]))
     return f"{number - 1} requests" if number <= EACH + 1 else f"the first {EACH} requests and some up to {number // 2}"
 
 
-def check(program, words, text, status, out):
+def check(program, kept, words, text, status, out):
     ample = program.run(words, text)
     require(status is None or ample.status == status, f"{ample} where all is granted")
     require(out is None or ample.out == out, f"{ample} where all is granted")
     require(ample.err == "" and ample.told == "", f"{ample} where all is granted")
     if words == ["cert"]:
         check_circuit(Formula.read(text), whole(Circuit, ample.out))
-    check_in_turn(program, words, text, ample, 1)
-    return check_in_turn(program, words, text, ample, 0)
+    check_in_turn(program, words, text, ample, 1, 0)
+    return check_in_turn(program, words, text, ample, 0, kept)
 
 
 def main():
@@ -113,7 +122,7 @@ def main():
     failed = 0
     for name, *row in rows():
         try:
-            told = check(program, *row)
+            told = check(program, KEPT.get(name, 0), *row)
         except (Fault, OSError, UnicodeDecodeError, subprocess.TimeoutExpired) as why:
             print(f"FAILED {name}: {why}")
             failed += 1
