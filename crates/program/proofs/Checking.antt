@@ -104,11 +104,11 @@ module _ (decide : Bool) (terms : Terms) (known left : Option Text) (output : Op
         → IsCheckOn decide terms known ([], told.1) outcome text
     first_check outcome text h = subst (λ before. IsCheckOn decide terms known (before, told.1) outcome text) empty h
 
-    quiet : (n : ℕ) → (HasAnswer n → ⊥) → n ≢ 4 → Keeps output.0 output.1 × (told.1 ≡ told.0)
+    quiet : (n : ℕ) → (HasAnswer n → ⊥) → n ≢ 4 → n ≢ 6 → Keeps output.0 output.1 × (told.1 ≡ told.0)
         → IsCheckOutput decide terms known output told.1 n
-    quiet n none four same = record {
+    quiet n none four six same = record {
       reply = λ h. absurd (none h);
-      limit = λ _. inl (same.0, same.1 ∙ empty);
+      limit = λ h. absurd (six h);
       front = λ h. absurd (four h);
       nothing = λ _. (same.0, same.1 ∙ empty);
     }
@@ -140,10 +140,22 @@ module _ (decide : Bool) (terms : Terms) (known left : Option Text) (output : Op
           front = λ h. absurd (omega (arith, h));
           nothing = λ h. absent (2 ∷ 3 ∷ 5 ∷ []) 6 refl h;
         }
-    check_output (Refused number at) so = quiet 2 (λ h. no_answer 2 refl h) (λ e. omega (arith, e)) so.output_of
-    check_output (Limit quantity at) so = quiet 6 (λ h. no_answer 6 refl h) (λ e. omega (arith, e)) so.output_of
-    check_output ReadFault so = quiet 3 (λ h. no_answer 3 refl h) (λ e. omega (arith, e)) so.output_of
-    check_output NoMemory so = quiet 5 (λ h. no_answer 5 refl h) (λ e. omega (arith, e)) so.output_of
+    check_output (Refused number at) so =
+        quiet 2 (λ h. no_answer 2 refl h) (λ e. omega (arith, e)) (λ e. omega (arith, e)) so.output_of
+    check_output (Limit quantity at) so =
+        let is : IfSome known (IsLimited as_formula) =
+        some_map known (λ text. Reads text (limit quantity at)) (IsLimited as_formula) (λ text h. (quantity, at, h))
+        (so.unread tt) in
+        record {
+          reply = λ h. no_answer 6 refl h;
+          limit = λ _. inl (is, so.output_of.0, so.output_of.1 ∙ empty);
+          front = λ h. absurd (omega (arith, h));
+          nothing = λ h. absent (2 ∷ 3 ∷ 5 ∷ []) 6 refl h;
+        }
+    check_output ReadFault so =
+        quiet 3 (λ h. no_answer 3 refl h) (λ e. omega (arith, e)) (λ e. omega (arith, e)) so.output_of
+    check_output NoMemory so =
+        quiet 5 (λ h. no_answer 5 refl h) (λ e. omega (arith, e)) (λ e. omega (arith, e)) so.output_of
 
 module _ (words : List Text) (content : Content) (left : Option Text) (output : Option Text × Option Text)
     (told : List Account × List Account) (decide : Bool) (terms : Terms) (task : Task) (input : Text)

@@ -1,11 +1,15 @@
 -- Worked values: what a status says of a certificate that is checked, and what the check writes.
-use Rattle.std.proofs.Common.{◌≡◌, ◌∙◌, ◌<◌, ◌-◌, ◌^◌, ℕ, true, false, List, [], ◌∷◌, codes, Contains, Some, None, ap, inl, ⊎_elim, refl, sym, subst, arith}
+use Rattle.std.proofs.Common.{◌≡◌, ◌∙◌, ◌<◌, ◌-◌, ◌^◌, ℕ, true, false, List, [], ◌∷◌, codes, Contains, IfSome, Some, None, ap, inl, ⊎_elim, refl, sym, subst, arith}
 use Rattle.std.proofs.lemmas.Bool.{false≢true}
+use Rattle.std.specs.Io.KnownBytes.{Appends}
 use Rattle.steps.specs.Counter.{step_limit}
 use Rattle.truth.specs.declared.formula.Formula.{Formula}
 use Rattle.truth.specs.Truth.{truth}
 use Rattle.search.specs.Counting.{size_of}
+use Rattle.reading.specs.declared.refusal.Quantity.{Quantity}
 use Rattle.reading.specs.declared.refusal.Quantity.TheVariants.{Variables}
+use Rattle.qdimacs.specs.Rules.{limit, parsed}
+use Rattle.qdimacs.proofs.Before.{one_outcome}
 use Rattle.command.specs.Forms.{AreAlike, Asks, Text, check_flags}
 use Rattle.command.specs.Forms.Flag.{the_decide}
 use Rattle.command.specs.declared.command.Command.{Command}
@@ -16,11 +20,12 @@ use Rattle.files.specs.declared.check.Outcome.{Outcome}
 use Rattle.files.specs.declared.check.Outcome.TheVariants.{Beyond, Checked, Undecided, Unknown}
 use Rattle.solve.specs.declared.ending.Ending.TheVariants.{CheckLimit, Done}
 use Rattle.files.specs.Checks.{IsCheckOn, check_ending}
+use Rattle.files.specs.Inputs.Format.{as_formula}
 use Rattle.files.specs.Worked.{anything_fits}
 use Rattle.files.proofs.JobValues.{bare, bare_is, bare_reads}
 use Rattle.program.specs.Asked.{AskedEither, IsSample, OfCheckTask, OfFormula, OfScript, task_of}
 use Rattle.program.specs.Complete.{IsValid, IsValidFor}
-use Rattle.program.specs.Run.{EndsIn, IsBeyond, IsUndecidedCheck, IsVerdict}
+use Rattle.program.specs.Run.{EndsIn, IsBeyond, IsLimited, IsUndecidedCheck, IsVerdict}
 use Rattle.program.specs.Told.{IsCheckOutput}
 use Rattle.qscript.specs.Reads.{done}
 use Rattle.program.proofs.Solving.{other_verdict}
@@ -112,3 +117,15 @@ wins_for_false h = let is = h.reply (Unsat, refl) in true_as_false is.0 is.1 is.
 pub writes_more : (status : ℕ) → Contains (2 ∷ 3 ∷ 5 ∷ []) status
     → IsCheckOutput true plain (Some bare) (Some [], Some (codes "WINS\n")) [] status → ⊥
 writes_more status ends h = let none : codes "WINS\n" ≡ [] = (h.nothing ends).0 in absurd (cc)
+
+-- with 6 nothing is written only where the text goes beyond a limit, and this one is a formula
+within_limits : IfSome (Some bare) (IsLimited as_formula) → ⊥
+within_limits is =
+    let same : limit is.0 is.1 ≡ parsed anything_fits =
+    one_outcome bare (limit is.0 is.1) (parsed anything_fits) is.2 bare_reads in
+    absurd (cc)
+
+pub silent_for_true : IsCheckOutput true plain (Some bare) (Some [], Some []) [] 6
+    → (quantity : Quantity) × (text : Text) × IsCheckOn true plain (Some bare) ([], []) (Beyond quantity) text
+    × Appends (Some []) (Some []) text
+silent_for_true h = ⊎_elim (λ none. absurd (within_limits none.0)) (λ is. is) (h.limit refl)

@@ -17,6 +17,7 @@ use Rattle.files.specs.declared.check.Outcome.{Outcome}
 use Rattle.files.specs.declared.check.Outcome.TheVariants.{Beyond}
 use Rattle.solve.specs.declared.ending.Ending.TheVariants.{Done}
 use Rattle.files.specs.Checks.{IsCheckOn, check_ending}
+use Rattle.files.specs.Inputs.Format.{as_formula}
 use Rattle.files.specs.Jobs.{IsReplyOn}
 use Rattle.files.specs.Solve.{HasAnswer, OfAnswer}
 use Rattle.solve.specs.Standing.{Standing}
@@ -24,6 +25,7 @@ use Rattle.solve.specs.Terms.{Terms}
 use Rattle.files.specs.declared.job.Job.{Job}
 use Rattle.program.specs.Asked.{Task, known_for, task_of}
 use Rattle.program.specs.Asked.Task.{job_task, check_task, script_task, text_task}
+use Rattle.program.specs.Run.{IsLimited}
 
 -- What a job on a formula leaves on the output and tells: its reply with an answer, a front of one after a write fault,
 -- and else nothing. With UNKNOWN an entry is told of its search, and else none. `written` is what stood on the output
@@ -37,12 +39,15 @@ pub record IsJobOutput (job : Job) (terms : Terms) (known : Option Text) (writte
   pub nothing : Contains (2 ∷ 3 ∷ 5 ∷ 6 ∷ []) status → Keeps written.0 written.1 × (stops ≡ [])
 
 -- What a check of a certificate leaves on the output and tells: its text where it comes to an answer, or to a limit of
--- the check formula, a front of one after a write fault, and else nothing.
+-- the check formula, a front of one after a write fault, and else nothing. With 6 nothing is there only where the input
+-- itself goes beyond a limit.
 pub record IsCheckOutput (decide : Bool) (terms : Terms) (known : Option Text) (written : Option Text × Option Text)
     (stops : List Account) (status : ℕ) : Type 0 where
   pub reply : HasAnswer status → (outcome : Outcome) × (text : Text) × (check_ending outcome ≡ Done status)
       × IsCheckOn decide terms known ([], stops) outcome text × Appends written.0 written.1 text
-  pub limit : status ≡ 6 → (Keeps written.0 written.1 × (stops ≡ [])) ⊎ ((quantity : Quantity) × (text : Text)
+  pub limit : status ≡ 6
+      → (IfSome known (IsLimited as_formula) × Keeps written.0 written.1 × (stops ≡ []))
+      ⊎ ((quantity : Quantity) × (text : Text)
       × IsCheckOn decide terms known ([], stops) (Beyond quantity) text × Appends written.0 written.1 text)
   pub front : status ≡ 4 → (outcome : Outcome) × (text : Text)
       × IsCheckOn decide terms known ([], stops) outcome text × AppendsFront written.0 written.1 text
