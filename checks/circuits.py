@@ -4,8 +4,9 @@
 usage: circuits.py PROGRAM
 
 PROGRAM is a built qbf, such as bin/qbf; each formula is given to `PROGRAM cert` and `PROGRAM trace` on standard input.
-The formulas are some by hand, some of bench/families.py, and some drawn at random from fixed seeds; and two over which
-a search learns long enough to begin anew, which are decided with restarts and without.
+The formulas are some by hand, some of bench/families.py, and some drawn at random from fixed seeds; two over which a
+search learns long enough to begin anew, which are decided with restarts and without; and one over which it forgets more
+than three thousand learned rows, as a debugger counts them.
 
 A circuit is read as strictly as docs/CIRCUITS.md has it. Its inputs are to be the loser's variables and its outputs the
 winner's, in prefix order. All inputs are simulated: each output depends on inputs of earlier scopes alone, and the
@@ -173,6 +174,14 @@ def with_guesses(seed):
     return text_of([*scopes, ("e", inner)], [*clauses, inner[1::2]])
 
 
+def with_few_universal(seed, universal, existential, clauses):
+    """Clauses of three existential literals, half of them with a universal one, about where true and false meet."""
+    draw = random.Random(seed)
+    outer, inner = range(1, universal + 1), range(universal + 1, universal + existential + 1)
+    drawn = [any_literals(draw, inner, 3) + any_literals(draw, outer, draw.randint(0, 1)) for _ in range(clauses)]
+    return text_of([("a", list(outer)), ("e", list(inner))], drawn)
+
+
 def formulas():
     """Each with its name, and its status where that is known."""
     for name, status, scopes, clauses in by_hand():
@@ -234,8 +243,12 @@ def unknown(program, command, text):
 
 
 def long_cases(program, tools):
-    """Searches that learn enough to begin anew, and over pigeons to forget, whose circuit has too many inputs."""
+    """Searches that learn enough to begin anew or to forget. A circuit over pigeons has too many inputs."""
     restarts = ("--restarts", "16")
+    yield "pigeons_4.trace", partial(trace, program, tools, families.pigeons(4).text(), FALSE)
+    forgetful = with_few_universal(3, 6, 240, 1104)
+    yield "forgetful.trace", partial(trace, program, tools, forgetful, TRUE)
+    yield "forgetful.cert", partial(cert, program, tools, forgetful, TRUE)
     pigeons, equality = families.pigeons(7).text(), families.equality(7).text()
     for name, options in ("at_once", ()), ("with_restarts", restarts):
         yield f"pigeons_7_{name}.trace", partial(trace, program, tools, pigeons, FALSE, *options)
