@@ -1,8 +1,8 @@
 #!/usr/bin/env python3
 """Runs qbf on scripts with clause groups, and prints processor seconds of a core beside those of as many solves.
 
-A formula of 10,000 clauses over 2,000 variables in three scopes stands in so many groups, a few of which contradict each
-other. One script asks for the core; the other leaves out each group in turn, decides, and takes it in again.
+A formula of 10,000 clauses over 2,000 variables in three scopes stands in so many groups, a few of which contradict
+each other. One script asks for the core; the other leaves out each group in turn, decides, and takes it in again.
 
 usage: cores.py        QBF=COMMAND in the environment: another command than bin/qbf script
 """

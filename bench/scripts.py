@@ -37,7 +37,7 @@ def script(commands, variables, base):
 
 
 def leaving(commands):
-    """A script of version 2 of so many commands, 23 a round: ten variables come and leave, with ten clauses over them."""
+    """A script of version 2 of so many commands, 23 a round: ten variables come and leave, with ten clauses."""
     draw = random.Random(1)
     lines = ["p qscript 2\n", "scope e\n", "scope a\n", "scope e\n"]
     for _ in range(commands // 23):

@@ -13,8 +13,8 @@ folder=$(mktemp -d) || exit 2
 trap 'rm -rf "$folder"' EXIT
 failures=0
 
-# report NAME STATUS WANTED [OUTPUT WANTED]..: the status that a case ended with, and what its outputs hold, with what is
-# wanted of each.
+# report NAME STATUS WANTED [OUTPUT WANTED]..: the status that a case ended with, and what its outputs hold, with what
+# is wanted of each.
 report() {
     name=$1
     shift
