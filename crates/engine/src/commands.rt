@@ -130,10 +130,9 @@ impl Engine {
     }
 
     /// Drops the top pushed frame with its clauses, the variables that leave with it and the assumptions over these,
-    /// and
-    /// all that was learned from such clauses or names such a variable. Refused with NoFrame where no pushed frame is
-    /// open; it takes no memory. The time is that of dropping clauses and variables, and of going over the literals of
-    /// the steps since the frame was pushed.
+    /// and all that was learned from such clauses or names such a variable. Refused with NoFrame where no pushed frame
+    /// is open; it takes no memory. The time is that of dropping clauses and variables, and of going over the literals
+    /// of the steps since the frame was pushed.
     pub fn pop(&mut self) -> Result<(), FrameRefusal>
         ensures ok { OnOk result (self.new ≡ record (changed self.old Pop) { kept_long = self.new.kept_long }) }
         ensures refused { MatchOption (refusal_of self.old.formula Pop) (IsOk result) (λ e. result ≡ Err e) }

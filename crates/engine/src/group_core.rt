@@ -65,15 +65,13 @@ impl From<SolveStop> for CoreRefusal {
 impl Engine {
     /// The numbers of the groups of the core, ascending: where the verdict is that the formula is false, one active
     /// group after the other, by number, is left out where the clauses outside groups are false with those of the
-    /// groups
-    /// that are left, under the verdict's assumptions. With the core's groups the formula is false, and without any one
-    /// of them true. The verdict stays.
+    /// groups that are left, under the verdict's assumptions. So with the clauses of the core's groups they are false,
+    /// and with those of all but any one of these groups true. The verdict stays.
     ///
     /// Each trial has this budget of steps, and the restarts of the engine. Refused, in this order, with NoVerdict,
-    /// with
-    /// NotUnsat where the formula is true, and with NoMemory. Spent comes only where the budget of a trial is spent,
-    /// which is never so where it suffices for the variables and the restarts. It takes the time of putting all open
-    /// clauses into a search of its own, and of a solve for each active group.
+    /// with NotUnsat where the formula is true, and with NoMemory. Spent comes only where the budget of a trial is
+    /// spent, which is never so where it suffices for the variables and the restarts. It takes the time of putting all
+    /// open clauses into a search of its own, and of a solve for each active group.
     pub fn group_core(&self, budget: u64) -> Result<Vec<u32>, CoreRefusal>
         ensures refused { MatchOption (core_refusal self.now)
             (IfSome self.now.verdict (λ v. IfErr result

@@ -40,8 +40,7 @@ impl Engine {
     }
 
     /// Makes the group of a number active: its clauses join the open formula, and each is counted once more. Where it
-    /// is
-    /// active already no clause comes or is counted, but it is a change all the same.
+    /// is active already no clause comes or is counted, but it is a change all the same.
     ///
     /// Refused, in this order, with GroupRange where the number is 0 or above `Frames::MAX_GROUP`, with NoGroup where
     /// the group was never opened, with GroupOpen where a group is open, and with NoMemory. After want of memory rows

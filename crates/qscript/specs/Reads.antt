@@ -52,8 +52,7 @@ abbrev pub IsWhole : Option Version → List Word → Type 0
 IsWhole named ws = (line : Line) × IsExpected named line × (spelling line ≡ ws)
 
 -- The number by which a line is refused, behind these of its words: 30 is no header, 31 a word that begins no command
--- of
--- the version, 32 a command whose other words haven't its form.
+-- of the version, 32 a command whose other words haven't its form.
 abbrev pub misfit : Option Version → List Word → ℕ
 misfit None ws = 30
 misfit (Some version) [] = 31

@@ -75,9 +75,8 @@ impl ScriptReader {
     ///
     /// # Errors
     /// 30 where the first line with a word is no header of version 1, 2 or 3, or no word comes; 7 a byte of a word that
-    /// is
-    /// none of 33 to 126, 8 a number whose magnitude is above 2^63 - 1; or the limit on bytes. `ReadFault` comes only
-    /// where the desk failed in this call. After any error the reader has failed, and isn't called again.
+    /// is none of 33 to 126, 8 a number whose magnitude is above 2^63 - 1; or the limit on bytes. `ReadFault` comes
+    /// only where the desk failed in this call. After any error the reader has failed, and isn't called again.
     pub fn read_header<D: Desk>(&mut self, desk: &mut D) -> Result<Version, ReadRefusal>
         requires front { self.old.version ≡ None }
         requires ready { self.old.failed ≡ false }

@@ -19,9 +19,8 @@ abbrev pub tagged_if : Bool → Quant → Why → ℕ → Option Note
 tagged_if live side why tag = if live then Some (tagged side why tag) else None
 
 -- The clauses 1 2 of frame 0 and 1 of frame 1, and their resolvent; the cubes 1 3 and 2 -3, and their resolvent 1 2;
--- the
--- cube 1 2, and a lesson from it; a lesson from the clause 1 2. Which of the clause of frame 1, of both resolvents, of
--- the first cubes and of the lessons are live.
+-- the cube 1 2, and a lesson from it; a lesson from the clause 1 2. Which of the clause of frame 1, of both resolvents,
+-- of the first cubes and of the lessons are live.
 abbrev pub with_frame : (clause over naming over_naming lessons : Bool) → State
 with_frame clause over naming over_naming lessons = record {
   notes = Some (tagged Exists Given 0)

@@ -193,8 +193,7 @@ impl Search {
     /// and the search rests under it then.
     ///
     /// No step with an id below `from` names a variable outside the prefix, as where that was the next id when the
-    /// first
-    /// of these variables came. This goes over the literals of the steps from that id on, and takes no memory.
+    /// first of these variables came. This goes over the literals of the steps from that id on, and takes no memory.
     pub fn pop_frame(&mut self, prefix: &Prefix, frame: usize, from: StepId)
         requires resting { (old : List Scope) × Extends prefix.now old × IsResting old self.old }
         requires below { NoneOutsideBelow prefix.now from self.old.derivation }

@@ -118,8 +118,8 @@ pub record Tells (s : Standing) (IsTold : Given → Text → Type 0) (out : Outp
   pub says_text : out ≡ says text
   pub same : after ≡ s
 
--- The core is that of the verdict's assumptions: with its groups the open formula is false, and without any one of them
--- it is true. Nothing changes.
+-- The core is that of the verdict's assumptions: the clauses outside groups are false with those of its groups, and
+-- true with those of all but any one of them. Nothing changes.
 pub record TellsCore (s : Standing) (out : Output) (after : Standing) : Type 0 where
   pub told : IfSome s.script.verdict (λ given.
       (out ≡ says (core_text (core_of s.script.formula given.assumptions)))

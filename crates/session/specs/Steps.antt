@@ -161,8 +161,7 @@ pub record IsAllButLong (old new : SessionState) : Type 0 where
   pub fewer : new.engine.kept_long ≤ old.engine.kept_long
 
 -- What a command leaves of a session where there is no memory for it: all, but that `clause` and `activate` may have
--- let
--- go of long learned rows. What a solve leaves, `left_by` says.
+-- let go of long learned rows. What a solve leaves, `left_by` says.
 abbrev pub LeavesAtWant : Command → SessionState → SessionState → Type 0
 LeavesAtWant (ScopeCommand quant at) old new = new ≡ old
 LeavesAtWant (Var var scope) old new = new ≡ old

@@ -33,7 +33,8 @@ pub enum SessionStop {
     /// tells.
     WriteFault(Option<Stopped>),
     /// There is no memory. Nothing is written; a solve leaves the formula and the assumptions, and no verdict, and any
-    /// other command leaves the session as it was, but that `clause` may have let go of long learned rows.
+    /// other command leaves the session as it was, but that `clause` and `activate` may have let go of long learned
+    /// rows.
     NoMemory,
 }
 

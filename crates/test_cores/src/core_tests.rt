@@ -80,8 +80,7 @@ fn core(
 }
 
 // Over e 1 2, with these other clauses, each clause a group: 1 and 3 are the same, and either falsifies 2; all of a
-// chain
-// are needed; none is where the other clauses are false alone; and with the groups 1 and 2 alone both are needed.
+// chain are needed; none is where the other clauses are false alone; and with the groups 1 and 2 alone both are needed.
 #[test]
 fn cores_are_found(rt: HostRuntime) -> Result<(), Fail> {
     let prefix = prefix_of(rt.alloc(), &[Quant::Exists], &[1, 1])?;
