@@ -157,6 +157,13 @@ module _ (pivot : Quant) (scopes : List Scope) (trail : Trail) (end : ℕ) (row 
       (let grows = levels_grow 0 trail f.variable l.variable above in omega arith))
       (cases_lt (place_on trail l.variable) (place_on trail f.variable))
 
+  -- one of a lower level is assigned
+  pub lower_known : (l : Literal) → Contains row l
+      → decision_level_on trail l.variable < decision_level_on trail f.variable
+      → is_some (value_on trail l.variable) ≡ true
+  lower_known l i low = bad_assigned pivot (value_on trail l.variable) l
+      (earlier_bad l i (lower_place l (decision_level_on trail l.variable) (omega arith) low))
+
   cut_bad : (l : Literal) (b : ℕ) → decision_level_on trail l.variable ≤ b → is_bad_now pivot (value_on trail) l ≡ true
       → is_bad_now pivot (values_up_to (value_on trail) (decision_level_on trail) b) l ≡ true
   cut_bad l b low is = ap (λ o. is_bad_if pivot o l) (cond-true (nat_le (decision_level_on trail l.variable) b)

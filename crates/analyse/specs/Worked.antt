@@ -42,8 +42,8 @@ pub record WorkedLevels (pivot : Quant) : Type 0 where
 
 pub record WorkedLessons (pivot : Quant) : Type 0 where
   -- it is learned with its least level, and not with another one; it is no end row, and the row 2 is one
-  pub learn : IsLesson pivot (alternating pivot) (with_last pivot (bad pivot 3)) (learned pivot) (Learn 0 (plus 3) 1)
+  pub learn : IsLesson pivot (alternating pivot) (with_last pivot (bad pivot 3)) (learned pivot) (Learn 0 (plus 3) 1 2)
   pub other_level
-      : IsLesson pivot (alternating pivot) (with_last pivot (bad pivot 3)) (learned pivot) (Learn 0 (plus 3) 0) → ⊥
+      : IsLesson pivot (alternating pivot) (with_last pivot (bad pivot 3)) (learned pivot) (Learn 0 (plus 3) 0 2) → ⊥
   pub end : IsLesson pivot (alternating pivot) (with_last pivot (bad pivot 3)) (learned pivot) (End 1)
   pub no_end : IsLesson pivot (alternating pivot) (with_last pivot (bad pivot 3)) (learned pivot) (End 0) → ⊥

@@ -91,3 +91,10 @@ pub record StopsAfter (scopes : List Scope) (most : ℕ) (old new : State) (befo
   pub fewer : came + reduced ≤ taken
   pub counted : now ≡ after before taken
   pub resolves : Resolves scopes old new came reduced
+
+-- at most one resolvent came in, for which a step was counted
+pub record MayResolve (scopes : List Scope) (old new : State) (before now : Counter) : Type 0 where
+  pub came : ℕ
+  pub few : came ≤ 1
+  pub counted : now ≡ after before came
+  pub resolves : Resolves scopes old new came 0

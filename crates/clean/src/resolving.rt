@@ -1,18 +1,19 @@
 //! Resolutions with reasons as they stand.
-ghost use Rattle.std.specs.Prelude.{◌≡◌, ◌<◌, ◌≤◌, ◌+◌, ◌*◌, IsTrue, IfOk, OnErr, OnOk, Err, length};
+ghost use Rattle.std.specs.Prelude.{◌≡◌, ◌<◌, ◌≤◌, ◌+◌, ◌*◌, IsTrue, IfOk, IfSome, OnErr, OnOk, Err, length};
 ghost use Rattle.prefix.specs.Scopes.{IsAscending};
 ghost use Rattle.steps.specs.Counter.{left};
 ghost use Rattle.steps.specs.declared.stop.Stop.TheVariants.{Spent as spent};
 ghost use Rattle.calculus.specs.Rows.{variables_in};
 ghost use Rattle.calculus.specs.Search.{clashes_with};
-ghost use Rattle.derive.specs.State.{has_rows, IsLegalFor};
+ghost use Rattle.derive.specs.State.{has_rows, row_of, IsLegalFor};
 ghost use Rattle.trail.specs.State.{IsTrailFor};
-ghost use Rattle.clean.specs.Reasons.{HaveReasons};
-ghost use Rattle.clean.specs.Marks.{KeepsReasons, StopsCleaning, marks_left};
-ghost use Rattle.clean.specs.Cleaning.{MayReplace, ReplacesBefore};
+ghost use Rattle.clean.specs.Reasons.{HaveReasons, IsReducedStep};
+ghost use Rattle.clean.specs.Cleanable.{IsCleanable, StaysCleanable};
+ghost use Rattle.clean.specs.Marks.{CleansReasons, KeepsReasons, StopsCleaning, marks_left};
+ghost use Rattle.clean.specs.Cleaning.{MayReplace, MayResolveAway, ReplacesBefore, ReplacesByReason};
 
 use super::cleaning::resolve_away;
-use super::turn::{reason_of, resolve_with_reason};
+use super::turn::{reason_of, resolve_with_reason, resolve_within};
 use derive::{Derivation, StepId};
 use prefix::{Lit, Prefix, Side};
 use reduce::clashes;
@@ -51,6 +52,36 @@ pub fn resolve_by_reason<S: Side>(
         return resolve_away::<S>(derivation, trail, prefix, row, lit, steps);
     }
     resolve_with_reason::<S>(derivation, prefix, row, lit, reason, steps)
+}
+
+/// Resolves a bad literal of a row away by its reason as that stands, where the two rows have no clash, two steps are
+/// left and there is memory; else the answer is none. This counts one step, or two, and costs the lengths of the two
+/// rows. Each step that was counted is one that came in; where the answer is none that is at most the resolvent.
+pub fn try_resolving<S: Side>(
+    derivation: &mut Derivation,
+    trail: &Trail,
+    prefix: &Prefix,
+    row: StepId,
+    lit: Lit,
+    steps: &mut Steps,
+) -> Option<StepId>
+    requires cleanable { IsCleanable S.PIVOT prefix.now derivation.old trail.now }
+    requires row { IsReducedStep S.PIVOT prefix.now derivation.old row }
+    requires may { MayResolveAway S.PIVOT prefix.now trail.now.placed (row_of derivation.old row) lit }
+    ensures some { IfSome result (λ id. ReplacesByReason S.PIVOT prefix.now trail.now.placed derivation.old
+        derivation.new row lit id) }
+    ensures counted { CleansReasons prefix.now derivation.old derivation.new trail.now trail.now
+        steps.old steps.new 1 }
+    ensures cleanable { StaysCleanable prefix.now derivation.old derivation.new trail.now trail.now }
+{
+    if steps.budget() - steps.spent() < 2 {
+        return None;
+    }
+    let antecedent = reason_of(trail, lit.var());
+    if has_clash(derivation.lits(row), derivation.lits(antecedent), lit) {
+        return None;
+    }
+    resolve_within::<S>(derivation, prefix, row, lit, antecedent, steps).ok()
 }
 
 // Whether a variable other than that of the literal stands with opposite signs in a row and a reason of the literal.

@@ -36,7 +36,7 @@ fn is_better(table: &Vec<Option<Lit>>, prefix: &Prefix, lit: Lit, other: &Option
 }
 
 // A true literal of a clause with the side's pivot quantifier, of the latest scope of those, and chosen already where
-// there is such a one.
+// there is such a one; but the first that is of the prefix's last scope, at which the look ends.
 pub(crate) fn innermost<S: Side>(
     table: &Vec<Option<Lit>>,
     trail: &Trail,
@@ -45,10 +45,14 @@ pub(crate) fn innermost<S: Side>(
 ) -> Option<Lit>
     ensures { IsInnermost S.PIVOT prefix.now (value_on trail.now.placed) clause.now result }
 {
+    let last = prefix.scopes();
     let mut innermost = None;
     for lit in clause {
         if !is_true_one::<S>(trail, prefix, *lit) {
             continue;
+        }
+        if prefix.depth(lit.var()) == last {
+            return Some(*lit);
         }
         if !is_better(table, prefix, *lit, &innermost) {
             continue;

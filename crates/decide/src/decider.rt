@@ -214,6 +214,7 @@ impl Decider {
         if i < self.tallies.len() {
             let more = if lit.is_positive() { 1 } else { -1 };
             self.tallies[i] = self.tallies[i].saturating_add(more);
+            self.waiting.count(lit.var());
         }
     }
 

@@ -108,15 +108,29 @@ impl WaitingList {
         self.write(v, false);
     }
 
+    // Raises the priority of a variable that a clause has, by what a bump adds at first.
+    pub(crate) fn count(&mut self, v: Var)
+        ensures { self.new ≡ self.old }
+    {
+        self.raise(v, FIRST_INCREMENT);
+    }
+
     // Raises the priority of a variable.
     pub(crate) fn bump(&mut self, v: Var)
+        ensures { self.new ≡ self.old }
+    {
+        self.raise(v, self.increment);
+    }
+
+    // Raises the priority of a variable by an amount.
+    fn raise(&mut self, v: Var, amount: u64)
         ensures { self.new ≡ self.old }
     {
         let place = v.index();
         if place >= self.keys.len() {
             return;
         }
-        self.keys.raise(place, self.increment);
+        self.keys.raise(place, amount);
         if self.is_waiting(v) {
             self.write(v, true);
         }

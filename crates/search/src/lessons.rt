@@ -54,7 +54,12 @@ impl Search {
                 self.keep_end(prefix, row);
                 Ok(Some(EndRow { side, row }))
             }
-            Lesson::Learn { row, lit, level } => {
+            Lesson::Learn {
+                row,
+                lit,
+                level,
+                ..
+            } => {
                 if self.is_restart_due(restarts) {
                     self.begin_anew(prefix, row)?;
                 } else {
@@ -142,7 +147,8 @@ impl Search {
             row,
             steps,
         );
-        bump_resolved(&mut self.decider, &self.derivation, first);
+        let end = end_of(&lesson, &self.derivation);
+        bump_resolved(&mut self.decider, &self.derivation, first, end);
         // The counter is within its budget.
         let _budget = steps.budget();
         lesson
@@ -275,12 +281,21 @@ fn lesson_of(
     }
 }
 
-// Raises the priorities of the variables of the rows below an id that the steps from there on were resolved from.
-fn bump_resolved(decider: &mut Decider, derivation: &Derivation, first: StepId)
+// The id before which the steps of an analysis came in that led to its lesson; those from there on only shortened it.
+fn end_of(lesson: &Result<Lesson, Stop>, derivation: &Derivation) -> StepId {
+    match lesson {
+        Ok(Lesson::Learn { shortened_from, .. }) => *shortened_from,
+        _ => derivation.next_id(),
+    }
+}
+
+// Raises the priorities of the variables of the rows below an id that the steps from there on, before another id, were
+// resolved from.
+fn bump_resolved(decider: &mut Decider, derivation: &Derivation, first: StepId, end: StepId)
     requires { IsTrue (has_rows derivation.now) }
     ensures { decider.new ≡ decider.old }
 {
-    for id in first..derivation.next_id() {
+    for id in first..end {
         bump_antecedents(decider, derivation, first, id);
     }
 }

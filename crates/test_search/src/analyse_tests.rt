@@ -302,7 +302,7 @@ fn told_by_stop(stop: &Stop) -> (Told, StepId) {
 
 fn told_by_lesson(answer: &Result<Lesson, Stop>) -> (Told, StepId) {
     match answer {
-        Ok(Lesson::Learn { row, lit, level }) => (Told::Learn(lit.number(), *level), *row),
+        Ok(Lesson::Learn { row, lit, level, .. }) => (Told::Learn(lit.number(), *level), *row),
         Ok(Lesson::End { row }) => (Told::End, *row),
         Err(stop) => told_by_stop(stop),
     }
@@ -728,7 +728,8 @@ fn reasons_are_cleaned_on_demand(rt: HostRuntime) -> Result<(), Fail> {
     run(rt.alloc(), true, &[1, 1, 1], &moves)
 }
 
-// The reason of -3 is taken as it stands, with 4, and the lesson keeps the open 2.
+// The reason of -3 is taken as it stands, with 4, and the lesson keeps the open 2, unless there are steps to take 4
+// off, and 2 with it.
 #[test]
 fn open_literals_are_learned(rt: HostRuntime) -> Result<(), Fail> {
     let moves = [
@@ -740,12 +741,45 @@ fn open_literals_are_learned(rt: HostRuntime) -> Result<(), Fail> {
         Move::Propagate(-3, 1),
         Move::Ask(Ask::Analyse, 0, Told::Spent, [0; 3], 0),
         Move::Ask(Ask::ResolveByReason(3), 1, Told::Cleaned, [1, 2, 4], 1),
-        Move::Ask(Ask::Analyse, 1, Told::Learn(1, 0), [1, 2, 4], 1),
+        Move::Ask(Ask::Analyse, 2, Told::Learn(1, 0), [1, 2, 4], 1),
+        Move::Ask(Ask::Analyse, 3, Told::Learn(1, 0), [1, 0, 0], 3),
         Move::Marked(3, false),
         Move::Ask(Ask::Clean, 4, Told::Cleaned, [1, 0, 0], 3),
         Move::Marked(3, true),
     ];
     run(rt.alloc(), true, &[1, 1, 2], &moves)
+}
+
+// The literal -2 is implied by -1, and goes where two steps are left.
+#[test]
+fn implied_literals_go(rt: HostRuntime) -> Result<(), Fail> {
+    let moves = [
+        Move::Put([-1, 2, 0]),
+        Move::Put([-1, -2, -3]),
+        Move::Decide(1),
+        Move::Propagate(2, 0),
+        Move::Decide(3),
+        Move::Ask(Ask::Analyse, 1, Told::Learn(-3, 1), [-1, -2, -3], 0),
+        Move::Ask(Ask::Analyse, 2, Told::Learn(-3, 1), [-1, -3, 0], 1),
+    ];
+    run(rt.alloc(), true, &[3], &moves)
+}
+
+// The literal -3 is implied by -1 through -2. With two steps -2 comes in and stays, so the lesson is the row as it was.
+#[test]
+fn literals_go_together(rt: HostRuntime) -> Result<(), Fail> {
+    let moves = [
+        Move::Put([-1, 2, 0]),
+        Move::Put([-2, 3, 0]),
+        Move::Put([-1, -3, -4]),
+        Move::Decide(1),
+        Move::Propagate(2, 0),
+        Move::Propagate(3, 1),
+        Move::Decide(4),
+        Move::Ask(Ask::Analyse, 2, Told::Learn(-4, 1), [-1, -3, -4], 1),
+        Move::Ask(Ask::Analyse, 3, Told::Learn(-4, 1), [-1, -4, 0], 2),
+    ];
+    run(rt.alloc(), true, &[4], &moves)
 }
 
 // The reason of 1 holds 2 and the row -2, so it is made clean before: two steps, and two more for the row.

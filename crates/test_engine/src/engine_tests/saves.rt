@@ -207,13 +207,13 @@ fn lessons_are_kept_for_the_next_solve(rt: HostRuntime) -> Result<(), Fail> {
     ends(rt.alloc(), Formula::Pigeons(5), 0, &turns)
 }
 
-// Solved again, a formula takes no step. Where end rows aren't kept, the first one takes up to a hundred then, and the
-// second one 80.
+// Solved again, a formula takes no step, where no lesson of one literal is assigned first. Where end rows aren't kept,
+// the first one takes up to a hundred then, and the second one 80.
 #[test]
 fn end_rows_are_kept_for_the_next_solve(rt: HostRuntime) -> Result<(), Fail> {
     for (formula, first, truth) in [
         (Formula::Pigeons(5), 4_000, false),
-        (Formula::Many(2, 80, 344), 8_000, true),
+        (Formula::Many(3, 80, 344), 8_000, true),
     ] {
         let end = Ended::Answered(truth);
         ends(rt.alloc(), formula, 0, &[(first, end), (0, end)])?;

@@ -2,7 +2,8 @@ use Rattle.std.proofs.Common.{◌≡◌, ◌<◌, Some, is_some, refl, sym, ap, 
 use Rattle.calculus.specs.Search.{cause_on, decision_level_on, value_on}
 use Rattle.calculus.specs.Search.Cause.{Assumed, Decided, Propagated}
 use Rattle.analyse.proofs.Fronting.{last_known}
-use Rattle.analyse.proofs.Leveling.{decided_is_below, decided_known, level_makes_unit, no_level_makes}
+use Rattle.analyse.proofs.Leveling.{no_level_makes}
+use Rattle.analyse.proofs.Minimising.{decided_makes, level_makes}
 use Rattle.calculus.proofs.Trails.{cause_of_assigned}
 use Rattle.analyse.proofs.Learning.{ends_assumed, some_known}
 use Rattle.analyse.proofs.analysis.next_at.Goals as goal
@@ -29,19 +30,17 @@ returns-in-Decided g c =
     let trail = c.args.trail.now.placed in
     let cause : cause_on trail c.args.last.variable ≡ Some Decided =
     sym ((rw (c.unwrap.ensures ∙ ap Some c.in-Decided.is) at c.why.ensures) ∙ ap (cause_on trail) c.var.ensures) in
-    let below = decided_is_below g.S.Side.PIVOT c.args.prefix.now trail c.args.row.now c.args.last c.requires.row
-    c.requires.bad c.requires.last c.requires.trail.ordered cause c.level_below.result c.level_below.ensures in
-    level_makes_unit g.S.Side.PIVOT c.args.prefix.now trail c.args.row.now c.args.last c.requires.row c.requires.bad
-    c.requires.last c.level_below.result c.level_below.ensures below
+    decided_makes g.S.Side.PIVOT c.args.prefix.now trail c.args.row.now c.args.last c.requires.row c.requires.bad
+    c.requires.last c.requires.trail.ordered cause
 
 pub returns-in-Some : goal.returns-in-Some
 returns-in-Some g c =
     let trail = c.args.trail.now.placed in
     let is : c.level_of-end.result ≡ decision_level_on trail c.args.last.variable =
     c.level_of-end.ensures ∙ ap (decision_level_on trail) c.var-in-Propagated.ensures in
-    let below : c.in-Some.level < decision_level_on trail c.args.last.variable = rw is at c.in-Some.ensures.small in
-    level_makes_unit g.S.Side.PIVOT c.args.prefix.now trail c.args.row.now c.args.last c.requires.row c.requires.bad
-    c.requires.last c.in-Some.level c.in-Some.ensures.some below
+    let below : c.in-Some.field-0 < decision_level_on trail c.args.last.variable = rw is at c.in-Some.ensures.small in
+    level_makes g.S.Side.PIVOT c.args.prefix.now trail c.args.row.now c.args.last c.requires.row c.requires.bad
+    c.requires.last c.in-Some.field-0 c.in-Some.ensures.some below
 
 pub returns-in-None : goal.returns-in-None
 returns-in-None g c =
@@ -56,14 +55,6 @@ returns-in-None g c =
       no_level_makes g.S.Side.PIVOT c.args.prefix.now trail c.args.row.now c.args.last c.requires.row c.requires.bad
           c.requires.last (rw is at (c.in-None.ensures.none refl)),
     )
-
-pub level_below-requires : goal.level_below-requires
-level_below-requires g c =
-    let trail = c.args.trail.now.placed in
-    let cause : cause_on trail c.args.last.variable ≡ Some Decided =
-    sym ((rw (c.unwrap.ensures ∙ ap Some c.in-Decided.is) at c.why.ensures) ∙ ap (cause_on trail) c.var.ensures) in
-    decided_known g.S.Side.PIVOT c.args.prefix.now trail c.args.row.now c.args.last c.requires.row c.requires.bad
-    c.requires.last c.requires.trail.ordered cause
 
 pub level_of-end-requires : goal.level_of-end-requires
 level_of-end-requires g c =
