@@ -219,7 +219,7 @@ fn good_partner<S: Side>(alloc: Global) -> Result<(), Fail> {
         Move::Clear,
         Move::Spoil(1),
         Move::Quiet,
-        Move::Lists(0, SECOND, THIRD),
+        Move::Lists(0, THIRD, SECOND),
     ];
     play::<S>(alloc, S::PIVOT, &[3], 4, &script)
 }

@@ -1,13 +1,13 @@
 -- A row that waits and is put in front of a list of each family.
-use Rattle.std.proofs.Common.{◌≡◌, ◌≢◌, ℕ, ◌+◌, ◌<◌, true, false, cond, List, length, set, Option, Some, None, sym, ap, ◌∙◌, arith, nat_eq}
+use Rattle.std.proofs.Common.{◌≡◌, ◌≢◌, ℕ, ◌<◌, true, false, cond, List, length, set, Option, Some, None, sym, ap, ◌∙◌, arith, nat_eq}
 use Rattle.std.proofs.lemmas.Bool.{true≢false}
 use Rattle.prefix.specs.declared.quant.Quant.{Quant}
-use Rattle.rows.specs.Arena.{Arena, ChangesLinks, ThreeLinks, is_live, link_at, next_id}
+use Rattle.rows.specs.Arena.{Arena, ChangesLinks, is_live, link_at, next_id}
 use Rattle.watch.specs.Links.{IsLinked, Moves, Relinks, Writes, first_of, is_at, is_attached, owner}
-use Rattle.watch.specs.State.{IsBoard, KeepsRows, waits}
+use Rattle.watch.specs.State.{IsBoard, KeepsRows}
 use Rattle.watch.proofs.Threads.{not_at, same_some}
-use Rattle.watch.proofs.Boards.{KeepsRows-more, alone_after, linked_apart, moved_here, moved_other, moves_from, owner_apart, rows_kept, somewhere_after, three_six, three_zero, zero_six, zero_three}
-use Rattle.watch.proofs.Moving.{IsPut, attached_live, here_or, out_of, owner_attached, owner_live, put_linked, put_moves, three_literals, three_others, unwritten, written}
+use Rattle.watch.proofs.Boards.{KeepsRows-more, alone_after, moved_here, moved_other, moves_from, owner_apart, rows_kept, somewhere_after, zero_six, zero_three}
+use Rattle.watch.proofs.Moving.{IsPut, here_or, out_of, owner_attached, owner_live, put_linked, put_moves, three_literals, three_others, unwritten, written}
 
 -- the six fields of the row are written, and the fields of those that were first in the two lists
 module _ (pivot : Quant) (first second : List (Option ℕ)) (a0 a1 a2 a3 a4 : Arena) (id one two : ℕ)

@@ -1,25 +1,18 @@
 -- A walk along a list, of which some rows leave while it goes on.
-use Rattle.std.proofs.Common.{◌≡◌, ◌≢◌, ℕ, zero, suc, ◌+◌, ◌<◌, ◌≤◌, ◌⊎◌, Bool, true, false, not, ◌&&◌, List, [], ◌∷◌, length, Option, Some, None, refl, sym, ap, subst, ◌∙◌, inl, inr, ⊎_elim, arith, nat_eq}
-use Rattle.std.proofs.lemmas.Bool.{eq-eqb, ne_eqb, and_from, and_right}
+use Rattle.std.proofs.Common.{◌≡◌, ◌≢◌, ℕ, zero, suc, ◌+◌, ◌<◌, ◌≤◌, ◌⊎◌, Bool, true, false, not, ◌&&◌, List, [], ◌∷◌, length, Option, Some, None, refl, sym, ap, ◌∙◌, inl, inr, ⊎_elim, arith, nat_eq}
+use Rattle.std.proofs.lemmas.Bool.{cases_eq, eq-eqb, ne_eqb, and_from, and_right}
+use Rattle.prefix.specs.Literal.{Literal}
 use Rattle.prefix.specs.declared.quant.Quant.{Quant}
 use Rattle.truth.specs.Matrix.{Values}
-use Rattle.rows.specs.Arena.{Arena, is_live, link_at, next_id}
+use Rattle.rows.specs.Arena.{Arena, is_live, link_at, literals_at, next_id}
 use Rattle.rows.proofs.Arenas.{is_live-given}
-use Rattle.watch.specs.Links.{IsLinked, LeadsOnElsewhere, Linked, Moves, first_of, is_at, is_attached, owner}
-use Rattle.watch.specs.State.{IsGoodWatch, IsSifted, count_below, members}
-use Rattle.watch.proofs.Boards.{count_less, moved_here, moved_other}
-use Rattle.watch.proofs.Moving.{owner_attached, owner_link, owner_live}
+use Rattle.watch.specs.Links.{IsLinked, Linked, first_of, is_at, is_attached, owner}
+use Rattle.watch.specs.Pairs.{HasGood}
+use Rattle.watch.specs.State.{Passes, count_below, members}
+use Rattle.watch.specs.Walks.{In, IsSifted, IsSifting, Path, behind}
+use Rattle.watch.proofs.Boards.{count_less}
+use Rattle.watch.proofs.Moving.{owner_attached, owner_live}
 use Rattle.watch.proofs.Threads.{Linked-empty, option_parts, same_some, some_at, some_none}
-
--- a row is one of these
-abbrev pub In : List ℕ → ℕ → Type 0
-In [] i = ⊥
-In (x ∷ xs) i = (i ≡ x) ⊎ In xs i
-
--- the rows from one on, each of which leads on to the next
-abbrev pub Path : (ℕ → Option ℕ) → List ℕ → Option ℕ → Type 0
-Path next [] at = at ≡ None
-Path next (x ∷ xs) at = (at ≡ Some x) × Path next xs (next x)
 
 -- how many steps there are from a row to the end, up to a number
 abbrev pub steps : (ℕ → Option ℕ) → ℕ → Option ℕ → ℕ
@@ -160,22 +153,9 @@ module _ (head own prev next : ℕ → Option ℕ) (linked : Linked head own pre
       keeps false true e = refl
       keeps false false e = refl
 
--- the row to which a row leads on
-abbrev pub behind : Arena → ℕ → ℕ → Option ℕ
-behind arena base i = link_at arena i (base + 2)
-
--- while a list is walked along: what was passed watches a good literal by its other list
-pub record IsSifting (pivot : Quant) (values : Values) (base other name : ℕ) (at : Option ℕ) (arena : Arena) :
-    Type 0 where
-  pub rows : List ℕ
-  pub path : Path (behind arena base) rows at
-  pub listed : (i : ℕ) → In rows i → owner pivot arena base i ≡ Some name
-  pub passed : (i : ℕ) → owner pivot arena base i ≡ Some name → In rows i ⊎ IsGoodWatch pivot values
-      (owner pivot arena other i)
-
-module _ (pivot : Quant) (values : Values) (base other name : ℕ) where
+module _ (pivot : Quant) (values : Values) (base name : ℕ) where
   pub sifting_begins : (heads : List (Option ℕ)) (at : Option ℕ) (arena : Arena) → IsLinked pivot heads arena base
-      → at ≡ first_of heads name → IsSifting pivot values base other name at arena
+      → at ≡ first_of heads name → IsSifting pivot values base name at arena
   sifting_begins heads at arena linked is =
       let own : ℕ → Option ℕ = owner pivot arena base in
       let prev : ℕ → Option ℕ = λ i. link_at arena i (base + 1) in
@@ -200,26 +180,26 @@ module _ (pivot : Quant) (values : Values) (base other name : ℕ) where
       })
       (option_parts (first_of heads name))
 
-  pub sifting_ends : (at : Option ℕ) (arena : Arena) → at ≡ None → IsSifting pivot values base other name at arena
-      → IsSifted pivot values arena base other name
+  pub sifting_ends : (at : Option ℕ) (arena : Arena) → at ≡ None → IsSifting pivot values base name at arena
+      → IsSifted pivot values arena base name
   sifting_ends at arena none s i o = ⊎_elim (λ m. absurd (path_ended (behind arena base) s.rows at i s.path none m))
       (λ good. good) (s.passed i o)
 
-  pub sifting_here : (at : Option ℕ) (arena : Arena) (id : ℕ) → at ≡ Some id → IsSifting pivot values base other name at
+  pub sifting_here : (at : Option ℕ) (arena : Arena) (id : ℕ) → at ≡ Some id → IsSifting pivot values base name at
       arena → owner pivot arena base id ≡ Some name
   sifting_here at arena id is s = s.listed id (path_first (behind arena base) s.rows at id s.path is)
 
-  pub sifting_attached : (at : Option ℕ) (arena : Arena) (id : ℕ) → at ≡ Some id → IsSifting pivot values base other
+  pub sifting_attached : (at : Option ℕ) (arena : Arena) (id : ℕ) → at ≡ Some id → IsSifting pivot values base
       name at arena → is_attached pivot arena id ≡ true
   sifting_attached at arena id is s = owner_attached pivot arena base id name (sifting_here at arena id is s)
 
-  pub sifting_live : (at : Option ℕ) (arena : Arena) (id : ℕ) → at ≡ Some id → IsSifting pivot values base other name at
+  pub sifting_live : (at : Option ℕ) (arena : Arena) (id : ℕ) → at ≡ Some id → IsSifting pivot values base name at
       arena → is_live arena id ≡ true
   sifting_live at arena id is s = owner_live pivot arena base id name (sifting_here at arena id is s)
 
   -- how many rows are left
   sifting_steps : (heads : List (Option ℕ)) (at : Option ℕ) (arena : Arena) → IsLinked pivot heads arena base
-      → (s : IsSifting pivot values base other name at arena) → steps (behind arena base)
+      → (s : IsSifting pivot values base name at arena) → steps (behind arena base)
       (members pivot arena base name) at ≡ length s.rows
   sifting_steps heads at arena linked s =
       path_steps (behind arena base) s.rows at (members pivot arena base name) s.path
@@ -231,7 +211,7 @@ module _ (pivot : Quant) (values : Values) (base other name : ℕ) where
 
   pub sifting_falls : (heads heads' : List (Option ℕ)) (at at' : Option ℕ) (old new : Arena)
       → IsLinked pivot heads old base → IsLinked pivot heads' new base
-      → (s : IsSifting pivot values base other name at old) (t : IsSifting pivot values base other name at' new)
+      → (s : IsSifting pivot values base name at old) (t : IsSifting pivot values base name at' new)
       → length s.rows ≡ suc (length t.rows) → steps (behind new base) (members pivot new base name) at' < steps
       (behind old base) (members pivot old base name) at
   sifting_falls heads heads' at at' old new linked linked' s t count =
@@ -240,40 +220,17 @@ module _ (pivot : Quant) (values : Values) (base other name : ℕ) where
       omega arith
 
   module _ (at : Option ℕ) (id : ℕ) (is : at ≡ Some id) where
-    here_path : (arena : Arena) (s : IsSifting pivot values base other name at arena) → Path (behind arena base) s.rows
+    here_path : (arena : Arena) (s : IsSifting pivot values base name at arena) → Path (behind arena base) s.rows
         (Some id)
     here_path arena s = let p : Path (behind arena base) s.rows at = s.path in rw is at p
 
-    -- the row stays
-    pub sifting_stays : (arena : Arena) (at' : Option ℕ) → at' ≡ link_at arena id (base + 2) → IsGoodWatch pivot values
-        (link_at arena id other) → (s : IsSifting pivot values base other name at arena)
-        → (t : IsSifting pivot values base other name at' arena) × (length s.rows ≡ suc (length t.rows))
-    sifting_stays arena at' is' good s =
-        let P : Option ℕ → Type 0 = IsGoodWatch pivot values in
-        let tail = tail_of (behind arena base) s.rows id (here_path arena s) in (
-          record {
-            rows = tail.rest;
-            path = rw is' tail.path;
-            listed = λ i m. s.listed i (tail.into i m);
-            passed = λ i o.
-                ⊎_elim
-                (λ m. ⊎_elim
-                (λ same. inr
-                (subst P (sym (ap (owner pivot arena other) same ∙ owner_link pivot arena other id
-                (sifting_attached at arena id is s))) good)) (λ later. inl later) (tail.from i m))
-                (λ passed. inr passed)
-                (s.passed i o);
-          },
-          tail.count,
-        )
-
-    -- the row leaves
-    pub sifting_leaves : (heads : List (Option ℕ)) (old new : Arena) (at' one two : Option ℕ)
-        → IsLinked pivot heads old base → at' ≡ link_at old id (base + 2) → Moves pivot base old new id one
-        → Moves pivot other old new id two → LeadsOnElsewhere base old new id → (one ≡ Some name → ⊥)
-        → (s : IsSifting pivot values base other name at old) → (t : IsSifting pivot values base other name at' new)
-        × (length s.rows ≡ suc (length t.rows))
-    sifting_leaves heads old new at' one two linked is' ones twos elsewhere left s =
+    -- the row is passed
+    pub sifting_passes : (heads : List (Option ℕ)) (old new : Arena) (at' : Option ℕ) → IsLinked pivot heads old base
+        → at' ≡ link_at old id (base + 2) → Passes pivot values base name old new id
+        → ((i : ℕ) → literals_at new i ≡ literals_at old i)
+        → (s : IsSifting pivot values base name at old)
+        → (t : IsSifting pivot values base name at' new) × (length s.rows ≡ suc (length t.rows))
+    sifting_passes heads old new at' linked is' p literals s =
         let tail = tail_of (behind old base) s.rows id (here_path old s) in
         let own = sifting_here at old id is s in
         let falls : (i : ℕ) → In tail.rest i → (owner pivot old base i ≡ Some name) × (linked.rank i < linked.rank id) =
@@ -294,17 +251,28 @@ module _ (pivot : Quant) (values : Values) (base other name : ℕ) where
           record {
             rows = tail.rest;
             path = rw is' (path_same (behind old base) (behind new base) tail.rest (behind old base id)
-                (λ i m. elsewhere i (apart i m) (after i m)) tail.path);
-            listed = λ i m. moved_other pivot base old new id one ones i (apart i m) ∙ (falls i m).0;
+                (λ i m. p.elsewhere i (apart i m) (after i m)) tail.path);
+            listed = λ i m. p.others i (apart i m) ∙ (falls i m).0;
             passed = λ i o.
-                let differs : i ≢ id = λ same. left (sym (moved_here pivot base old new id one ones)
-                ∙ (ap (owner pivot new base) (sym same) ∙ o)) in
-                let was : owner pivot old base i ≡ Some name =
-                sym (moved_other pivot base old new id one ones i differs) ∙ o in
+                ⊎_elim
+                (λ (same : i ≡ id). inr (rw same (p.here (ap (owner pivot new base) (sym same) ∙ o))))
+                (λ differs.
                 ⊎_elim
                 (λ m. ⊎_elim (λ same. absurd (differs same)) (λ later. inl later) (tail.from i m))
-                (λ passed. inr (rw (moved_other pivot other old new id two twos i differs) passed))
-                (s.passed i was);
+                (λ good. inr (rw (literals i) good))
+                (s.passed i (sym (p.others i differs) ∙ o)))
+                (cases_eq i id);
           },
           tail.count,
         )
+
+-- what has a good literal has one when more are good
+pub sifting_more : (pivot : Quant) (values values' : Values) (base name : ℕ) (at : Option ℕ) (arena : Arena)
+    → ((row : List Literal) → HasGood pivot values row → HasGood pivot values' row)
+    → IsSifting pivot values base name at arena → IsSifting pivot values' base name at arena
+sifting_more pivot values values' base name at arena more s = record {
+  rows = s.rows;
+  path = s.path;
+  listed = s.listed;
+  passed = λ i o. ⊎_elim (λ m. inl m) (λ good. inr (more (literals_at arena i) good)) (s.passed i o);
+}

@@ -1,5 +1,5 @@
 -- The two families of lists that rows stand in.
-use Rattle.std.specs.Prelude.{ℕ, List, Option}
+use Rattle.std.specs.Prelude.{ℕ, nat_lt, if◌then◌else◌, List, Option}
 use Rattle.watch.specs.declared.board.Family.{Family}
 use Rattle.watch.specs.declared.board.Family.TheVariants.{First, Second}
 
@@ -16,3 +16,7 @@ other_of Second = First
 abbrev pub lists_of : Family → List (Option ℕ) → List (Option ℕ) → List (Option ℕ)
 lists_of First first second = first
 lists_of Second first second = second
+
+-- the family whose list is walked next, when the lists of so many literals were walked in each
+abbrev pub turn_of : ℕ → ℕ → Family
+turn_of ones twos = if nat_lt twos ones then Second else First

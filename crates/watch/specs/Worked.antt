@@ -34,13 +34,30 @@ nothing = assumed_value []
 abbrev pub one_not_two : Values
 one_not_two = assumed_value (plus 1 ∷ minus 2 ∷ [])
 
+-- of the first row a literal is good then, of the other one none
+abbrev pub two_good : List Literal
+two_good = minus 1 ∷ plus 2 ∷ minus 2 ∷ []
+
+abbrev pub none_good : List Literal
+none_good = minus 1 ∷ plus 3 ∷ []
+
 -- a row that isn't attached, and one that the watch of cubes has in its list 6
 abbrev pub two_rows : Arena
 two_rows = with_link (with_link (with_row (with_row [] (plus 1 ∷ [])) (plus 2 ∷ [])) 1 0 (Some 6)) 1 6 (Some 1)
 
 -- a watch that looked at three literals
 abbrev pub looked_at_three : WatchState
-looked_at_three = record { first = []; second = []; seen = plus 1 ∷ plus 2 ∷ plus 3 ∷ []; kept = 3; room = 3 }
+looked_at_three = record {
+  first = [];
+  second = [];
+  seen = plus 1 ∷ plus 2 ∷ plus 3 ∷ [];
+  kept = 3;
+  calm = [];
+  ones = 3;
+  twos = 3;
+  at = None;
+  room = 3;
+}
 
 pub record WorkedPairs : Type 0 where
   pub two_pivots : IsTyped Exists three_scopes (plus 2) (minus 3)
@@ -60,9 +77,9 @@ pub record WorkedPairs : Type 0 where
   pub bad_is_not_good : is_good_now Exists one_not_two (plus 2) ≡ false
   pub open_is_not_good : is_good_now Exists one_not_two (plus 3) ≡ false
   pub good_of_cubes : is_good_now Forall one_not_two (plus 2) ≡ true
-  pub guarded : IsGuarded Exists one_not_two (minus 1) (minus 2)
-  pub guarded_turned : IsGuarded Exists one_not_two (minus 2) (minus 1)
-  pub open_guards_not : IsGuarded Exists one_not_two (minus 1) (plus 3) → ⊥
+  pub guarded : IsGuarded Exists one_not_two one_not_two one_not_two two_good (minus 1) (plus 2)
+  pub guarded_before : IsGuarded Exists nothing nothing one_not_two none_good (minus 1) (plus 2)
+  pub open_guards_not : IsGuarded Exists one_not_two nothing one_not_two none_good (minus 1) (plus 3) → ⊥
 
 pub record WorkedLists : Type 0 where
   pub made_bad : bad_by Exists (plus 1) ≡ minus 1

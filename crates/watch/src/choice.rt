@@ -4,7 +4,7 @@ ghost use Rattle.std.specs.Option.{option_map};
 ghost use Rattle.calculus.specs.Rows.{same_literal};
 ghost use Rattle.calculus.specs.Search.{is_bad_now, value_on};
 ghost use Rattle.watch.specs.Pairs.{FailBetween, IsFound, is_free_pivot, is_good_now, is_partner, joins};
-ghost use Rattle.watch.specs.Events.{IsChoice};
+ghost use Rattle.watch.specs.Events.{IsChoice, IsChoiceWith};
 
 use prefix::{Lit, Prefix, Side};
 use trail::Trail;
@@ -92,7 +92,7 @@ fn free_between<S: Side>(
 }
 
 // Whether a literal is pivot-type and not bad.
-fn is_free<S: Side>(prefix: &Prefix, trail: &Trail, lit: Lit) -> bool
+pub(crate) fn is_free<S: Side>(prefix: &Prefix, trail: &Trail, lit: Lit) -> bool
     ensures { result ≡ is_free_pivot S.PIVOT prefix.now (value_on trail.now.placed) lit }
 {
     !is_bad::<S>(trail, lit) && prefix.is_pivot::<S>(lit)
@@ -170,21 +170,37 @@ fn good<S: Side>(trail: &Trail, lits: &[Lit]) -> Option<Lit>
     None
 }
 
+// What to do with a row that has a pivot-type literal that isn't bad.
+pub(crate) fn choose_with<S: Side>(
+    prefix: &Prefix,
+    trail: &Trail,
+    lits: &[Lit],
+    start: usize,
+    pivot: Lit,
+) -> Choice
+    requires stands { Contains lits.now pivot }
+    requires free { IsTrue (is_free_pivot S.PIVOT prefix.now (value_on trail.now.placed) pivot) }
+    ensures choice { IsChoice S.PIVOT prefix.now (value_on trail.now.placed) lits.now result }
+    ensures first { IsChoiceWith pivot result }
+{
+    if let Some(other) = partner::<S>(prefix, trail, lits, pivot, start) {
+        return Choice::Pair(pivot, other.lit, other.place);
+    }
+    match good::<S>(trail, lits) {
+        Some(lit) => Choice::Held(lit),
+        None => Choice::Open(pivot),
+    }
+}
+
 // What to do with a row, whose literals are searched from a place on.
 pub(crate) fn choose<S: Side>(prefix: &Prefix, trail: &Trail, lits: &[Lit], start: usize) -> Choice
     ensures { IsChoice S.PIVOT prefix.now (value_on trail.now.placed) lits.now result }
 {
-    let Some(pivot) = free_pivot::<S>(prefix, trail, lits, start) else {
-        return match good::<S>(trail, lits) {
+    match free_pivot::<S>(prefix, trail, lits, start) {
+        Some(pivot) => choose_with::<S>(prefix, trail, lits, start, pivot.lit),
+        None => match good::<S>(trail, lits) {
             Some(lit) => Choice::Held(lit),
             None => Choice::Fails,
-        };
-    };
-    if let Some(other) = partner::<S>(prefix, trail, lits, pivot.lit, start) {
-        return Choice::Pair(pivot.lit, other.lit, other.place);
-    }
-    match good::<S>(trail, lits) {
-        Some(lit) => Choice::Held(lit),
-        None => Choice::Open(pivot.lit),
+        },
     }
 }

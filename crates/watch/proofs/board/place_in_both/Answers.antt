@@ -2,7 +2,6 @@ use Rattle.std.proofs.Common.{◌≡◌, ◌<◌, ◌∙◌, true, length, set, 
 use Rattle.rows.specs.Arena.{with_links}
 use Rattle.watch.specs.Links.{is_attached, owner}
 use Rattle.watch.proofs.Boards.{attached_apart, linked_apart, moved_here, owner_apart, zero_six, zero_three}
-use Rattle.watch.proofs.Moving.{attached_live, if_some, owner_live}
 use Rattle.watch.proofs.Settling.{both_first, both_kept, both_ones, both_second, both_twos, settled_board, settled_kept, settled_ones, settled_twos}
 use Rattle.watch.proofs.board.place_in_both.Goals as goal
 

@@ -1,9 +1,23 @@
-use Rattle.std.proofs.Common.{◌≡◌, ◌<◌, refl, ap, inl, inr, ⊎_elim, arith}
+use Rattle.std.proofs.Common.{◌≡◌, ◌<◌, [], ◌∷◌, true, refl, sym, ap, subst, inl, inr, ⊎_elim, arith}
+use Rattle.prefix.specs.declared.quant.Quant.TheVariants.{Exists}
+use Rattle.calculus.proofs.Lists.{contains_cons, contains_nil}
+use Rattle.watch.specs.Pairs.{HasGood, is_good_now}
 use Rattle.std.proofs.lemmas.Bool.{true≢false, false≢true}
 use Rattle.prefix.specs.Literal.{Literal}
 use Rattle.calculus.specs.Rows.{depth_of}
-use Rattle.watch.specs.Worked.{three_scopes}
+use Rattle.watch.specs.Worked.{minus, none_good, one_not_two, plus, three_scopes, two_good}
 use Rattle.watch.proofs.worked.worked_pairs.Goals as goal
+
+two_good_is : HasGood Exists one_not_two two_good
+two_good_is = record { literal = minus 2; stands = (2, omega arith, refl); good = refl }
+
+none_good_is : HasGood Exists one_not_two none_good → ⊥
+none_good_is h =
+    ⊎_elim (λ e. false≢true (subst (λ (l : Literal). is_good_now Exists one_not_two l ≡ true) (sym e) h.good))
+    (λ r. ⊎_elim (λ e. false≢true (subst (λ (l : Literal). is_good_now Exists one_not_two l ≡ true) (sym e) h.good))
+    (λ n. contains_nil h.literal n)
+    (contains_cons (plus 3) [] h.literal r))
+    (contains_cons (minus 1) (plus 3 ∷ []) h.literal h.stands)
 
 pub returns : goal.returns
 returns c = record {
@@ -38,7 +52,7 @@ returns c = record {
   bad_is_not_good = refl;
   open_is_not_good = refl;
   good_of_cubes = refl;
-  guarded = record { first = λ bad. refl; second = λ bad. absurd (false≢true bad) };
-  guarded_turned = record { first = λ bad. absurd (false≢true bad); second = λ bad. refl };
-  open_guards_not = λ g. false≢true (g.first refl);
+  guarded = record { first = λ bad. two_good_is; second = λ bad. two_good_is };
+  guarded_before = record { first = λ bad. absurd (false≢true bad); second = λ bad. absurd (false≢true bad) };
+  open_guards_not = λ g. none_good_is (g.first refl);
 }

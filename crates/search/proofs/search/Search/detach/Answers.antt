@@ -9,7 +9,7 @@ use Rattle.search.proofs.search.Search.detach.Goals as goal
 pub detach-requires-clause-threaded : goal.detach-requires-clause-threaded
 detach-requires-clause-threaded c =
     ((subst (IsIntact c.requires.intact.0) (sym c.self.view_is) c.requires.intact.1).watching.holds
-    c.side-side.result).board
+    c.side-side.result).kept.board
 
 pub returns-clause-parts : goal.returns-clause-parts
 returns-clause-parts c =
