@@ -33,7 +33,8 @@ pub(crate) fn minimised<S: Side>(
     requires row { IsReducedStep S.PIVOT prefix.now derivation.old row }
     requires stands { Contains (row_of derivation.old row) unit }
     ensures step { IsReducedStep S.PIVOT prefix.now derivation.new result }
-    ensures part { (l : Literal) → Contains (row_of derivation.new result) l → Contains (row_of derivation.old row) l }
+    ensures part { (l : Literal) → Contains (row_of derivation.new result) l →
+        Contains (row_of derivation.old row) l }
     ensures stands { Contains (row_of derivation.new result) unit }
     ensures counted { CleansReasons prefix.now derivation.old derivation.new trail.now trail.now
         steps.old steps.new most }
