@@ -48,6 +48,32 @@ report folder $? 3 "$(cat "$folder/out")" '' "$(cat "$folder/err")" 'qbf: read f
 "$program" solve "$folder/missing" < "$example" > "$folder/out" 2> "$folder/err"
 report missing $? 3 "$(cat "$folder/out")" '' "$(cat "$folder/err")" 'qbf: read fault'
 
+# An empty word is the name of no file.
+"$program" solve '' < "$example" > "$folder/out" 2> "$folder/err"
+report empty_word $? 3 "$(cat "$folder/out")" '' "$(cat "$folder/err")" 'qbf: read fault'
+
+# The example by a path of some 3,000 bytes.
+cp "$example" "$folder/example"
+dots=$(head -c 1450 /dev/zero | tr '\0' '.' | sed 's/\./.\//g')
+"$program" solve "$folder/$dots/example" < /dev/null > "$folder/out" 2> "$folder/err"
+report long_path $? 10 "$(cat "$folder/out")" SAT "$(cat "$folder/err")" ''
+
+# A named pipe is opened once: there is room for one more open file alone.
+mkfifo "$folder/named"
+cat "$example" > "$folder/named" &
+writer=$!
+(ulimit -n 4 && exec "$program" solve "$folder/named") < /dev/null > "$folder/out" 2> "$folder/err"
+report named_pipe $? 10 "$(cat "$folder/out")" SAT "$(cat "$folder/err")" ''
+kill $writer 2> /dev/null
+
+# Words that ask for no command, for help or for a made formula read nothing: the whole input is left.
+for words in '' --help help 'solve --help' 'solve --no-option' 'gen 1 4 2' 'demo 0 2'; do
+    exec 3< "$example"
+    "$program" $words <&3 > "$folder/out" 2> "$folder/err"
+    report "nothing_read_by_$(echo qbf $words | tr ' ' '_')" "$(cat <&3)" "$(cat "$example")"
+    exec 3<&-
+done
+
 # Standard input that is closed can't be read.
 "$program" solve <&- > "$folder/out" 2> "$folder/err"
 report closed_input $? 3 "$(cat "$folder/out")" '' "$(cat "$folder/err")" 'qbf: read fault'

@@ -4,23 +4,31 @@
 usage: limits.py PROGRAM [--heavy]
 
 Scopes, frames, variables and sets at their number and one beyond it; words of 16 MiB; 400,000 clauses of a formula and
-of a script, which are taken within 20 seconds of the processor; and 300 drawn formulas of one to four variables, each
-in a scope of its own, with no step, with one, with as many as always suffice and with one less, and with as many where
-a search may begin anew twice: each verdict is that of the whole table, and none is left open with enough steps. With
---heavy also all variables, clauses, literals and bytes that a text may have, and one more, which takes a minute of the
-processor and is no part of the gate. Prints a line a case and ends with status 1 if one failed.
+of a script, which are taken within 20 seconds of the processor; two million clauses, a circuit of 100,000 gates, and a
+certificate of a million. An input in messages of 4,096 bytes, each taken by one read. Rounds of a frame over clauses
+that stay, a long trail, and decisions in all scopes, where more of them take more time in proportion, and not with the
+square: what is compared is times of the processor, one right behind the other. Budgets that a core and a check formula
+spend, where the verdict doesn't. And 300 drawn formulas of one to four variables, each in a scope of its own, with no
+step, with one, with as many as always suffice and with one less, and with as many where a search may begin anew twice:
+each verdict is that of the whole table, and none is left open with enough steps. With --heavy also all variables,
+clauses, literals and bytes that a text may have, and one more, which takes a minute of the processor and is no part of
+the gate. Prints a line a case and ends with status 1 if one failed.
 """
 
 import itertools
 import os
 import random
 import resource
+import socket
 import subprocess
 import sys
 import tempfile
 from concurrent.futures import ThreadPoolExecutor
+from pathlib import Path
 
 sys.dont_write_bytecode = True
+sys.path.insert(0, str(Path(__file__).resolve().parent.parent / "bench"))
+import gates
 from rules import FALSE, TRUE, Fault, Formula, require
 
 SCOPES = FRAMES = 65_536
@@ -34,6 +42,10 @@ MIB = 2**20
 MOST_SECONDS, MOST_MEMORY = 300, 6 * 2**30
 # Many clauses, and the seconds within which they are taken: a pass over all of them for each one would take minutes.
 MANY, FEW_SECONDS = 400_000, 20
+# Seconds that a run may take beside five times the seconds of the runs that it is compared with.
+MORE_SECONDS = 0.5
+# Bytes that are read at once.
+PIECE = 4096
 # Bytes: what 350,000 more commands may leave that drop what they made, and what numbers of variables may take.
 DROPPED, NUMBERS = 2 * MIB, 80 * MIB
 
@@ -138,6 +150,43 @@ def rows_of_many_clauses():
     yield "many_clauses_of_a_script", ["script", "--budget=0"], [text, clauses], 0, "UNKNOWN\n", "", FEW_SECONDS
 
 
+def rows_that_are_large():
+    """Two million clauses, and 100,000 gates: more than a refusal for want of memory may hide behind."""
+    some = lines(*(f"{v} {v + 1000} {v + 2000} 0" for v in range(1, 1001)))
+    yield formula("two_million_clauses", TRUE, "SAT", lines("p cnf 3000 2000000"), *times(2000, some))
+    last = 100_002
+    head = lines("#QCIR-14", "exists(1)", "forall(2)", f"output({last})", "3 = or(1, 2)")
+    chain = lines(*(f"{gate} = and({gate - 1}, 1)" for gate in range(4, last + 1)))
+    yield "a_hundred_thousand_gates", ["solve", "--qcir"], [head, chain], TRUE, "SAT\n", ""
+
+
+def pigeons(count):
+    """Clauses by which so many pigeons sit in one hole less, and no two in the same. Each of them is needed, so that
+    they are refuted by no fewer resolutions than they are but one.
+    """
+    holes = range(1, count)
+    at = [[(count - 1) * pigeon + hole for hole in holes] for pigeon in range(count)]
+    yield from (" ".join(map(str, row)) for row in at)
+    for one, other in itertools.combinations(at, 2):
+        yield from (f"-{x} -{y}" for x, y in zip(one, other))
+
+
+def rows_of_budgets():
+    """The budget suffices for the verdict, and not for what is asked then: a trial without group 1 is to refute 45
+    clauses, and a check formula has a clause for each of 50 selectors.
+    """
+    declared = lines("p qscript 3", "scope e", *(f"var {v} 1" for v in range(1, 22)))
+    one = lines("open 1", "clause 21 0", "clause -21 0", "close")
+    two = lines("open 2", *(f"clause {row} 0" for row in pigeons(5)), "close", "solve", "core")
+    for budget, said in (2, "UNKNOWN"), (40, "UNKNOWN"), (100_000, "core 2 0"):
+        words = ["script", f"--budget={budget}"]
+        yield f"core_with_a_budget_of_{budget}", words, [declared, one, two], 0, f"UNSAT\n{said}\n", ""
+    text = [lines("p cnf 1 50", "e 1 0"), *times(50, lines("1 0"))]
+    for budget, status, said in (1, 0, "UNDECIDED"), (40, 0, "UNDECIDED"), (100_000, TRUE, "WINS"):
+        words = ["check", "--decide", f"--budget={budget}"]
+        yield f"check_with_a_budget_of_{budget}", words, text, status, f"{said}\n", ""
+
+
 def rows_that_are_heavy():
     every = range(1, VARIABLES + 1)
     set_of_all = lines(f"p cnf {VARIABLES} 1", " ".join(map(str, ["e", *every, 0])), f"{VARIABLES} 0")
@@ -205,6 +254,107 @@ def check(program, words, pieces, status, out, err, seconds=MOST_SECONDS):
         errors.seek(0)
         found = child.returncode, output.read(4096).decode("ascii"), errors.read(4096).decode("ascii")
     require(found == (status, out, err), f"{found} where {(status, out, err)} is right")
+
+
+def check_pieces(program):
+    """Each message of a socket is lost where a read doesn't take the whole of it."""
+    text = lines("p cnf 4000 3999", *(f"{v} -{v + 1} 0" for v in range(1, 4000)))
+    ours, theirs = socket.socketpair(socket.AF_UNIX, socket.SOCK_SEQPACKET)
+    with ours, subprocess.Popen([program, "solve"], stdin=theirs, stdout=subprocess.PIPE) as child:
+        theirs.close()
+        for place in range(0, len(text), PIECE):
+            ours.send(text[place : place + PIECE])
+        ours.close()
+        out, _ = child.communicate(timeout=60)
+    require((child.returncode, out) == (TRUE, b"SAT\n"), f"{child.returncode} and {out!r} of messages of {PIECE} bytes")
+
+
+def check_gates(program):
+    """A certificate with a line for each of 1,001,000 gates, 2,001 inputs and 1,000 outputs."""
+    levels = width = 1000
+    inputs, outputs, count = levels + width + 1, levels, levels * (width + 1)
+    text = gates.formula(levels, width).encode()
+    run = subprocess.run([program, "cert"], input=text, capture_output=True, timeout=MOST_SECONDS)
+    require((run.returncode, run.stderr) == (FALSE, b""), f"status {run.returncode} and {run.stderr!r}")
+    head, end = run.stdout.split(b"\n", 1)[0].decode("ascii"), run.stdout[-len(b"c\nherbrand\n") :]
+    require(head == f"aag {inputs + count} {inputs} 0 {outputs} {count}", f"the header {head!r}")
+    wanted = 1 + 2 * (inputs + outputs) + count + 2
+    require(run.stdout.count(b"\n") == wanted, f"{run.stdout.count(10)} lines where {wanted} are right")
+    require(end == b"c\nherbrand\n", f"{end!r} at the end")
+
+
+# Costs.
+
+
+def seconds_of(program, words, right, pieces):
+    """The seconds of the processor that a run takes, which ends with this status and writes this output."""
+    with tempfile.TemporaryFile() as text, tempfile.TemporaryFile() as output:
+        text.writelines(pieces)
+        text.seek(0)
+        pipes = {"stdin": text, "stdout": output}
+        child = subprocess.Popen([program, *words], preexec_fn=lambda: bound(MOST_SECONDS), **pipes)
+        _, status, usage = os.wait4(child.pid, 0)
+        child.returncode = os.waitstatus_to_exitcode(status)
+        output.seek(0)
+        found = child.returncode, output.read().decode("ascii")
+    require(found == right, f"status {found[0]} and {len(found[1])} bytes, with {words}")
+    return usage.ru_utime + usage.ru_stime
+
+
+def check_cost(program, large, *small):
+    """A large run takes little more than five times what the small ones together take. Each is the words, what is right
+    and the pieces of a text.
+    """
+    least = sum(seconds_of(program, *run) for run in small)
+    most = 5 * least + MORE_SECONDS
+    used = seconds_of(program, *large)
+    require(used <= most, f"{used:.2f} seconds where the smaller ones took {least:.2f}")
+
+
+def rounds_over(clauses, count, *commands):
+    """Rounds of commands over so many drawn clauses, which are true together: a solve, and then one a round that has
+    one. A new variable is the one behind those of the clauses.
+    """
+    draw = random.Random(1)
+    size = max(8, clauses // 4)
+    standing = (
+        f"clause {draw.randrange(1, size + 1)} {draw.randrange(1, size + 1)} -{draw.randrange(1, size + 1)} 0"
+        for _ in range(clauses)
+    )
+    declared = lines("p qscript 2", "scope e", *(f"var {v} 1" for v in range(1, size + 1)))
+    one = lines(*commands).replace(b"NEW", str(size + 1).encode())
+    replies = "SAT\n" + "UNSAT\n" * (count * commands.count("solve"))
+    return ["script"], (0, replies), [declared, lines(*standing, "solve"), *times(count, one)]
+
+
+def check_rounds(program, *commands):
+    """What 20,000 rounds take over 100,000 clauses, beside these rounds over few and none over as many."""
+    few, many, count = 1000, 100_000, 20_000
+    alone = rounds_over(few, count, *commands), rounds_over(many, 0, *commands)
+    check_cost(program, rounds_over(many, count, *commands), *alone)
+
+
+def falling(count):
+    """A trail of so many literals, each of which the one before it implies. All stand in one clause too, of which the
+    last is left.
+    """
+    chain = ["-1 0", *(f"{v} -{v + 1} 0" for v in range(1, count - 1))]
+    every = " ".join(map(str, range(1, count + 1)))
+    return ["solve"], (TRUE, "SAT\n"), [lines(f"p cnf {count} {count}", *chain, f"{every} 0")]
+
+
+def in_all_scopes(count):
+    """A decision in each scope: of a variable and of the one behind it one is false."""
+    rows = lines(*(f"{v} -{v + 1} 0" for v in range(1, count, 2)))
+    return ["solve"], (TRUE, "SAT\n"), [lines(f"p cnf {count} {count // 2}"), sets(count, "e"), rows]
+
+
+def costs():
+    one = "push", "var NEW 1", "clause 1 NEW 0", "clause -NEW 0", "clause -1 0", "solve", "pop"
+    yield "cost_of_frames_that_are_solved", check_rounds, one
+    yield "cost_of_frames_without_clauses", check_rounds, ("push", "pop")
+    yield "cost_of_a_long_trail", check_cost, (falling(100_000), falling(25_000))
+    yield "cost_of_decisions_in_all_scopes", check_cost, (in_all_scopes(SCOPES), in_all_scopes(SCOPES // 4))
 
 
 # Memory.
@@ -298,9 +448,12 @@ def all_budgets(program):
 
 
 def cases(program, is_heavy):
-    rows = [rows_of_prefixes(), rows_of_words(), rows_of_many_clauses()]
+    rows = [rows_of_prefixes(), rows_of_words(), rows_of_many_clauses(), rows_that_are_large(), rows_of_budgets()]
     for name, *row in itertools.chain(*rows, rows_that_are_heavy() if is_heavy else []):
         yield name, check, row
+    yield "a_million_gates_of_a_certificate", check_gates, []
+    yield "pieces_of_an_input", check_pieces, []
+    yield from costs()
     yield "memory_of_what_was_dropped", check_dropped, [0]
     yield "memory_of_what_was_dropped_over_clauses_that_stay", check_dropped, [20]
     yield "memory_of_a_great_number", check_number, []

@@ -34,10 +34,11 @@ use truth::Formula;
 /// The circuit's inputs are the loser's variables and its outputs the winner's, in prefix order; the clauses are over
 /// the prefix, and the assumptions of its first scope. Variable v of the circuit's AIGER text is variable v of the
 /// formula, and the selectors come behind those; all are in one existential scope. The clauses are, in order: each
-/// assumed input has its value; each gate is the conjunction of its edges; where its selector is true the matrix is
-/// decided against the winner; where its selector is true an assumed output has the wrong value; and a selector is
-/// true. A constant true literal takes its clause out, a constant false one is left out of its clause, repeats count
-/// once, and tautologies are left out. `specs/Check` writes it out.
+/// assumed input has its value; each gate is the conjunction of its edges; where the existential side is to win, each
+/// clause is false whose selector is true, and else all clauses hold where their one selector is true; each assumed
+/// output has the wrong value whose selector is true; and a selector is true. A constant true literal takes its clause
+/// out, a constant false one is left out of its clause, repeats count once, and tautologies are left out. `specs/Check`
+/// writes it out.
 ///
 /// Refused with Limit of Variables where the formula has more than 1,048,576 variables, else of Clauses where it has
 /// more than 2^24 clauses, else of Literals where these have more than 2^28 literals. Want of memory may come in place

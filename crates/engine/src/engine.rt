@@ -111,10 +111,11 @@ impl Engine {
     /// Decides the open formula under the assumptions. A verdict empties the assumptions; it stays until the next
     /// change, and a solve that stops is one.
     ///
-    /// Spent comes only where a step is due and the budget is spent, which with as many steps left as suffice for the
-    /// variables and the restarts is never so; at the first solve, where propagation from the assumptions refutes the
-    /// clauses, only with fewer than `2 * n * (n + 3)` steps left, n being the number of variables. After it and after
-    /// want of memory the formula and the assumptions are as before, and there is no verdict.
+    /// Spent comes only where the budget is spent, and a step is due in some search with these clauses and assumptions.
+    /// With as many steps left as suffice for the variables and the restarts that is never so; at the first solve,
+    /// where propagation from the assumptions refutes the clauses, only with fewer than `2 * n * (n + 3)` steps left, n
+    /// being the number of variables. After it and after want of memory the formula and the assumptions are as before,
+    /// and there is no verdict.
     pub fn solve(&mut self, steps: &mut Steps) -> Result<Verdict, SolveStop>
         ensures truth { IfOk result (λ v. v.truth
             ≡ truth_under self.old.formula.assumptions self.old.formula.scopes (open_clauses self.old.formula)) }

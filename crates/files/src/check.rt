@@ -61,12 +61,12 @@ pub enum Outcome {
 }
 
 /// Reads the formula that is left of the chosen input, decides it by search with a budget of that many steps, which may
-/// begin anew so often, and writes the check formula of its certificate: the existential formula, as QDIMACS, that is
-/// unsatisfiable exactly where the certificate's circuit wins (`certcheck::check_formula`). The circuit is the one that
-/// is written as a certificate, not trimmed. So any solver of such formulas checks it.
+/// begin anew so often, and writes the check formula of a circuit that certifies the verdict: the existential formula,
+/// as QDIMACS, that is unsatisfiable exactly where this circuit wins (`certcheck::check_formula`). So any solver of
+/// such formulas checks the circuit.
 ///
-/// With `decide` the check formula is decided here, by a search of its own with the same budget and restarts, and the
-/// line `WINS` is written in its place. It is never true, since the certificate's circuit wins.
+/// With `decide` the check formula is decided here, with the same budget and restarts, and the line `WINS` is written
+/// in its place. It is never true, since the circuit wins.
 ///
 /// Where the first budget was spent before a verdict, it writes `UNKNOWN`, and where the second was before the check
 /// formula was decided, `UNDECIDED`: each only where the budget is below the step limit of that formula's variables
@@ -74,7 +74,7 @@ pub enum Outcome {
 /// line is written.
 ///
 /// The ending is that of the verdict, Done with 0 for either of these lines, and CheckLimit exactly where the check
-/// formula of the circuit goes beyond a limit; the circuit is then written in its place, as AIGER 1.9 in ASCII.
+/// formula of that circuit goes beyond a limit; the circuit is then written in its place, as AIGER 1.9 in ASCII.
 pub fn run_check<D: Desk, S: Sink>(
     alloc: Global,
     budget: u64,

@@ -7,7 +7,8 @@ use super::{Desk, Failed};
 use std::io::Read;
 
 /// A desk whose names are paths of files, and `-` standard input. It tells of their bytes what the source tells, which
-/// is nothing where that is the system. What can't be opened or read, as a folder, is a fault, and nothing else is.
+/// is nothing where that is the system. A read or an opening that the source answers with an error is a fault, as of a
+/// folder, and so is a read where nothing is chosen.
 #[derive(Drop)]
 pub struct HostDesk<S: Source> {
     source: S,

@@ -10,7 +10,7 @@ use std::io::Write;
 
 /// A sink over standard output, standard error, a file or another writer. It tells of the bytes written what the
 /// writer tells, and nothing of a flush. An error of the writer is a fault, and so is a write that takes nothing of a
-/// piece with bytes; nothing else is.
+/// piece with bytes.
 #[derive(Debug, Drop)]
 pub struct HostSink<W: Write> {
     to: W,

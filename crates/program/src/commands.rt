@@ -49,9 +49,9 @@ use trail::Stopped;
 ///
 /// Answers the exit status: 10 for a true formula or circuit, 20 for a false one, and 0 where the budget was spent; 0
 /// too where a script ends well, and of `gen` and `demo`; 2 where the input is malformed and 6 where it goes beyond a
-/// limit, each with its line; 6 too where the check formula goes beyond one, and then the circuit is written in its
+/// limit, each with its line; 6 too where the check formula goes beyond one, and then a circuit is written in its
 /// place; 3 for a read fault; 4 for a write fault of `out`; 5 for want of memory, which may come at any time; 7 for
-/// other words. The first of these events decides. A failing `err` changes none.
+/// other words. A failing `err` changes none.
 pub fn run<D: Desk, O: Sink, E: Sink>(
     alloc: Global,
     words: &[String],

@@ -68,11 +68,12 @@ pub enum Command {
     Scope { quant: Quant, at: Option<u64> },
     /// `var V S`: the variable V joins the scope S.
     Var { var: u64, scope: u64 },
-    /// `clause L .. 0`: a clause of these literals in the top frame. The closing 0 is left out.
+    /// `clause L .. 0`: a clause of these literals in the open group, or else in the top frame. The closing 0 is left
+    /// out.
     Clause(NumList),
     /// `push`: opens a frame.
     Push,
-    /// `pop`: drops the top pushed frame with its clauses.
+    /// `pop`: drops the top pushed frame with its clauses, and from version 2 on with its variables.
     Pop,
     /// `assume L`: assumes a literal for the next verdict.
     Assume(i64),
@@ -80,13 +81,13 @@ pub enum Command {
     Solve,
     /// `value V`: asks for the winner's value of an outermost variable.
     Value(u64),
-    /// `relevant`: asks for the assumptions that the verdict rests on.
+    /// `relevant`: asks for the assumptions that the last row of the verdict's proof names.
     Relevant,
     /// `trace`: asks for the verdict's resolution trace.
     Trace,
     /// `cert`: asks for the verdict's circuit.
     Cert,
-    /// `open G`: opens a group, which accepted clauses join.
+    /// `open G`: opens a group, which accepted clauses join until it is closed.
     OpenGroup(u64),
     /// `close`: closes the open group.
     CloseGroup,

@@ -117,9 +117,8 @@ impl ScriptReader {
     /// # Errors
     /// The commands of the lines before the first malformed one are answered, then its refusal: 7 a byte of a word that
     /// is none of 33 to 126, 8 a number whose magnitude is above 2^63 - 1, 30 no header, 31 no command of the version,
-    /// 32 a command
-    /// whose words haven't its form; or the limit on bytes. `ReadFault` comes only where the desk failed in this call.
-    /// After any error the reader has failed, and isn't called again.
+    /// 32 a command whose words haven't its form; or the limit on bytes. `ReadFault` comes only where the desk failed
+    /// in this call. After any error the reader has failed, and isn't called again.
     pub fn next_command<D: Desk>(&mut self, desk: &mut D) -> Result<Option<Command>, ReadRefusal>
         requires { self.old.failed ≡ false }
         // The commands to come and the ending, where the desk tells its bytes, are this one and then those to come

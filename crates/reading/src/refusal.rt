@@ -25,10 +25,11 @@ pub enum Quantity {
 #[derive(Clone, Copy, Debug, PartialEq, Eq, Error)]
 pub enum ReadRefusal {
     /// The text is refused, at the word, the header or the end on this line: 7 is a byte of a word that is none of 33
-    /// to 126, 8 a number whose magnitude is above 2^63 - 1, 10 no header, 11 a malformed header, 12 a variable that
-    /// isn't declared, 13 a variable that stands in a set already, 14 a set behind a clause, 15 a set or clause
-    /// without its 0, 16 fewer clauses than declared, 17 more clauses than declared, 18 a word that doesn't belong
-    /// there.
+    /// to 126, 8 a number whose magnitude is above 2^63 - 1. Of a formula, 10 is no header, 11 a malformed header, 12 a
+    /// variable that isn't declared, 13 a variable that stands in a set already, 14 a set behind a clause, 15 a set or
+    /// clause without its 0, 16 fewer clauses than declared, 17 more clauses than declared, 18 a word that doesn't
+    /// belong there. Of a script, 30 is no header, 31 no command of the version, 32 a command whose words haven't its
+    /// form.
     #[error("line {line}: refused with number {number}")]
     Refused { number: u8, line: u32 },
     /// The text goes beyond a limit on this line.

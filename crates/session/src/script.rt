@@ -25,7 +25,7 @@ use trail::Stopped;
 use versions::Version;
 
 /// Reads the script that is left of the chosen input, and replies to its commands as they come; each solve takes at
-/// most so many steps, and begins anew at most so often. The output is flushed once, at the end.
+/// most so many steps, and begins anew at most so often. Where the script ends well, the output is flushed then.
 ///
 /// The replies are allowed ones (`specs/Replies`) to the commands of the lines before the first malformed one, which
 /// ends the run, as want of memory and a fault do. What each search tells that stopped is put into `stops`.

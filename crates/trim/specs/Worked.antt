@@ -45,6 +45,13 @@ trimmed = with_outputs two (opposite (gate 1)) (gate 0)
 abbrev pub first_input : Strategy
 first_input = record conjunction { outputs = record { var = 3; edge = input 0 } ∷ [] }
 
+-- 3 by two gates, where one suffices: both of 1 and 2, and this and 1
+abbrev pub repeated : Strategy
+repeated = record conjunction {
+  aig = record { inputs = 2; gates = both_gate ∷ record { left = gate 0; right = input 0 } ∷ [] };
+  outputs = record { var = 3; edge = gate 1 } ∷ [];
+}
+
 -- edges and gates at other places, and what they come from
 pub record WorkedEdges : Type 0 where
   pub gate_moved : moved (λ j. j + 7) (opposite (gate 2)) ≡ opposite (gate 9)
@@ -110,6 +117,8 @@ pub record WorkedTrims : Type 0 where
     outputs = record { var = 4; edge = gate 0 } ∷ record { var = 3; edge = opposite (gate 1) } ∷ [];
   }) → ⊥
   pub other_winner : IsTrimmed untrimmed (record trimmed { winner = Forall }) → ⊥
+  pub already_trimmed : IsTrimmed trimmed trimmed
+  pub one_gate_more : IsTrimmed conjunction repeated → ⊥
   pub kept : KeepsReached untrimmed trimmed
   pub not_kept : KeepsReached untrimmed untrimmed → ⊥
   pub other_gate : KeepsReached untrimmed (with_outputs (record {

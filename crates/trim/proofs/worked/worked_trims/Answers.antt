@@ -55,6 +55,17 @@ whole = record {
       (of_output third 1 (contains_head third (fourth ∷ [])) refl) j h;
 }
 
+already_trimmed : IsTrimmed trimmed trimmed
+already_trimmed = record {
+  winner = refl;
+  inputs = refl;
+  strategy = whole.strategy;
+  vars = refl;
+  values = λ i d inputs h. refl;
+  size = let z : 2 ≤ 2 = omega arith in z;
+  reached = whole.reached;
+}
+
 abbrev bare : Strategy
 bare = record first_input { aig = record { inputs = 2; gates = [] } }
 
@@ -129,6 +140,8 @@ returns c = record {
   other_sign = other_sign;
   other_order = λ h. apart 4 3 (omega arith) (ap (λ (xs : List ℕ). get_or xs 0 0) h.vars);
   other_winner = λ h. apart 1 0 (omega arith) (ap quant_number h.winner);
+  already_trimmed = already_trimmed;
+  one_gate_more = λ h. (let z : 2 ≤ 1 = h.size in omega arith);
   kept = kept;
   not_kept = not_kept;
   other_gate = other_gate;
