@@ -98,8 +98,8 @@ fn first_wrong(alloc: Global, turns: &[Turn]) -> Result<Option<usize>, Fail> {
     Ok(None)
 }
 
-// Four pages and a bit. The second page goes whole, and the third one but for a place.
-const GONE: [Turn; 22] = [
+// Four pages and a bit. The second page goes whole, and the third one but for a place, which goes at the end.
+const GONE: [Turn; 24] = [
     Turn::Next(0, None),
     Turn::Last(5, None),
     Turn::Push(260),
@@ -122,6 +122,8 @@ const GONE: [Turn; 22] = [
     Turn::Has(191, Some(7)),
     Turn::Push(1),
     Turn::Has(260, Some(260)),
+    Turn::Clear(191, 192),
+    Turn::Next(60, Some(192)),
 ];
 
 // A list is cut within a page that went, and grows again.

@@ -1,5 +1,5 @@
-//! What the search saves, in steps: no clause says that lessons, the order of rows that wait, priorities, first signs
-//! or restarts help, or that end rows are kept. Each number lies between the steps that a solve takes and those that it
+//! What the search saves, in steps: no clause says that lessons, that these are shortened, priorities, first signs or
+//! restarts help, or that end rows are kept. Each number lies between the steps that a solve takes and those that it
 //! takes without one of these.
 ghost use Rattle.std.specs.Prelude.{◌<◌};
 
@@ -207,8 +207,8 @@ fn lessons_are_kept_for_the_next_solve(rt: HostRuntime) -> Result<(), Fail> {
     ends(rt.alloc(), Formula::Pigeons(5), 0, &turns)
 }
 
-// Solved again, a formula takes no step, where no lesson of one literal is assigned first. Where end rows aren't kept,
-// the first one takes up to a hundred then, and the second one 80.
+// Solved again, a formula takes no step, unless a lesson of one literal is assigned first. Where end rows aren't kept,
+// it takes some.
 #[test]
 fn end_rows_are_kept_for_the_next_solve(rt: HostRuntime) -> Result<(), Fail> {
     for (formula, first, truth) in [
@@ -253,12 +253,12 @@ fn rounds_with_the_same_clause_leave_no_more_behind(rt: HostRuntime) -> Result<(
     Ok(())
 }
 
-// Where rows that wait are looked at last come, first served, this takes 16,950 steps; without priorities 30,843, and
-// 11,703 without those of the rows that lessons were resolved with.
+// This takes 3,927 steps. Where priorities don't begin with how often a variable occurs it takes 6,021, where lessons
+// aren't shortened 4,742, and without the priorities of the rows that lessons were resolved with 5,168.
 #[test]
-fn rows_wait_in_a_queue_and_priorities_count(rt: HostRuntime) -> Result<(), Fail> {
-    let formula = Formula::Many(2, 80, 344);
-    ends(rt.alloc(), formula, 0, &[(8_000, Ended::Answered(true))])
+fn priorities_count_and_lessons_are_shortened(rt: HostRuntime) -> Result<(), Fail> {
+    let formula = Formula::Many(5, 80, 344);
+    ends(rt.alloc(), formula, 0, &[(4_300, Ended::Answered(false))])
 }
 
 // Where each existential variable is false at first, this takes 4,213 steps.
