@@ -1,7 +1,7 @@
 #!/bin/sh
 # Runs what the pages for users show, and compares with what they say: README, examples/README.md, docs/EXAMPLES.md,
 # docs/SCRIPTS.md and docs/CIRCUITS.md. The files of examples/ are to be those of the pages, letter by letter, and
-# docs/LIBRARY.md quotes the crate example_engine.
+# docs/LIBRARY.md quotes the crate example_engine. The clauses that pages name in brackets are to be in the contracts.
 # Usage: checks/examples.sh PROGRAM. Prints a line a case, and ends with status 1 if one failed.
 # This needs Python 3. What needs abc (berkeley-abc), iverilog or aigtoaig is left out without it, and a line says so.
 set -u
@@ -227,6 +227,11 @@ page_file library_built docs/LIBRARY.md 'A formula built' crates/example_engine/
     crates/example_engine/src/differ.rt
 report library_line "$(block docs/LIBRARY.md 'The line in crates.txt' 1)" \
     "$(grep '^example_engine:' "$root/crates.txt")"
+
+# The clauses that pages name, and one that isn't there.
+printf '**`program`**: a crate\n\n- `run`: a claim [`steady`, `planted`].\n' > "$folder/planted.md"
+report clauses "$(python3 "$root/checks/clauses.py" 2>&1)" '' \
+    "$(python3 "$root/checks/clauses.py" "$folder/planted.md")" 'planted.md: no clause planted of run'
 
 # The arbiter by a table, and a simulation that is to fail: one assignment has an input in the place of its negation.
 printf '.i 3\n.o 3\n.type fr\n.ilb r1 r2 r3\n.ob g1 g2 g3\n1-- 100\n01- 010\n001 001\n000 000\n' > "$folder/arbiter.pla"
