@@ -38,9 +38,9 @@ trials = record {
     };
   };
   never_spent = λ h. (
-    let few : h.on.now.spent - 0 < 24 = h.on.spent.few in
-    let all : h.on.now.spent ≡ 100 = h.on.spent.spent ∙ h.on.whole in
-    omega arith);
+      let few : h.on.now.spent - 0 < 24 = h.on.spent.few in
+      let all : h.on.now.spent ≡ 100 = h.on.spent.spent ∙ h.on.whole in
+      omega arith);
   other_budget = λ h. (let other : 0 ≡ 1 = h.on.spent.budget in omega arith);
   of_these = λ stopped h row i. only (plus 1 ∷ []) row (h.matrix.there row i);
   of_all_these = λ stopped h. h.matrix.none_else (plus 1 ∷ []) (contains_head (plus 1 ∷ []) []);
