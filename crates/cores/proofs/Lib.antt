@@ -3,3 +3,4 @@ pub mod Keeping
 pub mod Minimal
 pub mod Trying
 pub mod Working
+pub mod WorkingTrials

@@ -1,3 +1,4 @@
 pub mod Cores
 pub mod Trials
 pub mod Worked
+pub mod WorkedTrials

@@ -12,4 +12,4 @@ pub use choosing::core_of;
 pub use laws::{cores_are_minimal, fewer_clauses_stay_true};
 pub use part::Part;
 pub use trial::Question;
-pub use worked::worked_cores;
+pub use worked::{worked_cores, worked_trials};

@@ -1,10 +1,11 @@
 -- Worked values: verdicts that are kept with a proof, stops, values of the first scope, and what is no certificate.
-use Rattle.std.specs.Prelude.{◌≡◌, ℕ, Bool, true, false, [], ◌∷◌, length, Some}
+use Rattle.std.specs.Prelude.{◌≡◌, ℕ, Bool, true, false, [], ◌∷◌, length, Contains, Some}
 use Rattle.steps.specs.Counter.{Counter}
 use Rattle.calculus.specs.Worked.{differ, existential_first, minus, plus, refutation}
 use Rattle.aig.specs.declared.edge.Node.TheVariants.{Constant}
 use Rattle.aig.specs.declared.strategy.Strategy.{Strategy}
 use Rattle.aig.specs.Strategies.{output_of, values_of as circuit_values}
+use Rattle.derive.specs.State.{open_clauses as clauses_in}
 use Rattle.frames.specs.State.{OpenFormula}
 use Rattle.search.specs.declared.outcome.SolveStop.{SolveStop}
 use Rattle.search.specs.declared.outcome.SolveStop.TheVariants.{Spent, NoMemory}
@@ -49,6 +50,11 @@ pub record WorkedStops : Type 0 where
   -- nor does a spent budget that suffices for two variables
   pub enough : (now : Counter) → IsStopFor 0 opposing (record { spent = 0; budget = 192 }) now
       (spent_at 192 2) → ⊥
+  -- the search that stops is one of the formula's clauses, and of no others
+  pub of_all_clauses : (before now : Counter) (stop : SolveStop) → (h : IsStopFor 0 opposing before now stop)
+      → Contains (clauses_in h.derivation) (minus 1 ∷ plus 2 ∷ [])
+  pub of_no_others : (before now : Counter) (stop : SolveStop) → (h : IsStopFor 0 opposing before now stop)
+      → Contains (clauses_in h.derivation) (plus 1 ∷ []) → ⊥
 
 pub record WorkedFirst : Type 0 where
   -- the values of 1 and 2 decide; not so where they are told by another proof, in another order, not of both, or

@@ -12,4 +12,5 @@ pub mod Stops
 pub mod Watching
 pub mod Worked
 pub mod WorkedForgetting
+pub mod WorkedHalts
 pub mod WorkedLeaving

@@ -17,6 +17,6 @@ pub use changing::resting_grows;
 pub use outcome::{Outcome, SolveStop};
 pub use search::Search;
 pub use worked::{
-    worked_counts, worked_dues, worked_finds, worked_finishes, worked_forgetting, worked_leaving,
-    worked_stops,
+    worked_counts, worked_dues, worked_finds, worked_finishes, worked_forgetting, worked_halts,
+    worked_leaving, worked_stops,
 };

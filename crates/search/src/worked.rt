@@ -1,6 +1,7 @@
 //! Worked values of the definitions, each proved.
 ghost use Rattle.prefix.specs.declared.quant.Quant.{Quant};
 ghost use Rattle.search.specs.WorkedForgetting.{WorkedForgetting};
+ghost use Rattle.search.specs.WorkedHalts.{WorkedHalts};
 ghost use Rattle.search.specs.WorkedLeaving.{WorkedLeaving};
 ghost use Rattle.search.specs.Worked.{WorkedCounts, WorkedDue, WorkedFinds, WorkedFinishes, WorkedStops};
 
@@ -38,4 +39,9 @@ pub fn worked_forgetting()
 /// What leaves with a frame and its variables, and what is kept of older steps.
 pub fn worked_leaving()
     ensures { WorkedLeaving }
+{}
+
+/// Which search a stop is told of.
+pub fn worked_halts()
+    ensures { WorkedHalts }
 {}
