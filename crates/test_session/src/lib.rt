@@ -1,11 +1,7 @@
-//! Tests of files that are decided, scripts that are replied to, and made formulas that are written and counted.
+//! Tests of a session that is called command by command.
 //!
-//! They stand here and not in `files`, `session` and `samples` since a crate with tests is proved twice.
+//! They stand here and not in `session` since a crate with tests is proved twice.
 #![tactic(auto)]
 
-#[cfg(test)]
-mod build;
-#[cfg(test)]
-mod samples_tests;
 #[cfg(test)]
 mod session_tests;

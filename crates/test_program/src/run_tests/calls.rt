@@ -1,6 +1,5 @@
 //! Runs that call the output once for each block of 4,096 bytes, and once to flush it.
 
-use super::pigeons::formula_of;
 use super::{World, desk, run_on, sink};
 use std::alloc::Global;
 use std::test::Fail;
@@ -11,12 +10,12 @@ const BLOCK: usize = 4096;
 // fails. The output takes all that it is given.
 fn sent(alloc: Global, given: &[&str], text: &str, failing: u64) -> Result<(u8, usize), Fail> {
     let mut world = World {
-        desk: desk(alloc, text.as_bytes(), BLOCK, 0)?,
+        desk: desk(alloc, text.as_bytes(), BLOCK)?,
         out: sink(alloc, 1_000_000, 1_000_000, failing)?,
         err: sink(alloc, 64, 64, 0)?,
     };
-    let ended = run_on(alloc, given, &mut world)?;
-    Ok((ended.status, world.out.bytes().len()))
+    let status = run_on(alloc, given, &mut world)?;
+    Ok((status, world.out.bytes().len()))
 }
 
 // Whether the call with this number fails behind so many bytes.
@@ -55,6 +54,17 @@ fn free(alloc: Global, vars: u32) -> Result<String, Fail> {
     Ok(text)
 }
 
+// A false formula: a chain of implications between four hundred variables, all of which its refutation needs.
+fn chain(alloc: Global) -> Result<String, Fail> {
+    let mut text = String::from_str(alloc, "p cnf 400 401\n1 0\n")?;
+    for var in 1..400 {
+        let next = var + 1;
+        write!(text, "-{var} {next} 0\n")?;
+    }
+    text.push_str("-400 0\n")?;
+    Ok(text)
+}
+
 // Whether more than three blocks come, each by one call, with this status in the end.
 fn comes_in_blocks(alloc: Global, given: &[&str], text: &str, status: u8) -> Result<bool, Fail> {
     let (found, len) = sent(alloc, given, text, 0)?;
@@ -64,8 +74,8 @@ fn comes_in_blocks(alloc: Global, given: &[&str], text: &str, status: u8) -> Res
 #[test]
 fn each_block_is_one_call_of_the_output(rt: HostRuntime) -> Result<(), Fail> {
     let alloc = rt.alloc();
-    let pigeons = formula_of(alloc, 5, 5)?;
-    assert!(rt; comes_in_blocks(alloc, &["qbf", "trace"], pigeons.as_str(), 20)?);
+    let chain = chain(alloc)?;
+    assert!(rt; comes_in_blocks(alloc, &["qbf", "trace"], chain.as_str(), 20)?);
     let free = free(alloc, 2000)?;
     for (given, status) in [
         (["qbf", "cert"].as_slice(), 10),
