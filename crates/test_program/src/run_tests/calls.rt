@@ -54,14 +54,14 @@ fn free(alloc: Global, vars: u32) -> Result<String, Fail> {
     Ok(text)
 }
 
-// A false formula: a chain of implications between a thousand variables, all of which its refutation needs.
+// A false formula: a chain of implications between four hundred variables, all of which its refutation needs.
 fn chain(alloc: Global) -> Result<String, Fail> {
-    let mut text = String::from_str(alloc, "p cnf 1000 1001\n1 0\n")?;
-    for var in 1..1000 {
+    let mut text = String::from_str(alloc, "p cnf 400 401\n1 0\n")?;
+    for var in 1..400 {
         let next = var + 1;
         write!(text, "-{var} {next} 0\n")?;
     }
-    text.push_str("-1000 0\n")?;
+    text.push_str("-400 0\n")?;
     Ok(text)
 }
 
