@@ -348,20 +348,28 @@ fn read_to(alloc: Global, failing: u64, replies: &str) -> Result<bool, Fail> {
 
 #[test]
 fn a_failing_input_leaves_a_front_of_the_replies(rt: HostRuntime) -> Result<(), Fail> {
-    // The choice, the 53 bytes one by one, and the end. With the 52nd call the word behind `solve` has ended, so that
-    // this is replied to; `value` is only at the end.
+    // The choice, the 53 bytes one by one, and the end. With the 46th call the line `solve` has ended, so that this is
+    // replied to, and with the 54th `value`.
     for failing in 1..56 {
-        let replies = if failing > 52 { "SAT/" } else { "" };
-        assert!(rt; read_to(rt.alloc(), failing, replies)?, "{failing}");
+        assert!(rt; read_to(rt.alloc(), failing, replies_before(failing))?, "{failing}");
     }
     Ok(())
 }
 
-// How many bytes of a script are still to be read where the first call of the output fails.
-fn left_at_the_first_reply(alloc: Global, script: &[u8]) -> Result<Option<usize>, Fail> {
+// The replies to those of the two commands whose lines have ended before the call with this number.
+fn replies_before(call: u64) -> &'static str {
+    match call {
+        0..=46 => "",
+        47..=54 => "SAT/",
+        _ => "SAT/value 1/",
+    }
+}
+
+// How many bytes of a script are still to be read where the call of the output with this number fails.
+fn left_at(alloc: Global, script: &[u8], call: u64) -> Result<Option<usize>, Fail> {
     let mut world = World {
         desk: desk(alloc, script, 1, 0)?,
-        out: sink(alloc, 64, 1, 1)?,
+        out: sink(alloc, 64, 1, call)?,
         err: sink(alloc, 64, 64, 0)?,
     };
     let ended = run_on(alloc, &["qbf", "script"], &mut world)?;
@@ -382,12 +390,14 @@ fn bytes_left(desk: &mut MemoryDesk, most: usize) -> Option<usize> {
     None
 }
 
-// The reader has looked at the word behind `solve`, `value`, up to the blank that ends it: at 51 bytes of 53.
+// Where `SAT` is written the line behind `solve` isn't read, and where `value 1` is written not the end. The output
+// takes a byte a call, so that `value` begins with the fifth.
 #[test]
 fn a_reply_is_written_before_the_script_is_read_on(rt: HostRuntime) -> Result<(), Fail> {
     let alloc = rt.alloc();
     let script = lines(alloc, TWO_REPLIES)?;
-    assert_eq!(rt; left_at_the_first_reply(alloc, &script)?, Some(2));
+    assert_eq!(rt; left_at(alloc, &script, 1)?, Some(8));
+    assert_eq!(rt; left_at(alloc, &script, 5)?, Some(0));
     Ok(())
 }
 
