@@ -1,5 +1,7 @@
 """Scripts of `qbf script` that are written by a program, and their replies."""
 
+import subprocess
+
 
 class Script:
     """The lines of a script, and how many variables there are."""
@@ -35,3 +37,35 @@ def verdicts(replies):
             literal = int(words[1])
             found[-1][1][abs(literal)] = literal > 0
     return found
+
+
+class Dialogue:
+    """A solver at the other end of two pipes, which replies to each command before it reads on."""
+
+    def __init__(self, program):
+        self.solver = subprocess.Popen([program, "script"], stdin=subprocess.PIPE, stdout=subprocess.PIPE, text=True)
+
+    def __enter__(self):
+        return self
+
+    def __exit__(self, *_):
+        self.solver.stdin.close()
+        self.solver.stdout.close()
+        self.solver.wait()
+
+    def tell(self, *commands):
+        """Commands that have no reply."""
+        for command in commands:
+            print(command, file=self.solver.stdin, flush=True)
+
+    def clause(self, *literals):
+        self.tell(" ".join(map(str, ("clause", *literals, 0))))
+
+    def ask(self, command):
+        """The words of a reply of one line."""
+        self.tell(command)
+        return self.solver.stdout.readline().split()
+
+    def values(self, variables):
+        """The winner's values of variables, as literals."""
+        return [int(self.ask(f"value {variable}")[1]) for variable in variables]

@@ -14,7 +14,7 @@ use Rattle.lexer.specs.Machine.{comment_items}
 line_after : Bool → ℕ → ℕ
 line_after t n = if t then n + 1 else n
 
-last_line_step : (t : Bool) (n b : ℕ) (bs : List ℕ) → is_line_end b ≡ t → last_line n (b ∷ bs) ≡ last_line
+pub last_line_step : (t : Bool) (n b : ℕ) (bs : List ℕ) → is_line_end b ≡ t → last_line n (b ∷ bs) ≡ last_line
     (if t then n + 1 else n) bs
 last_line_step true n b bs e =
     let one : count_by is_line_end (b ∷ bs) ≡ 1 + count_by is_line_end bs = sum_by-cons (λ x. cond (is_line_end x) 1 0)

@@ -353,7 +353,7 @@ refused_behind (Some items) s scan (Some rest) e f i h =
     (sym behind ∙ ap (λ t. if t then comment_items s.comments s.line s.room (s.ahead ++ rest) else scanned s.line
     scan ∷ items_from s.comments false s.line s.room (s.ahead ++ rest)) f) e i
 
-end_left : (c : Comments) (fresh : Bool) (n r : ℕ) (ahead rest : List ℕ) → slice_get ahead 0 ≡ None → rest ≡ []
+pub end_left : (c : Comments) (fresh : Bool) (n r : ℕ) (ahead rest : List ℕ) → slice_get ahead 0 ≡ None → rest ≡ []
     → items_from c fresh n r (ahead ++ rest) ≡ the_end n ∷ []
 end_left c fresh n r (a ∷ ahead) rest e h = cc
 end_left c fresh n r [] rest e h = ap (items_from c fresh n r) h ∙ at_end c fresh n r

@@ -1,8 +1,9 @@
 -- What a lexer answers.
-use Rattle.std.specs.Prelude.{◌≡◌, ℕ, List, [], ◌∷◌, Option, Some, None, Result, Ok, Err}
+use Rattle.std.specs.Prelude.{◌≡◌, ◌<◌, ℕ, List, [], ◌∷◌, Option, Some, None, Result, Ok, Err}
 use Rattle.lexer.specs.declared.token.Token.{Token}
 use Rattle.lexer.specs.declared.token.LexRefusal.{LexRefusal}
 use Rattle.lexer.specs.declared.token.LexRefusal.TheVariants.{ReadFault, TooLong, BadByte, NumberRange}
+use Rattle.lexer.specs.State.{Stays}
 use Rattle.lexer.specs.Words.{Item, word, bad_byte, number_range, too_long, the_end}
 
 -- The item is the first of those to come, where these are known.
@@ -47,3 +48,31 @@ IsScanned (Err ReadFault) item = ⊥
 IsScanned (Err (TooLong line)) item = item ≡ too_long line
 IsScanned (Err (BadByte line)) item = item ≡ bad_byte line
 IsScanned (Err (NumberRange line)) item = item ≡ number_range line
+
+-- The item stands behind the line of this number, as the end of the text does.
+abbrev pub IsBehind : ℕ → Item → Type 0
+IsBehind n (word t) = n < t.line
+IsBehind n (bad_byte line) = n < line
+IsBehind n (number_range line) = n < line
+IsBehind n (too_long line) = n < line
+IsBehind n (the_end line) = Unit {0}
+
+-- The first of the items to come stands behind the line, where these are known.
+abbrev pub AreBehind : ℕ → Option (List Item) → Type 0
+AreBehind n None = Unit {0}
+AreBehind n (Some []) = ⊥
+AreBehind n (Some (item ∷ items)) = IsBehind n item
+
+-- The refusal is one on the line of this number, or a fault of the desk.
+abbrev pub IsOfLine : ℕ → LexRefusal → Type 0
+IsOfLine n ReadFault = Unit {0}
+IsOfLine n (TooLong line) = line ≡ n
+IsOfLine n (BadByte line) = line ≡ n
+IsOfLine n (NumberRange line) = line ≡ n
+
+-- The answer is the next word on the line of this number, the refusal of what stands there, or that nothing more does:
+-- then the items to come stay, and stand behind the line.
+abbrev pub AnswersOnLine : Result (Option Token) LexRefusal → Option (List Item) → Option (List Item) → ℕ → Type 0
+AnswersOnLine (Ok (Some t)) before after line = Gives t before after × (t.line ≡ line)
+AnswersOnLine (Ok None) before after line = Stays before after × AreBehind line after
+AnswersOnLine (Err e) before after line = Refuses e before × IsOfLine line e

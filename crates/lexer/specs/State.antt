@@ -1,8 +1,8 @@
 -- Where a lexer stands in a text.
-use Rattle.std.specs.Prelude.{◌≡◌, ℕ, ◌+◌, ◌-◌, Bool, true, ◌==◌, if◌then◌else◌, List, drop, Option, Some, None, option_map}
+use Rattle.std.specs.Prelude.{◌≡◌, ℕ, ◌+◌, ◌-◌, ◌<◌, ◌≤◌, Bool, true, ◌==◌, if◌then◌else◌, List, drop, Option, Some, None, option_map}
 use Rattle.std.specs.Io.KnownBytes.{prepend_known}
 use Rattle.lexer.specs.declared.token.Comments.{Comments}
-use Rattle.lexer.specs.Words.{Item, items_from}
+use Rattle.lexer.specs.Words.{Item, items_from, last_line}
 
 -- The kind of comments, whether the line has had no word yet, its number, how many bytes may still be taken, the bytes
 -- that were read and not taken, and whether it was refused.
@@ -37,3 +37,12 @@ past b s = record {
 abbrev pub Stays : {A : Type 0} → Option A → Option A → Type 0
 Stays None new = Unit {0}
 Stays (Some x) new = new ≡ Some x
+
+-- The line in which the bytes end that were read. The lines before it were read whole.
+abbrev pub line_read : State → ℕ
+line_read s = last_line s.line s.ahead
+
+-- The lexer goes on in the text, and where the line in which it then stands had been read whole it makes no read.
+pub record GoesOn {D : Type 0} (s t : State) (old new : D) : Type 0 where
+  pub onward : s.line ≤ t.line
+  pub unread : t.line < line_read s → (new ≡ old) × (line_read t ≡ line_read s)

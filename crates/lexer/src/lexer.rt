@@ -2,14 +2,15 @@
 ghost use Rattle.std.specs.Prelude.{◌≡◌, ℕ, ◌+◌, ◌-◌, ◌^◌, ◌<◌, ◌≤◌, Option, None, Some, List, [], ◌∷◌, ◌++◌, true, false, length, take, drop, slice_get, IfSome, IfNone, IfOk, IfErr, OnOk, OnErr, IsErrAnd, IsOk, ◌&&◌, map, is_err};
 ghost use Rattle.std.specs.Io.KnownBytes.{Keeps, IsAtEnd};
 ghost use Rattle.ports.specs.Causes.{HasCause, IsCounted};
-ghost use Rattle.lexer.specs.State.{State, bytes_ahead, upcoming, past, Stays};
+ghost use Rattle.lexer.specs.State.{State, bytes_ahead, upcoming, past, Stays, GoesOn, line_read};
 ghost use Rattle.lexer.specs.Words.{is_blank as is_blank_byte, begins_comment, byte, beyond, ends_word, is_lone, items, opens_comment};
 ghost use Rattle.lexer.specs.Scan.{no_scan};
 ghost use Rattle.lexer.specs.Machine.{cut_items, upcoming_in_word, upcoming_behind_word, upcoming_in_comment};
-ghost use Rattle.lexer.specs.Answers.{Answers, Refuses, IsReadFault};
+ghost use Rattle.lexer.specs.declared.token.Comments.TheVariants.{Script};
+ghost use Rattle.lexer.specs.Answers.{Answers, AnswersOnLine, AreBehind, IsOfLine, Refuses, IsReadFault};
 
 use crate::scan::Scan;
-use crate::token::{Comments, LexRefusal, Token, Word, is_blank};
+use crate::token::{Comments, LexRefusal, Token, Word, is_blank, is_line_end};
 use ports::{Desk, Failed};
 use std::alloc::{AllocError, Global};
 use std::marker::Model;
@@ -120,6 +121,7 @@ impl Lexer {
         ensures stays { (n : List ℕ) → D.steady desk.old n → D.steady desk.new n }
         ensures cause { HasCause (D.faults desk.old) (D.faults desk.new) result }
         ensures flows { D.flows desk.old → IsOk result × D.flows desk.new }
+        ensures reads { GoesOn self.old self.new desk.old desk.new }
     {
         self.at = 0;
         self.end = 0;
@@ -139,6 +141,7 @@ impl Lexer {
         ensures flows { D.flows desk.old → IsOk result × D.flows desk.new }
         ensures content { (n : List ℕ) → D.content desk.new n ≡ D.content desk.old n }
         ensures stays { (n : List ℕ) → D.steady desk.old n → D.steady desk.new n }
+        ensures reads { GoesOn self.old self.new desk.old desk.new }
     {
         if let Some(b) = self.first() {
             return Ok(Some(b));
@@ -182,6 +185,7 @@ impl Lexer {
         ensures flows { D.flows desk.old → ¬ IsErrAnd result IsReadFault × D.flows desk.new }
         ensures content { (n : List ℕ) → D.content desk.new n ≡ D.content desk.old n }
         ensures stays { (n : List ℕ) → D.steady desk.old n → D.steady desk.new n }
+        ensures reads { GoesOn self.old self.new desk.old desk.new }
         ensures room { self.new.room ≤ self.old.room }
         ensures comments { self.new.comments ≡ self.old.comments }
         ensures failed { self.new.failed ≡ self.old.failed }
@@ -200,6 +204,44 @@ impl Lexer {
         }
     }
 
+    // Takes white space within the line. Answers the byte behind it. None is the line's end, which isn't taken, or that
+    // of the text.
+    fn skip_in_line<D: Desk>(&mut self, desk: &mut D) -> Result<Option<u8>, LexRefusal>
+        ensures items { OnOk result (Stays (upcoming self.old (D.left desk.old))
+            (upcoming self.new (D.left desk.new))) }
+        ensures next { IfOk result (λ b. IfSome b (λ b. slice_get self.new.ahead 0 ≡ Some b)) }
+        ensures word { IfOk result (λ b. IfSome b (λ b. is_blank_byte b ≡ false)) }
+        ensures end { IfOk result (λ b. IfNone b (AreBehind self.old.line (upcoming self.new (D.left desk.new)))) }
+        ensures refusal { IfErr result (λ e. Refuses e (upcoming self.old (D.left desk.old))) }
+        ensures of_line { IfErr result (IsOfLine self.old.line) }
+        ensures cause { IsCounted (IsErrAnd result IsReadFault) (IsOk result) (D.faults desk.old) (D.faults desk.new) }
+        ensures flows { D.flows desk.old → ¬ IsErrAnd result IsReadFault × D.flows desk.new }
+        ensures content { (n : List ℕ) → D.content desk.new n ≡ D.content desk.old n }
+        ensures stays { (n : List ℕ) → D.steady desk.old n → D.steady desk.new n }
+        ensures reads { GoesOn self.old self.new desk.old desk.new }
+        ensures room { self.new.room ≤ self.old.room }
+        ensures comments { self.new.comments ≡ self.old.comments }
+        ensures failed { self.new.failed ≡ self.old.failed }
+        ensures fresh { self.new.fresh ≡ self.old.fresh }
+        ensures line { self.new.line ≡ self.old.line }
+    {
+        loop {
+            let Some(b) = self.peek(desk)? else {
+                return Ok(None);
+            };
+            if !is_blank(b) {
+                return Ok(Some(b));
+            }
+            if self.room() == 0 {
+                return Err(LexRefusal::TooLong { line: self.line() });
+            }
+            if is_line_end(b) {
+                return Ok(None);
+            }
+            self.advance(b);
+        }
+    }
+
     // Takes the rest of a comment with its line end.
     fn skip_line<D: Desk>(&mut self, desk: &mut D) -> Result<(), LexRefusal>
         ensures items { OnOk result (Stays (upcoming_in_comment self.old (D.left desk.old))
@@ -209,6 +251,7 @@ impl Lexer {
         ensures flows { D.flows desk.old → ¬ IsErrAnd result IsReadFault × D.flows desk.new }
         ensures content { (n : List ℕ) → D.content desk.new n ≡ D.content desk.old n }
         ensures stays { (n : List ℕ) → D.steady desk.old n → D.steady desk.new n }
+        ensures reads { GoesOn self.old self.new desk.old desk.new }
         ensures room { self.new.room ≤ self.old.room }
         ensures comments { self.new.comments ≡ self.old.comments }
         ensures failed { self.new.failed ≡ self.old.failed }
@@ -239,6 +282,7 @@ impl Lexer {
     fn cut(&self, scan: &Scan) -> LexRefusal
         ensures cut { Refuses result (Some (cut_items self.now.comments self.now.fresh self.now.line scan.now)) }
         ensures no_fault { IsReadFault result → ⊥ }
+        ensures line { IsOfLine self.now.line result }
     {
         let line = self.line();
         if self.is_cut_comment(scan) {
@@ -282,6 +326,7 @@ impl Lexer {
         ensures flows { D.flows desk.old → ¬ IsErrAnd result IsReadFault × D.flows desk.new }
         ensures content { (n : List ℕ) → D.content desk.new n ≡ D.content desk.old n }
         ensures stays { (n : List ℕ) → D.steady desk.old n → D.steady desk.new n }
+        ensures reads { GoesOn self.old self.new desk.old desk.new }
         ensures room { OnOk result (self.new.room < self.old.room) }
         ensures comments { self.new.comments ≡ self.old.comments }
         ensures failed { self.new.failed ≡ self.old.failed }
@@ -320,6 +365,7 @@ impl Lexer {
         ensures comments { self.new.comments ≡ self.old.comments }
         ensures failed { self.new.failed ≡ self.old.failed }
         ensures line { self.new.line ≡ self.old.line }
+        ensures read { line_read self.new ≡ line_read self.old }
     {
         if self.room() == 0 {
             return Err(LexRefusal::TooLong { line: self.line() });
@@ -342,6 +388,7 @@ impl Lexer {
         ensures flows { D.flows desk.old → ¬ IsErrAnd result IsReadFault × D.flows desk.new }
         ensures content { (n : List ℕ) → D.content desk.new n ≡ D.content desk.old n }
         ensures stays { (n : List ℕ) → D.steady desk.old n → D.steady desk.new n }
+        ensures reads { GoesOn self.old self.new desk.old desk.new }
         ensures room { OnOk result (self.new.room < self.old.room) }
         ensures comments { self.new.comments ≡ self.old.comments }
         ensures failed { self.new.failed ≡ self.old.failed }
@@ -364,11 +411,13 @@ impl Lexer {
         ensures flows { D.flows desk.old → ¬ IsErrAnd result IsReadFault × D.flows desk.new }
         ensures content { (n : List ℕ) → D.content desk.new n ≡ D.content desk.old n }
         ensures stays { (n : List ℕ) → D.steady desk.old n → D.steady desk.new n }
+        ensures reads { GoesOn self.old self.new desk.old desk.new }
         ensures room { OnOk result (self.new.room < self.old.room) }
         ensures comments { self.new.comments ≡ self.old.comments }
         ensures failed { self.new.failed ≡ self.old.failed }
         ensures fresh { self.new.fresh ≡ self.old.fresh }
         ensures line { self.new.line ≡ self.old.line }
+        ensures of_line { IfErr result (IsOfLine self.old.line) }
     {
         let mut scan = Scan::new();
         if self.room() == 0 {
@@ -400,8 +449,11 @@ impl Lexer {
         ensures flows { D.flows desk.old → ¬ IsErrAnd result IsReadFault × D.flows desk.new }
         ensures content { (n : List ℕ) → D.content desk.new n ≡ D.content desk.old n }
         ensures stays { (n : List ℕ) → D.steady desk.old n → D.steady desk.new n }
+        ensures reads { GoesOn self.old self.new desk.old desk.new }
         ensures failed { self.new.failed ≡ self.old.failed }
         ensures less { IfOk result (λ t. IfSome t (λ _. self.new.room < self.old.room)) }
+        ensures comments { self.new.comments ≡ self.old.comments }
+        ensures word { IfOk result (λ t. IfSome t (λ t. (self.new.fresh ≡ false) × (t.line ≡ self.new.line))) }
     {
         loop {
             let Some(b) = self.skip_blanks(desk)? else {
@@ -421,6 +473,33 @@ impl Lexer {
                 return Ok(Some(token));
             }
         }
+    }
+
+    // The next word of a line of a script that has had one.
+    fn word_on_line<D: Desk>(&mut self, desk: &mut D) -> Result<Option<Token>, LexRefusal>
+        requires fresh { self.old.fresh ≡ false }
+        requires comments { self.old.comments ≡ Script }
+        ensures items { AnswersOnLine result (upcoming self.old (D.left desk.old))
+            (upcoming self.new (D.left desk.new)) self.old.line }
+        ensures cause { IsCounted (IsErrAnd result IsReadFault) (IsOk result) (D.faults desk.old) (D.faults desk.new) }
+        ensures flows { D.flows desk.old → ¬ IsErrAnd result IsReadFault × D.flows desk.new }
+        ensures content { (n : List ℕ) → D.content desk.new n ≡ D.content desk.old n }
+        ensures stays { (n : List ℕ) → D.steady desk.old n → D.steady desk.new n }
+        ensures reads { GoesOn self.old self.new desk.old desk.new }
+        ensures failed { self.new.failed ≡ self.old.failed }
+        ensures less { IfOk result (λ t. IfSome t (λ _. self.new.room < self.old.room)) }
+        ensures room { OnOk result (self.new.room ≤ self.old.room) }
+        ensures comments { self.new.comments ≡ self.old.comments }
+        ensures fresh { self.new.fresh ≡ self.old.fresh }
+        ensures line { self.new.line ≡ self.old.line }
+    {
+        let Some(b) = self.skip_in_line(desk)? else {
+            return Ok(None);
+        };
+        let line = self.line();
+        let scan = self.word(desk, b)?;
+        let token = scan.into_token(line)?;
+        Ok(Some(token))
     }
 
     /// The next word of the text outside comments. None is the end of the text, whose line `line` tells.
@@ -444,8 +523,48 @@ impl Lexer {
         ensures failed { self.new.failed ≡ is_err result }
         // A word takes a byte of the room.
         ensures less { IfOk result (λ t. IfSome t (λ _. self.new.room < self.old.room)) }
+        ensures comments { self.new.comments ≡ self.old.comments }
+        // Behind a word it stands in the word's line.
+        ensures word { IfOk result (λ t. IfSome t (λ t. (self.new.fresh ≡ false) × (t.line ≡ self.new.line))) }
+        // It reads only where the line in which it then stands doesn't end among the bytes that were read.
+        ensures reads { GoesOn self.old self.new desk.old desk.new }
     {
         let answer = self.next_word(desk);
+        if answer.is_err() {
+            self.failed = true;
+        }
+        answer
+    }
+
+    /// The next word of the line of the last word, in a script. None is the line's end or that of the text; nothing
+    /// behind it is looked at.
+    ///
+    /// # Errors
+    /// As those of `next`, where the line's next place is refused.
+    pub fn next_on_line<D: Desk>(&mut self, desk: &mut D) -> Result<Option<Token>, LexRefusal>
+        requires ready { self.old.failed ≡ false }
+        requires fresh { self.old.fresh ≡ false }
+        requires comments { self.old.comments ≡ Script }
+        // The items to come, where the desk tells its bytes, are this one, which stands on the line, and then those to
+        // come after; or they stay, and stand behind the line.
+        ensures items { AnswersOnLine result (upcoming self.old (D.left desk.old))
+            (upcoming self.new (D.left desk.new)) self.old.line }
+        // It gives up only where the desk failed, so never where it flows.
+        ensures cause { IsCounted (IsErrAnd result IsReadFault) (IsOk result) (D.faults desk.old) (D.faults desk.new) }
+        ensures flows { D.flows desk.old → ¬ IsErrAnd result IsReadFault × D.flows desk.new }
+        ensures content { (n : List ℕ) → D.content desk.new n ≡ D.content desk.old n }
+        ensures stays { (n : List ℕ) → D.steady desk.old n → D.steady desk.new n }
+        // It reads only where the line's end isn't among the bytes that were read.
+        ensures reads { GoesOn self.old self.new desk.old desk.new }
+        ensures failed { self.new.failed ≡ is_err result }
+        // A word takes a byte of the room.
+        ensures less { IfOk result (λ t. IfSome t (λ _. self.new.room < self.old.room)) }
+        ensures room { OnOk result (self.new.room ≤ self.old.room) }
+        ensures comments { self.new.comments ≡ self.old.comments }
+        ensures fresh { self.new.fresh ≡ self.old.fresh }
+        ensures line { self.new.line ≡ self.old.line }
+    {
+        let answer = self.word_on_line(desk);
         if answer.is_err() {
             self.failed = true;
         }

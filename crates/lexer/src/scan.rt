@@ -1,7 +1,7 @@
 //! A word while its bytes come.
-ghost use Rattle.std.specs.Prelude.{◌≡◌};
+ghost use Rattle.std.specs.Prelude.{◌≡◌, MatchResult};
 ghost use Rattle.lexer.specs.Scan.{shape_after, scan_after, no_scan, scanned};
-ghost use Rattle.lexer.specs.Answers.{IsScanned};
+ghost use Rattle.lexer.specs.Answers.{IsOfLine, IsScanned};
 
 use crate::text::ShortText;
 use crate::token::{LexRefusal, Token, Word};
@@ -75,7 +75,8 @@ impl Scan {
 
     // The token of the whole word, or why it is refused.
     pub fn into_token(self, line: u32) -> Result<Token, LexRefusal>
-        ensures { IsScanned result (scanned line self) }
+        ensures item { IsScanned result (scanned line self) }
+        ensures line { MatchResult result (λ t. t.line ≡ line) (IsOfLine line) }
     {
         if self.is_bad {
             return Err(LexRefusal::BadByte { line });

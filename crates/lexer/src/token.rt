@@ -1,6 +1,6 @@
 //! Words with their lines, and why none is given.
 ghost use Rattle.std.specs.Prelude.{◌≡◌, ◌∷◌, ◌++◌, [], map};
-ghost use Rattle.lexer.specs.Words.{begins_comment, byte, beyond, ends_word, is_blank as is_blank_byte, is_lone, is_mark as is_mark_byte, opens_comment};
+ghost use Rattle.lexer.specs.Words.{begins_comment, byte, beyond, ends_word, is_blank as is_blank_byte, is_line_end as is_line_end_byte, is_lone, is_mark as is_mark_byte, opens_comment};
 
 use crate::text::ShortText;
 use thiserror::Error;
@@ -75,6 +75,13 @@ pub(crate) fn is_blank(b: u8) -> bool
     ensures { result ≡ is_blank_byte b }
 {
     matches!(b, 9..=13 | b' ')
+}
+
+// Byte 10 ends a line.
+pub(crate) fn is_line_end(b: u8) -> bool
+    ensures { result ≡ is_line_end_byte b }
+{
+    b == b'\n'
 }
 
 // Brackets, the comma and the equals sign.

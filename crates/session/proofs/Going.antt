@@ -1,6 +1,7 @@
 -- Replies to the commands of a script, one after the other.
 use Rattle.std.proofs.Common.{◌≡◌, ℕ, true, false, List, [], ◌∷◌, ◌++◌, Option, Some, None, Result, Ok, Err, refl, sym, ap, ap₂, subst, ◌∙◌, append_assoc, append-nil}
-use Rattle.std.specs.Prelude.{IfSome}
+use Rattle.std.specs.Io.KnownBytes.{IsAtEnd}
+use Rattle.std.specs.Prelude.{IfSome, is_some}
 use Rattle.trail.specs.State.{Account}
 use Rattle.reading.specs.declared.refusal.ReadRefusal.{ReadRefusal}
 use Rattle.reading.specs.declared.refusal.ReadRefusal.TheVariants.{Refused as Malformed, Limit as Beyond, ReadFault as Unreadable, NoMemory as NoRoom}
@@ -8,10 +9,8 @@ use Rattle.ports.specs.Writing.{Wrote}
 use Rattle.ports.proofs.Pieces.{nothing, part_then, whole_then}
 use Rattle.engine.specs.State.{EngineState}
 use Rattle.qscript.specs.declared.command.Command.{Command}
-use Rattle.qscript.specs.declared.words.Item.{Item}
-use Rattle.qscript.specs.declared.words.Item.TheVariants.{BadByte, End, NumberRange, TooLong, Word}
 use Rattle.qscript.specs.Run.{Script}
-use Rattle.qscript.specs.State.{EndsWith, GoesOn, IsDone, IsFirst, IsRefusal, is_end, is_fault}
+use Rattle.qscript.specs.State.{IsDone, IsFirst, IsRefusal}
 use Rattle.solve.specs.declared.ending.Ending.{Ending}
 use Rattle.solve.specs.declared.ending.Ending.TheVariants.{Done, Limit, CheckLimit, NoMemory, ReadFault, Refused, WriteFault}
 use Rattle.solve.specs.Endings.{ending_for}
@@ -81,32 +80,24 @@ left_any : (script before : Option Script) (commands : List Command) (Q : Script
 left_any None before commands Q so_far is = tt
 left_any (Some all) before commands Q so_far is = (so_far.0, so_far.1, is so_far.0)
 
--- a desk goes on telling
-pub goes_itself : (ahead : Option Item) (a : Option (List ℕ)) → GoesOn ahead a a
-goes_itself ahead None = λ e. tt
-goes_itself ahead (Some x) = λ e. refl
+-- a desk that told what it has left goes on telling
+abbrev pub Telling : Option (List ℕ) → Option (List ℕ) → Type 0
+Telling before after = IfSome before (λ _. is_some after ≡ true)
 
-pub goes_on : (ahead next : Option Item) (a b c : Option (List ℕ)) → is_fault ahead ≡ false → GoesOn ahead a b
-    → GoesOn next b c → GoesOn next a c
-goes_on ahead next None b c sound first second = λ e. tt
-goes_on ahead next (Some x) None c sound first second = absurd (let f : false ≡ true = first sound in cc)
-goes_on ahead next (Some x) (Some y) c sound first second = λ e. second e
+pub tells_itself : (a : Option (List ℕ)) → Telling a a
+tells_itself None = tt
+tells_itself (Some x) = refl
 
-sound_end : (ahead : Option Item) → is_end ahead ≡ true → is_fault ahead ≡ false
-sound_end None e = refl
-sound_end (Some (Word t)) e = refl
-sound_end (Some (BadByte line)) e = absurd (let f : false ≡ true = e in cc)
-sound_end (Some (NumberRange line)) e = absurd (let f : false ≡ true = e in cc)
-sound_end (Some (TooLong line)) e = absurd (let f : false ≡ true = e in cc)
-sound_end (Some (End line)) e = refl
+pub tells_on : (a b c : Option (List ℕ)) → Telling a b → Telling b c → Telling a c
+tells_on None b c first second = tt
+tells_on (Some x) None c first second = absurd (let f : false ≡ true = first in cc)
+tells_on (Some x) (Some y) c first second = second
 
 -- at the end nothing is left
-pub nothing_left : (ahead : Option Item) (a b : Option (List ℕ)) → is_end ahead ≡ true → EndsWith ahead b
-    → GoesOn ahead a b → IfSome a (λ x. b ≡ Some [])
-nothing_left ahead None b end ends telling = tt
-nothing_left ahead (Some x) None end ends telling =
-    absurd (let f : false ≡ true = telling (sound_end ahead end) in cc)
-nothing_left ahead (Some x) (Some y) end ends telling = ap Some (ends end)
+pub nothing_left : (a b : Option (List ℕ)) → Telling a b → IsAtEnd b → IfSome a (λ x. b ≡ Some [])
+nothing_left None b telling end = tt
+nothing_left (Some x) None telling end = absurd (let f : false ≡ true = telling in cc)
+nothing_left (Some x) (Some y) telling end = ap Some end
 
 -- no command is to come
 pub no_command : (o : Option Command) → ((c : Command) → o ≡ Some c → ⊥) → o ≡ None

@@ -4,7 +4,7 @@ ghost use Rattle.ports.specs.Bytes.{AllFlushed};
 ghost use Rattle.ports.specs.Causes.{IsCounted};
 ghost use Rattle.qscript.specs.declared.command.Command.{Command as AnyCommand};
 ghost use Rattle.qscript.specs.Reads.{Ending as ScriptEnding};
-ghost use Rattle.qscript.specs.State.{EndsWith, is_fault, upcoming};
+ghost use Rattle.qscript.specs.State.{upcoming};
 ghost use Rattle.session.specs.Scripts.{Answers, AreAnswered, IsLeftAt, IsOfText, IsScriptEnding, IsScriptOf, IsSentAt, IsWorkedOff, RoomForReplies, ending_of};
 ghost use Rattle.session.specs.Steps.{Goes};
 ghost use Rattle.solve.specs.Endings.{IsDone};
@@ -94,14 +94,12 @@ fn answer_all<D: Desk, S: Sink>(
     sink: &mut S,
     stops: &mut Vec<Stopped>,
 ) -> Result<(), Ending>
-    requires ready { reader.old.failed ≡ false }
-    requires end { EndsWith reader.old.ahead (D.left desk.old) }
+    requires { reader.old.failed ≡ false }
     ensures all { (known : Option (List ℕ)) (version : AnyVersion)
         → IsOfText known (Some version) (upcoming reader.old (D.left desk.old))
         → Holds session.old.terms session.old.engine (start_of version)
         → IsWorkedOff S.written S.flushed S.faults S.has_room session.old.terms known sink.old sink.new
         (stops.old.items, stops.new.items) result }
-    ensures unstopped { OnOk result (is_fault reader.old.ahead ≡ false) }
     ensures desk { TakesInput D.content D.left D.faults D.steady D.flows desk.old desk.new result }
 {
     answer_commands(session, reader, desk, sink, stops)?;
@@ -132,13 +130,11 @@ fn answer_commands<D: Desk, S: Sink>(
     sink: &mut S,
     stops: &mut Vec<Stopped>,
 ) -> Result<(), Ending>
-    requires ready { reader.old.failed ≡ false }
-    requires end { EndsWith reader.old.ahead (D.left desk.old) }
+    requires { reader.old.failed ≡ false }
     ensures replied { (s : Standing) → Holds session.old.terms session.old.engine s → Answers session.old.terms s
         (upcoming reader.old (D.left desk.old)) (IsLeftAt result)
         (λ text. IsSentAt S.written S.flushed S.faults S.has_room sink.old sink.new text result)
         (stops.old.items, stops.new.items) }
-    ensures unstopped { OnOk result (is_fault reader.old.ahead ≡ false) }
     ensures desk { TakesInput D.content D.left D.faults D.steady D.flows desk.old desk.new result }
 {
     while let Some(command) = reader.next_command(desk)? {

@@ -125,3 +125,18 @@ fn a_failed_read_is_refused(rt: HostRuntime) -> Result<(), Fail> {
     assert!(rt; words.as_str() == "the text can't be read");
     Ok(())
 }
+
+#[test]
+fn a_line_of_a_script_is_told_to_end(rt: HostRuntime) -> Result<(), Fail> {
+    let mut desk = desk_with(rt.alloc(), b"solve 1 \n2".as_slice(), 4096)?;
+    let mut lexer = Lexer::new(rt.alloc(), Comments::Script)?;
+    let first = lexer.next(&mut desk)?.ok_or("no word")?;
+    assert_eq!(rt; first.line, 1);
+    let second = lexer.next_on_line(&mut desk)?.ok_or("no second word")?;
+    assert_eq!(rt; second.line, 1);
+    let third = lexer.next_on_line(&mut desk)?;
+    assert!(rt; third.is_none());
+    let fourth = lexer.next(&mut desk)?.ok_or("no third word")?;
+    assert_eq!(rt; fourth.line, 2);
+    Ok(())
+}

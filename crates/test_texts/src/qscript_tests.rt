@@ -239,9 +239,16 @@ fn a_failed_read_is_told(rt: HostRuntime) -> Result<(), Fail> {
             false,
             "p qscript 1\nsolve\nsolve\n",
             4,
-            "Solve; the text can't be read",
+            "Solve; Solve; the text can't be read",
         ),
         (true, "p qscript 1\n", 2, "the text can't be read"),
+        // The sixteen bytes of the second call are two whole lines.
+        (
+            true,
+            "p qscript 1\npop\n",
+            3,
+            "One: Pop; the text can't be read",
+        ),
     ] {
         let found = read(alloc, is_headed, text, 16, failing)?;
         assert!(rt; found.as_str() == want, "{text}");

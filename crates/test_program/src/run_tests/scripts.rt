@@ -17,11 +17,11 @@ fn lines(alloc: Global, text: &str) -> Result<Vec<u8>, Fail> {
 // A script with two replies, a byte a call.
 const TWO_REPLIES: &str = "p qscript 1/scope e/var 1 1/clause 1 0/solve/value 1/";
 
-// How many bytes of a script are still to be read where the first call of the output fails.
-fn left_at_the_first_reply(alloc: Global, script: &[u8]) -> Result<Option<usize>, Fail> {
+// How many bytes of a script are still to be read where the call of the output with this number fails.
+fn left_at(alloc: Global, script: &[u8], call: u64) -> Result<Option<usize>, Fail> {
     let mut world = World {
         desk: desk(alloc, script, 1)?,
-        out: sink(alloc, 64, 1, 1)?,
+        out: sink(alloc, 64, 1, call)?,
         err: sink(alloc, 64, 64, 0)?,
     };
     let status = run_on(alloc, &["qbf", "script"], &mut world)?;
@@ -42,11 +42,13 @@ fn bytes_left(desk: &mut MemoryDesk, most: usize) -> Option<usize> {
     None
 }
 
-// The reader has looked at the word behind `solve`, `value`, up to the blank that ends it: at 51 bytes of 53.
+// Where `SAT` is written the line behind `solve` isn't read, and where `value 1` is written not the end. The output
+// takes a byte a call, so that `value` begins with the fifth.
 #[test]
 fn a_reply_is_written_before_the_script_is_read_on(rt: HostRuntime) -> Result<(), Fail> {
     let alloc = rt.alloc();
     let script = lines(alloc, TWO_REPLIES)?;
-    assert_eq!(rt; left_at_the_first_reply(alloc, &script)?, Some(2));
+    assert_eq!(rt; left_at(alloc, &script, 1)?, Some(8));
+    assert_eq!(rt; left_at(alloc, &script, 5)?, Some(0));
     Ok(())
 }

@@ -3,7 +3,7 @@ use Rattle.qscript.specs.State.{upcoming}
 use Rattle.solve.specs.Holding.{Holds}
 use Rattle.session.specs.Steps.{Goes}
 use Rattle.std.proofs.lemmas.Result.{err_from_is_err_and}
-use Rattle.session.proofs.Going.{begun, ended, failed_at, goes_itself, goes_on, gone_on, no_command, refused_at}
+use Rattle.session.proofs.Going.{begun, ended, failed_at, gone_on, no_command, nothing_left, refused_at, tells_itself, tells_on}
 use Rattle.solve.proofs.Taking.{refused_unread, rose_later}
 use Rattle.session.proofs.script.answer_commands.Goals as goal
 
@@ -16,15 +16,13 @@ loop-command-init g c =
     let has_room = g.S.Sink.has_room in
     record {
       terms = refl;
-      ready = c.requires.ready;
+      ready = c.requires;
       under = λ s holds. begun written flushed faults has_room c.args.session.now.terms s
           (upcoming c.args.reader.now (g.D.Desk.left c.args.desk.now)) c.args.session.now.engine c.args.sink.now
           c.args.stops.now.items holds;
-      sound = λ sound. sound;
-      end = c.requires.end;
-      telling = goes_itself c.args.reader.now.ahead (g.D.Desk.left c.args.desk.now);
+      telling = tells_itself (g.D.Desk.left c.args.desk.now);
       later = omega arith;
-      kept = λ sound. refl;
+      kept = refl;
       flows = λ flows. flows;
       content = λ n. refl;
       stays = λ n steady. steady;
@@ -93,13 +91,10 @@ loop-command-preserved-in_ok-answer g c =
           c.answer.new.sink c.args.stops.now.items c.loop-command.stops.items c.answer.new.stops.items
           (inv.under s holds) (rw c.in-Some.is at next.script)
           (rw inv.terms at c.in_ok-answer.ensures.goes);
-      sound = λ sound. inv.sound next.unstopped;
-      end = next.end inv.end;
-      telling = goes_on c.loop-command.reader.ahead c.next_command.new.self.ahead (g.D.Desk.left c.args.desk.now)
-          (g.D.Desk.left c.loop-command.desk) (g.D.Desk.left c.next_command.new.desk) next.unstopped inv.telling
-          next.telling;
+      telling = tells_on (g.D.Desk.left c.args.desk.now) (g.D.Desk.left c.loop-command.desk)
+          (g.D.Desk.left c.next_command.new.desk) inv.telling next.telling;
       later = let first = inv.later in let second = next.cause.later in omega (arith, first, second);
-      kept = λ sound. next.cause.kept (refl, sound) ∙ inv.kept next.unstopped;
+      kept = next.cause.kept refl ∙ inv.kept;
       flows = λ flows. (next.flows (inv.flows flows)).1;
       content = λ n. next.content n ∙ inv.content n;
       stays = λ n steady. next.stays n (inv.stays n steady);
@@ -129,13 +124,10 @@ loop-command-preserved g c =
           c.answer.new.sink c.args.stops.now.items c.loop-command.stops.items c.answer.new.stops.items
           (inv.under s holds) (rw c.in-Some.is at next.script)
           (rw inv.terms at c.in_ok-answer.ensures.goes);
-      sound = λ sound. inv.sound next.unstopped;
-      end = next.end inv.end;
-      telling = goes_on c.loop-command.reader.ahead c.next_command.new.self.ahead (g.D.Desk.left c.args.desk.now)
-          (g.D.Desk.left c.loop-command.desk) (g.D.Desk.left c.next_command.new.desk) next.unstopped inv.telling
-          next.telling;
+      telling = tells_on (g.D.Desk.left c.args.desk.now) (g.D.Desk.left c.loop-command.desk)
+          (g.D.Desk.left c.next_command.new.desk) inv.telling next.telling;
       later = let first = inv.later in let second = next.cause.later in omega (arith, first, second);
-      kept = λ sound. next.cause.kept (refl, sound) ∙ inv.kept next.unstopped;
+      kept = next.cause.kept refl ∙ inv.kept;
       flows = λ flows. (next.flows (inv.flows flows)).1;
       content = λ n. next.content n ∙ inv.content n;
       stays = λ n steady. next.stays n (inv.stays n steady);
@@ -155,9 +147,6 @@ returns-clause-replied g c = λ s holds.
     (upcoming c.next_command.new.self (g.D.Desk.left c.next_command.new.desk)) c.loop-command.session.engine
     c.args.sink.now c.loop-command.sink c.args.stops.now.items c.loop-command.stops.items
     (c.loop-command.invariant.under s holds) (rw none at c.in_ok-command.ensures.script)
-
-pub returns-clause-unstopped : goal.returns-clause-unstopped
-returns-clause-unstopped g c = c.loop-command.invariant.sound c.in_ok-command.ensures.unstopped
 
 -- what the desk is left as, at each return
 pub returns-in_err-command-clause-desk : goal.returns-in_err-command-clause-desk
@@ -201,8 +190,11 @@ pub returns-clause-desk : goal.returns-clause-desk
 returns-clause-desk g c =
     let inv = c.loop-command.invariant in
     let next = c.in_ok-command.ensures in
+    let none = no_command c.in_ok-command.field-0 c.in_default.not-Some in
     record {
-      to_end = search rules;
+      to_end = nothing_left (g.D.Desk.left c.args.desk.now) (g.D.Desk.left c.next_command.new.desk)
+          (tells_on (g.D.Desk.left c.args.desk.now) (g.D.Desk.left c.loop-command.desk)
+          (g.D.Desk.left c.next_command.new.desk) inv.telling next.telling) (rw none at next.end);
       counted = search rules;
       flowing = search rules;
       holds = λ n. next.content n ∙ inv.content n;

@@ -14,17 +14,9 @@ use Rattle.session.proofs.Scripting.{each_script, headed_text, headless_answered
 use Rattle.solve.proofs.Taking.{refused_unread, refused_written, rose_later}
 use Rattle.session.proofs.script.answer_script.Goals as goal
 
--- what holds where the work goes well
-on_ok : {P : Type 0} (r : Result (Unit {0}) Ending) → OnOk r P → IsOk r → P
-on_ok (Ok u) holds ok = holds
-on_ok (Err e) holds ok = absurd (no_good e ok)
-  where
-    no_good : (e : Ending) → IsOk {T = Unit {0}} (Err e) → ⊥
-    no_good e is = absurd (cc)
-
-on_both : {P Q R : Type 0} (r : Result (Unit {0}) Ending) → OnOk r P → OnOk r Q → (P → Q → R) → OnOk r R
-on_both (Ok u) one two both = both one two
-on_both (Err e) one two both = tt
+on_ok : {P Q : Type 0} (r : Result (Unit {0}) Ending) → OnOk r P → (P → Q) → OnOk r Q
+on_ok (Ok u) one so = so one
+on_ok (Err e) one so = tt
 
 no_good : (e : Ending) → IsOk {T = Unit {0}} (Err e) → ⊥
 no_good e is = absurd (cc)
@@ -180,16 +172,15 @@ pub returns-clause-desk : goal.returns-clause-desk
 returns-clause-desk g c =
     let first = c.in_ok-version.ensures in
     let second = c.answer_all.ensures.desk in
-    let unstopped = c.answer_all.ensures.unstopped in
     record {
-      to_end = on_both c.answer_all.result unstopped second.to_end
-          (λ fine left. empty_left (g.D.Desk.left c.args.desk.now) (g.D.Desk.left c.read_header.new.desk)
-          (g.D.Desk.left c.answer_all.new.desk) (first.telling fine) left);
+      to_end = on_ok c.answer_all.result second.to_end
+          (λ left. empty_left (g.D.Desk.left c.args.desk.now) (g.D.Desk.left c.read_header.new.desk)
+          (g.D.Desk.left c.answer_all.new.desk) first.telling left);
       counted = record {
-        later = let before = first.cause.later in let then = second.counted.later in omega (arith, before, then);
+        later = let before = first.cause.later in let behind = second.counted.later in omega (arith, before, behind);
         rose = λ is. rose_later (g.D.Desk.faults c.args.desk.now) (g.D.Desk.faults c.read_header.new.desk)
             (g.D.Desk.faults c.answer_all.new.desk) first.cause.later (second.counted.rose is);
-        kept = λ ok. second.counted.kept ok ∙ first.cause.kept (refl, on_ok c.answer_all.result unstopped ok);
+        kept = λ ok. second.counted.kept ok ∙ first.cause.kept refl;
       };
       flowing = λ flows. second.flowing (first.flows flows).1;
       holds = λ n. second.holds n ∙ first.content n;

@@ -1,12 +1,13 @@
 use Rattle.std.proofs.Common.{refl, ◌≡◌, ◌<◌, ◌≤◌, Err, Option, List, sym, ap, ◌∙◌, arith, subst}
 use Rattle.std.specs.Io.KnownBytes.{IsAtEnd}
 use Rattle.std.proofs.lemmas.Result.{err_from_is_err_and}
-use Rattle.lexer.specs.State.{upcoming, Stays}
+use Rattle.lexer.specs.State.{State, upcoming, Stays}
 use Rattle.lexer.specs.Words.{Item}
 use Rattle.lexer.specs.Scan.{scanned}
 use Rattle.lexer.specs.Machine.{upcoming_behind_word, upcoming_in_comment}
 use Rattle.lexer.specs.Answers.{IsScanned}
 use Rattle.lexer.proofs.Known.{stays_on, refuses_on, comment_behind, item_behind, refused_behind, ends_here, when_none}
+use Rattle.lexer.proofs.Going.{goes_on, goes_worded}
 use Rattle.lexer.proofs.lexer.Lexer.next_word.Goals as goal
 
 pub returns-in_default-clause-items : goal.returns-in_default-clause-items
@@ -43,6 +44,9 @@ loop-b-preserved-then-opens_comment g c =
       flows = λ h. (c.skip_hash.ensures.flows (c.skip_blanks.ensures.flows (c.loop-b.invariant.flows h)).1).1;
       content = λ n. c.skip_hash.ensures.content n ∙ c.skip_blanks.ensures.content n ∙ c.loop-b.invariant.content n;
       stays = λ n h. c.skip_hash.ensures.stays n (c.skip_blanks.ensures.stays n (c.loop-b.invariant.stays n h));
+      reads = goes_on _ _ _ _ _ _ c.loop-b.invariant.reads
+          (goes_on _ _ _ _ _ _ c.skip_blanks.ensures.reads c.skip_hash.ensures.reads);
+      comments = c.in_ok-skip_hash.ensures.comments ∙ c.in_ok-b.ensures.comments ∙ c.loop-b.invariant.comments;
       room = (let one : c.skip_hash.new.self.room < c.skip_blanks.new.self.room = c.in_ok-skip_hash.ensures.room in
           let two : c.skip_blanks.new.self.room ≤ c.loop-b.self.room = c.in_ok-b.ensures.room in omega arith);
       failed = c.in_ok-skip_hash.ensures.failed ∙ c.in_ok-b.ensures.failed ∙ c.loop-b.invariant.failed;
@@ -84,6 +88,11 @@ loop-b-preserved g c =
           ∙ c.loop-b.invariant.content n;
       stays = λ n h. c.skip_line.ensures.stays n
           (c.take_word.ensures.stays n (c.skip_blanks.ensures.stays n (c.loop-b.invariant.stays n h)));
+      reads = goes_on _ _ _ _ _ _ c.loop-b.invariant.reads
+          (goes_on _ _ _ _ _ _ c.skip_blanks.ensures.reads
+          (goes_on _ _ _ _ _ _ c.take_word.ensures.reads c.skip_line.ensures.reads));
+      comments = c.in_ok-skip_line.ensures.comments ∙ c.in_ok-scan.ensures.comments ∙ c.in_ok-b.ensures.comments
+          ∙ c.loop-b.invariant.comments;
       room = (let one : c.skip_line.new.self.room ≤ c.take_word.new.self.room = c.in_ok-skip_line.ensures.room in
           let two : c.take_word.new.self.room < c.skip_blanks.new.self.room = c.in_ok-scan.ensures.room in let three :
           c.skip_blanks.new.self.room ≤ c.loop-b.self.room = c.in_ok-b.ensures.room in omega arith);
@@ -123,7 +132,7 @@ returns-in_err-token-clause-items g c =
     let p = err_from_is_err_and c.from_residual-in_err-token.result c.from_residual-in_err-token.ensures.1 in
     rw (p.1, p.2) (refused_behind before c.take_word.new.self c.in_ok-scan.scan (left c.take_word.new.desk)
     c.in_err-token.field-0.0 (sym c.if-is_comment.ensures)
-    (subst (λ n. IsScanned (Err c.in_err-token.field-0.0) (scanned n c.in_ok-scan.scan)) line c.in_err-token.ensures)
+    (subst (λ n. IsScanned (Err c.in_err-token.field-0.0) (scanned n c.in_ok-scan.scan)) line c.in_err-token.ensures.item)
     word_goes)
 
 pub returns-else-is_comment-clause-items : goal.returns-else-is_comment-clause-items
@@ -139,4 +148,61 @@ returns-else-is_comment-clause-items g c =
     let line : c.line-line.result ≡ c.take_word.new.self.line = c.line-line.ensures ∙ sym c.in_ok-scan.ensures.line in
     rw c.set_word.ensures (item_behind before c.take_word.new.self c.in_ok-scan.scan (left c.take_word.new.desk)
     c.in_ok-token.token (sym c.if-is_comment.ensures)
-    (ap (λ n. scanned n c.in_ok-scan.scan) (sym line) ∙ c.in_ok-token.ensures) word_goes)
+    (ap (λ n. scanned n c.in_ok-scan.scan) (sym line) ∙ c.in_ok-token.ensures.item) word_goes)
+
+pub returns-in_err-b-clause-reads : goal.returns-in_err-b-clause-reads
+returns-in_err-b-clause-reads g c = goes_on _ _ _ _ _ _ c.loop-b.invariant.reads c.skip_blanks.ensures.reads
+
+pub returns-in_default-clause-reads : goal.returns-in_default-clause-reads
+returns-in_default-clause-reads g c = goes_on _ _ _ _ _ _ c.loop-b.invariant.reads c.skip_blanks.ensures.reads
+
+pub returns-in_err-skip_hash-clause-reads : goal.returns-in_err-skip_hash-clause-reads
+returns-in_err-skip_hash-clause-reads g c =
+    goes_on _ _ _ _ _ _ c.loop-b.invariant.reads (goes_on _ _ _ _ _ _ c.skip_blanks.ensures.reads c.skip_hash.ensures.reads)
+
+pub returns-in_err-scan-clause-reads : goal.returns-in_err-scan-clause-reads
+returns-in_err-scan-clause-reads g c =
+    goes_on _ _ _ _ _ _ c.loop-b.invariant.reads (goes_on _ _ _ _ _ _ c.skip_blanks.ensures.reads c.take_word.ensures.reads)
+
+pub returns-in_err-skip_line-clause-reads : goal.returns-in_err-skip_line-clause-reads
+returns-in_err-skip_line-clause-reads g c =
+    goes_on _ _ _ _ _ _ c.loop-b.invariant.reads (goes_on _ _ _ _ _ _ c.skip_blanks.ensures.reads (goes_on _ _ _ _ _ _ c.take_word.ensures.reads c.skip_line.ensures.reads))
+
+pub returns-in_err-token-clause-reads : goal.returns-in_err-token-clause-reads
+returns-in_err-token-clause-reads g c =
+    goes_on _ _ _ _ _ _ c.loop-b.invariant.reads (goes_on _ _ _ _ _ _ c.skip_blanks.ensures.reads (goes_on _ _ _ _ _ _ c.take_word.ensures.reads (goes_worded c.take_word.new.self c.set_word.new.self c.take_word.new.desk c.set_word.ensures)))
+
+pub returns-else-is_comment-clause-reads : goal.returns-else-is_comment-clause-reads
+returns-else-is_comment-clause-reads g c =
+    goes_on _ _ _ _ _ _ c.loop-b.invariant.reads (goes_on _ _ _ _ _ _ c.skip_blanks.ensures.reads (goes_on _ _ _ _ _ _ c.take_word.ensures.reads (goes_worded c.take_word.new.self c.set_word.new.self c.take_word.new.desk c.set_word.ensures)))
+
+pub returns-in_err-b-clause-comments : goal.returns-in_err-b-clause-comments
+returns-in_err-b-clause-comments g c = c.skip_blanks.ensures.comments ∙ c.loop-b.invariant.comments
+
+pub returns-in_default-clause-comments : goal.returns-in_default-clause-comments
+returns-in_default-clause-comments g c = c.skip_blanks.ensures.comments ∙ c.loop-b.invariant.comments
+
+pub returns-in_err-skip_hash-clause-comments : goal.returns-in_err-skip_hash-clause-comments
+returns-in_err-skip_hash-clause-comments g c = c.skip_hash.ensures.comments ∙ c.skip_blanks.ensures.comments ∙ c.loop-b.invariant.comments
+
+pub returns-in_err-scan-clause-comments : goal.returns-in_err-scan-clause-comments
+returns-in_err-scan-clause-comments g c = c.take_word.ensures.comments ∙ c.skip_blanks.ensures.comments ∙ c.loop-b.invariant.comments
+
+pub returns-in_err-skip_line-clause-comments : goal.returns-in_err-skip_line-clause-comments
+returns-in_err-skip_line-clause-comments g c =
+    c.skip_line.ensures.comments ∙ c.take_word.ensures.comments ∙ c.skip_blanks.ensures.comments ∙ c.loop-b.invariant.comments
+
+pub returns-in_err-token-clause-comments : goal.returns-in_err-token-clause-comments
+returns-in_err-token-clause-comments g c =
+    ap (λ (s : State). s.comments) c.set_word.ensures ∙ c.take_word.ensures.comments ∙ c.skip_blanks.ensures.comments ∙ c.loop-b.invariant.comments
+
+pub returns-else-is_comment-clause-comments : goal.returns-else-is_comment-clause-comments
+returns-else-is_comment-clause-comments g c =
+    ap (λ (s : State). s.comments) c.set_word.ensures ∙ c.take_word.ensures.comments ∙ c.skip_blanks.ensures.comments ∙ c.loop-b.invariant.comments
+
+pub returns-else-is_comment-clause-word : goal.returns-else-is_comment-clause-word
+returns-else-is_comment-clause-word g c = (
+  ap (λ (s : State). s.fresh) c.set_word.ensures,
+  c.in_ok-token.ensures.line ∙ c.line-line.ensures ∙ sym c.in_ok-scan.ensures.line
+      ∙ sym (ap (λ (s : State). s.line) c.set_word.ensures),
+)

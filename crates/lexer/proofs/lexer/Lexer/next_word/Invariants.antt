@@ -1,5 +1,5 @@
 use Rattle.std.proofs.Common.{◌≡◌, ℕ, List, ◌≤◌}
-use Rattle.lexer.specs.State.{upcoming, Stays}
+use Rattle.lexer.specs.State.{GoesOn, upcoming, Stays}
 use Rattle.lexer.proofs.lexer.Lexer.next_word.Given as goal
 
 abbrev pub invariant-loop-b : goal.invariant-loop-b
@@ -11,6 +11,8 @@ invariant-loop-b g l =
       flows : g.D.Desk.flows l.fn.desk → g.D.Desk.flows l.desk;
       content : (n : List ℕ) → g.D.Desk.content l.desk n ≡ g.D.Desk.content l.fn.desk n;
       stays : (n : List ℕ) → g.D.Desk.steady l.fn.desk n → g.D.Desk.steady l.desk n;
+      reads : GoesOn l.fn.self l.self l.fn.desk l.desk;
+      comments : l.self.comments ≡ l.fn.self.comments;
       room : l.self.room ≤ l.fn.self.room;
       failed : l.self.failed ≡ l.fn.self.failed;
     }

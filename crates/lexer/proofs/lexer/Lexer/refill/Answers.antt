@@ -1,4 +1,6 @@
 use Rattle.std.proofs.Common.{◌≡◌, ◌++◌, length, take, drop, sym, ap, ◌∙◌, arith}
+use Rattle.lexer.specs.State.{State}
+use Rattle.lexer.proofs.Going.{reads_more}
 use Rattle.lexer.proofs.Bytes.{read_stays, written, ended}
 use Rattle.lexer.proofs.lexer.Lexer.refill.Goals as goal
 
@@ -21,3 +23,11 @@ returns-clause-end g c = λ h.
     ∙ c.self.invariant.2 in
     ended c.in_ok-self-inside.field-0 c.read.new.buf _ c.in_ok-self-inside.ensures.bound.0 (omega arith)
     c.in_ok-self-inside.ensures.bytes.1 (rw same at h)
+
+pub returns-in_err-self-inside-clause-reads : goal.returns-in_err-self-inside-clause-reads
+returns-in_err-self-inside-clause-reads g c =
+    reads_more c.args.self.now _ _ _ c.requires (ap (λ (s : State). s.line) c.self.view_is)
+
+pub returns-clause-reads : goal.returns-clause-reads
+returns-clause-reads g c =
+    reads_more c.args.self.now _ _ _ c.requires (ap (λ (s : State). s.line) c.self.view_is)

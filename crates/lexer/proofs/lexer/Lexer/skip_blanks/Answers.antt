@@ -2,6 +2,7 @@ use Rattle.std.proofs.Common.{◌≡◌, ◌-◌, Some, Option, List, slice_get,
 use Rattle.lexer.specs.State.{State, upcoming}
 use Rattle.lexer.specs.Words.{Item, too_long}
 use Rattle.lexer.proofs.Known.{stays_on, begins_on, peeked, past_blank, blank_beyond}
+use Rattle.lexer.proofs.Going.{goes_on, goes_to_past}
 use Rattle.lexer.proofs.lexer.Lexer.skip_blanks.Goals as goal
 
 pub returns-then-room-eq0-clause-refusal : goal.returns-then-room-eq0-clause-refusal
@@ -36,9 +37,23 @@ loop-b-preserved g c =
       flows = λ h. (c.peek.ensures.flows (c.loop-b.invariant.flows h)).1;
       content = λ n. c.peek.ensures.content n ∙ c.loop-b.invariant.content n;
       stays = λ n h. c.peek.ensures.stays n (c.loop-b.invariant.stays n h);
+      reads = goes_on _ _ _ _ _ _ c.loop-b.invariant.reads (goes_on _ _ _ _ _ _ c.peek.ensures.reads
+          (goes_to_past c.peek.new.self c.advance.new.self c.in-Some.b c.peek.new.desk first c.advance.ensures));
       room = omega arith;
       comments = ap (λ (s : State). s.comments) c.advance.ensures ∙ ap (λ (s : State). s.comments) c.peek.ensures.same
           ∙ c.loop-b.invariant.comments;
       failed = ap (λ (s : State). s.failed) c.advance.ensures ∙ ap (λ (s : State). s.failed) c.peek.ensures.same
           ∙ c.loop-b.invariant.failed;
     }
+
+pub returns-in_err-b-clause-reads : goal.returns-in_err-b-clause-reads
+returns-in_err-b-clause-reads g c = goes_on _ _ _ _ _ _ c.loop-b.invariant.reads c.peek.ensures.reads
+
+pub returns-in_default-clause-reads : goal.returns-in_default-clause-reads
+returns-in_default-clause-reads g c = goes_on _ _ _ _ _ _ c.loop-b.invariant.reads c.peek.ensures.reads
+
+pub returns-then-not-is_blank-clause-reads : goal.returns-then-not-is_blank-clause-reads
+returns-then-not-is_blank-clause-reads g c = goes_on _ _ _ _ _ _ c.loop-b.invariant.reads c.peek.ensures.reads
+
+pub returns-then-room-eq0-clause-reads : goal.returns-then-room-eq0-clause-reads
+returns-then-room-eq0-clause-reads g c = goes_on _ _ _ _ _ _ c.loop-b.invariant.reads c.peek.ensures.reads

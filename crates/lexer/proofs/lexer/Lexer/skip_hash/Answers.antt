@@ -6,6 +6,7 @@ use Rattle.lexer.specs.Words.{Item}
 use Rattle.lexer.specs.Machine.{upcoming_in_comment}
 use Rattle.lexer.specs.Answers.{Refuses}
 use Rattle.lexer.proofs.Known.{stays_on, refuses_on, past_hash, hash_beyond}
+use Rattle.lexer.proofs.Going.{goes_on, goes_to_past}
 use Rattle.lexer.proofs.lexer.Lexer.skip_hash.Goals as goal
 
 items_on : {A : Type 0} (result : Result A LexRefusal) (x y z : Option (List Item)) → Stays x y
@@ -45,3 +46,8 @@ returns-clause-refusal g c =
     (past_hash s c.args.b (left c.args.desk.now) c.requires.byte some c.requires.opens) in
     refusal_on c.skip_line.result (upcoming s (left c.args.desk.now))
     (upcoming_in_comment c.advance.new.self (left c.args.desk.now)) behind c.skip_line.ensures.refusal
+
+pub returns-clause-reads : goal.returns-clause-reads
+returns-clause-reads g c =
+    goes_on _ _ _ _ _ _ (goes_to_past c.args.self.now c.advance.new.self c.args.b c.args.desk.now c.requires.byte
+    c.advance.ensures) c.skip_line.ensures.reads

@@ -1,5 +1,5 @@
 use Rattle.std.proofs.Common.{◌≡◌, ℕ, List, ◌≤◌}
-use Rattle.lexer.specs.State.{Stays}
+use Rattle.lexer.specs.State.{GoesOn, Stays}
 use Rattle.lexer.specs.Machine.{upcoming_in_comment}
 use Rattle.lexer.proofs.lexer.Lexer.skip_line.Given as goal
 
@@ -12,6 +12,7 @@ invariant-loop-b g l =
       flows : g.D.Desk.flows l.fn.desk → g.D.Desk.flows l.desk;
       content : (n : List ℕ) → g.D.Desk.content l.desk n ≡ g.D.Desk.content l.fn.desk n;
       stays : (n : List ℕ) → g.D.Desk.steady l.fn.desk n → g.D.Desk.steady l.desk n;
+      reads : GoesOn l.fn.self l.self l.fn.desk l.desk;
       room : l.self.room ≤ l.fn.self.room;
       comments : l.self.comments ≡ l.fn.self.comments;
       failed : l.self.failed ≡ l.fn.self.failed;

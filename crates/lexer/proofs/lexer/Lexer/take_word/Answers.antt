@@ -8,6 +8,7 @@ use Rattle.lexer.specs.Scan.{no_scan}
 use Rattle.lexer.specs.Machine.{upcoming_in_word, upcoming_behind_word}
 use Rattle.lexer.specs.Answers.{Refuses}
 use Rattle.lexer.proofs.Known.{stays_on, refuses_on, before_word, in_word_else}
+use Rattle.lexer.proofs.Going.{goes_same}
 use Rattle.lexer.proofs.lexer.Lexer.take_word.Goals as goal
 
 items_on : (result : Result Scan LexRefusal) (x y : Option (List Item)) (s : State) (l : Option (List ℕ)) → Stays x y
@@ -39,3 +40,6 @@ returns-clause-refusal g c =
     c.requires.comment (sym c.if-is_lone.ensures) in
     refusal_on c.word.result (upcoming s (left c.args.desk.now)) (upcoming_in_word s no_scan (left c.args.desk.now))
     (before_word s c.args.b (left c.args.desk.now) c.requires.byte on) c.word.ensures.refusal
+
+pub returns-then-is_lone-clause-reads : goal.returns-then-is_lone-clause-reads
+returns-then-is_lone-clause-reads g c = goes_same c.args.self.now c.lone.new.self c.args.desk.now c.lone.ensures.line c.lone.ensures.read

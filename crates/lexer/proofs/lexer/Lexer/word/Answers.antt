@@ -1,4 +1,4 @@
-use Rattle.std.proofs.Common.{◌≡◌, Some, None, false, Option, List, slice_get, sym, ◌∙◌, subst}
+use Rattle.std.proofs.Common.{rules, refl, ap, ◌≡◌, Some, None, false, Option, List, slice_get, sym, ◌∙◌, subst}
 use Rattle.std.specs.Io.KnownBytes.{IsAtEnd}
 use Rattle.lexer.specs.declared.scan.Scan.{Scan}
 use Rattle.lexer.specs.Words.{Item, ends_word}
@@ -6,6 +6,9 @@ use Rattle.lexer.specs.Scan.{no_scan}
 use Rattle.lexer.specs.Machine.{upcoming_in_word, upcoming_behind_word, cut_items}
 use Rattle.lexer.specs.Answers.{Refuses}
 use Rattle.lexer.proofs.Known.{stays_on, refuses_on, peeked_in_word, word_beyond, word_at_end, word_at_blank, when_none}
+use Rattle.lexer.specs.State.{State}
+use Rattle.lexer.specs.Answers.{IsOfLine}
+use Rattle.lexer.proofs.Going.{goes_on, goes_to_past}
 use Rattle.lexer.proofs.lexer.Lexer.word.Goals as goal
 
 pub returns-then-room-eq0-clause-refusal : goal.returns-then-room-eq0-clause-refusal
@@ -55,3 +58,54 @@ returns-then-room-eq0-2-clause-refusal g c =
     (peeked_in_word c.loop-b.self c.peek.new.self c.loop-b.scan _ _ c.peek.ensures.same c.peek.ensures.bytes))
     (word_beyond c.peek.new.self c.loop-b.scan c.in-Some.b (left c.peek.new.desk) c.cut-then-room-eq0-2.result first
     room blank c.cut-then-room-eq0-2.ensures.cut)
+
+pub returns-in_err-b-clause-reads : goal.returns-in_err-b-clause-reads
+returns-in_err-b-clause-reads g c = goes_on _ _ _ _ _ _ c.loop-b.invariant.reads c.peek.ensures.reads
+
+pub returns-in_default-clause-reads : goal.returns-in_default-clause-reads
+returns-in_default-clause-reads g c = goes_on _ _ _ _ _ _ c.loop-b.invariant.reads c.peek.ensures.reads
+
+pub returns-then-ends_word-clause-reads : goal.returns-then-ends_word-clause-reads
+returns-then-ends_word-clause-reads g c = goes_on _ _ _ _ _ _ c.loop-b.invariant.reads c.peek.ensures.reads
+
+pub returns-then-room-eq0-2-clause-reads : goal.returns-then-room-eq0-2-clause-reads
+returns-then-room-eq0-2-clause-reads g c = goes_on _ _ _ _ _ _ c.loop-b.invariant.reads c.peek.ensures.reads
+
+pub returns-then-room-eq0-2-clause-of_line : goal.returns-then-room-eq0-2-clause-of_line
+returns-then-room-eq0-2-clause-of_line g c =
+    subst (λ n. IsOfLine n c.cut-then-room-eq0-2.result) (ap (λ (s : State). s.line) c.peek.ensures.same ∙ c.loop-b.invariant.line) c.cut-then-room-eq0-2.ensures.line
+
+pub loop-b-init : goal.loop-b-init
+loop-b-init g c = record {
+  items = search rules;
+  kept = refl;
+  flows = λ h. h;
+  content = λ n. refl;
+  stays = λ n h. h;
+  reads = goes_to_past c.args.self.now c.advance.new.self c.args.first c.args.desk.now c.requires.byte
+      c.advance.ensures;
+  room = search rules;
+  comments = search rules;
+  failed = search rules;
+  fresh = search rules;
+  line = search rules;
+}
+
+pub loop-b-preserved : goal.loop-b-preserved
+loop-b-preserved g c =
+    let first : slice_get c.peek.new.self.ahead 0 ≡ Some c.in-Some.b = sym c.in_ok-b.ensures.next ∙ c.in-Some.is in
+    record {
+      items = search rules;
+      kept = c.in_ok-b.ensures.cause.kept ∙ c.loop-b.invariant.kept;
+      flows = λ h. (c.peek.ensures.flows (c.loop-b.invariant.flows h)).1;
+      content = λ n. c.peek.ensures.content n ∙ c.loop-b.invariant.content n;
+      stays = λ n h. c.peek.ensures.stays n (c.loop-b.invariant.stays n h);
+      reads = goes_on _ _ _ _ _ _ c.loop-b.invariant.reads (goes_on _ _ _ _ _ _ c.peek.ensures.reads
+          (goes_to_past c.peek.new.self c.advance-in-loop-b.new.self c.in-Some.b c.peek.new.desk first
+          c.advance-in-loop-b.ensures));
+      room = search rules;
+      comments = search rules;
+      failed = search rules;
+      fresh = search rules;
+      line = search rules;
+    }
