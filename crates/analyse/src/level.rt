@@ -1,4 +1,5 @@
-//! The level at which a row is to be unit.
+//! The level at which a row is to be unit. The least level is learned: with a higher one the row that is learned may be
+//! one that is attached already.
 ghost use Rattle.std.specs.Prelude.{◌≡◌, ◌<◌, ◌≤◌, ◌⊎◌, None, is_some, IfSome, IsNone, IsTrue, Contains};
 ghost use Rattle.prefix.specs.Literal.{Literal};
 ghost use Rattle.calculus.specs.Search.{decision_level_on, must_stay as stays, value_on};

@@ -1,4 +1,5 @@
-//! Which literals of a row are implied by others.
+//! Which literals of a row are implied by others. Whether the shortened row is a part of the row is looked at when it
+//! is there (`minimise`), so that the proof needs nothing of these marks.
 ghost use Rattle.std.specs.Prelude.{IsTrue};
 ghost use Rattle.derive.specs.State.{has_rows};
 

@@ -62,7 +62,8 @@ impl Block {
 
     /// Passes on all that is held.
     ///
-    /// Fails only where the sink does, with a front of it written.
+    /// Fails only where the sink does, with a front of it written. Nothing is flushed. A text takes one call of a sink
+    /// that takes whole pieces for each 4,096 bytes, rounded up; no clause counts calls.
     pub fn finish<S: Sink>(self, sink: &mut S) -> Result<(), Failed>
         ensures { Writes S.written S.flushed S.faults S.has_room sink.old sink.new self result }
     {

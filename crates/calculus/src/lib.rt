@@ -28,6 +28,9 @@
 //! - Each step needs every earlier one (`needed`): `steps_have_cores` and `worked_cores` fail. Unused steps
 //!   may stand in a proof: `worked_unused` fails. Where nothing is forced the rule says false: `worked_first`.
 //! - Other limits: `worked_limits`, `limits_suffice`, `searches_end` and `gates_are_bounded`.
+//!
+//! No theorem asks for reduced rows: what counts reductions asks for them. Lemmas on lists for the crates of the search
+//! are in `proofs/Lists`, with equal signs in `Merging` and sides in `Opposites`.
 #![tactic(auto)]
 
 mod derivations;

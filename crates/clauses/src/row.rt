@@ -1,4 +1,5 @@
-//! The row of a clause, by sorting.
+//! The row of a clause, by sorting. By their codes one sort brings literals in order, and repeats and both signs of a
+//! variable side by side.
 ghost use Rattle.std.specs.Prelude.{◌≡◌, ◌<◌, ◌≤◌, List, ℤ, map, All, OnOk, IfOk, nat_abs};
 ghost use Rattle.std.specs.List.{AllByRecursion};
 ghost use Rattle.clauses.specs.Clause.{row_unless_tautology};

@@ -1,4 +1,4 @@
-//! The command line of `qbf`.
+//! The command line of `qbf`. It is a crate of its own, so that the proofs of `program` don't load those of `clap`.
 #![tactic(auto)]
 
 mod command;

@@ -17,7 +17,8 @@ use std::alloc::Global;
 
 /// The command that the words ask for, the program's name first. The name is lent from the words.
 ///
-/// Refuses words that ask for no command, with a text for the user.
+/// Refuses words that ask for no command, with a text for the user. Refused are also forms that `clap` takes: a `+` or
+/// a needless zero in front of a number, `-` as a name, `--` in front of a name, and `--qdo` beside `--qcir`.
 pub fn read_command<'a>(alloc: Global, words: &'a [String]) -> Result<Command<'a>, Refused>
     // the words ask for the command, and by the account of `clap` its values are theirs
     ensures asked { IfOk result (Asks (map string_bytes words.now)) }

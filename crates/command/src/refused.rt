@@ -1,4 +1,4 @@
-//! Why there is no command.
+//! Why there is no command. The text is owned, so that callers don't depend on `clap`.
 ghost use Rattle.std.specs.Prelude.{◌≡◌};
 ghost use Rattle.command.specs.declared.refused.Refused.TheVariants.{NoMemory};
 
@@ -8,7 +8,7 @@ use thiserror::Error;
 /// Why words give no command.
 #[derive(Debug, Drop, Error)]
 pub enum Refused {
-    /// The words are of no command. The text is for the user.
+    /// The words are of no command, or ask for help. The text, what is wrong or the help, is for the user.
     #[error("{0}")]
     Usage(String),
     #[error("no memory")]

@@ -1,4 +1,5 @@
-//! The literals that are chosen for a cover.
+//! The literals that are chosen for a cover. A literal is chosen of each clause, also of one that is hit: the one of
+//! the latest scope keeps cubes short after reduction.
 ghost use Rattle.std.specs.Prelude.{◌≡◌, ℕ, ◌==◌, if◌then◌else◌, IsTrue, IsFalse, OnOk, IfOk, Some, None, Contains};
 ghost use Rattle.std.specs.List.{filter_map};
 ghost use Rattle.prefix.specs.Literal.{Literal};

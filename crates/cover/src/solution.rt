@@ -18,7 +18,8 @@ use trail::Trail;
 
 /// Puts in an initial cube of true literals that holds a literal of every clause of the matrix, and answers its id: of
 /// a clause with a true existential literal it takes one of the latest scope, and of another one that it hits with none
-/// of these a true universal one. With no memory the derivation stays as it was.
+/// of these a true universal one. With no memory the derivation stays as it was. Its tables are made by the allocator
+/// of the trail's.
 pub fn cover(
     derivation: &mut Derivation,
     trail: &Trail,

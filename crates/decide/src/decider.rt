@@ -55,7 +55,8 @@ impl Decider {
 
     /// Makes room for the variables of numbers up to `vars` at least. It only grows: the signs and the priorities stay,
     /// and what is new has no sign. Where it grows no variable waits any more, so that the next decision looks at those
-    /// of its scope. With no memory the signs stay as they were.
+    /// of its scope. With no memory the signs stay as they were. Where the room grows it at least doubles, so that one
+    /// variable more at a time costs constant time on the average.
     pub fn reserve(&mut self, vars: usize) -> Result<(), NoMemory>
         ensures ok { OnOk result (vars ≤ length self.new) }
         ensures grown { (more : ℕ) × (self.new ≡ self.old ++ replicate more None) }
@@ -79,8 +80,9 @@ impl Decider {
         self.phases.len()
     }
 
-    /// Counts the literals of a clause, for the signs that variables have at first; one of a variable without room
-    /// isn't counted. This takes no memory.
+    /// Counts the literals of a clause: for the signs that variables have at first, and for their priorities, each of
+    /// which rises by what a first call of `bump` adds. A literal of a variable without room isn't counted. This takes
+    /// no memory.
     pub fn count(&mut self, lits: &[Lit])
         ensures { self.new ≡ self.old }
     {

@@ -1,4 +1,7 @@
-//! The variables that wait for a decision, and which of them comes first.
+//! The variables that wait for a decision, and which of them comes first. What the tree names is looked up on the
+//! trail, so that a decision is right whether undoings were told or not. A node is a variable's number of four bytes;
+//! its scope and priority are looked up by it. Of equal priorities the number decides, not the place in the tree: so
+//! room that grew changes no search.
 ghost use Rattle.std.specs.Prelude.{◌≡◌, ◌≤◌, IfOk, OnOk};
 ghost use Rattle.decide.specs.Tree.{IsTree};
 

@@ -1,4 +1,5 @@
-//! Clauses that come in at once.
+//! Clauses that come in at once. The clauses come in first, and then the cubes go that miss one of them, in one pass:
+//! so a call without memory takes back the clauses alone, and what rests on its cubes is untouched.
 ghost use Rattle.std.specs.Prelude.{◌≡◌, ℕ, [], Some, IsTrue, OnOk, OnErr, take, length};
 ghost use Rattle.std.specs.List.{All};
 ghost use Rattle.prefix.specs.declared.quant.Quant.TheVariants.{Exists as exists};

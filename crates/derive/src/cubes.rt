@@ -1,4 +1,6 @@
-//! Initial cubes, and which of them miss a clause.
+//! Initial cubes, and which of them miss a clause. The ids of initial cubes are listed, so that a clause is compared
+//! with these alone; a run of clauses before a solve costs its length. A cube that misses a clause is off the list for
+//! good.
 ghost use Rattle.std.specs.Prelude.{◌≡◌, ◌<◌, ℕ, Some, true, false, IsTrue, OnOk, Contains, filter};
 ghost use Rattle.calculus.specs.Rows.{same_literal};
 ghost use Rattle.rows.specs.Arena.{is_live as is_stored};

@@ -1,4 +1,5 @@
-//! The circuit of a core.
+//! The circuit of a core. Edges come in prefix order: inputs, assumed constants, then those of the rule. What is said
+//! of an edge holds for all values that agree with the table, so more edges only strengthen the premise.
 ghost use Rattle.std.specs.Prelude.{◌≡◌, ◌≢◌, ℕ, ◌+◌, ◌<◌, ◌≤◌, ◌⊎◌, ◌++◌, ◌&&◌, not, Bool, None, Some, [], length, map, filter, is_some, false, unwrap_or, ◌^◌, All, if◌then◌else◌, Contains, List, IfOk, OnOk, IsTrue};
 ghost use Rattle.prefix.specs.Scopes.{quantifier_of, all_variables, is_among};
 ghost use Rattle.truth.specs.Truth.{assumed_value};

@@ -1,4 +1,5 @@
-//! The removals of each variable's literals.
+//! The removals of each variable's literals. One pass over the core lists the removals of all variables; rows are told
+//! apart by stamps.
 ghost use Rattle.std.specs.Prelude.{◌≡◌, ℕ, ◌+◌, ◌<◌, ◌≤◌, ◌^◌, ◌==◌, [], ◌∷◌, ◌++◌, length, map, is_some, if◌then◌else◌, slice_index_or, All, IfOk, OnOk, vec_len};
 ghost use Rattle.calculus.specs.Rows.{bad_choice, literal_over};
 ghost use Rattle.step_core.specs.declared.listing.Line.{Line};

@@ -74,7 +74,8 @@ pub enum Outcome {
 /// line is written.
 ///
 /// The ending is that of the verdict, Done with 0 for either of these lines, and CheckLimit exactly where the check
-/// formula of that circuit goes beyond a limit; the circuit is then written in its place, as AIGER 1.9 in ASCII.
+/// formula of that circuit goes beyond a limit; the circuit is then written in its place, as AIGER 1.9 in ASCII. With
+/// an answer all that is written is flushed. What a search tells stays in `stops` where the line can't be written.
 pub fn run_check<D: Desk, S: Sink>(
     alloc: Global,
     budget: u64,

@@ -58,7 +58,8 @@ pub(crate) struct Header {
 ///
 /// UNKNOWN comes only where the budget is below the step limit of the formula's variables and of so many restarts, and
 /// where propagation alone refutes the clauses only where it is below 2 * n * (n + 3), for n variables. What the search
-/// that stopped tells is then put into `stops`, before the line is written.
+/// that stopped tells is then put into `stops`, before the line is written. With an answer all that is written is
+/// flushed. What a search tells stays in `stops` where the line can't be written.
 pub fn run_file<D: Desk, S: Sink>(
     alloc: Global,
     job: Job,

@@ -1,4 +1,5 @@
-//! Assumptions.
+//! Assumptions. They are a map and no sorted list, in which literals in descending order would cost the square of their
+//! number.
 ghost use Rattle.std.specs.Prelude.{◌≡◌, ℕ, [], None, Some, ◌==◌, if◌then◌else◌, length, IfOk, OnOk, OnErr};
 ghost use Rattle.prefix.specs.Scopes.{IsAscending};
 ghost use Rattle.truth.specs.Truth.{assumed_value};

@@ -1,4 +1,4 @@
-//! How many clauses and literals stand.
+//! How many clauses and literals stand. They are counted, so that a limit is asked in constant time.
 ghost use Rattle.std.specs.Prelude.{◌≡◌, ◌≤◌, ◌+◌, ◌^◌, ◌<◌};
 ghost use Rattle.frames.specs.Commands.{exceeds};
 ghost use Rattle.truth.specs.Limits.{max_literals};

@@ -1,4 +1,5 @@
-//! Variables that come, and that leave with their frame.
+//! Variables that come, and that leave with their frame. Room for a variable is made before the prefix changes, and
+//! what the prefix would refuse is asked before that: so want of memory comes last and changes nothing.
 ghost use Rattle.std.specs.Prelude.{◌≡◌, ◌≢◌, ◌≤◌, ◌<◌, true, [], ◌∷◌, ◌++◌, length, take, drop, if◌then◌else◌, OnOk, Ok, Err, MatchOption, vec_len, vec_capacity};
 ghost use Rattle.prefix.specs.Refusals.{variable_refusal};
 ghost use Rattle.frames.specs.State.{leaves_in, without_assumed, without_variables};

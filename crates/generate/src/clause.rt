@@ -1,4 +1,5 @@
-//! Clauses of three literals.
+//! Clauses of three literals. The third place is moved past the two taken ones, the lesser first, so that it takes one
+//! draw whatever they are.
 ghost use Rattle.std.specs.Prelude.{◌≡◌, ◌+◌, ◌≤◌, ◌<◌, ◌≢◌, ◌==◌, map, IfOk};
 ghost use Rattle.prefix.specs.Literal.{Literal};
 ghost use Rattle.prefix.specs.Scopes.{AreDistinct};

@@ -92,7 +92,7 @@ fn is_mark(b: u8) -> bool
 }
 
 /// A word: a longest run of bytes that are no white space, and, with `Comments::Hash`, no `#` and no words by
-/// themselves.
+/// themselves. Contracts see a short text as the list of its bytes, so words are matched and not compared by `==`.
 #[derive(Debug, Drop)]
 pub enum Word {
     /// An optional `-` and decimal digits, from -(2^63 - 1) to 2^63 - 1. A `-` before the value 0 makes no number.
@@ -103,7 +103,8 @@ pub enum Word {
     Other,
 }
 
-/// A word with the number of its line, which is 1 plus the number of line ends before it.
+/// A word with the number of its line, which is 1 plus the number of line ends before it. Contracts see a short text as
+/// the list of its bytes, so words are matched and not compared by `==`.
 #[derive(Debug, Drop)]
 pub struct Token {
     pub word: Word,

@@ -1,4 +1,5 @@
-//! Want of memory, the one answer that no clause ties to a cause.
+//! Want of memory, the one answer that no clause ties to a cause. It is a crate of its own, below the counter of steps,
+//! since much that takes memory counts no steps.
 #![tactic(auto)]
 
 use std::alloc::{AllocError, AllocFailed};

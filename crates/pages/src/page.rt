@@ -1,4 +1,5 @@
-//! A page of places.
+//! A page of places. Whether all places are blank is found from the last one down, since steps mostly go in the order
+//! of their ids; so no count is kept.
 ghost use Rattle.std.specs.Prelude.{◌≡◌, ◌≢◌, ◌+◌, ◌<◌, ◌≤◌, ℕ, [], ◌∷◌, ◌++◌, take, length, slice_index_or, slice_set, vec_capacity, IfSome, IfNone, OnOk, OnErr};
 ghost use Rattle.pages.specs.Paging.{IsFirstFilled, IsLastFilled, page_of};
 

@@ -8,7 +8,8 @@ use std::io::Read;
 
 /// A desk whose names are paths of files, and `-` standard input. It tells of their bytes what the source tells, which
 /// is nothing where that is the system. A read or an opening that the source answers with an error is a fault, as of a
-/// folder, and so is a read where nothing is chosen.
+/// folder, and so is a read where nothing is chosen. An interrupted read is an error like any other, and isn't tried
+/// again.
 #[derive(Drop)]
 pub struct HostDesk<S: Source> {
     source: S,

@@ -8,9 +8,10 @@ use super::{Failed, Sink};
 use std::io;
 use std::io::Write;
 
-/// A sink over standard output, standard error, a file or another writer. It tells of the bytes written what the
-/// writer tells, and nothing of a flush. An error of the writer is a fault, and so is a write that takes nothing of a
-/// piece with bytes.
+/// A sink over standard output, standard error, a file or another writer. It tells of the bytes written what the writer
+/// tells, and nothing of a flush. An error of the writer is a fault, and so is a write that takes nothing of a piece
+/// with bytes. It holds nothing back: each write is one call of the writer. An interrupted call is an error like any
+/// other, and isn't tried again.
 #[derive(Debug, Drop)]
 pub struct HostSink<W: Write> {
     to: W,

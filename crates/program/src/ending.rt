@@ -1,4 +1,5 @@
-//! How a run ends, and what it says on the error output.
+//! How a run ends, and what it says on the error output. The line is written piece by piece, so that it takes no
+//! memory.
 ghost use Rattle.std.specs.Prelude.{◌≡◌, List, ℕ, OnOk, ◌++◌, codes};
 ghost use Rattle.std.specs.Io.KnownBytes.{Appends};
 ghost use Rattle.ports.specs.Bytes.{AppendsFront};

@@ -61,7 +61,9 @@ fn read_words<D: Desk>(
 ///
 /// The declared clauses are all there, and no more. Neighbouring sets of one quantifier are one scope, and empty sets
 /// none. A variable that occurs in a clause and in no set is existential and outermost. A repeated literal stands once,
-/// and a clause with a literal and its negation is left out. Else the answer is the first refusal of the text.
+/// and a clause with a literal and its negation is left out. Else the answer is the first refusal of the text. Repeats
+/// and tautologies count for the limits here, and not in an engine: so an engine refuses no clause of the answer by a
+/// limit.
 pub fn read_formula<D: Desk>(alloc: Global, desk: &mut D) -> Result<Formula, ReadRefusal>
     // The formula, or the first refusal, of the text, where the desk tells what it holds.
     ensures outcome { IfSome (D.left desk.old) (λ text. IsAnswer result text) }

@@ -1,4 +1,6 @@
-//! What has been read.
+//! What has been read. It keeps less than was read: scopes that are merged as sets come, rows of whole clauses, and two
+//! marks for each declared number, that it is in a set and that it occurs. `Represents` says, stage by stage, what
+//! these stand for.
 ghost use Rattle.std.specs.Prelude.{◌≡◌, ℕ, ◌<◌, ◌≤◌, ◌&&◌, not, false, if◌then◌else◌, length, Some, None, true, IfErr, IfOk, OnOk, slice_index_or, nat_abs};
 ghost use Rattle.lexer.specs.declared.token.Word.TheVariants.{Text};
 ghost use Rattle.prefix.specs.Scopes.{is_among, AreDistinct};

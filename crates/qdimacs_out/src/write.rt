@@ -21,7 +21,7 @@ use truth::Formula;
 /// Writes a formula as QDIMACS 1.1 writes it: the header `p cnf VARS CLAUSES` with the declared numbers, a line for
 /// each scope and a line for each clause, in order. This takes no memory.
 ///
-/// Fails only where the sink does, with a front of the text written.
+/// Fails only where the sink does, with a front of the text written. Nothing is flushed.
 pub fn write_formula<S: Sink>(f: &Formula, sink: &mut S) -> Result<(), Failed>
     ensures ok { OnOk result (Appends (S.written sink.old) (S.written sink.new) (formula_text f.now)) }
     ensures front { AppendsFront (S.written sink.old) (S.written sink.new) (formula_text f.now) }

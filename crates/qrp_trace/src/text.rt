@@ -20,7 +20,7 @@ use step_core::Core;
 /// Writes the trace of a core under a prefix: the header, a line for each scope that has variables, one for each step,
 /// and the verdict. Each step but the last is, by its number, one that a later one rests on. This takes no memory.
 ///
-/// Fails only where the sink does, with a front of the text written.
+/// Fails only where the sink does, with a front of the text written. Nothing is flushed.
 pub fn write_trace<S: Sink>(core: &Core, prefix: &Prefix, sink: &mut S) -> Result<(), Failed>
     ensures ok { OnOk result (Appends (S.written sink.old) (S.written sink.new) (qrp_text prefix.now core.now)) }
     ensures front { AppendsFront (S.written sink.old) (S.written sink.new) (qrp_text prefix.now core.now) }
@@ -184,7 +184,7 @@ fn put_step<S: Sink>(core: &Core, i: usize, block: &mut Block, sink: &mut S) -> 
 
 /// Puts literals into a block by their numbers, each with a blank behind it. This takes no memory.
 ///
-/// Fails only where the sink does, with a front of what was held and of these words written.
+/// Fails only where the sink does, with a front of what was held and of these words written. Nothing is flushed.
 pub fn put_literals<S: Sink>(lits: &[Lit], block: &mut Block, sink: &mut S) -> Result<(), Failed>
     ensures { Puts S.written S.flushed S.faults S.has_room sink.old block.old sink.new block.new
         (flat_map literal_word lits.now) result }

@@ -1,4 +1,5 @@
-//! Reduction, resolution and clash of rows of literals, once for clauses and cubes.
+//! Reduction, resolution and clash of rows of literals, once for clauses and cubes. A row has room for forty literals
+//! in place. With room for sixteen, longer resolvents asked for memory once or twice before they were copied.
 #![tactic(auto)]
 
 mod reduction;

@@ -1,4 +1,5 @@
-//! Blocks of link fields, for the rows that have links.
+//! Blocks of link fields, for the rows that have links. The owner is in the block, and not in a list of its own: the
+//! arena is moved out of the derivation and back at each look of a watch, and is 128 bytes so, where it would be 176.
 ghost use Rattle.std.specs.Prelude.{◌≡◌, ◌≢◌, ℕ, ◌+◌, ◌-◌, ◌<◌, ◌≤◌, ◌∷◌, ◌++◌, [], None, Option, OnOk, Some, IsTrue, is_some, count_by, length, replicate, slice_index_or, slice_set};
 ghost use Rattle.rows.specs.Arena.{set_three};
 ghost use Rattle.rows.specs.Places.{Reblocks, blocks_of, most_blocks, place_at};

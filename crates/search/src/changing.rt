@@ -59,7 +59,8 @@ impl Search {
 
     /// Puts in a clause of a frame, with its reduction where something goes; the initial cubes that hold no literal of
     /// it go, with all that rests on them, and the other cubes stay. With no memory the steps are as they were. What
-    /// was to be watched is so still, and its reduction comes behind.
+    /// was to be watched is so still, and its reduction comes behind. Where a cube goes, all cubes from the first such
+    /// id on are detached, and the next solve attaches those that are left.
     pub fn add_clause(
         &mut self,
         prefix: &Prefix,
@@ -111,7 +112,8 @@ impl Search {
 
     /// Puts in clauses of a frame, each with its reduction where something goes, or none of them; the initial cubes
     /// that hold no literal of one of them go, with all that rests on them, and the other cubes stay. With no memory
-    /// the steps are as they were. What was to be watched is so still, and the reductions come behind.
+    /// the steps are as they were. What was to be watched is so still, and the reductions come behind. Where a cube
+    /// goes, all cubes from the first such id on are detached, and the next solve attaches those that are left.
     pub fn add_clauses(
         &mut self,
         prefix: &Prefix,

@@ -1,4 +1,6 @@
-//! Long learned rows: how many are attached, and which are forgotten.
+//! Long learned rows: how many are attached, and which are forgotten. Where a sweep is due, room is taken before
+//! anything is detached, for all reasons and all rows to watch; then nothing can fail, and want of memory leaves the
+//! search as it was.
 ghost use Rattle.std.specs.Prelude.{◌≡◌, ◌+◌, ◌<◌, ◌≤◌, ◌⊎◌, ◌^◌, ℕ, if◌then◌else◌, IsTrue, List, OnOk, OnErr, Contains, Some, [], filter, length, slice_index, vec_capacity};
 ghost use Rattle.std.specs.List.{list_any};
 ghost use Rattle.prefix.specs.Literal.{Literal};

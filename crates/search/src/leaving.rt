@@ -1,4 +1,6 @@
-//! Rows that leave: they are detached before their steps are dropped.
+//! Rows that leave: they are detached before their steps are dropped. A row with a later tag may rest on a step that
+//! falls or not, which its tag doesn't tell; so may a cube behind the first that falls. To tell them apart would take
+//! marks, and so memory: they are detached, and the next solve attaches those that are left.
 ghost use Rattle.std.specs.Prelude.{◌≡◌, ◌≤◌, ◌↔◌, ℕ, IsTrue, List};
 ghost use Rattle.prefix.specs.Scopes.{Scope};
 ghost use Rattle.calculus.specs.Derivations.{Extends};

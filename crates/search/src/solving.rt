@@ -48,7 +48,8 @@ impl Search {
     ///
     /// Spent comes only where a step is due and the budget is spent, which with as many steps left as suffice for the
     /// variables and the restarts is never so. After it and after want of memory the search is at rest, with the same
-    /// open clauses.
+    /// open clauses. The row that ends it stays attached for later solves, where there is memory for it, unless no call
+    /// of the watches was quiet, or it is long beside more than 512 long ones. No clause says so.
     pub fn solve(
         &mut self,
         prefix: &Prefix,

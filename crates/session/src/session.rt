@@ -84,7 +84,8 @@ impl Session {
     /// does. Which reply comes, the command pins (`IsReplyFor`). Where the reply can't be written, the command is
     /// carried out and a front of the reply is written. Where there is no memory nothing is written; a solve leaves the
     /// formula and the assumptions, and no verdict, and any other command leaves the session as it was, but that
-    /// `clause` and `activate` may have let go of long learned rows.
+    /// `clause` and `activate` may have let go of long learned rows. It may be called again after either stop: after a
+    /// write fault the session holds what the command came to.
     pub fn step<S: Sink>(&mut self, command: &Command, sink: &mut S) -> Result<Reply, SessionStop>
         ensures terms { self.new.terms ≡ self.old.terms }
         ensures steps { (s : Standing) → Holds self.old.terms self.old.engine s → StepsOf S.written S.flushed S.faults

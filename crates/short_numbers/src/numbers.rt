@@ -1,4 +1,6 @@
-//! The list.
+//! The list. To read or write a short number is one look and one comparison. The list of great numbers is empty until
+//! the first one comes, though room for it is taken before: it costs no memory until it is written, and no place or
+//! number needs memory later.
 ghost use Rattle.std.specs.Prelude.{◌≡◌, ◌+◌, ◌-◌, ◌<◌, ◌≤◌, [], ◌++◌, None, Some, OnErr, OnOk, length, replicate, slice_index_or, slice_set, vec_capacity};
 ghost use Rattle.short_numbers.specs.Kept.{for_none, numbers_of};
 ghost use Rattle.short_numbers.specs.Lists.{last_moved};

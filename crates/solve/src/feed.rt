@@ -1,4 +1,5 @@
-//! A formula that was read, fed to an engine.
+//! A formula that was read, fed to an engine. The clauses are turned over once before they move in, since a vector
+//! gives back its end.
 ghost use Rattle.std.specs.Prelude.{◌≡◌, ◌∷◌, ◌++◌, ◌<◌, ◌≤◌, ◌^◌, [], length, reverse, IfOk, IsOkUnless, OnOk};
 ghost use Rattle.std.specs.List.{AllByRecursion};
 ghost use Rattle.prefix.specs.Scopes.{IsAscending, IsPrefix};

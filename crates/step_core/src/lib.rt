@@ -1,7 +1,8 @@
 //! The steps that a step of a derivation rests on, listed and numbered.
 //!
 //! `core` picks them from a derivation, the inputs first, and numbers them from 1. `specs/Cores` has the definitions,
-//! and `specs/Worked` small values.
+//! and `specs/Worked` small values. It is apart from the text of a trace, as search, circuits and engine need cores and
+//! stand on no device.
 #![tactic(auto)]
 
 mod gather;

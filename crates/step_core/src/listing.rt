@@ -29,7 +29,8 @@ pub(crate) struct Line {
 }
 
 /// The steps that a verdict rests on, numbered from 1: the inputs first, each after those that it rests on, and each
-/// but the last with a later one that rests on it. Contracts see a core as the list of its steps with the winner.
+/// but the last with a later one that rests on it. Contracts see a core as the list of its steps with the winner. It
+/// has a copy of the literals, so that the derivation may go on while a trace is written or a circuit is made.
 #[derive(Debug, Drop)]
 pub struct Core {
     winner: Quant,

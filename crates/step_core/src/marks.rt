@@ -1,4 +1,5 @@
-//! Which steps a step needs.
+//! Which steps a step needs. The tables are by the distance from the end, so that no step behind it or before the
+//! oldest one that it needs is looked at.
 ghost use Rattle.std.specs.Prelude.{◌≡◌, ℕ, ◌+◌, ◌-◌, ◌<◌, ◌≤◌, ◌^◌, ◌==◌, ◌&&◌, ◌||◌, true, false, if◌then◌else◌, length, max, slice_index_or, IfOk, OnOk, IsTrue};
 ghost use Rattle.calculus.specs.Derivations.{RestsOn, rests_on};
 ghost use Rattle.derive.specs.Antecedents.{IsAntecedentIn};

@@ -302,7 +302,14 @@ fn told_by_stop(stop: &Stop) -> (Told, StepId) {
 
 fn told_by_lesson(answer: &Result<Lesson, Stop>) -> (Told, StepId) {
     match answer {
-        Ok(Lesson::Learn { row, lit, level, .. }) => (Told::Learn(lit.number(), *level), *row),
+        Ok(
+            Lesson::Learn {
+                row,
+                lit,
+                level,
+                ..
+            },
+        ) => (Told::Learn(lit.number(), *level), *row),
         Ok(Lesson::End { row }) => (Told::End, *row),
         Err(stop) => told_by_stop(stop),
     }

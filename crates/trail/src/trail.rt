@@ -343,7 +343,8 @@ impl Trail {
         self.allowed = self.allowed.anew();
     }
 
-    /// Empties the trail, level 0 too, and begins the counts anew. This takes no memory.
+    /// Empties the trail, level 0 too, and begins the counts anew. This takes no memory. The time is that of taking the
+    /// literals off, and of one byte for each variable of the room.
     pub fn clear(&mut self)
         ensures cleared { self.new ≡ cleared self.old }
         ensures kept { (scopes : List Scope) → IsTrailFor scopes self.new }
@@ -356,6 +357,7 @@ impl Trail {
 
     /// Empties the trail as `clear` does, where the budget is spent, and tells the counter's budget, the number of the
     /// prefix's variables, how many literals were assigned and how often the search began anew. This takes no memory.
+    /// The time is that of taking the literals off, and of one byte for each variable of the room.
     pub fn stop(&mut self, prefix: &Prefix, steps: &Steps) -> Stopped
         requires prefix { IsTrailFor prefix.now self.old }
         requires spent { steps.now.spent ≡ steps.now.budget }
