@@ -22,14 +22,14 @@
 //! text for wrong words (status 7) is left out, and only an `err` stands where there is one.
 #![tactic(auto)]
 
-mod rows;
 mod runs;
+mod table;
 mod texts;
 
 use anyhow::Result;
-use rows::Row;
 use runs::{Done, carry_out};
 use std::{env, fs};
+use table::Row;
 use texts::meant;
 
 fn main(rt: HostRuntime) -> Result<()> {

@@ -1,6 +1,6 @@
 //! Runs of the program in memory.
 
-use crate::rows::{Port, Row};
+use crate::table::{Port, Row};
 use crate::texts::{meant, printed, words_of};
 use anyhow::{Result, ensure};
 use ports::{Input, MemoryDesk, MemorySink};
