@@ -135,7 +135,7 @@ impl WaitingList {
         }
         self.keys.raise(place, amount);
         if self.is_waiting(v) {
-            self.write(v, true);
+            raise_up(&mut self.nodes, &self.keys, v);
         }
     }
 
@@ -185,5 +185,25 @@ fn write_up(nodes: &mut Vec<u32>, keys: &Keys, v: Var, waits: bool)
         nodes[i] = node;
         i /= 2;
         node = keys.first_of(nodes[2 * i], nodes[2 * i + 1]);
+    }
+}
+
+// Lets a variable that waits, whose priority was raised, come first as far up as it does now: up to a node with one that
+// comes before it still.
+fn raise_up(nodes: &mut Vec<u32>, keys: &Keys, v: Var)
+    requires tree { IsTree nodes.old.items keys.now }
+    requires within { v ≤ keys.now }
+    ensures { IsTree nodes.new.items keys.now }
+{
+    let mut i = (keys.len() + v.index()) / 2;
+    while i > 0 {
+        let first = nodes[i];
+        if first != v.number() {
+            if keys.first_of(first, v.number()) == first {
+                return;
+            }
+            nodes[i] = v.number();
+        }
+        i /= 2;
     }
 }

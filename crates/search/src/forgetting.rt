@@ -47,21 +47,25 @@ impl Search {
         if self.long <= MOST {
             return Ok(());
         }
-        let reasons = self.long_reasons();
-        if self.long - MOST <= reasons {
+        let most = self.long - MOST;
+        let reasons = self.long_reasons(most);
+        if most <= reasons {
             return Ok(());
         }
         self.forget_oldest(prefix, LEFT + reasons)
     }
 
-    // How many long learned rows that are attached are reasons.
-    fn long_reasons(&mut self) -> usize
+    // How many long learned rows that are attached are reasons, counted up to so many, from those of the last literals
+    // on.
+    fn long_reasons(&mut self, most: usize) -> usize
         requires { IsTrue (has_rows self.old.derivation) }
         ensures same { self.new ≡ self.old }
         ensures few { result ≤ length self.old.trail.placed }
     {
         let mut count = 0;
-        for place in 0..self.trail.len() {
+        let mut place = self.trail.len();
+        while place > 0 && count < most {
+            place -= 1;
             if self.has_long_reason(place) {
                 count += 1;
             }
