@@ -104,9 +104,9 @@ assigned() {
     sed -n 's/^ *assign /assign /p' "$1"
 }
 
-# README: the example, and a script of a few commands.
-got=$("$program" solve < "$root/crates/qbf_cli/stdin")
-report readme_solve $? 10 "$got" SAT
+# README: its first formula, on which the stored run of the program is made too, and a script of a few commands.
+page_formula differs README.md 'The first minute' 1
+report stored_run "$(cat "$root/crates/qbf_cli/stdin")" "$(cat "$examples/differs.qdimacs")"
 got=$(printf 'p qscript 1\nscope e\nvar 1 1\nclause -1 0\nsolve\nvalue 1\n' | "$program" script)
 report readme_script $? 0 "$got" "SAT
 value -1"
