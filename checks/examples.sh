@@ -1,7 +1,7 @@
 #!/bin/sh
 # Runs what the pages for users show, and compares with what they say: README, examples/README.md, docs/EXAMPLES.md,
 # docs/SCRIPTS.md and docs/CIRCUITS.md. The files of examples/ are to be those of the pages, letter by letter, and
-# docs/LIBRARY.md quotes the crate example_engine.
+# docs/LIBRARY.md quotes the crate example_engine. docs/ARCHITECTURE.md has the groups and crates of crates.txt.
 # Usage: checks/examples.sh PROGRAM. Prints a line a case, and ends with status 1 if one failed.
 # This needs Python 3. What needs abc (berkeley-abc), iverilog or aigtoaig is left out without it, and a line says so.
 set -u
@@ -219,6 +219,11 @@ if has berkeley-abc && has aigtoaig; then
 else
     without aigtoaig "that abc finds what it makes of the arbiter's text equivalent"
 fi
+
+# docs/ARCHITECTURE.md: the groups and the crates of crates.txt, in that order.
+report architecture_crates \
+    "$(sed -n 's/^### \([a-z]*\)$/# \1/p; s/^| `\([a-z_]*\)` | .*/\1/p' "$root/docs/ARCHITECTURE.md")" \
+    "$(sed -n 's/^# \([a-z]*\): .*/# \1/p; s/^\([a-z_]*\):.*/\1/p' "$root/crates.txt")"
 
 # docs/LIBRARY.md: the crate's definitions and its code, and the line in crates.txt.
 page_file library_answers docs/LIBRARY.md 'What is an answer' crates/example_engine/specs/Answers.antt
