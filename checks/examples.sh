@@ -1,6 +1,6 @@
 #!/bin/sh
 # Runs what the pages for users show, and compares with what they say: README, examples/README.md, docs/EXAMPLES.md,
-# docs/SCRIPTS.md and docs/CIRCUITS.md. The files of examples/ are to be those of the pages, letter by letter, and
+# docs/SCRIPTS.md and docs/CERTIFICATES.md. The files of examples/ are to be those of the pages, letter by letter, and
 # docs/LIBRARY.md quotes the crate example_engine. docs/ARCHITECTURE.md has the groups and crates of crates.txt.
 # Usage: checks/examples.sh PROGRAM. Prints a line a case, and ends with status 1 if one failed.
 # This needs Python 3. What needs abc (berkeley-abc), iverilog or aigtoaig is left out without it, and a line says so.
@@ -156,29 +156,30 @@ refused 30 1 'p qscript 4\n'
 refused 31 2 'p qscript 1\n1 2 0\n'
 refused 32 2 'p qscript 1\nclause x \001\n'
 
-# docs/CIRCUITS.md: a trace, and circuits with their modules.
+# docs/CERTIFICATES.md: a trace, and circuits with their modules.
 got=$("$program" trace "$examples/core.qdimacs")
 report trace $? 20 "$got" "$(cat "$examples/core.trace")" \
-    "$got" "$(block docs/CIRCUITS.md "The text of a trace (\`crates/qrp_trace/specs/Texts\`)" 1)"
+    "$got" "$(block docs/CERTIFICATES.md 'A trace' 1)"
 got=$("$program" cert "$examples/conjunction.qdimacs")
 report conjunction $? 10 "$got" "$(cat "$examples/conjunction.aag")" \
-    "$got" "$(first_column docs/CIRCUITS.md 'An example')"
-page_formula arbiter docs/CIRCUITS.md 'The question' 1
+    "$got" "$(first_column docs/CERTIFICATES.md 'A circuit')"
+page_formula arbiter docs/CERTIFICATES.md 'The question' 1
 got=$("$program" cert "$examples/arbiter.qdimacs")
 report arbiter_text $? 10 "$got" "$(cat "$examples/arbiter.aag")" \
-    "$got" "$(first_column docs/CIRCUITS.md 'The text')"
-report arbiter_module "$(cat "$examples/arbiter.v")" "$(block docs/CIRCUITS.md 'The text' 1)" \
+    "$got" "$(first_column docs/CERTIFICATES.md 'The text')"
+report arbiter_module "$(cat "$examples/arbiter.v")" "$(block docs/CERTIFICATES.md 'The text' 1)" \
     "$(python3 "$examples/verilog.py" "$examples/arbiter.aag" "$examples/arbiter.qdimacs")" \
     "$(cat "$examples/arbiter.v")"
-report wrong_module "$(cat "$examples/wrong.v")" "$(block docs/CIRCUITS.md 'The check' 1)"
+report wrong_module "$(cat "$examples/wrong.v")" "$(block docs/CERTIFICATES.md 'The check' 1)"
 got=$("$program" cert "$examples/arbiter_in_turn.qdimacs")
 report arbiter_in_turn $? 10 "$(echo "$got" | sed -n 5p)" 2
 "$program" cert "$examples/early_grant.qdimacs" > "$folder/surroundings.aag"
 report early_grant $? 20 "$(cat "$folder/surroundings.aag")" "$(cat "$examples/early_grant.aag")" \
-    "$(cat "$examples/early_grant.aag")" "$(block docs/CIRCUITS.md 'A circuit against each design' 1)"
+    "$(cat "$examples/early_grant.aag")" "$(block docs/CERTIFICATES.md 'A circuit against each design' 1)"
 echo 'c names r1 r2 r3 g1 g2 g3' > "$folder/names"
 python3 "$examples/verilog.py" "$folder/surroundings.aag" "$folder/names" > "$folder/surroundings.v"
-report surroundings "$(cat "$examples/surroundings.v")" "$(block docs/CIRCUITS.md 'A circuit against each design' 2)" \
+report surroundings "$(cat "$examples/surroundings.v")" \
+    "$(block docs/CERTIFICATES.md 'A circuit against each design' 2)" \
     "$(assigned "$folder/surroundings.v")" "$(assigned "$examples/surroundings.v")"
 got=$("$program" trace "$examples/early_grant.qdimacs" | sed -n 's/^[0-9]* \(.*\) 0 0$/\1/p')
 report early_grant_inputs "$got" "1 -4
