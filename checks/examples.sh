@@ -13,6 +13,7 @@ fi
 program=$(realpath "$1") || exit 2
 root=$(cd "$(dirname "$0")/.." && pwd) || exit 2
 examples=$root/examples
+tools=$root/tools
 folder=$(mktemp -d) || exit 2
 trap 'rm -rf "$folder"' EXIT
 failures=0
@@ -168,7 +169,7 @@ got=$("$program" cert "$examples/arbiter.qdimacs")
 report arbiter_text $? 10 "$got" "$(cat "$examples/arbiter.aag")" \
     "$got" "$(first_column docs/CERTIFICATES.md 'The text')"
 report arbiter_module "$(cat "$examples/arbiter.v")" "$(block docs/CERTIFICATES.md 'The text' 1)" \
-    "$(python3 "$examples/verilog.py" "$examples/arbiter.aag" "$examples/arbiter.qdimacs")" \
+    "$(python3 "$tools/verilog.py" "$examples/arbiter.aag" "$examples/arbiter.qdimacs")" \
     "$(cat "$examples/arbiter.v")"
 report wrong_module "$(cat "$examples/wrong.v")" "$(block docs/CERTIFICATES.md 'The check' 1)"
 got=$("$program" cert "$examples/arbiter_in_turn.qdimacs")
@@ -177,7 +178,7 @@ report arbiter_in_turn $? 10 "$(echo "$got" | sed -n 5p)" 2
 report early_grant $? 20 "$(cat "$folder/surroundings.aag")" "$(cat "$examples/early_grant.aag")" \
     "$(cat "$examples/early_grant.aag")" "$(block docs/CERTIFICATES.md 'A circuit against each design' 1)"
 echo 'c names r1 r2 r3 g1 g2 g3' > "$folder/names"
-python3 "$examples/verilog.py" "$folder/surroundings.aag" "$folder/names" > "$folder/surroundings.v"
+python3 "$tools/verilog.py" "$folder/surroundings.aag" "$folder/names" > "$folder/surroundings.v"
 report surroundings "$(cat "$examples/surroundings.v")" \
     "$(block docs/CERTIFICATES.md 'A circuit against each design' 2)" \
     "$(assigned "$folder/surroundings.v")" "$(assigned "$examples/surroundings.v")"
@@ -236,16 +237,17 @@ report library_line "$(block docs/LIBRARY.md 'The line in crates.txt' 1)" \
 
 # The arbiter by a table, and a simulation that is to fail: one assignment has an input in the place of its negation.
 printf '.i 3\n.o 3\n.type fr\n.ilb r1 r2 r3\n.ob g1 g2 g3\n1-- 100\n01- 010\n001 001\n000 000\n' > "$folder/arbiter.pla"
-python3 "$examples/simulate.py" "$folder/arbiter.pla" "$examples/arbiter.v" > "$folder/out"
+python3 "$tools/simulate.py" "$folder/arbiter.pla" "$examples/arbiter.v" > "$folder/out"
 report simulated $? 0 "$(tail -1 "$folder/out")" '8 inputs tried, 0 outputs wrong'
 sed 's/= r2 & ~r1/= r2 \& r1/' "$examples/arbiter.v" > "$folder/negated.v"
-python3 "$examples/simulate.py" "$folder/arbiter.pla" "$folder/negated.v" > "$folder/out"
+python3 "$tools/simulate.py" "$folder/arbiter.pla" "$folder/negated.v" > "$folder/out"
 report simulated_wrong $? 1 "$(tail -1 "$folder/out")" '8 inputs tried, 4 outputs wrong'
 
 # examples/README.md, block by block: the lines with $ are commands, run from a folder as the repository's.
 mkdir "$folder/walk" "$folder/walk/bin"
 ln -s "$program" "$folder/walk/bin/qbf"
 ln -s "$examples" "$folder/walk/examples"
+ln -s "$tools" "$folder/walk/tools"
 sections=$(sed -n 's/^## //p' "$examples/README.md")
 while read -r section; do
     number=1
