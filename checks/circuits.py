@@ -8,8 +8,8 @@ The formulas are some by hand, some of bench/families.py, and some drawn at rand
 search learns long enough to begin anew, which are decided with restarts and without; and one over which it forgets more
 than three thousand learned rows, as a debugger counts them.
 
-A circuit is read as strictly as docs/CIRCUITS.md has it. Its inputs are to be the loser's variables and its outputs the
-winner's, in prefix order. All inputs are simulated: each output depends on inputs of earlier scopes alone, and the
+A circuit is read as strictly as docs/CERTIFICATES.md has it. Its inputs are to be the loser's variables and its outputs
+the winner's, in prefix order. All inputs are simulated: each output depends on inputs of earlier scopes alone, and the
 matrix is true behind a Skolem circuit and false behind a Herbrand circuit. Then abc is to find the same of the matrix:
 it reads the circuit as binary AIGER and writes it as BLIF, and the network of that and the clauses is compared with a
 constant. A circuit without outputs is nothing that abc can hold, so for these there is the simulation alone.

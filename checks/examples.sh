@@ -1,7 +1,8 @@
 #!/bin/sh
 # Runs what the pages for users show, and compares with what they say: README, examples/README.md, docs/EXAMPLES.md,
-# docs/SCRIPTS.md and docs/CIRCUITS.md. The files of examples/ are to be those of the pages, letter by letter, and
-# docs/LIBRARY.md quotes the crate example_engine. The clauses that pages name in brackets are to be in the contracts.
+# docs/SCRIPTS.md and docs/CERTIFICATES.md. The files of examples/ are to be those of the pages, letter by letter, and
+# docs/LIBRARY.md quotes the crate example_engine. docs/ARCHITECTURE.md has the groups and crates of crates.txt. The
+# clauses that pages name in brackets are to be in the contracts.
 # Usage: checks/examples.sh PROGRAM. Prints a line a case, and ends with status 1 if one failed.
 # This needs Python 3. What needs abc (berkeley-abc), iverilog or aigtoaig is left out without it, and a line says so.
 set -u
@@ -13,6 +14,7 @@ fi
 program=$(realpath "$1") || exit 2
 root=$(cd "$(dirname "$0")/.." && pwd) || exit 2
 examples=$root/examples
+tools=$root/tools
 folder=$(mktemp -d) || exit 2
 trap 'rm -rf "$folder"' EXIT
 failures=0
@@ -104,9 +106,9 @@ assigned() {
     sed -n 's/^ *assign /assign /p' "$1"
 }
 
-# README: the example, and a script of a few commands.
-got=$("$program" solve < "$root/crates/qbf_cli/stdin")
-report readme_solve $? 10 "$got" SAT
+# README: its first formula, on which the stored run of the program is made too, and a script of a few commands.
+page_formula differs README.md 'The first minute' 1
+report stored_run "$(cat "$root/crates/qbf_cli/stdin")" "$(cat "$examples/differs.qdimacs")"
 got=$(printf 'p qscript 1\nscope e\nvar 1 1\nclause -1 0\nsolve\nvalue 1\n' | "$program" script)
 report readme_script $? 0 "$got" "SAT
 value -1"
@@ -156,29 +158,30 @@ refused 30 1 'p qscript 4\n'
 refused 31 2 'p qscript 1\n1 2 0\n'
 refused 32 2 'p qscript 1\nclause x \001\n'
 
-# docs/CIRCUITS.md: a trace, and circuits with their modules.
+# docs/CERTIFICATES.md: a trace, and circuits with their modules.
 got=$("$program" trace "$examples/core.qdimacs")
 report trace $? 20 "$got" "$(cat "$examples/core.trace")" \
-    "$got" "$(block docs/CIRCUITS.md "The text of a trace (\`crates/qrp_trace/specs/Texts\`)" 1)"
+    "$got" "$(block docs/CERTIFICATES.md 'A trace' 1)"
 got=$("$program" cert "$examples/conjunction.qdimacs")
 report conjunction $? 10 "$got" "$(cat "$examples/conjunction.aag")" \
-    "$got" "$(first_column docs/CIRCUITS.md 'An example')"
-page_formula arbiter docs/CIRCUITS.md 'The question' 1
+    "$got" "$(first_column docs/CERTIFICATES.md 'A circuit')"
+page_formula arbiter docs/CERTIFICATES.md 'The question' 1
 got=$("$program" cert "$examples/arbiter.qdimacs")
 report arbiter_text $? 10 "$got" "$(cat "$examples/arbiter.aag")" \
-    "$got" "$(first_column docs/CIRCUITS.md 'The text')"
-report arbiter_module "$(cat "$examples/arbiter.v")" "$(block docs/CIRCUITS.md 'The text' 1)" \
-    "$(python3 "$examples/verilog.py" "$examples/arbiter.aag" "$examples/arbiter.qdimacs")" \
+    "$got" "$(first_column docs/CERTIFICATES.md 'The text')"
+report arbiter_module "$(cat "$examples/arbiter.v")" "$(block docs/CERTIFICATES.md 'The text' 1)" \
+    "$(python3 "$tools/verilog.py" "$examples/arbiter.aag" "$examples/arbiter.qdimacs")" \
     "$(cat "$examples/arbiter.v")"
-report wrong_module "$(cat "$examples/wrong.v")" "$(block docs/CIRCUITS.md 'The check' 1)"
+report wrong_module "$(cat "$examples/wrong.v")" "$(block docs/CERTIFICATES.md 'The check' 1)"
 got=$("$program" cert "$examples/arbiter_in_turn.qdimacs")
 report arbiter_in_turn $? 10 "$(echo "$got" | sed -n 5p)" 2
 "$program" cert "$examples/early_grant.qdimacs" > "$folder/surroundings.aag"
 report early_grant $? 20 "$(cat "$folder/surroundings.aag")" "$(cat "$examples/early_grant.aag")" \
-    "$(cat "$examples/early_grant.aag")" "$(block docs/CIRCUITS.md 'A circuit against each design' 1)"
+    "$(cat "$examples/early_grant.aag")" "$(block docs/CERTIFICATES.md 'A circuit against each design' 1)"
 echo 'c names r1 r2 r3 g1 g2 g3' > "$folder/names"
-python3 "$examples/verilog.py" "$folder/surroundings.aag" "$folder/names" > "$folder/surroundings.v"
-report surroundings "$(cat "$examples/surroundings.v")" "$(block docs/CIRCUITS.md 'A circuit against each design' 2)" \
+python3 "$tools/verilog.py" "$folder/surroundings.aag" "$folder/names" > "$folder/surroundings.v"
+report surroundings "$(cat "$examples/surroundings.v")" \
+    "$(block docs/CERTIFICATES.md 'A circuit against each design' 2)" \
     "$(assigned "$folder/surroundings.v")" "$(assigned "$examples/surroundings.v")"
 got=$("$program" trace "$examples/early_grant.qdimacs" | sed -n 's/^[0-9]* \(.*\) 0 0$/\1/p')
 report early_grant_inputs "$got" "1 -4
@@ -220,6 +223,11 @@ else
     without aigtoaig "that abc finds what it makes of the arbiter's text equivalent"
 fi
 
+# docs/ARCHITECTURE.md: the groups and the crates of crates.txt, in that order.
+report architecture_crates \
+    "$(sed -n 's/^### \([a-z]*\)$/# \1/p; s/^| `\([a-z_]*\)` | .*/\1/p' "$root/docs/ARCHITECTURE.md")" \
+    "$(sed -n 's/^# \([a-z]*\): .*/# \1/p; s/^\([a-z_]*\):.*/\1/p' "$root/crates.txt")"
+
 # docs/LIBRARY.md: the crate's definitions and its code, and the line in crates.txt.
 page_file library_answers docs/LIBRARY.md 'What is an answer' crates/example_engine/specs/Answers.antt
 page_file library_decided docs/LIBRARY.md 'A formula decided' crates/example_engine/src/answer.rt
@@ -235,16 +243,17 @@ report clauses "$(python3 "$root/checks/clauses.py" 2>&1)" '' \
 
 # The arbiter by a table, and a simulation that is to fail: one assignment has an input in the place of its negation.
 printf '.i 3\n.o 3\n.type fr\n.ilb r1 r2 r3\n.ob g1 g2 g3\n1-- 100\n01- 010\n001 001\n000 000\n' > "$folder/arbiter.pla"
-python3 "$examples/simulate.py" "$folder/arbiter.pla" "$examples/arbiter.v" > "$folder/out"
+python3 "$tools/simulate.py" "$folder/arbiter.pla" "$examples/arbiter.v" > "$folder/out"
 report simulated $? 0 "$(tail -1 "$folder/out")" '8 inputs tried, 0 outputs wrong'
 sed 's/= r2 & ~r1/= r2 \& r1/' "$examples/arbiter.v" > "$folder/negated.v"
-python3 "$examples/simulate.py" "$folder/arbiter.pla" "$folder/negated.v" > "$folder/out"
+python3 "$tools/simulate.py" "$folder/arbiter.pla" "$folder/negated.v" > "$folder/out"
 report simulated_wrong $? 1 "$(tail -1 "$folder/out")" '8 inputs tried, 4 outputs wrong'
 
 # examples/README.md, block by block: the lines with $ are commands, run from a folder as the repository's.
 mkdir "$folder/walk" "$folder/walk/bin"
 ln -s "$program" "$folder/walk/bin/qbf"
 ln -s "$examples" "$folder/walk/examples"
+ln -s "$tools" "$folder/walk/tools"
 sections=$(sed -n 's/^## //p' "$examples/README.md")
 while read -r section; do
     number=1

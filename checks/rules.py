@@ -1,6 +1,6 @@
 """Readers of the program's texts, and the rules of circuits and traces: what checks/circuits.py checks by.
 
-The texts are read as strictly as docs/CIRCUITS.md has them, formulas by docs/QDIMACS.md. The rules of circuits and
+The texts are read as strictly as docs/CERTIFICATES.md has them, formulas by docs/QDIMACS.md. The rules of circuits and
 traces are those of docs/CIRCUITS.md and docs/CALCULUS.md, over a formula, under assumptions of its first scope.
 """
 
