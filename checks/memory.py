@@ -6,8 +6,9 @@ usage: memory.py PROGRAM
 Each row is run with the first of its requests for memory refused, then with the second, and so on, until a run meets no
 refusal: once with that request alone, and once with all behind it. Each refused run is to end with status 5, with
 `qbf: no memory` on the error output, and on the output with a front of what the row says; the last one as the row does.
-Behind the first 3,000 requests each number is twice the one before. A verdict stands where there is no memory for its
-end row to be kept: the few requests for that, refused alone, change nothing.
+Behind the first 3,000 requests each number is twice the one before. An end row that is kept and a lesson that is
+shortened may be left out: a refused request for one of these leaves the verdict, with the same output or with another
+trace or circuit, which is checked. No more than half of a row's requests may be so.
 
 This needs a C compiler and the GNU C library; without a compiler a line says that all was skipped, and the status is 0.
 It is no part of the gate. Prints a line a case and ends with status 1 if one failed.
@@ -22,15 +23,12 @@ sys.dont_write_bytecode = True
 sys.path.insert(0, str(Path(__file__).resolve().parent.parent / "bench"))
 import families
 from refusing import Refusing, compiler
-from rules import FALSE, TRUE, Circuit, Fault, Formula, check_circuit, lines_of, require, whole
+from rules import FALSE, TRUE, Circuit, Fault, Formula, Trace, check_circuit, check_trace, lines_of, require, whole
 
 EXAMPLES = Path(__file__).resolve().parent.parent / "examples"
 EACH = 3000
 # As few requests of the program as no row makes; fewer mean that the library has not seen them.
 FEWEST = 5
-# How many requests of a row are for an end row that is kept.
-KEPT = {"conflict": 2, "demo": 1}
-SAME = "it ends as where nothing is refused"
 
 
 def text(lines):
@@ -72,43 +70,55 @@ def doubled(number):
         number *= 2
 
 
-def check_refused(ample, run):
-    """Why a run with a refused request isn't right, or nothing."""
+def check_answer(words, text, out):
+    """Checks a trace or a circuit."""
+    if words == ["trace"]:
+        check_trace(Formula.read(text), whole(Trace, out))
+    elif words == ["cert"]:
+        check_circuit(Formula.read(text), whole(Circuit, out))
+    else:
+        raise Fault(f"another output: {out!r}")
+
+
+def answers(words, text, ample, run):
+    """Whether a run with a refused request ends with a right answer all the same; raises where it is a wrong one."""
     if (run.status, run.err) == (5, "qbf: no memory\n") and ample.out.startswith(run.out):
-        return None
-    if (run.status, run.out, run.err) == (ample.status, ample.out, ""):
-        return SAME
-    return str(run)
+        return False
+    require((run.status, run.err) == (ample.status, ""), str(run))
+    if run.out != ample.out:
+        check_answer(words, text, run.out)
+    return True
 
 
-def check_in_turn(program, words, text, ample, behind, kept):
-    """Answers how many requests there are: all, or where those are many the first ones and some behind them. So many of
-    them, refused alone, are to change nothing."""
+def check_in_turn(program, words, text, ample, behind):
+    """Answers how many requests there are, all or where those are many the first ones and some behind them, and how
+    many of them may be left out.
+    """
     wrong = []
-    same = 0
+    left_out = 0
     numbers = itertools.chain(range(1, EACH + 1), doubled(2 * EACH))
     for number, run in program.in_turn(words, text, numbers, refuse_memory=True, refuse_all=behind):
-        why = check_refused(ample, run)
-        if run.told and why == SAME and not behind:
-            same += 1
-        elif run.told and why:
+        try:
+            left_out += bool(run.told) and answers(words, text, ample, run)
+        except Fault as why:
             wrong.append(f"without request {number}{' and all behind it' if behind else ''}: {why}")
     require((run.status, run.out, run.err) == (ample.status, ample.out, ""), f"{run} where nothing was refused")
     require(number > FEWEST, f"{number - 1} requests were seen")
-    require(same == kept, f"{same} refused requests changed nothing, and not {kept}")
+    require(2 * left_out <= number, f"{left_out} requests of {number - 1} may be left out")
     require(not wrong, "; ".join([*wrong[:5], *(["and others"] if wrong[5:] else [])]))
-    return f"{number - 1} requests" if number <= EACH + 1 else f"the first {EACH} requests and some up to {number // 2}"
+    some = f"{number - 1}" if number <= EACH + 1 else f"the first {EACH} and some up to {number // 2}"
+    return f"{some} requests refused in turn, {left_out} of which may be left out"
 
 
-def check(program, kept, words, text, status, out):
+def check(program, words, text, status, out):
     ample = program.run(words, text)
     require(status is None or ample.status == status, f"{ample} where all is granted")
     require(out is None or ample.out == out, f"{ample} where all is granted")
     require(ample.err == "" and ample.told == "", f"{ample} where all is granted")
-    if words == ["cert"]:
-        check_circuit(Formula.read(text), whole(Circuit, ample.out))
-    check_in_turn(program, words, text, ample, 1, 0)
-    return check_in_turn(program, words, text, ample, 0, kept)
+    if words in (["trace"], ["cert"]):
+        check_answer(words, text, ample.out)
+    check_in_turn(program, words, text, ample, 1)
+    return check_in_turn(program, words, text, ample, 0)
 
 
 def main():
@@ -122,12 +132,12 @@ def main():
     failed = 0
     for name, *row in rows():
         try:
-            told = check(program, KEPT.get(name, 0), *row)
+            told = check(program, *row)
         except (Fault, OSError, UnicodeDecodeError, subprocess.TimeoutExpired) as why:
             print(f"FAILED {name}: {why}")
             failed += 1
         else:
-            print(f"ok {name}: {told} refused in turn")
+            print(f"ok {name}: {told}")
     sys.exit(1 if failed else 0)
 
 
