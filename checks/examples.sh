@@ -249,7 +249,8 @@ sed 's/= r2 & ~r1/= r2 \& r1/' "$examples/arbiter.v" > "$folder/negated.v"
 python3 "$tools/simulate.py" "$folder/arbiter.pla" "$folder/negated.v" > "$folder/out"
 report simulated_wrong $? 1 "$(tail -1 "$folder/out")" '8 inputs tried, 4 outputs wrong'
 
-# examples/README.md, block by block: the lines with $ are commands, run from a folder as the repository's.
+# examples/README.md, block by block: the lines with $ are commands, run from a folder as the repository's. A minute ends a
+# dialogue with a program that does not reply.
 mkdir "$folder/walk" "$folder/walk/bin"
 ln -s "$program" "$folder/walk/bin/qbf"
 ln -s "$examples" "$folder/walk/examples"
@@ -265,7 +266,7 @@ while read -r section; do
         if [ -n "$tool" ] && ! has "$tool"; then
             without "$tool" "$name"
         else
-            got=$(cd "$folder/walk" && sh ../commands < /dev/null 2>&1)
+            got=$(cd "$folder/walk" && timeout 60 sh ../commands < /dev/null 2>&1)
             report "$name" "$got" "$(sed '/^\$ /d' "$folder/block")"
         fi
     done
