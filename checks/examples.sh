@@ -249,8 +249,8 @@ sed 's/= r2 & ~r1/= r2 \& r1/' "$examples/arbiter.v" > "$folder/negated.v"
 python3 "$tools/simulate.py" "$folder/arbiter.pla" "$folder/negated.v" > "$folder/out"
 report simulated_wrong $? 1 "$(tail -1 "$folder/out")" '8 inputs tried, 4 outputs wrong'
 
-# examples/README.md, block by block: the lines with $ are commands, run from a folder as the repository's. A minute ends a
-# dialogue with a program that does not reply.
+# examples/README.md, block by block: the lines with $ are commands, run from a folder as the repository's. After a
+# minute a dialogue with a program that does not reply is ended.
 mkdir "$folder/walk" "$folder/walk/bin"
 ln -s "$program" "$folder/walk/bin/qbf"
 ln -s "$examples" "$folder/walk/examples"
