@@ -1,5 +1,5 @@
 #!/bin/sh
-# Takes what pages can show of times: a table for docs/MANY_MACHINES.md and a picture for docs/SEARCH.md.
+# Takes what pages can show of times: a table for docs/MANY_MACHINES.md and a picture for docs/RESULTS.md.
 # Usage: bench/pages.sh FOLDER, from the repository's folder, behind `make`, on four processors that do nothing else.
 # Leaves in FOLDER the table split.md and, of 171 formulas, the seconds solved.csv, the table solved.md and the picture
 # solved.svg. It takes some minutes. DepQBF is beside qbf where it is installed. PYTHON in the environment is the
