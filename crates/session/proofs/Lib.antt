@@ -8,3 +8,5 @@ pub mod Scripting
 pub mod Solved
 pub mod Telling
 pub mod Working
+pub mod WorkingAsks
+pub mod WorkingQuestions

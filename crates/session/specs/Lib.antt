@@ -4,5 +4,7 @@ pub mod Scripts
 pub mod State
 pub mod Steps
 pub mod Worked
+pub mod WorkedAsks
+pub mod WorkedGroups
 pub mod WorkedScripts
 pub mod WorkedSteps

@@ -14,4 +14,6 @@ mod worked;
 pub use reply::{Reply, SessionStop};
 pub use script::run_script;
 pub use session::Session;
-pub use worked::{worked_replies, worked_scripts, worked_steps};
+pub use worked::{
+    worked_changes, worked_groups, worked_questions, worked_replies, worked_scripts, worked_steps,
+};

@@ -1,5 +1,7 @@
 //! Worked values of the definitions, each proved.
 ghost use Rattle.session.specs.Worked.{WorkedReplies};
+ghost use Rattle.session.specs.WorkedAsks.{WorkedChanges, WorkedQuestions};
+ghost use Rattle.session.specs.WorkedGroups.{WorkedGroups};
 ghost use Rattle.session.specs.WorkedScripts.{WorkedScripts};
 ghost use Rattle.session.specs.WorkedSteps.{WorkedSteps};
 
@@ -16,4 +18,19 @@ pub fn worked_steps()
 /// What the work on a script comes to.
 pub fn worked_scripts()
     ensures { WorkedScripts }
+{}
+
+/// What accepted changes lead to, as the next solve tells.
+pub fn worked_changes()
+    ensures { WorkedChanges }
+{}
+
+/// How questions of a verdict are replied to.
+pub fn worked_questions()
+    ensures { WorkedQuestions }
+{}
+
+/// Which reply comes to the commands of groups, and what they leave.
+pub fn worked_groups()
+    ensures { WorkedGroups }
 {}
