@@ -60,11 +60,19 @@ report long_path $? 10 "$(cat "$folder/out")" SAT "$(cat "$folder/err")" ''
 
 # A named pipe is opened once: there is room for one more open file alone.
 mkfifo "$folder/named"
-cat "$example" > "$folder/named" &
-writer=$!
-(ulimit -n 4 && exec "$program" solve "$folder/named") < /dev/null > "$folder/out" 2> "$folder/err"
-report named_pipe $? 10 "$(cat "$folder/out")" SAT "$(cat "$folder/err")" ''
-kill $writer 2> /dev/null
+printf 'p qscript 1\nsolve\n' > "$folder/script"
+for command in solve check script; do
+    case $command in
+        solve) text=$example status=10 said=SAT ;;
+        check) text=$example status=10 said='p cnf 3 5' ;;
+        script) text=$folder/script status=0 said=SAT ;;
+    esac
+    cat "$text" > "$folder/named" &
+    writer=$!
+    (ulimit -n 4 && exec "$program" $command "$folder/named") < /dev/null > "$folder/out" 2> "$folder/err"
+    report "named_pipe_of_$command" $? $status "$(head -n 1 "$folder/out")" "$said" "$(cat "$folder/err")" ''
+    kill $writer 2> /dev/null
+done
 
 # Words that ask for no command, for help or for a made formula read nothing: the whole input is left.
 for words in '' --help help 'solve --help' 'solve --no-option' 'gen 1 4 2' 'demo 0 2'; do
