@@ -400,7 +400,9 @@ impl Lexer {
         self.word(desk, b)
     }
 
-    // Takes a word that isn't one byte by itself, of which the next byte is the first.
+    // Takes a word that isn't one byte by itself, of which the next byte is the first. Inlined, since each byte of a text
+    // comes here.
+    #[inline(always)]
     fn word<D: Desk>(&mut self, desk: &mut D, first: u8) -> Result<Scan, LexRefusal>
         requires byte { slice_get self.old.ahead 0 ≡ Some first }
         requires word { ends_word self.old.comments first ≡ false }
