@@ -107,8 +107,9 @@ impl ScriptReader {
         version
     }
 
-    /// The next command of the script. None is the end of a script without a malformed line, and stays so. The first
-    /// call reads the header, where `read_header` wasn't called.
+    /// The next command of the script. None is the end of a script without a malformed line. A further call reads again;
+    /// it answers none where the desk tells its bytes. The first call reads the header, where `read_header` wasn't
+    /// called.
     ///
     /// A command is answered when byte 10 behind its line, or the end of the text, has been read.
     ///
