@@ -27,14 +27,15 @@ impl Shape {
     pub fn after(self, b: u8) -> Shape
         ensures { result ≡ shape_after self b }
     {
+        // The most frequent case stands first.
+        if let (Shape::Digits(negative, n), b'0'..=b'9') = (self, b) {
+            let n = n.saturating_mul(10).saturating_add(u64::from(b - b'0'));
+            return Shape::Digits(negative, n);
+        }
         match (self, b) {
             (Shape::Empty, b'-') => Shape::Minus,
             (Shape::Empty, b'0'..=b'9') => Shape::Digits(false, u64::from(b - b'0')),
             (Shape::Minus, b'0'..=b'9') => Shape::Digits(true, u64::from(b - b'0')),
-            (Shape::Digits(negative, n), b'0'..=b'9') => Shape::Digits(
-                negative,
-                n.saturating_mul(10).saturating_add(u64::from(b - b'0')),
-            ),
             _ => Shape::NoNumber,
         }
     }
@@ -67,8 +68,12 @@ impl Scan {
     pub fn push(&mut self, b: u8)
         ensures { self.new ≡ scan_after self.old b }
     {
-        self.is_long = self.is_long || self.text.len() == 16;
-        self.is_bad = self.is_bad || b < 33 || b > 126;
+        if self.text.len() == 16 {
+            self.is_long = true;
+        }
+        if b < 33 || b > 126 {
+            self.is_bad = true;
+        }
         self.shape = self.shape.after(b);
         self.text.push(b);
     }
