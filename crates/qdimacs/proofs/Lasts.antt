@@ -60,3 +60,12 @@ last_joined v (x ∷ y ∷ rows) (suc m) d new e f g = later m e (last_joined v 
     later : (k : ℕ) → length (x ∷ y ∷ rows) ≡ suc (suc k) → sets_of (set (y ∷ rows) k new) ≡ with_last v
         (sets_of (y ∷ rows)) → sets_of (set (x ∷ y ∷ rows) (suc k) new) ≡ with_last v (sets_of (x ∷ y ∷ rows))
     later k e h = front (sets_of (set (y ∷ rows) k new)) [] h
+
+-- a row with the same set is put in
+pub set_same : (rows : List Row) (m : ℕ) (d new : Row) → m < length rows → new.quant ≡ (get_or rows m d).quant
+    → new.vars.items ≡ (get_or rows m d).vars.items → sets_of (set rows m new) ≡ sets_of rows
+set_same [] m d new low f g = absurd (omega (arith, low))
+set_same (x ∷ rows) zero d new low f g = ap (λ q. (q, new.vars.items) ∷ sets_of rows) f
+    ∙ ap (λ us. (x.quant, us) ∷ sets_of rows) g
+set_same (x ∷ rows) (suc m) d new low f g = ap (λ r. (x.quant, x.vars.items) ∷ r)
+    (set_same rows m d new (omega (arith, low)) f g)

@@ -1,5 +1,5 @@
 //! The scopes while the sets come.
-ghost use Rattle.std.specs.Prelude.{◌≡◌, ◌<◌, ◌≤◌, ◌+◌, ◌^◌, [], ◌∷◌, ◌++◌, set, length, true, OnOk, IfOk, IsOkUnless, map};
+ghost use Rattle.std.specs.Prelude.{◌≡◌, ◌<◌, ◌≤◌, ◌+◌, ◌^◌, [], ◌∷◌, ◌++◌, set, length, true, OnOk, OnErr, IfOk, IsOkUnless, map};
 ghost use Rattle.qdimacs.specs.Kept.{sets_of, with_last, put_last, last_differs, variable_rules_kept, put_front, Checks, AreScopes};
 ghost use Rattle.qdimacs.specs.Rules.{first_of};
 ghost use Rattle.qdimacs.specs.Formula.{in_order, same_quant};
@@ -74,11 +74,13 @@ impl Sets {
         Ok(())
     }
 
-    /// Puts a variable behind the last, and marks it.
+    /// Puts a variable behind the last, and marks it. With no memory the scopes and marks stay.
     pub fn push(&mut self, quant: Quant, v: u32) -> Result<(), AllocError>
         requires { v < length self.old.marks.items }
         ensures rows { OnOk result (sets_of self.new.rows.items ≡ put_last quant v (sets_of self.old.rows.items)) }
         ensures marks { OnOk result (self.new.marks.items ≡ set self.old.marks.items v true) }
+        ensures err { OnErr result (sets_of self.new.rows.items ≡ sets_of self.old.rows.items) }
+        ensures unmarked { OnErr result (self.new.marks.items ≡ self.old.marks.items) }
     {
         if self.begins_scope(quant) {
             begin_scope(&mut self.rows, quant, v)?;
@@ -113,6 +115,9 @@ impl Sets {
     pub fn prefix(&mut self) -> Result<Prefix, PrefixRefusal>
         requires { AreScopes (sets_of self.old.rows.items) }
         ensures scopes { IfOk result (λ p. p ≡ map in_order (sets_of self.old.rows.items)) }
+        // The scopes stay, whatever the answer, but for the order of their variables.
+        ensures same { map in_order (sets_of self.new.rows.items) ≡ map in_order (sets_of self.old.rows.items) }
+        ensures marks { self.new.marks ≡ self.old.marks }
         ensures memory { IsOkUnless result PrefixRefusal.NoMemory }
     {
         let mut prefix = Prefix::new(*self.rows.allocator());
@@ -127,7 +132,8 @@ impl Sets {
 
 // Puts in a row of one variable as the last.
 fn begin_scope(rows: &mut Vec<Row>, quant: Quant, v: u32) -> Result<(), AllocError>
-    ensures { OnOk result (sets_of rows.new.items ≡ sets_of rows.old.items ++ (quant, v ∷ []) ∷ []) }
+    ensures ok { OnOk result (sets_of rows.new.items ≡ sets_of rows.old.items ++ (quant, v ∷ []) ∷ []) }
+    ensures err { OnErr result (rows.new.items ≡ rows.old.items) }
 {
     let mut vars = Vec::new(*rows.allocator());
     vars.push(v)?;
@@ -138,7 +144,8 @@ fn begin_scope(rows: &mut Vec<Row>, quant: Quant, v: u32) -> Result<(), AllocErr
 // Puts a variable into the last row.
 fn join_last(rows: &mut Vec<Row>, v: u32) -> Result<(), AllocError>
     requires { 0 < length rows.old.items }
-    ensures { OnOk result (sets_of rows.new.items ≡ with_last v (sets_of rows.old.items)) }
+    ensures ok { OnOk result (sets_of rows.new.items ≡ with_last v (sets_of rows.old.items)) }
+    ensures err { OnErr result (sets_of rows.new.items ≡ sets_of rows.old.items) }
 {
     let last = rows.len() - 1;
     let row = &mut rows[last];

@@ -9,5 +9,6 @@ abbrev pub invariant-loop-i : goal.invariant-loop-i
 invariant-loop-i l = record {
   done : l.prefix ≡ take l.i (map in_order (sets_of l.fn.self.rows.items));
   same : map in_order (sets_of l.self.rows.items) ≡ map in_order (sets_of l.fn.self.rows.items);
+  marks : l.self.marks ≡ l.fn.self.marks;
   rest : (j : ℕ) (d : Row) → l.i ≤ j → get_or l.self.rows.items j d ≡ get_or l.fn.self.rows.items j d;
 }
