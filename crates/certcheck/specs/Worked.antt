@@ -1,14 +1,16 @@
 -- Worked values: check formulas of small circuits.
-use Rattle.std.specs.Prelude.{◌≡◌, ℕ, true, false, List, [], ◌∷◌, Some, None}
+use Rattle.std.specs.Prelude.{◌≡◌, ℕ, true, false, List, [], ◌∷◌, Some, None, Ok, Err}
 use Rattle.prefix.specs.declared.quant.Quant.TheVariants.{Exists, Forall}
 use Rattle.prefix.specs.Literal.{Literal}
 use Rattle.truth.specs.Truth.{truth}
-use Rattle.reading.specs.declared.refusal.Quantity.TheVariants.{Variables}
+use Rattle.truth.specs.declared.formula.Formula.{Formula}
+use Rattle.reading.specs.declared.refusal.Quantity.TheVariants.{Variables, Clauses}
 use Rattle.aig.specs.Circuits.{one, zero, opposite}
 use Rattle.aig.specs.Worked.{input, both, gate}
 use Rattle.aig.specs.declared.edge.Edge.{Edge}
 use Rattle.aig.specs.declared.strategy.Strategy.{Strategy}
-use Rattle.certcheck.specs.Building.{limit_of}
+use Rattle.certcheck.specs.declared.fault.CheckFault.TheVariants.{Limit}
+use Rattle.certcheck.specs.Building.{IsAnswer, limit_of}
 use Rattle.builder.specs.Rows.{rows_of}
 use Rattle.certcheck.specs.Check.{check_clauses, formula_over, scopes_to, variable_count}
 
@@ -87,3 +89,20 @@ pub record WorkedChecks : Type 0 where
   pub of_assumed : rows_of (check_clauses [] (no_ 1 ∷ yes_ 3 ∷ []) conjunction)
       ≡ (no_ 1 ∷ []) ∷ (yes_ 2 ∷ no_ 3 ∷ []) ∷ (yes_ 1 ∷ no_ 3 ∷ []) ∷ (no_ 1 ∷ no_ 2 ∷ yes_ 3 ∷ [])
       ∷ (no_ 3 ∷ no_ 4 ∷ []) ∷ (yes_ 4 ∷ []) ∷ []
+
+-- as many variables as there may be, and one more
+abbrev pub fitting : Formula
+fitting = formula_over 1048576 []
+
+abbrev pub beyond : Formula
+beyond = formula_over 1048577 []
+
+pub record WorkedAnswers : Type 0 where
+  -- a formula within the limits is the answer, and no other is
+  pub formula : IsAnswer (Ok fitting) fitting
+  pub not_beyond : IsAnswer (Ok beyond) beyond → ⊥
+  pub not_another : IsAnswer (Ok (formula_over 1 [])) (formula_over 2 []) → ⊥
+  -- the limit is that which it goes beyond
+  pub limit : IsAnswer (Err (Limit Variables)) beyond
+  pub not_within : IsAnswer (Err (Limit Variables)) fitting → ⊥
+  pub not_of_clauses : IsAnswer (Err (Limit Clauses)) beyond → ⊥

@@ -15,4 +15,4 @@ mod worked;
 pub use check::check_formula;
 pub use fault::CheckFault;
 pub use laws::{check_formulas_decide, check_rows_are_formed};
-pub use worked::worked_checks;
+pub use worked::{worked_answers, worked_checks};
