@@ -16,7 +16,7 @@ use Rattle.analyse.specs.Levels.{MakesUnitFirstAt}
 use Rattle.analyse.specs.declared.lesson.Lesson.{Lesson}
 use Rattle.analyse.specs.declared.lesson.Lesson.TheVariants.{Learn, End}
 use Rattle.analyse.specs.declared.lesson.Next.{Next}
-use Rattle.analyse.specs.declared.lesson.Next.TheVariants.{Ends, Makes, Resolves as resolves_on}
+use Rattle.analyse.specs.declared.lesson.Next.TheVariants.{Ends, Asserts, Resolves as resolves_on}
 
 -- a row is an end row under the assumptions of a trail
 abbrev pub EndsOn : Quant → List Scope → Trail → Row → Type 0
@@ -53,7 +53,7 @@ pub record MakesLast (pivot : Quant) (scopes : List Scope) (trail : Trail) (row 
 -- propagated and no level makes it unit in that
 abbrev pub IsNext : Quant → List Scope → Trail → Row → Next → Type 0
 IsNext pivot scopes trail row Ends = EndsOn pivot scopes trail row
-IsNext pivot scopes trail row (Makes literal) = MakesLast pivot scopes trail row literal
+IsNext pivot scopes trail row (Asserts literal) = MakesLast pivot scopes trail row literal
 IsNext pivot scopes trail row (resolves_on literal) =
     IsLast pivot scopes trail row literal
     × IsPropagated trail literal.variable

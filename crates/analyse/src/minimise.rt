@@ -71,7 +71,7 @@ fn resolved<S: Side>(
     }
 }
 
-// The same, with what is known of each variable.
+// `resolved` by the marks of the variables.
 fn resolve_all<S: Side>(
     derivation: &mut Derivation,
     trail: &Trail,

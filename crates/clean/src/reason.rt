@@ -70,7 +70,7 @@ pub fn clean_reason<S: Side>(
     clean_marked::<S>(derivation, trail, prefix, v, steps)
 }
 
-// The same.
+// `clean_reason` over a derivation whose rows are in it.
 fn clean_marked<S: Side>(
     derivation: &mut Derivation,
     trail: &mut Trail,
@@ -98,7 +98,7 @@ fn clean_marked<S: Side>(
     Ok(reason_of(trail, v))
 }
 
-// The same, without the answer.
+// Cleans the reason of a variable and marks it, unless it is marked.
 fn make_clean<S: Side>(
     derivation: &mut Derivation,
     trail: &mut Trail,

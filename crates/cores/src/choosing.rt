@@ -48,7 +48,7 @@ pub fn core_of(
     core_in(alloc, &mut search, question, room, others, parts)
 }
 
-// The same by a new search.
+// The numbers of the groups of a core, found by a search that has no clauses yet.
 fn core_in(
     alloc: Global,
     search: &mut Search,

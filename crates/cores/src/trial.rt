@@ -93,7 +93,7 @@ fn matrix_with<'a>(
     Ok(matrix)
 }
 
-// The same parts once more.
+// A matrix of the same parts.
 fn same_parts<'a>(alloc: Global, kept: &'a Matrix<'_>) -> Result<Matrix<'a>, NoMemory>
     ensures { IfOk result (λ m. m ≡ kept.now) }
 {

@@ -79,7 +79,7 @@ impl Derivation {
         }
     }
 
-    // The same, but with no memory some of them may be there and listed.
+    // Adds each of the clauses, and lists its reduction. With no memory some of them may be there and listed.
     fn add_each(
         &mut self,
         prefix: &Prefix,

@@ -59,7 +59,7 @@ pub(crate) fn enter_both(
     }
 }
 
-// The same, but with no memory some of the notes may be there.
+// Puts both notes and both rows behind those that are there. With no memory some of the notes may be there.
 fn put_both(
     notes: &mut Pages<Slot>,
     rows: &mut Rows,

@@ -94,7 +94,7 @@ impl Note {
         }
     }
 
-    // The same as it is kept.
+    // The note as it is kept, in one slot.
     #[inline]
     pub(crate) fn packed(&self) -> Slot
         ensures { result ≡ Some self.now }

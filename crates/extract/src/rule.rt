@@ -69,7 +69,7 @@ fn chosen(aig: &mut Aig, condition: Edge, value: bool, rest: Edge) -> Result<Edg
     aig.and(condition.not(), rest)
 }
 
-// The same, built once for each step and kept.
+// The edge of a row of the core, built once for each step and kept.
 fn kept_row_edge(
     aig: &mut Aig,
     pivot: Quant,

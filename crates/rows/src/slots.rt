@@ -11,7 +11,7 @@ use std::marker::Model;
 // What stands in place of a length, and of a start's first bits, for a row that has a block.
 const HAS_BLOCK: u32 = u32::MAX - 1;
 
-// The same for a row that isn't live.
+// What stands in place of a length for a row that isn't live.
 const NOT_LIVE: u32 = u32::MAX;
 
 // How many blocks there may be.

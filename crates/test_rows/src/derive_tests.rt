@@ -176,7 +176,7 @@ fn is_right(alloc: Global, derivation: &mut Derivation, end: End) -> Result<bool
     }
 }
 
-// The same. Fails where it doesn't.
+// Fails where it doesn't do what it should.
 fn come_to(alloc: Global, derivation: &mut Derivation, end: End) -> Result<(), Fail>
     requires { IsTrue (has_rows derivation.old) }
 {

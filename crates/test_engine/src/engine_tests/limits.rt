@@ -156,7 +156,7 @@ impl Shape {
         solve(engine, budget)
     }
 
-    // The same.
+    // `solve_in` a new engine, which it owns.
     fn solve(&self, restarts: u32, budget: u64) -> Result<Solved, Fail> {
         let mut engine = Engine::new(self.alloc)?;
         self.solve_in(&mut engine, restarts, budget)
