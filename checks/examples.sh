@@ -241,6 +241,11 @@ printf '**`program`**: a crate\n\n- `run`: a claim [`steady`, `planted`].\n' > "
 report clauses "$(python3 "$root/checks/clauses.py" 2>&1)" '' \
     "$(python3 "$root/checks/clauses.py" "$folder/planted.md")" 'planted.md: no clause planted of run'
 
+# The version: that of README, of the manual page and of the first heading of CHANGELOG are one.
+version=$(sed -n 's/^## \([0-9.]*\) .*/\1/p' "$root/CHANGELOG.md" | head -1)
+report version "$(sed -n 's/^This is version \([0-9.]*[0-9]\)\. .*/\1/p' "$root/README.md")" "$version" \
+    "$(sed -n 's/^\.Os "qbf \(.*\)"$/\1/p' "$root/man/qbf.1")" "$version"
+
 # The arbiter by a table, and a simulation that is to fail: one assignment has an input in the place of its negation.
 printf '.i 3\n.o 3\n.type fr\n.ilb r1 r2 r3\n.ob g1 g2 g3\n1-- 100\n01- 010\n001 001\n000 000\n' > "$folder/arbiter.pla"
 python3 "$tools/simulate.py" "$folder/arbiter.pla" "$examples/arbiter.v" > "$folder/out"
