@@ -5,8 +5,8 @@ usage: circuits.py PROGRAM
 
 PROGRAM is a built qbf, such as bin/qbf; each formula is given to `PROGRAM cert` and `PROGRAM trace` on standard input.
 The formulas are some by hand, some of bench/families.py, and some drawn at random from fixed seeds; two over which a
-search learns long enough to begin anew, which are decided with restarts and without; and one over which it forgets more
-than three thousand learned rows, as a debugger counts them.
+search learns long enough to begin anew, which are decided with restarts and without, and with few rows to keep and
+many; and one over which it forgets more than three thousand learned rows, as a debugger counts them.
 
 A circuit is read as strictly as docs/CERTIFICATES.md has it. Its inputs are to be the loser's variables and its outputs
 the winner's, in prefix order. All inputs are simulated: each output depends on inputs of earlier scopes alone, and the
@@ -250,7 +250,8 @@ def long_cases(program, tools):
     yield "forgetful.trace", partial(trace, program, tools, forgetful, TRUE)
     yield "forgetful.cert", partial(cert, program, tools, forgetful, TRUE)
     pigeons, equality = families.pigeons(7).text(), families.equality(7).text()
-    for name, options in ("at_once", ()), ("with_restarts", restarts):
+    few, many = ("--keep", "16"), ("--keep", "100000")
+    for name, options in ("at_once", ()), ("with_restarts", restarts), ("with_few_rows", few), ("with_many_rows", many):
         yield f"pigeons_7_{name}.trace", partial(trace, program, tools, pigeons, FALSE, *options)
         yield f"equality_7_{name}.trace", partial(trace, program, tools, equality, FALSE, *options)
         yield f"equality_7_{name}.cert", partial(cert, program, tools, equality, FALSE, *options)

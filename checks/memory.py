@@ -62,6 +62,7 @@ def rows():
     yield "trace_of_pigeons", ["trace"], families.pigeons(3).text(), FALSE, None
     yield "cert_of_parity", ["cert"], families.parity(4).text(), FALSE, None
     yield "solve_of_pigeons", ["solve", "--restarts", "2"], families.pigeons(5).text(), FALSE, text("UNSAT")
+    yield "solve_that_keeps_few_rows", ["solve", "--keep", "16"], families.pigeons(5).text(), FALSE, text("UNSAT")
 
 
 def doubled(number):

@@ -6,7 +6,8 @@ usage: mutants.py PROGRAM [--count N] [--seed S] [--show K]
 The texts are those of examples/ and small ones that are drawn. Each mutant is one of them with one to four changes: a
 byte, a piece cut out, lines doubled, left out or exchanged, words exchanged, a number replaced by one at some edge,
 other white space, a long or strange word, the tail of another text. It is given to `solve`, `solve --qdo`, `trace`,
-`cert` or `script`, now and then with few steps, with restarts, or to a command for the other kind of text.
+`cert` or `script`, now and then with few steps, with restarts, with few rows to keep, or to a command for the other
+kind of text.
 
 What is to come of it is found by the readers of checks/reading.py. A malformed text ends with its status, its line on
 the error output, and on the output nothing, or the replies to the commands in front of the malformed line. Any other
@@ -167,10 +168,11 @@ class Mutant:
         self.job = "script" if is_script else draw.choice(JOBS)
         self.budget = draw.choice((0, 1, 2, 5, 20, 100)) if draw.random() < 0.2 else None
         self.restarts = draw.choice((0, 1, 3, 1_000_000)) if draw.random() < 0.2 and not is_script else None
+        self.kept = draw.choice((16, 17, 100, 16_777_216)) if draw.random() < 0.2 and not is_script else None
 
     def words(self):
         words = self.job.split()
-        for option, value in ("--budget", self.budget), ("--restarts", self.restarts):
+        for option, value in ("--budget", self.budget), ("--restarts", self.restarts), ("--keep", self.kept):
             words += [] if value is None else [option, str(value)]
         return words
 

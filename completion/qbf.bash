@@ -1,6 +1,7 @@
 # Completion of qbf in bash: commands, options, and names of files.
 _qbf() {
-    local word=${COMP_WORDS[COMP_CWORD]} previous=${COMP_WORDS[COMP_CWORD - 1]} options='--budget --restarts --help'
+    local word=${COMP_WORDS[COMP_CWORD]} previous=${COMP_WORDS[COMP_CWORD - 1]}
+    local options='--budget --restarts --keep --help'
     COMPREPLY=()
     if [ "$COMP_CWORD" -eq 1 ]; then
         mapfile -t COMPREPLY < <(compgen -W 'solve trace cert check script gen demo help --help' -- "$word")
@@ -21,7 +22,7 @@ _qbf() {
             ;;
     esac
     case $previous in
-        --budget | --restarts | =) return ;;
+        --budget | --restarts | --keep | =) return ;;
     esac
     case $word in
         -*) mapfile -t COMPREPLY < <(compgen -W "$options" -- "$word") ;;

@@ -11,9 +11,9 @@ use Rattle.clap.specs.declared.error.ErrorKind.TheVariants.{OutOfMemory}
 use Rattle.clap.specs.Walk.{rows_after}
 use Rattle.clap.proofs.OnLiterals.{clap_on_literals}
 use Rattle.command.specs.Account.{AreInput, AreValues, IsFormOf, IsFoundAs, IsSet, has_dashes, is_set, qbf_app}
-use Rattle.command.specs.Forms.{AreAlike, Asks, AsksInput, Explains, Flag, GivesInput, Setting, budget_of, cert_flags, check_flags, flag_name, flags_of, name_of, numbers_of, restarts_of, solve_flags, word_of}
+use Rattle.command.specs.Forms.{AreAlike, Asks, AsksInput, Explains, Flag, GivesInput, Setting, budget_of, cert_flags, check_flags, flag_name, flags_of, kept_of, name_of, numbers_of, restarts_of, solve_flags, word_of}
 use Rattle.command.specs.Forms.Flag.{the_qdo, the_qcir, the_binary, the_trim, the_decide}
-use Rattle.command.specs.Forms.Setting.{the_budget, the_restarts}
+use Rattle.command.specs.Forms.Setting.{the_budget, the_keep, the_restarts}
 use Rattle.command.specs.declared.command.Command.{Command}
 use Rattle.command.specs.declared.command.SolveForm.{SolveForm}
 use Rattle.command.specs.declared.command.Command.TheVariants.{Cert, Check, Demo, Gen, Script, Solve, Trace}
@@ -48,20 +48,21 @@ one_number s rows m n x y =
     let text : decimal m ≡ decimal n = ap (λ o. unwrap_or o []) (sym x.0 ∙ y.0) in
     decimal_injective m n (setting_small s m x.1.1) (setting_small s n y.1.1) text
 
-pub one_input : (words : List Text) (v w : Text) (m n j k : ℕ) (q r : Flag → Bool) (g h : Option Text)
-    → AsksInput v words m j q g → AsksInput w words n k r h
-    → (v ≡ w) × (m ≡ n) × (j ≡ k) × ((f : Flag) → q f ≡ r f) × (g ≡ h)
-one_input words v w m n j k q r g h a b =
+pub one_input : (words : List Text) (v w : Text) (m n j k i l : ℕ) (q r : Flag → Bool) (g h : Option Text)
+    → AsksInput v words m j i q g → AsksInput w words n k l r h
+    → (v ≡ w) × (m ≡ n) × (j ≡ k) × (i ≡ l) × ((f : Flag) → q f ≡ r f) × (g ≡ h)
+one_input words v w m n j k i l q r g h a b =
     let both : a.0 ∷ v ∷ a.1 ≡ b.0 ∷ w ∷ b.1 = sym a.2 ∙ b.2 in
     let word : v ≡ w = cc in
     let same : a.1 ≡ b.1 = cc in
-    let x = is_any_input b.1 m j q g (subst (λ (ws : List Text). GivesInput ws m j q g) same a.3) in
-    let y = is_any_input b.1 n k r h b.3 in (
+    let x = is_any_input b.1 m j i q g (subst (λ (ws : List Text). GivesInput ws m j i q g) same a.3) in
+    let y = is_any_input b.1 n k l r h b.3 in (
       word,
       one_number the_budget (rows_after full_rules [] b.1) m n x.values.0 y.values.0,
       one_number the_restarts (rows_after full_rules [] b.1) j k x.values.1 y.values.1,
-      (λ f. any_flag_is b.1 m j q g x f ∙ sym (any_flag_is b.1 n k r h y f)),
-      sym x.values.2 ∙ y.values.2,
+      one_number the_keep (rows_after full_rules [] b.1) i l x.values.2 y.values.2,
+      (λ f. any_flag_is b.1 m j i q g x f ∙ sym (any_flag_is b.1 n k l r h y f)),
+      sym x.values.3 ∙ y.values.3,
     )
 
 -- the word is that of a command of numbers, which have these names
@@ -86,13 +87,14 @@ takes w the_decide = bytes_eq w (codes "check")
 
 -- the values of a command, by its word alone
 record AreOfInput (rows : List Row) (c : Command) : Type 0 where
-  pub input : AreInput rows (budget_of c) (restarts_of c) (name_of c)
+  pub input : AreInput rows (budget_of c) (restarts_of c) (kept_of c) (name_of c)
   pub flags : (f : Flag) → flags_of c f ≡ cond (takes (word_of c) f) (is_set (flag_name f) rows) false
   pub numbers : numbers_of c ≡ []
 
 record AreOfNumbers (rows : List Row) (c : Command) : Type 0 where
   pub budget : budget_of c ≡ 2 ^ 64 - 1
   pub restarts : restarts_of c ≡ 0
+  pub kept : kept_of c ≡ 512
   pub flags : (f : Flag) → flags_of c f ≡ false
   pub name : name_of c ≡ None
   pub small : AreSmall (numbers_of c)
@@ -132,25 +134,26 @@ module _ (rows : List Row) where
   check_taken d is the_decide = is
 
 of_input : (rows : List Row) (c : Command) → takes_numbers (word_of c) ≡ false → AreValues rows c → AreOfInput rows c
-of_input rows (Solve n k q g) e v = record { input = v.0; flags = solve_taken rows q v.1; numbers = refl }
-of_input rows (Trace n k g) e v =
+of_input rows (Solve n k l q g) e v = record { input = v.0; flags = solve_taken rows q v.1; numbers = refl }
+of_input rows (Trace n k l g) e v =
     record { input = v; flags = plain_flags rows (codes "trace") refl refl refl; numbers = refl }
-of_input rows (Cert n k b t g) e v = record { input = v.0; flags = cert_taken rows b t v.1 v.2; numbers = refl }
-of_input rows (Check n k d g) e v = record { input = v.0; flags = check_taken rows d v.1; numbers = refl }
-of_input rows (Script n k g) e v =
+of_input rows (Cert n k l b t g) e v = record { input = v.0; flags = cert_taken rows b t v.1 v.2; numbers = refl }
+of_input rows (Check n k l d g) e v = record { input = v.0; flags = check_taken rows d v.1; numbers = refl }
+of_input rows (Script n k l g) e v =
     record { input = v; flags = plain_flags rows (codes "script") refl refl refl; numbers = refl }
 of_input rows (Gen s v k) e r = absurd cc
 of_input rows (Demo s k) e r = absurd cc
 
 of_numbers : (rows : List Row) (c : Command) → takes_numbers (word_of c) ≡ true → AreValues rows c → AreOfNumbers rows c
-of_numbers rows (Solve n k q g) e v = absurd cc
-of_numbers rows (Trace n k g) e v = absurd cc
-of_numbers rows (Cert n k b t g) e v = absurd cc
-of_numbers rows (Check n k d g) e v = absurd cc
-of_numbers rows (Script n k g) e v = absurd cc
+of_numbers rows (Solve n k l q g) e v = absurd cc
+of_numbers rows (Trace n k l g) e v = absurd cc
+of_numbers rows (Cert n k l b t g) e v = absurd cc
+of_numbers rows (Check n k l d g) e v = absurd cc
+of_numbers rows (Script n k l g) e v = absurd cc
 of_numbers rows (Gen s v k) e r = record {
   budget = refl;
   restarts = refl;
+  kept = refl;
   flags = λ f. refl;
   name = refl;
   small = (omega (arith, r.0.1.1), (omega (arith, r.1.1.1), (omega (arith, r.2.1.1), tt)));
@@ -159,6 +162,7 @@ of_numbers rows (Gen s v k) e r = record {
 of_numbers rows (Demo s k) e r = record {
   budget = refl;
   restarts = refl;
+  kept = refl;
   flags = λ f. refl;
   name = refl;
   small = (omega (arith, r.0.1.1), (omega (arith, r.1.1.1), tt));
@@ -186,8 +190,9 @@ alike rows c d word v w = go (takes_numbers (word_of c)) refl
           words = word;
           budgets = one_number the_budget rows (budget_of c) (budget_of d) x.input.0 y.input.0;
           restarts = one_number the_restarts rows (restarts_of c) (restarts_of d) x.input.1 y.input.1;
+          kept = one_number the_keep rows (kept_of c) (kept_of d) x.input.2 y.input.2;
           flags = λ f. x.flags f ∙ ap (λ t. cond (takes t f) (is_set (flag_name f) rows) false) word ∙ sym (y.flags f);
-          names = sym x.input.2 ∙ y.input.2;
+          names = sym x.input.3 ∙ y.input.3;
           numbers = x.numbers ∙ sym y.numbers;
         }
     go true e =
@@ -198,6 +203,7 @@ alike rows c d word v w = go (takes_numbers (word_of c)) refl
           words = word;
           budgets = x.budget ∙ sym y.budget;
           restarts = x.restarts ∙ sym y.restarts;
+          kept = x.kept ∙ sym y.kept;
           flags = λ f. x.flags f ∙ sym (y.flags f);
           names = x.name ∙ sym y.name;
           numbers = same_numbers (numbers_of c) (numbers_of d) x.small y.small texts;

@@ -1,5 +1,5 @@
 -- The words of a command, between the form that asks for it and `clap`'s account.
-use Rattle.std.proofs.Common.{◌≡◌, ◌⊎◌, ◌∙◌, ◌<◌, ◌≤◌, ◌^◌, ℕ, Bool, true, false, List, [], ◌∷◌, map, fold, Option, Some, codes, decimal, is_some, option_map, refl, sym, ap, subst, inl, inr, arith}
+use Rattle.std.proofs.Common.{◌≡◌, ◌⊎◌, ◌∙◌, ◌<◌, ◌^◌, ℕ, Bool, true, false, List, [], ◌∷◌, map, fold, Option, Some, codes, decimal, is_some, option_map, refl, sym, ap, subst, inl, inr, arith}
 use Rattle.std.specs.List.{list_any}
 use Rattle.std.specs.Option.{option_map_or}
 use Rattle.std.specs.Str.{bytes_eq}
@@ -7,9 +7,9 @@ use Rattle.clap.specs.Words.{Row, Rule, Text, fault_of, subcommand_of}
 use Rattle.clap.specs.Walk.{nothing_held, rows_after, with_default}
 use Rattle.clap.specs.Faults.{level_fault}
 use Rattle.command.specs.Account.{AreInput, AreValues, IsFormOf, IsFoundAs, command_apps, has_dashes, is_set, qbf_app}
-use Rattle.command.specs.Forms.{Asks, AsksInput, Flag, GivesInput, GivesSetting, Part, Setting, all_flags, cert_flags, check_flags, default_of, flag_name, greatest_of, is_qcir, is_qdo, no_flags, solve_flags, word_of}
+use Rattle.command.specs.Forms.{Asks, AsksInput, Flag, GivesInput, GivesSetting, IsBetween, Part, Setting, all_flags, cert_flags, check_flags, default_of, flag_name, greatest_of, is_qcir, is_qdo, least_of, no_flags, solve_flags, word_of}
 use Rattle.command.specs.Forms.Flag.{the_qdo, the_qcir, the_binary, the_trim, the_decide}
-use Rattle.command.specs.Forms.Setting.{the_budget, the_restarts}
+use Rattle.command.specs.Forms.Setting.{the_budget, the_keep, the_restarts}
 use Rattle.command.specs.declared.command.Command.{Command}
 use Rattle.command.specs.declared.command.SolveForm.{SolveForm}
 use Rattle.command.specs.declared.command.Command.TheVariants.{Cert, Check, Demo, Gen, Script, Solve, Trace}
@@ -18,7 +18,7 @@ use Rattle.command.proofs.WordKinds.{IsNotDashes, KnowsFlag}
 use Rattle.command.proofs.PartWalk.{LacksDashes}
 use Rattle.command.proofs.PartUses.{AreOnce, either_false, name, new_row, part_at}
 use Rattle.command.proofs.InputWords.{AreInputRules, AreRead, are_read, cert_are, cert_rules, check_are, check_rules, full_are, full_rules, input_are, input_rules, solve_are, solve_rules}
-use Rattle.command.proofs.InputForms.{are_told, flag_set, in_form, no_flag, two}
+use Rattle.command.proofs.InputForms.{are_told, flag_set, in_form, no_flag, three}
 use Rattle.command.proofs.NumberWords.{demo_found, demo_in_form, gen_found, gen_in_form}
 use Rattle.command.proofs.TopWalk.{app_for, command_account, command_fault, is_command, known_or_other, name_alone, no_words, other_word, word_is, IsCommandWord, IsNoneOf}
 
@@ -117,13 +117,13 @@ told words c h = subst (λ ws. IsTold ws c) (sym h.words_are) (record {
 module _ (c : List Rule) (taken : List Flag) (r : AreInputRules c taken) where
   -- words that pass, and their account, are those of a form
   input_asks : (word : Text) (words : List Text) (program : Text) (args : List Text) → words ≡ program ∷ word ∷ args
-      → LacksDashes args → level_fault (leaf c) [] nothing_held args false [] ≡ [] → (n k : ℕ) (given : Option Text)
-      → AreInput (rows_after c [] args) n k given → (q : Flag → Bool)
+      → LacksDashes args → level_fault (leaf c) [] nothing_held args false [] ≡ [] → (n k l : ℕ) (given : Option Text)
+      → AreInput (rows_after c [] args) n k l given → (q : Flag → Bool)
       → ((a : AreRead c args) (f : Flag) → q f ≡ is_some (part_at (flag_name f) a.parts))
-      → AsksInput word words n k q given
-  input_asks word words program args is lacks passes n k given values q flags =
+      → AsksInput word words n k l q given
+  input_asks word words program args is lacks passes n k l given values q flags =
       let a = are_read c taken r args lacks passes in
-      (program, args, is, in_form c taken r args a n k given values q (flags a))
+      (program, args, is, in_form c taken r args a n k l given values q (flags a))
 
   -- a flag that the command takes, and one that it doesn't
   one_taken : (args : List Text) (a : AreRead c args) (f : Flag) (b : Bool)
@@ -184,50 +184,53 @@ check_given args d is a the_trim =
     one_refused check_rules (the_decide ∷ []) check_are args a the_trim (λ bad. absurd cc)
 check_given args d is a the_decide = one_taken check_rules (the_decide ∷ []) check_are args a the_decide d is
 
-default_most : (s : Setting) → default_of s ≤ greatest_of s
-default_most the_budget = omega arith
-default_most the_restarts = omega arith
+default_between : (s : Setting) → IsBetween (least_of s) (greatest_of s) (default_of s)
+default_between the_budget = (omega arith, omega arith)
+default_between the_restarts = (omega arith, omega arith)
+default_between the_keep = (omega arith, omega arith)
 
-setting_most : (s : Setting) (parts : List Part) (n : ℕ) → GivesSetting s parts n → n ≤ greatest_of s
-setting_most s parts n (inl h) = subst (λ m. m ≤ greatest_of s) (sym h.1) (default_most s)
-setting_most s parts n (inr h) = h.0
+pub setting_between : (s : Setting) (parts : List Part) (n : ℕ) → GivesSetting s parts n
+    → IsBetween (least_of s) (greatest_of s) n
+setting_between s parts n (inl h) = subst (IsBetween (least_of s) (greatest_of s)) (sym h.1) (default_between s)
+setting_between s parts n (inr h) = h.0
 
 -- what `clap` makes of words that give an input
-pub record IsInput (c : List Rule) (args : List Text) (n k : ℕ) (q : Flag → Bool) (given : Option Text) : Type 0 where
+pub record IsInput (c : List Rule) (args : List Text) (n k l : ℕ) (q : Flag → Bool) (given : Option Text) : Type 0 where
   pub lacks : LacksDashes args
   pub passes : level_fault (leaf c) [] nothing_held args false [] ≡ []
-  pub values : AreInput (rows_after c [] args) n k given
+  pub values : AreInput (rows_after c [] args) n k l given
   pub order : List Part
   pub once : AreOnce [] order
   pub rows_are : rows_after c [] args ≡ fold with_default (map new_row order) c
   pub flags : (f : Flag) → is_some (part_at (flag_name f) order) ≡ q f
 
-module _ (c : List Rule) (taken : List Flag) (r : AreInputRules c taken) (args : List Text) (n k : ℕ)
+module _ (c : List Rule) (taken : List Flag) (r : AreInputRules c taken) (args : List Text) (n k l : ℕ)
     (q : Flag → Bool) (given : Option Text) where
-  is_input : ((f : Flag) → q f ≡ true → KnowsFlag f c) → GivesInput args n k q given → IsInput c args n k q given
+  is_input : ((f : Flag) → q f ≡ true → KnowsFlag f c) → GivesInput args n k l q given → IsInput c args n k l q given
   is_input knows s =
-      let t = are_told c r.knows (two n k) most given taken r args q knows s in
-      subst (λ ws. IsInput c ws n k q given) (sym t.words_are) (record {
+      let t = are_told c r.knows (three n k l) between given taken r args q knows s in
+      subst (λ ws. IsInput c ws n k l q given) (sym t.words_are) (record {
         lacks = t.lacks;
         passes = t.passes;
-        values = subst (λ rows. AreInput rows n k given) (sym t.rows_are) t.values;
+        values = subst (λ rows. AreInput rows n k l given) (sym t.rows_are) t.values;
         order = t.order;
         once = t.once;
         rows_are = t.rows_are;
         flags = t.flags;
       })
     where
-      most : (x : Setting) → two n k x ≤ greatest_of x
-      most the_budget = setting_most the_budget s.budget_parts n s.gives_budget
-      most the_restarts = setting_most the_restarts s.restarts_parts k s.gives_restarts
+      between : (x : Setting) → IsBetween (least_of x) (greatest_of x) (three n k l x)
+      between the_budget = setting_between the_budget s.budget_parts n s.gives_budget
+      between the_restarts = setting_between the_restarts s.restarts_parts k s.gives_restarts
+      between the_keep = setting_between the_keep s.kept_parts l s.gives_kept
 
   -- a flag as `clap` reads it
-  pub flag_is : IsInput c args n k q given → (f : Flag) → q f ≡ is_set (flag_name f) (rows_after c [] args)
+  pub flag_is : IsInput c args n k l q given → (f : Flag) → q f ≡ is_set (flag_name f) (rows_after c [] args)
   flag_is i f = sym (ap (is_set (flag_name f)) i.rows_are ∙ flag_set c taken r f i.order i.once ∙ i.flags f)
 
-is_plain_input : (args : List Text) (n k : ℕ) (given : Option Text) → GivesInput args n k no_flags given
-    → IsInput input_rules args n k no_flags given
-is_plain_input args n k given = is_input input_rules [] input_are args n k no_flags given (λ f e. absurd cc)
+is_plain_input : (args : List Text) (n k l : ℕ) (given : Option Text) → GivesInput args n k l no_flags given
+    → IsInput input_rules args n k l no_flags given
+is_plain_input args n k l given = is_input input_rules [] input_are args n k l no_flags given (λ f e. absurd cc)
 
 solve_known : (q : SolveForm) (f : Flag) → solve_flags q f ≡ true → KnowsFlag f solve_rules
 solve_known q the_qdo e = refl
@@ -236,10 +239,10 @@ solve_known q the_binary e = absurd cc
 solve_known q the_trim e = absurd cc
 solve_known q the_decide e = absurd cc
 
-is_solve_input : (args : List Text) (n k : ℕ) (q : SolveForm) (given : Option Text)
-    → GivesInput args n k (solve_flags q) given → IsInput solve_rules args n k (solve_flags q) given
-is_solve_input args n k q given =
-    is_input solve_rules (the_qdo ∷ the_qcir ∷ []) solve_are args n k (solve_flags q) given (solve_known q)
+is_solve_input : (args : List Text) (n k l : ℕ) (q : SolveForm) (given : Option Text)
+    → GivesInput args n k l (solve_flags q) given → IsInput solve_rules args n k l (solve_flags q) given
+is_solve_input args n k l q given =
+    is_input solve_rules (the_qdo ∷ the_qcir ∷ []) solve_are args n k l (solve_flags q) given (solve_known q)
 
 cert_known : (b t : Bool) (f : Flag) → cert_flags b t f ≡ true → KnowsFlag f cert_rules
 cert_known b t the_qdo e = absurd cc
@@ -248,10 +251,10 @@ cert_known b t the_binary e = refl
 cert_known b t the_trim e = refl
 cert_known b t the_decide e = absurd cc
 
-is_cert_input : (args : List Text) (n k : ℕ) (b t : Bool) (given : Option Text)
-    → GivesInput args n k (cert_flags b t) given → IsInput cert_rules args n k (cert_flags b t) given
-is_cert_input args n k b t given =
-    is_input cert_rules (the_binary ∷ the_trim ∷ []) cert_are args n k (cert_flags b t) given (cert_known b t)
+is_cert_input : (args : List Text) (n k l : ℕ) (b t : Bool) (given : Option Text)
+    → GivesInput args n k l (cert_flags b t) given → IsInput cert_rules args n k l (cert_flags b t) given
+is_cert_input args n k l b t given =
+    is_input cert_rules (the_binary ∷ the_trim ∷ []) cert_are args n k l (cert_flags b t) given (cert_known b t)
 
 check_known : (d : Bool) (f : Flag) → check_flags d f ≡ true → KnowsFlag f check_rules
 check_known d the_qdo e = absurd cc
@@ -260,10 +263,10 @@ check_known d the_binary e = absurd cc
 check_known d the_trim e = absurd cc
 check_known d the_decide e = refl
 
-is_check_input : (args : List Text) (n k : ℕ) (d : Bool) (given : Option Text)
-    → GivesInput args n k (check_flags d) given → IsInput check_rules args n k (check_flags d) given
-is_check_input args n k d given =
-    is_input check_rules (the_decide ∷ []) check_are args n k (check_flags d) given (check_known d)
+is_check_input : (args : List Text) (n k l : ℕ) (d : Bool) (given : Option Text)
+    → GivesInput args n k l (check_flags d) given → IsInput check_rules args n k l (check_flags d) given
+is_check_input args n k l d given =
+    is_input check_rules (the_decide ∷ []) check_are args n k l (check_flags d) given (check_known d)
 
 full_known : (f : Flag) → KnowsFlag f full_rules
 full_known the_qdo = refl
@@ -273,32 +276,33 @@ full_known the_trim = refl
 full_known the_decide = refl
 
 -- the same with any flags, to a command that takes all
-pub is_any_input : (args : List Text) (n k : ℕ) (q : Flag → Bool) (given : Option Text) → GivesInput args n k q given
-    → IsInput full_rules args n k q given
-is_any_input args n k q given = is_input full_rules all_flags full_are args n k q given (λ f e. full_known f)
+pub is_any_input : (args : List Text) (n k l : ℕ) (q : Flag → Bool) (given : Option Text)
+    → GivesInput args n k l q given
+    → IsInput full_rules args n k l q given
+is_any_input args n k l q given = is_input full_rules all_flags full_are args n k l q given (λ f e. full_known f)
 
-pub any_flag_is : (args : List Text) (n k : ℕ) (q : Flag → Bool) (given : Option Text)
-    → IsInput full_rules args n k q given → (f : Flag) → q f ≡ is_set (flag_name f) (rows_after full_rules [] args)
-any_flag_is args n k q given = flag_is full_rules all_flags full_are args n k q given
+pub any_flag_is : (args : List Text) (n k l : ℕ) (q : Flag → Bool) (given : Option Text)
+    → IsInput full_rules args n k l q given → (f : Flag) → q f ≡ is_set (flag_name f) (rows_after full_rules [] args)
+any_flag_is args n k l q given = flag_is full_rules all_flags full_are args n k l q given
 
 -- ---- each command
 
 pub asked : (words : List Text) (c : Command) → IsCalled words c → Asks words c
-asked words (Solve n k q g) h =
+asked words (Solve n k l q g) h =
     input_asks solve_rules (the_qdo ∷ the_qcir ∷ []) solve_are (codes "solve") words h.program h.args h.words_are
-    h.lacks h.passes n k (option_map (λ s. s.now) g) h.values.0 (solve_flags q) (solve_given h.args q h.values.1)
-asked words (Trace n k g) h =
-    input_asks input_rules [] input_are (codes "trace") words h.program h.args h.words_are h.lacks h.passes n k
+    h.lacks h.passes n k l (option_map (λ s. s.now) g) h.values.0 (solve_flags q) (solve_given h.args q h.values.1)
+asked words (Trace n k l g) h =
+    input_asks input_rules [] input_are (codes "trace") words h.program h.args h.words_are h.lacks h.passes n k l
     (option_map (λ s. s.now) g) h.values no_flags (input_flags h.args)
-asked words (Cert n k b t g) h =
+asked words (Cert n k l b t g) h =
     input_asks cert_rules (the_binary ∷ the_trim ∷ []) cert_are (codes "cert") words h.program h.args h.words_are
-    h.lacks h.passes n k (option_map (λ s. s.now) g) h.values.0 (cert_flags b t)
+    h.lacks h.passes n k l (option_map (λ s. s.now) g) h.values.0 (cert_flags b t)
     (cert_given h.args b t h.values.1 h.values.2)
-asked words (Check n k d g) h =
+asked words (Check n k l d g) h =
     input_asks check_rules (the_decide ∷ []) check_are (codes "check") words h.program h.args h.words_are h.lacks
-    h.passes n k (option_map (λ s. s.now) g) h.values.0 (check_flags d) (check_given h.args d h.values.1)
-asked words (Script n k g) h =
-    input_asks input_rules [] input_are (codes "script") words h.program h.args h.words_are h.lacks h.passes n k
+    h.passes n k l (option_map (λ s. s.now) g) h.values.0 (check_flags d) (check_given h.args d h.values.1)
+asked words (Script n k l g) h =
+    input_asks input_rules [] input_are (codes "script") words h.program h.args h.words_are h.lacks h.passes n k l
     (option_map (λ s. s.now) g) h.values no_flags (input_flags h.args)
 asked words (Gen s v k) h =
     let args = gen_in_form h.args h.lacks h.passes s v k h.values in
@@ -310,9 +314,9 @@ asked words (Demo s k) h =
     ((h.program, h.words_are ∙ ap (λ ws. h.program ∷ codes "demo" ∷ ws) args), small, h.values.1.1)
 
 pub calls : (words : List Text) (c : Command) → Asks words c → IsCalled words c
-calls words (Solve n k q g) (program, args, is, form) =
-    let i = is_solve_input args n k q (option_map (λ s. s.now) g) form in
-    let flags = flag_is solve_rules (the_qdo ∷ the_qcir ∷ []) solve_are args n k (solve_flags q)
+calls words (Solve n k l q g) (program, args, is, form) =
+    let i = is_solve_input args n k l q (option_map (λ s. s.now) g) form in
+    let flags = flag_is solve_rules (the_qdo ∷ the_qcir ∷ []) solve_are args n k l (solve_flags q)
     (option_map (λ s. s.now) g) i in
     record {
       program = program;
@@ -322,12 +326,12 @@ calls words (Solve n k q g) (program, args, is, form) =
       passes = i.passes;
       values = (i.values, (flags the_qdo, flags the_qcir));
     }
-calls words (Trace n k g) (program, args, is, form) =
-    let i = is_plain_input args n k (option_map (λ s. s.now) g) form in
+calls words (Trace n k l g) (program, args, is, form) =
+    let i = is_plain_input args n k l (option_map (λ s. s.now) g) form in
     record { program = program; args = args; words_are = is; lacks = i.lacks; passes = i.passes; values = i.values }
-calls words (Cert n k b t g) (program, args, is, form) =
-    let i = is_cert_input args n k b t (option_map (λ s. s.now) g) form in
-    let flags = flag_is cert_rules (the_binary ∷ the_trim ∷ []) cert_are args n k (cert_flags b t)
+calls words (Cert n k l b t g) (program, args, is, form) =
+    let i = is_cert_input args n k l b t (option_map (λ s. s.now) g) form in
+    let flags = flag_is cert_rules (the_binary ∷ the_trim ∷ []) cert_are args n k l (cert_flags b t)
     (option_map (λ s. s.now) g) i in
     record {
       program = program;
@@ -337,8 +341,8 @@ calls words (Cert n k b t g) (program, args, is, form) =
       passes = i.passes;
       values = (i.values, flags the_binary, flags the_trim);
     }
-calls words (Check n k d g) (program, args, is, form) =
-    let i = is_check_input args n k d (option_map (λ s. s.now) g) form in
+calls words (Check n k l d g) (program, args, is, form) =
+    let i = is_check_input args n k l d (option_map (λ s. s.now) g) form in
     record {
       program = program;
       args = args;
@@ -347,12 +351,12 @@ calls words (Check n k d g) (program, args, is, form) =
       passes = i.passes;
       values = (
         i.values,
-        flag_is check_rules (the_decide ∷ []) check_are args n k (check_flags d) (option_map (λ s. s.now) g) i
+        flag_is check_rules (the_decide ∷ []) check_are args n k l (check_flags d) (option_map (λ s. s.now) g) i
             the_decide,
       );
     }
-calls words (Script n k g) (program, args, is, form) =
-    let i = is_plain_input args n k (option_map (λ s. s.now) g) form in
+calls words (Script n k l g) (program, args, is, form) =
+    let i = is_plain_input args n k l (option_map (λ s. s.now) g) form in
     record { program = program; args = args; words_are = is; lacks = i.lacks; passes = i.passes; values = i.values }
 calls words (Gen s v k) (asks, small, vars, clauses) =
     let f = gen_found s v k (omega arith, omega (arith, small)) vars (omega arith, clauses) in

@@ -1,4 +1,4 @@
--- The form `[--budget N] [--restarts R] [--FLAG] .. [NAME]`, and `clap`'s account of the words.
+-- The form `[--budget N] [--restarts R] [--keep K] [--FLAG] .. [NAME]`, and `clap`'s account of the words.
 use Rattle.std.proofs.Common.{◌≡◌, ◌≢◌, ◌⊎◌, ◌∙◌, ◌++◌, ◌&&◌, ◌+◌, ◌≤◌, ◌<◌, ◌^◌, ℕ, zero, suc, Bool, true, false, List, [], ◌∷◌, map, fold, Option, Some, None, IsPermutation, codes, decimal, option_map, slice_get, is_some, unwrap_or, refl, sym, ap, ap₂, subst, inl, inr, arith, append_assoc}
 use Rattle.std.specs.Fmt.{digits}
 use Rattle.std.specs.List.{AllByRecursion, filter, flat_map}
@@ -12,10 +12,10 @@ use Rattle.clap.specs.Words.{Rule, Text, first_of}
 use Rattle.clap.specs.Faults.{level_fault}
 use Rattle.clap.specs.Walk.{nothing_held, rows_after, with_default}
 use Rattle.command.specs.Account.{AreInput, HasNoHyphen, IsSet, default_text, is_set}
-use Rattle.command.specs.Forms.{Flag, GivesInput, GivesName, GivesSetting, Part, Setting, all_flags, default_of, flag_name, flag_parts, greatest_of, setting_name, spelled}
+use Rattle.command.specs.Forms.{Flag, GivesInput, GivesName, GivesSetting, IsBetween, Part, Setting, all_flags, default_of, flag_name, flag_parts, greatest_of, least_of, setting_name, spelled}
 use Rattle.command.specs.Forms.Flag.{the_qdo, the_qcir, the_binary, the_trim, the_decide}
 use Rattle.command.specs.Forms.Part.{setting_part, joined_part, flag_part, name_part}
-use Rattle.command.specs.Forms.Setting.{the_budget, the_restarts}
+use Rattle.command.specs.Forms.Setting.{the_budget, the_keep, the_restarts}
 use Rattle.command.proofs.DecimalWords.{decimal_passes, decimal_word, plain_word}
 use Rattle.command.proofs.Names.{apart_name, apart_setting, bit, flag_names, name_apart, one_argument, same_flag, setting_apart, times}
 use Rattle.command.proofs.Spelled.{flag_not_dashes, joined_not_dashes, option_not_dashes}
@@ -29,23 +29,27 @@ default_is : (s : Setting) → decimal (default_of s) ≡ default_text s
 unfolding digits
 default_is the_budget = refl
 default_is the_restarts = refl
+default_is the_keep = refl
 
 default_small : (s : Setting) → default_of s < 2 ^ 64
 default_small the_budget = omega arith
 default_small the_restarts = omega arith
+default_small the_keep = omega arith
 
 -- numbers of options have 64 bits
 pub greatest_small : (s : Setting) → greatest_of s < 2 ^ 64
 greatest_small the_budget = omega arith
 greatest_small the_restarts = omega arith
+greatest_small the_keep = omega arith
 
 pub setting_small : (s : Setting) (n : ℕ) → n ≤ greatest_of s → n < 2 ^ 64
 setting_small s n most = let small = greatest_small s in omega (arith, most, small)
 
--- the numbers of the two
-abbrev pub two : ℕ → ℕ → Setting → ℕ
-two n k the_budget = n
-two n k the_restarts = k
+-- the numbers of the three
+abbrev pub three : ℕ → ℕ → ℕ → Setting → ℕ
+three n k l the_budget = n
+three n k l the_restarts = k
+three n k l the_keep = l
 
 -- an argument is used once, or not at all
 once_or_not : (id : Text) (ps : List Part) → tally id ps ≤ 1 → IsUnused id ps ⊎ IsUsedOnce id ps
@@ -71,14 +75,26 @@ setting_part_is the_budget (setting_part the_budget t) is = record { either = in
 setting_part_is the_budget (joined_part the_budget t) is = record { either = inr refl }
 setting_part_is the_budget (setting_part the_restarts t) is = absurd cc
 setting_part_is the_budget (joined_part the_restarts t) is = absurd cc
+setting_part_is the_budget (setting_part the_keep t) is = absurd cc
+setting_part_is the_budget (joined_part the_keep t) is = absurd cc
 setting_part_is the_budget (flag_part f) is = absurd (unlike _ (apart_setting f the_budget) is)
 setting_part_is the_budget (name_part w) is = absurd cc
 setting_part_is the_restarts (setting_part the_restarts t) is = record { either = inl refl }
 setting_part_is the_restarts (joined_part the_restarts t) is = record { either = inr refl }
 setting_part_is the_restarts (setting_part the_budget t) is = absurd cc
 setting_part_is the_restarts (joined_part the_budget t) is = absurd cc
+setting_part_is the_restarts (setting_part the_keep t) is = absurd cc
+setting_part_is the_restarts (joined_part the_keep t) is = absurd cc
 setting_part_is the_restarts (flag_part f) is = absurd (unlike _ (apart_setting f the_restarts) is)
 setting_part_is the_restarts (name_part w) is = absurd cc
+setting_part_is the_keep (setting_part the_keep t) is = record { either = inl refl }
+setting_part_is the_keep (joined_part the_keep t) is = record { either = inr refl }
+setting_part_is the_keep (setting_part the_budget t) is = absurd cc
+setting_part_is the_keep (joined_part the_budget t) is = absurd cc
+setting_part_is the_keep (setting_part the_restarts t) is = absurd cc
+setting_part_is the_keep (joined_part the_restarts t) is = absurd cc
+setting_part_is the_keep (flag_part f) is = absurd (unlike _ (apart_setting f the_keep) is)
+setting_part_is the_keep (name_part w) is = absurd cc
 
 -- a part of a flag
 flag_part_is : (f : Flag) (p : Part) → is_of (flag_name f) p ≡ true → p ≡ flag_part f
@@ -87,38 +103,40 @@ flag_part_is f (joined_part s t) is = absurd (unlike _ (setting_apart s f) is)
 flag_part_is f (flag_part g) is = ap flag_part (same_flag f g is)
 flag_part_is f (name_part w) is = absurd (unlike _ (name_apart f) is)
 
-module _ (s : Setting) (n : ℕ) (most : n ≤ greatest_of s) (parts : List Part) where
+module _ (s : Setting) (n : ℕ) (between : IsBetween (least_of s) (greatest_of s) n) (parts : List Part) where
   setting_alone : (p : Part) → IsSettingPart s p → parts ≡ p ∷ [] → value_of p ≡ decimal n → GivesSetting s parts n
   setting_alone p is alone e = go is.either
     where
       go : (p ≡ setting_part s (value_of p)) ⊎ (p ≡ joined_part s (value_of p)) → GivesSetting s parts n
-      go (inl same) = inr (most, inl (alone ∙ ap (λ q. q ∷ []) (same ∙ ap (setting_part s) e)))
-      go (inr same) = inr (most, inr (alone ∙ ap (λ q. q ∷ []) (same ∙ ap (joined_part s) e)))
+      go (inl same) = inr (between, inl (alone ∙ ap (λ q. q ∷ []) (same ∙ ap (setting_part s) e)))
+      go (inr same) = inr (between, inr (alone ∙ ap (λ q. q ∷ []) (same ∙ ap (joined_part s) e)))
 
 name_alone : (parts : List Part) (p : Part) → is_of (codes "name") p ≡ true → parts ≡ p ∷ []
     → HasNoHyphen (Some (value_of p))
     → GivesName parts (Some (value_of p))
 name_alone parts (setting_part the_budget t) is alone h = absurd cc
 name_alone parts (setting_part the_restarts t) is alone h = absurd cc
+name_alone parts (setting_part the_keep t) is alone h = absurd cc
 name_alone parts (joined_part the_budget t) is alone h = absurd cc
 name_alone parts (joined_part the_restarts t) is alone h = absurd cc
+name_alone parts (joined_part the_keep t) is alone h = absurd cc
 name_alone parts (flag_part f) is alone h = absurd (unlike _ (apart_name f) is)
 name_alone parts (name_part w) is alone h = (alone, h)
 
 module _ (ps : List Part) where
-  setting_given : (s : Setting) (n : ℕ) → n ≤ greatest_of s
+  setting_given : (s : Setting) (n : ℕ) → IsBetween (least_of s) (greatest_of s) n
       → IsUnused (setting_name s) ps ⊎ IsUsedOnce (setting_name s) ps
       → option_map_or value_of (part_at (setting_name s) ps) (default_text s) ≡ decimal n
       → GivesSetting s (filter (is_of (setting_name s)) ps) n
-  setting_given s n most (inl u) e =
+  setting_given s n between (inl u) e =
       let same : default_text s ≡ decimal n = rw u.none at e in
       inl (
         u.empty,
-        sym (decimal_injective (default_of s) n (default_small s) (setting_small s n most)
+        sym (decimal_injective (default_of s) n (default_small s) (setting_small s n between.1)
             (default_is s ∙ same)),
       )
-  setting_given s n most (inr o) e =
-      setting_alone s n most _ o.part (setting_part_is s o.part o.is) o.alone (rw o.some at e)
+  setting_given s n between (inr o) e =
+      setting_alone s n between _ o.part (setting_part_is s o.part o.is) o.alone (rw o.some at e)
 
   name_given : IsUnused (codes "name") ps ⊎ IsUsedOnce (codes "name") ps
       → HasNoHyphen (option_map value_of (part_at (codes "name") ps))
@@ -145,40 +163,45 @@ module _ (ps : List Part) (each : (id : Text) → IsUnused id ps ⊎ IsUsedOnce 
           o.alone ∙ ap (λ p. p ∷ []) (flag_part_is f o.part o.is) in
           rw (alone, given) (ap (λ l. flag_part f ∷ l) rest)
 
-  regrouped : (b r n f : List Part) → IsPermutation (b ++ (r ++ (n ++ f))) ps → IsPermutation (b ++ r ++ n ++ f) ps
-  regrouped b r n f h = rw (append_assoc (b ++ r) n f, append_assoc b r (n ++ f)) h
+  regrouped : (b r k n f : List Part) → IsPermutation (b ++ (r ++ (k ++ (n ++ f)))) ps
+      → IsPermutation (b ++ r ++ k ++ n ++ f) ps
+  regrouped b r k n f h =
+      rw (append_assoc (b ++ r ++ k) n f, append_assoc (b ++ r) k (n ++ f), append_assoc b r (k ++ (n ++ f))) h
 
   in_order : IsPermutation (filter (is_of (codes "budget")) ps ++ filter (is_of (codes "restarts")) ps
-      ++ filter (is_of (codes "name")) ps ++ flag_parts flags) ps
+      ++ filter (is_of (codes "keep")) ps ++ filter (is_of (codes "name")) ps ++ flag_parts flags) ps
   in_order =
       let b = filter (is_of (codes "budget")) ps in
       let r = filter (is_of (codes "restarts")) ps in
+      let k = filter (is_of (codes "keep")) ps in
       let n = filter (is_of (codes "name")) ps in
-      regrouped b r n (flag_parts flags)
-      (subst (λ l. IsPermutation (b ++ (r ++ (n ++ l))) ps) (flags_there all_flags) (argument_order ps))
+      regrouped b r k n (flag_parts flags)
+      (subst (λ l. IsPermutation (b ++ (r ++ (k ++ (n ++ l)))) ps) (flags_there all_flags) (argument_order ps))
 
 -- the account of words that don't fail, where its values are in form
 pub in_form : (c : List Rule) (taken : List Flag) (r : AreInputRules c taken) (args : List Text) (a : AreRead c args)
-    (n k : ℕ) (given : Option Text) → AreInput (rows_after c [] args) n k given → (flags : Flag → Bool)
-    → ((f : Flag) → flags f ≡ is_some (part_at (flag_name f) a.parts)) → GivesInput args n k flags given
-in_form c taken r args a n k given v flags are =
+    (n k l : ℕ) (given : Option Text) → AreInput (rows_after c [] args) n k l given → (flags : Flag → Bool)
+    → ((f : Flag) → flags f ≡ is_some (part_at (flag_name f) a.parts)) → GivesInput args n k l flags given
+in_form c taken r args a n k l given v flags are =
     let ps = a.parts in
     let each : (id : Text) → IsUnused id ps ⊎ IsUsedOnce id ps = λ id. once_or_not id ps (omega (arith, a.once id)) in
     let final = a.rows_are in
     let setting : (s : Setting) (m : ℕ) → IsSet s (rows_after c [] args) m
     → GivesSetting s (filter (is_of (setting_name s)) ps) m = λ s m set.
-    setting_given ps s m set.1.1 (each (setting_name s)) (ap (λ o. unwrap_or o []) (sym (setting_read c taken r ps s)
+    setting_given ps s m set.1 (each (setting_name s)) (ap (λ o. unwrap_or o []) (sym (setting_read c taken r ps s)
     ∙ ap (first_of (setting_name s)) (sym final) ∙ set.0)) in
     let named : option_map value_of (part_at (codes "name") ps) ≡ given =
-    sym (name_read c taken r ps) ∙ ap (first_of (codes "name")) (sym final) ∙ v.2 in
+    sym (name_read c taken r ps) ∙ ap (first_of (codes "name")) (sym final) ∙ v.3 in
     record {
       budget_parts = filter (is_of (codes "budget")) ps;
       restarts_parts = filter (is_of (codes "restarts")) ps;
+      kept_parts = filter (is_of (codes "keep")) ps;
       name_parts = filter (is_of (codes "name")) ps;
       gives_budget = setting the_budget n v.0;
       gives_restarts = setting the_restarts k v.1;
+      gives_kept = setting the_keep l v.2;
       gives_name = subst (GivesName (filter (is_of (codes "name")) ps)) named
-          (name_given ps (each (codes "name")) (subst HasNoHyphen (sym named) v.3));
+          (name_given ps (each (codes "name")) (subst HasNoHyphen (sym named) v.4));
       in_any_order = record { order = ps; permutation = in_order ps each flags are; words_are = a.words_are };
     }
 
@@ -281,12 +304,12 @@ module _ (flags : Flag → Bool) where
   flag_tally the_decide = flags_tally (codes "decide") all_flags ∙ omega arith
 
 module _ (c : List Rule) (knows : (s : Setting) → KnowsSetting s c) (at : Setting → ℕ)
-    (most : (s : Setting) → at s ≤ greatest_of s) (given : Option Text) where
+    (between : (s : Setting) → IsBetween (least_of s) (greatest_of s) (at s)) (given : Option Text) where
   abbrev Given : Part → Type 0
   Given p = IsGiven c at given p
 
   small : (s : Setting) → at s < 2 ^ 64
-  small s = setting_small s (at s) (most s)
+  small s = setting_small s (at s) (between s).1
 
   -- ---- one part of an argument, or none
 
@@ -346,9 +369,9 @@ module _ (c : List Rule) (knows : (s : Setting) → KnowsSetting s c) (at : Sett
 
   accepted : (p : Part) → Given p → IsAccepted p
   accepted (setting_part s t) e = subst (λ x. IsAccepted (setting_part s x)) (sym e)
-      (decimal_passes 0 (greatest_of s) (at s) (greatest_small s) (omega arith, most s))
+      (decimal_passes (least_of s) (greatest_of s) (at s) (greatest_small s) (between s))
   accepted (joined_part s t) e = subst (λ x. IsAccepted (joined_part s x)) (sym e)
-      (decimal_passes 0 (greatest_of s) (at s) (greatest_small s) (omega arith, most s))
+      (decimal_passes (least_of s) (greatest_of s) (at s) (greatest_small s) (between s))
   accepted (flag_part f) k = refl
   accepted (name_part w) h = refl
 
@@ -375,8 +398,10 @@ module _ (c : List Rule) (knows : (s : Setting) → KnowsSetting s c) (at : Sett
   name_value : (p : Part) → is_of (codes "name") p ≡ true → Given p → Some (value_of p) ≡ given
   name_value (setting_part the_budget t) is e = absurd cc
   name_value (setting_part the_restarts t) is e = absurd cc
+  name_value (setting_part the_keep t) is e = absurd cc
   name_value (joined_part the_budget t) is e = absurd cc
   name_value (joined_part the_restarts t) is e = absurd cc
+  name_value (joined_part the_keep t) is e = absurd cc
   name_value (flag_part f) is k = absurd (unlike _ (apart_name f) is)
   name_value (name_part w) is h = sym h.0
 
@@ -387,13 +412,14 @@ module _ (c : List Rule) (knows : (s : Setting) → KnowsSetting s c) (at : Sett
     pub once : AreOnce [] order
     pub passes : level_fault (leaf c) [] nothing_held (flat_map spelled order) false [] ≡ []
     pub rows_are : rows_after c [] (flat_map spelled order) ≡ fold with_default (map new_row order) c
-    pub values : AreInput (fold with_default (map new_row order) c) (at the_budget) (at the_restarts) given
+    pub values : AreInput (fold with_default (map new_row order) c) (at the_budget) (at the_restarts) (at the_keep)
+        given
     pub flags : (f : Flag) → is_some (part_at (flag_name f) order) ≡ q f
     pub lacks : LacksDashes (flat_map spelled order)
 
   module _ (taken : List Flag) (r : AreInputRules c taken) (args : List Text) (q : Flag → Bool)
       (knows_flags : (f : Flag) → q f ≡ true → KnowsFlag f c)
-      (s : GivesInput args (at the_budget) (at the_restarts) q given) where
+      (s : GivesInput args (at the_budget) (at the_restarts) (at the_keep) q given) where
     abbrev order : List Part
     order = s.in_any_order.order
 
@@ -402,6 +428,9 @@ module _ (c : List Rule) (knows : (s : Setting) → KnowsSetting s c) (at : Sett
 
     restarts_group : AtMostOne (codes "restarts") s.restarts_parts
     restarts_group = some_setting the_restarts s.restarts_parts s.gives_restarts
+
+    kept_group : AtMostOne (codes "keep") s.kept_parts
+    kept_group = some_setting the_keep s.kept_parts s.gives_kept
 
     name_group : AtMostOne (codes "name") s.name_parts
     name_group = some_name s.name_parts given refl s.gives_name
@@ -415,34 +444,43 @@ module _ (c : List Rule) (knows : (s : Setting) → KnowsSetting s c) (at : Sett
         go true e rest = rw e (knows_flags f e, rest)
         go false e rest = rw e rest
 
+    abbrev numbers : List Part
+    numbers = s.budget_parts ++ s.restarts_parts ++ s.kept_parts
+
     all : AllByRecursion Given order
     all =
-        let parts = s.budget_parts ++ s.restarts_parts ++ s.name_parts ++ flag_parts q in
-        let numbers = all_append Given s.budget_parts s.restarts_parts
+        let both = all_append Given s.budget_parts s.restarts_parts
         (all_given (codes "budget") s.budget_parts budget_group)
         (all_given (codes "restarts") s.restarts_parts restarts_group) in
-        let before = all_append Given (s.budget_parts ++ s.restarts_parts ++ s.name_parts) (flag_parts q)
-        (all_append Given (s.budget_parts ++ s.restarts_parts) s.name_parts numbers
-        (all_given (codes "name") s.name_parts name_group)) (flags_given all_flags) in
+        let settings = all_append Given (s.budget_parts ++ s.restarts_parts) s.kept_parts both
+        (all_given (codes "keep") s.kept_parts kept_group) in
+        let before = all_append Given (numbers ++ s.name_parts) (flag_parts q)
+        (all_append Given numbers s.name_parts settings (all_given (codes "name") s.name_parts name_group))
+        (flags_given all_flags) in
         recursion_from_All Given order
-        (All-permutation Given parts order s.in_any_order.permutation (All-from_recursion Given parts before))
+        (All-permutation Given (numbers ++ s.name_parts ++ flag_parts q) order s.in_any_order.permutation
+        (All-from_recursion Given (numbers ++ s.name_parts ++ flag_parts q) before))
 
     count : (id : Text) → tally id order
-        ≡ tally id s.budget_parts + tally id s.restarts_parts + tally id s.name_parts + tally id (flag_parts q)
+        ≡ tally id s.budget_parts + tally id s.restarts_parts + tally id s.kept_parts + tally id s.name_parts
+        + tally id (flag_parts q)
     count id =
         let f = λ (p : Part). bit (is_of id p) in
         sum_by-IsPermutation f _ order s.in_any_order.permutation
-        ∙ sum_by-append f (s.budget_parts ++ s.restarts_parts ++ s.name_parts) (flag_parts q)
-        ∙ ap (λ k. k + tally id (flag_parts q)) (sum_by-append f (s.budget_parts ++ s.restarts_parts) s.name_parts
-        ∙ ap (λ k. k + tally id s.name_parts) (sum_by-append f s.budget_parts s.restarts_parts))
+        ∙ sum_by-append f (numbers ++ s.name_parts) (flag_parts q)
+        ∙ ap (λ k. k + tally id (flag_parts q)) (sum_by-append f numbers s.name_parts
+        ∙ ap (λ k. k + tally id s.name_parts) (sum_by-append f (s.budget_parts ++ s.restarts_parts) s.kept_parts
+        ∙ ap (λ k. k + tally id s.kept_parts) (sum_by-append f s.budget_parts s.restarts_parts)))
 
     limits : (id : Text) → (tally id s.budget_parts ≤ bit (bytes_eq (codes "budget") id))
         × (tally id s.restarts_parts ≤ bit (bytes_eq (codes "restarts") id))
+        × (tally id s.kept_parts ≤ bit (bytes_eq (codes "keep") id))
         × (tally id s.name_parts ≤ bit (bytes_eq (codes "name") id))
         × (tally id (flag_parts q) ≤ times id flag_names)
     limits id = (
       one_tally (codes "budget") id s.budget_parts budget_group,
       one_tally (codes "restarts") id s.restarts_parts restarts_group,
+      one_tally (codes "keep") id s.kept_parts kept_group,
       one_tally (codes "name") id s.name_parts name_group,
       subst (λ n. n ≤ times id flag_names) (sym (flags_tally q id all_flags)) (given_within q id all_flags),
     )
@@ -451,8 +489,9 @@ module _ (c : List Rule) (knows : (s : Setting) → KnowsSetting s c) (at : Sett
     order_once id =
         let l = limits id in
         let names : bit (bytes_eq (codes "budget") id) + (bit (bytes_eq (codes "restarts") id)
-        + (bit (bytes_eq (codes "name") id) + times id flag_names)) ≤ 1 = one_argument id in
-        omega (arith, count id, l.0, l.1, l.2, l.3, names)
+        + (bit (bytes_eq (codes "keep") id) + (bit (bytes_eq (codes "name") id) + times id flag_names))) ≤ 1 =
+        one_argument id in
+        omega (arith, count id, l.0, l.1, l.2, l.3, l.4, names)
 
     -- an argument without a part, and one with a part
     not_found : (id : Text) → tally id order ≡ 0 → part_at id order ≡ None
@@ -472,25 +511,36 @@ module _ (c : List Rule) (knows : (s : Setting) → KnowsSetting s c) (at : Sett
     abbrev parts_of : Setting → List Part
     parts_of the_budget = s.budget_parts
     parts_of the_restarts = s.restarts_parts
+    parts_of the_keep = s.kept_parts
 
     -- the parts of an option are among all, and all its parts are these
     some_of : (x : Setting) → tally (setting_name x) (parts_of x) ≤ tally (setting_name x) order
     some_of the_budget = omega (arith, count (codes "budget"))
     some_of the_restarts = omega (arith, count (codes "restarts"))
+    some_of the_keep = omega (arith, count (codes "keep"))
 
     none_of : (x : Setting) → tally (setting_name x) (parts_of x) ≡ 0 → tally (setting_name x) order ≡ 0
     none_of the_budget none =
         let id = codes "budget" in
         let r_none : tally id s.restarts_parts ≤ 0 = (limits id).1 in
-        let n_none : tally id s.name_parts ≤ 0 = (limits id).2 in
-        let f_none : tally id (flag_parts q) ≤ 0 = (limits id).3 in
-        omega (arith, count id, none, r_none, n_none, f_none)
+        let k_none : tally id s.kept_parts ≤ 0 = (limits id).2 in
+        let n_none : tally id s.name_parts ≤ 0 = (limits id).3 in
+        let f_none : tally id (flag_parts q) ≤ 0 = (limits id).4 in
+        omega (arith, count id, none, r_none, k_none, n_none, f_none)
     none_of the_restarts none =
         let id = codes "restarts" in
         let b_none : tally id s.budget_parts ≤ 0 = (limits id).0 in
-        let n_none : tally id s.name_parts ≤ 0 = (limits id).2 in
-        let f_none : tally id (flag_parts q) ≤ 0 = (limits id).3 in
-        omega (arith, count id, none, b_none, n_none, f_none)
+        let k_none : tally id s.kept_parts ≤ 0 = (limits id).2 in
+        let n_none : tally id s.name_parts ≤ 0 = (limits id).3 in
+        let f_none : tally id (flag_parts q) ≤ 0 = (limits id).4 in
+        omega (arith, count id, none, b_none, k_none, n_none, f_none)
+    none_of the_keep none =
+        let id = codes "keep" in
+        let b_none : tally id s.budget_parts ≤ 0 = (limits id).0 in
+        let r_none : tally id s.restarts_parts ≤ 0 = (limits id).1 in
+        let n_none : tally id s.name_parts ≤ 0 = (limits id).3 in
+        let f_none : tally id (flag_parts q) ≤ 0 = (limits id).4 in
+        omega (arith, count id, none, b_none, r_none, n_none, f_none)
 
     setting_told : (x : Setting) → GivesSetting x (parts_of x) (at x)
         → option_map_or value_of (part_at (setting_name x) order) (default_text x) ≡ decimal (at x)
@@ -507,7 +557,7 @@ module _ (c : List Rule) (knows : (s : Setting) → KnowsSetting s c) (at : Sett
     setting_set : (x : Setting) → GivesSetting x (parts_of x) (at x)
         → IsSet x (fold with_default (map new_row order) c) (at x)
     setting_set x gives =
-        (setting_read c taken r order x ∙ ap (λ t. Some t) (setting_told x gives), (omega arith, most x))
+        (setting_read c taken r order x ∙ ap (λ t. Some t) (setting_told x gives), between x)
 
     name_told : (g : Option Text) → given ≡ g → GivesName s.name_parts g
         → option_map value_of (part_at (codes "name") order) ≡ g
@@ -516,8 +566,9 @@ module _ (c : List Rule) (knows : (s : Setting) → KnowsSetting s c) (at : Sett
         let none : tally id s.name_parts ≡ 0 = ap (tally id) h in
         let b_none : tally id s.budget_parts ≤ 0 = (limits id).0 in
         let r_none : tally id s.restarts_parts ≤ 0 = (limits id).1 in
-        let f_none : tally id (flag_parts q) ≤ 0 = (limits id).3 in
-        rw (not_found id (omega (arith, count id, none, b_none, r_none, f_none))) refl
+        let k_none : tally id s.kept_parts ≤ 0 = (limits id).2 in
+        let f_none : tally id (flag_parts q) ≤ 0 = (limits id).4 in
+        rw (not_found id (omega (arith, count id, none, b_none, r_none, k_none, f_none))) refl
     name_told (Some w) is h =
         let one = one_of (codes "name") s.name_parts (one_name s.name_parts w is h) in
         let p = found (codes "name") (omega (arith, count (codes "name"), one)) in
@@ -535,8 +586,9 @@ module _ (c : List Rule) (knows : (s : Setting) → KnowsSetting s c) (at : Sett
         let l = limits id in
         let b_none = not_flag (codes "budget") f (setting_apart the_budget f) s.budget_parts l.0 in
         let r_none = not_flag (codes "restarts") f (setting_apart the_restarts f) s.restarts_parts l.1 in
-        let n_none = not_flag (codes "name") f (name_apart f) s.name_parts l.2 in
-        omega (arith, count id, b_none, r_none, n_none, flag_tally q f)
+        let k_none = not_flag (codes "keep") f (setting_apart the_keep f) s.kept_parts l.2 in
+        let n_none = not_flag (codes "name") f (name_apart f) s.name_parts l.3 in
+        omega (arith, count id, b_none, r_none, k_none, n_none, flag_tally q f)
 
     flag_told : (f : Flag) (b : Bool) → q f ≡ b → is_some (part_at (flag_name f) order) ≡ b
     flag_told f false e = rw (not_found (flag_name f) (flag_count f ∙ ap bit e)) refl
@@ -564,6 +616,7 @@ module _ (c : List Rule) (knows : (s : Setting) → KnowsSetting s c) (at : Sett
           values = (
             setting_set the_budget s.gives_budget,
             setting_set the_restarts s.gives_restarts,
+            setting_set the_keep s.gives_kept,
             name_is,
             no_hyphen given s.gives_name,
           );

@@ -1,5 +1,5 @@
 -- The words of a command that reads an input, and `clap`'s account of them.
-use Rattle.std.proofs.Common.{◌≡◌, ◌⊎◌, ◌∙◌, ◌||◌, Bool, Decides, cond, true, false, List, [], ◌∷◌, map, fold, Option, Some, None, codes, option_map, slice_get, is_some, refl, sym, ap, ap₂, subst, inl, inr}
+use Rattle.std.proofs.Common.{◌≡◌, ◌⊎◌, ◌∙◌, ◌||◌, Bool, Decides, cond, drop, true, false, List, [], ◌∷◌, map, fold, Option, Some, None, codes, option_map, slice_get, is_some, refl, sym, ap, ap₂, subst, inl, inr}
 use Rattle.std.specs.List.{AllByRecursion, find, flat_map, list_any}
 use Rattle.std.specs.Option.{option_and_then, option_map_or, option_or}
 use Rattle.std.specs.Str.{bytes_eq}
@@ -14,7 +14,7 @@ use Rattle.clap.specs.declared.parser.matches.ValueSource.TheVariants.{DefaultVa
 use Rattle.command.specs.Account.{cert_app, check_app, command_app, default_text, is_set, solve_app}
 use Rattle.command.specs.Forms.{Flag, Part, Setting, all_flags, flag_name, setting_name, spelled}
 use Rattle.command.specs.Forms.Flag.{the_qdo, the_qcir, the_binary, the_trim, the_decide}
-use Rattle.command.specs.Forms.Setting.{the_budget, the_restarts}
+use Rattle.command.specs.Forms.Setting.{the_budget, the_keep, the_restarts}
 use Rattle.command.proofs.Turns.{leaf, no_kinds, rules_of}
 use Rattle.command.proofs.Names.{apart_name, apart_setting, same_flag, setting_apart}
 use Rattle.command.proofs.WordKinds.{FindsHelpAlone, KnowsFlag, KnowsSetting, Long, long_flag, long_refused, long_setting}
@@ -51,11 +51,12 @@ module _ (c : List Rule) (n : Text) where
 
   -- the name is that of an option, or the rules find at most help by it
   long_of_rules : (flags : List Flag) → ((s : Setting) → KnowsSetting s c) → AreKnown c flags
-      → (bytes_eq (codes "budget") n ≡ false → bytes_eq (codes "restarts") n ≡ false → AreOthers n flags
-      → FindsHelpAlone c n) → Long c n
+      → (bytes_eq (codes "budget") n ≡ false → bytes_eq (codes "restarts") n ≡ false
+      → bytes_eq (codes "keep") n ≡ false → AreOthers n flags → FindsHelpAlone c n) → Long c n
   long_of_rules flags settings known other =
       setting_or_other the_budget (settings the_budget) (λ b.
-      setting_or_other the_restarts (settings the_restarts) (λ r. flag_or_other flags known (other b r)))
+      setting_or_other the_restarts (settings the_restarts) (λ r.
+      setting_or_other the_keep (settings the_keep) (λ k. flag_or_other flags known (other b r k))))
 
 -- ---- defaults
 
@@ -129,10 +130,15 @@ own_default id v rows same = go (row_at id rows) refl
         let some : has_row id rows ≡ true = any_is_find (λ r. bytes_eq r.id id) rows ∙ ap is_some e in
         rw (some, e) refl
 
--- the rows with the defaults of the options
+-- the rows with the default of the budget, with that of restarts too, and with those of all options
+abbrev with_budget : List Row → List Row
+with_budget rows = defaulted (codes "budget") (default_text the_budget) rows
+
+abbrev with_both : List Row → List Row
+with_both rows = defaulted (codes "restarts") (default_text the_restarts) (with_budget rows)
+
 abbrev with_settings : List Row → List Row
-with_settings rows = defaulted (codes "restarts") (default_text the_restarts)
-    (defaulted (codes "budget") (default_text the_budget) rows)
+with_settings rows = defaulted (codes "keep") (default_text the_keep) (with_both rows)
 
 -- what `clap` reads of an option
 abbrev setting_in : Setting → List Row → Option Text
@@ -140,26 +146,33 @@ setting_in s rows = value_or (default_text s) (row_at (setting_name s) rows)
 
 settings_in : (s : Setting) (rows : List Row) → first_of (setting_name s) (with_settings rows) ≡ setting_in s rows
 settings_in the_budget rows =
-    kept (codes "restarts") (codes "budget") (default_text the_restarts)
-    (defaulted (codes "budget") (default_text the_budget) rows) refl
+    kept (codes "keep") (codes "budget") (default_text the_keep) (with_both rows) refl
+    ∙ kept (codes "restarts") (codes "budget") (default_text the_restarts) (with_budget rows) refl
     ∙ own_default (codes "budget") (default_text the_budget) rows refl
 settings_in the_restarts rows =
-    own_default (codes "restarts") (default_text the_restarts)
-    (defaulted (codes "budget") (default_text the_budget) rows) refl
+    kept (codes "keep") (codes "restarts") (default_text the_keep) (with_both rows) refl
+    ∙ own_default (codes "restarts") (default_text the_restarts) (with_budget rows) refl
     ∙ ap (value_or (default_text the_restarts))
     (kept_find (codes "budget") (codes "restarts") (default_text the_budget) rows refl)
+settings_in the_keep rows =
+    own_default (codes "keep") (default_text the_keep) (with_both rows) refl
+    ∙ ap (value_or (default_text the_keep))
+    (kept_find (codes "restarts") (codes "keep") (default_text the_restarts) (with_budget rows) refl
+    ∙ kept_find (codes "budget") (codes "keep") (default_text the_budget) rows refl)
 
 -- another argument is found as before
 other_find : (id : Text) (rows : List Row) → bytes_eq (codes "budget") id ≡ false
-    → bytes_eq (codes "restarts") id ≡ false → row_at id (with_settings rows) ≡ row_at id rows
-other_find id rows b r =
-    kept_find (codes "restarts") id (default_text the_restarts)
-    (defaulted (codes "budget") (default_text the_budget) rows) r
+    → bytes_eq (codes "restarts") id ≡ false → bytes_eq (codes "keep") id ≡ false
+    → row_at id (with_settings rows) ≡ row_at id rows
+other_find id rows b r k =
+    kept_find (codes "keep") id (default_text the_keep) (with_both rows) k
+    ∙ kept_find (codes "restarts") id (default_text the_restarts) (with_budget rows) r
     ∙ kept_find (codes "budget") id (default_text the_budget) rows b
 
 other_in : (id : Text) (rows : List Row) → bytes_eq (codes "budget") id ≡ false
-    → bytes_eq (codes "restarts") id ≡ false → first_of id (with_settings rows) ≡ first_of id rows
-other_in id rows b r = ap (option_and_then (λ (r : Row). slice_get r.values 0)) (other_find id rows b r)
+    → bytes_eq (codes "restarts") id ≡ false → bytes_eq (codes "keep") id ≡ false
+    → first_of id (with_settings rows) ≡ first_of id rows
+other_in id rows b r k = ap (option_and_then (λ (r : Row). slice_get r.values 0)) (other_find id rows b r k)
 
 -- the rows with the defaults of these flags
 abbrev with_flags : List Flag → List Row → List Row
@@ -247,37 +260,39 @@ full_rules = rules_of (command_app [] all_flags)
 input_knows : (s : Setting) → KnowsSetting s input_rules
 input_knows the_budget = (refl, refl)
 input_knows the_restarts = (refl, refl)
+input_knows the_keep = (refl, refl)
 
 pub input_are : AreInputRules input_rules []
 input_are = record {
   rules = record {
     help_alone = λ x. refl;
-    long = λ n. long_of_rules input_rules n [] input_knows tt (λ b r others. rw (b, r) refl);
+    long = λ n. long_of_rules input_rules n [] input_knows tt (λ b r k others. rw (b, r, k) refl);
     left = (refl, record { found = refl; one_use = refl; one_value = refl; no_trail = refl }, refl, refl);
   };
   knows = input_knows;
   known = tt;
   ends = λ rows. ap (λ k. or_else k []) (harmless rows input_rules
-      (inr refl, (inr refl, (inl refl, (inl refl, tt)))));
+      (inr refl, (inr refl, (inr refl, (inl refl, (inl refl, tt))))));
   last = λ rows. none_by (codes "help") _ ∙ none_by (codes "name") (with_settings rows);
 }
 
 solve_knows : (s : Setting) → KnowsSetting s solve_rules
 solve_knows the_budget = (refl, refl)
 solve_knows the_restarts = (refl, refl)
+solve_knows the_keep = (refl, refl)
 
 pub solve_are : AreInputRules solve_rules (the_qdo ∷ the_qcir ∷ [])
 solve_are = record {
   rules = record {
     help_alone = λ x. refl;
     long = λ n. long_of_rules solve_rules n (the_qdo ∷ the_qcir ∷ []) solve_knows (refl, (refl, tt))
-        (λ b r others. rw (b, r, others.0, others.1.0) refl);
+        (λ b r k others. rw (b, r, k, others.0, others.1.0) refl);
     left = (refl, record { found = refl; one_use = refl; one_value = refl; no_trail = refl }, refl, refl);
   };
   knows = solve_knows;
   known = (refl, (refl, tt));
   ends = λ rows. ap (λ k. or_else k []) (harmless rows solve_rules
-      (inr refl, (inr refl, (inl refl, (inr refl, (inr refl, (inl refl, tt)))))));
+      (inr refl, (inr refl, (inr refl, (inl refl, (inr refl, (inr refl, (inl refl, tt))))))));
   last = λ rows. none_by (codes "help") _
       ∙ ap (with_flags (the_qdo ∷ the_qcir ∷ [])) (none_by (codes "name") (with_settings rows));
 }
@@ -285,19 +300,20 @@ solve_are = record {
 cert_knows : (s : Setting) → KnowsSetting s cert_rules
 cert_knows the_budget = (refl, refl)
 cert_knows the_restarts = (refl, refl)
+cert_knows the_keep = (refl, refl)
 
 pub cert_are : AreInputRules cert_rules (the_binary ∷ the_trim ∷ [])
 cert_are = record {
   rules = record {
     help_alone = λ x. refl;
     long = λ n. long_of_rules cert_rules n (the_binary ∷ the_trim ∷ []) cert_knows (refl, (refl, tt))
-        (λ b r others. rw (b, r, others.0, others.1.0) refl);
+        (λ b r k others. rw (b, r, k, others.0, others.1.0) refl);
     left = (refl, record { found = refl; one_use = refl; one_value = refl; no_trail = refl }, refl, refl);
   };
   knows = cert_knows;
   known = (refl, (refl, tt));
   ends = λ rows. ap (λ k. or_else k []) (harmless rows cert_rules
-      (inr refl, (inr refl, (inl refl, (inr refl, (inr refl, (inl refl, tt)))))));
+      (inr refl, (inr refl, (inr refl, (inl refl, (inr refl, (inr refl, (inl refl, tt))))))));
   last = λ rows. none_by (codes "help") _
       ∙ ap (with_flags (the_binary ∷ the_trim ∷ [])) (none_by (codes "name") (with_settings rows));
 }
@@ -305,19 +321,20 @@ cert_are = record {
 check_knows : (s : Setting) → KnowsSetting s check_rules
 check_knows the_budget = (refl, refl)
 check_knows the_restarts = (refl, refl)
+check_knows the_keep = (refl, refl)
 
 pub check_are : AreInputRules check_rules (the_decide ∷ [])
 check_are = record {
   rules = record {
     help_alone = λ x. refl;
     long = λ n. long_of_rules check_rules n (the_decide ∷ []) check_knows (refl, tt)
-        (λ b r others. rw (b, r, others.0) refl);
+        (λ b r k others. rw (b, r, k, others.0) refl);
     left = (refl, record { found = refl; one_use = refl; one_value = refl; no_trail = refl }, refl, refl);
   };
   knows = check_knows;
   known = (refl, tt);
   ends = λ rows. ap (λ k. or_else k []) (harmless rows check_rules
-      (inr refl, (inr refl, (inl refl, (inr refl, (inl refl, tt))))));
+      (inr refl, (inr refl, (inr refl, (inl refl, (inr refl, (inl refl, tt)))))));
   last = λ rows. none_by (codes "help") _
       ∙ ap (with_flags (the_decide ∷ [])) (none_by (codes "name") (with_settings rows));
 }
@@ -325,19 +342,23 @@ check_are = record {
 full_knows : (s : Setting) → KnowsSetting s full_rules
 full_knows the_budget = (refl, refl)
 full_knows the_restarts = (refl, refl)
+full_knows the_keep = (refl, refl)
+
+flags_harmless : AllByRecursion IsHarmless (drop 4 full_rules)
+flags_harmless = (inr refl, (inr refl, (inr refl, (inr refl, (inr refl, (inl refl, tt))))))
 
 pub full_are : AreInputRules full_rules all_flags
 full_are = record {
   rules = record {
     help_alone = λ x. refl;
     long = λ n. long_of_rules full_rules n all_flags full_knows (refl, (refl, (refl, (refl, (refl, tt)))))
-        (λ b r others. rw (b, r, others.0, others.1.0, others.1.1.0, others.1.1.1.0, others.1.1.1.1.0) refl);
+        (λ b r k others. rw (b, r, k, others.0, others.1.0, others.1.1.0, others.1.1.1.0, others.1.1.1.1.0) refl);
     left = (refl, record { found = refl; one_use = refl; one_value = refl; no_trail = refl }, refl, refl);
   };
   knows = full_knows;
   known = (refl, (refl, (refl, (refl, (refl, tt)))));
   ends = λ rows. ap (λ k. or_else k []) (harmless rows full_rules
-      (inr refl, (inr refl, (inl refl, (inr refl, (inr refl, (inr refl, (inr refl, (inr refl, (inl refl, tt))))))))));
+      (inr refl, (inr refl, (inr refl, (inl refl, flags_harmless)))));
   last = λ rows. none_by (codes "help") _
       ∙ ap (with_flags all_flags) (none_by (codes "name") (with_settings rows));
 }
@@ -349,11 +370,12 @@ module _ (c : List Rule) (flags : List Flag) (r : AreInputRules c flags) (rows :
 
   name_last : first_of (codes "name") (fold with_default rows c) ≡ first_of (codes "name") rows
   name_last = ap (first_of (codes "name")) (r.last rows)
-      ∙ flags_in (codes "name") apart_name flags (with_settings rows) ∙ other_in (codes "name") rows refl refl
+      ∙ flags_in (codes "name") apart_name flags (with_settings rows) ∙ other_in (codes "name") rows refl refl refl
 
   flag_last : (f : Flag) → is_set (flag_name f) (fold with_default rows c) ≡ is_set (flag_name f) rows
   flag_last f = ap (is_set (flag_name f)) (r.last rows) ∙ flags_kept f flags (with_settings rows)
-      ∙ ap says_true (other_in (flag_name f) rows (setting_apart the_budget f) (setting_apart the_restarts f))
+      ∙ ap says_true (other_in (flag_name f) rows (setting_apart the_budget f) (setting_apart the_restarts f)
+      (setting_apart the_keep f))
 
 -- ---- what `clap` reads of parts
 

@@ -5,7 +5,7 @@ use Rattle.std.specs.Str.{bytes_eq}
 use Rattle.std.proofs.lemmas.Slice.Eq.{bytes_eq-Decides}
 use Rattle.command.specs.Forms.{Flag, Setting, Text, all_flags, flag_name, setting_name}
 use Rattle.command.specs.Forms.Flag.{the_qdo, the_qcir, the_binary, the_trim, the_decide}
-use Rattle.command.specs.Forms.Setting.{the_budget, the_restarts}
+use Rattle.command.specs.Forms.Setting.{the_budget, the_keep, the_restarts}
 
 -- ---- flags by their names
 
@@ -46,6 +46,11 @@ setting_apart the_restarts the_qcir = refl
 setting_apart the_restarts the_binary = refl
 setting_apart the_restarts the_trim = refl
 setting_apart the_restarts the_decide = refl
+setting_apart the_keep the_qdo = refl
+setting_apart the_keep the_qcir = refl
+setting_apart the_keep the_binary = refl
+setting_apart the_keep the_trim = refl
+setting_apart the_keep the_decide = refl
 
 pub name_apart : (f : Flag) → bytes_eq (codes "name") (flag_name f) ≡ false
 name_apart the_qdo = refl
@@ -87,8 +92,9 @@ abbrev pub flag_names : List Text
 flag_names = map flag_name all_flags
 
 abbrev pub argument_names : List Text
-argument_names = codes "budget" ∷ codes "restarts" ∷ codes "name" ∷ flag_names
+argument_names = codes "budget" ∷ codes "restarts" ∷ codes "keep" ∷ codes "name" ∷ flag_names
 
 -- an argument is one of these at most
 pub one_argument : (id : Text) → times id argument_names ≤ 1
-one_argument id = once_at_most id argument_names (refl, (refl, (refl, (refl, (refl, (refl, (refl, (refl, tt))))))))
+one_argument id = once_at_most id argument_names
+    (refl, (refl, (refl, (refl, (refl, (refl, (refl, (refl, (refl, tt)))))))))

@@ -10,7 +10,7 @@ use Rattle.clap.specs.Faults.{defaults_fault, level_fault}
 use Rattle.command.specs.Account.{AreDemo, AreGen, demo_app, gen_app, number_rule}
 use Rattle.command.specs.Forms.{Flag, IsBetween, Part, Setting, spelled}
 use Rattle.command.specs.Forms.Flag.{the_qdo, the_qcir, the_binary, the_trim, the_decide}
-use Rattle.command.specs.Forms.Setting.{the_budget, the_restarts}
+use Rattle.command.specs.Forms.Setting.{the_budget, the_keep, the_restarts}
 use Rattle.command.specs.Forms.Part.{setting_part, joined_part, flag_part, name_part}
 use Rattle.command.proofs.DecimalWords.{decimal_passes, decimal_word}
 use Rattle.command.proofs.Turns.{IsPlainWord, leaf, no_kinds, rules_of}
@@ -40,10 +40,12 @@ demo_rules = rules_of demo_app
 gen_settings : (s : Setting) → KnowsSetting s gen_rules → ⊥
 gen_settings the_budget h = let bad = h.0 in absurd cc
 gen_settings the_restarts h = let bad = h.0 in absurd cc
+gen_settings the_keep h = let bad = h.0 in absurd cc
 
 demo_settings : (s : Setting) → KnowsSetting s demo_rules → ⊥
 demo_settings the_budget h = let bad = h.0 in absurd cc
 demo_settings the_restarts h = let bad = h.0 in absurd cc
+demo_settings the_keep h = let bad = h.0 in absurd cc
 
 gen_flags : (f : Flag) → KnowsFlag f gen_rules → ⊥
 gen_flags the_qdo bad = absurd cc

@@ -1,4 +1,4 @@
--- What the parts `[--budget N] [--restarts R] [--FLAG] .. [NAME]` use: each argument once at most.
+-- What the parts `[--budget N] [--restarts R] [--keep K] [--FLAG] .. [NAME]` use: each argument once at most.
 use Rattle.std.proofs.Common.{◌≡◌, ◌≢◌, ◌∙◌, ◌++◌, ◌||◌, ◌+◌, ◌≤◌, ℕ, Bool, cond, true, false, List, [], ◌∷◌, map, Option, Some, None, IsPermutation, codes, option_map, slice_get, refl, sym, ap, subst, arith, append-nil, append_assoc}
 use Rattle.std.specs.List.{AllByRecursion, filter, find, sum_by}
 use Rattle.std.specs.Prelude.{option_and_then}
@@ -19,7 +19,7 @@ use Rattle.command.specs.Account.{name_rule}
 use Rattle.command.specs.Forms.{Part, flag_name, setting_name}
 use Rattle.command.specs.Forms.Flag.{the_qdo, the_qcir, the_binary, the_trim, the_decide}
 use Rattle.command.specs.Forms.Part.{setting_part, joined_part, flag_part, name_part}
-use Rattle.command.specs.Forms.Setting.{the_budget, the_restarts}
+use Rattle.command.specs.Forms.Setting.{the_budget, the_keep, the_restarts}
 use Rattle.command.proofs.Names.{argument_names, bit}
 use Rattle.command.proofs.Turns.{no_kinds}
 use Rattle.command.proofs.WordKinds.{flag, setting}
@@ -138,8 +138,10 @@ tally-cons id p ps = sum_by-cons (λ q. bit (is_of id q)) p ps
 pub of_itself : (p : Part) → is_of (id_of p) p ≡ true
 of_itself (setting_part the_budget t) = refl
 of_itself (setting_part the_restarts t) = refl
+of_itself (setting_part the_keep t) = refl
 of_itself (joined_part the_budget t) = refl
 of_itself (joined_part the_restarts t) = refl
+of_itself (joined_part the_keep t) = refl
 of_itself (flag_part the_qdo) = refl
 of_itself (flag_part the_qcir) = refl
 of_itself (flag_part the_binary) = refl
@@ -337,8 +339,10 @@ of_one p (n ∷ ns) ps e = go (is_of n p) refl (of_one p ns ps)
 own_once : (p : Part) → own p argument_names ≡ 1
 own_once (setting_part the_budget t) = refl
 own_once (setting_part the_restarts t) = refl
+own_once (setting_part the_keep t) = refl
 own_once (joined_part the_budget t) = refl
 own_once (joined_part the_restarts t) = refl
+own_once (joined_part the_keep t) = refl
 own_once (name_part w) = refl
 own_once (flag_part the_qdo) = refl
 own_once (flag_part the_qcir) = refl

@@ -10,7 +10,7 @@ use Rattle.clap.specs.Faults.{check_fault, defaults_fault, level_fault, long_fau
 use Rattle.clap.proofs.WalkLemmas.{walked_is}
 use Rattle.command.specs.Forms.{Flag, Part, Setting, flag_name, setting_name, spelled}
 use Rattle.command.specs.Forms.Part.{setting_part, joined_part, flag_part, name_part}
-use Rattle.command.specs.Forms.Setting.{the_budget, the_restarts}
+use Rattle.command.specs.Forms.Setting.{the_budget, the_keep, the_restarts}
 use Rattle.command.proofs.Turns.{IsPlainWord, Pending, as_setting, at, first_of_three, for_setting, held, leaf, no_value_yet, no_kinds, nothing_after, plain_fault, plain_met}
 use Rattle.command.proofs.Spelled.{flag_long, flag_not_dashes, flag_spelled, flag_word, joined_long, joined_not_dashes, joined_spelled, joined_word, option_long, option_not_dashes, option_spelled, option_word}
 use Rattle.command.proofs.WordKinds.{IsNotDashes, IsRefused, Kind, KnowsFlag, KnowsHelpAlone, KnowsSetting, Long, flag, is_flag, is_plain, is_refused, is_setting, kind_of_word, long_fault_is, long_met_is, sets, setting}
@@ -116,6 +116,7 @@ module _ (c : List Rule) where
       → plain_word c (for_setting s) x (held rows (no_value_yet s)) ≡ (held rows (as_setting s x), next idle)
   value_met the_budget knows rows x = rw knows.1 refl
   value_met the_restarts knows rows x = rw knows.1 refl
+  value_met the_keep knows rows x = rw knows.1 refl
 
   -- a value that an option waits for
   by_value : (s : Setting) → KnowsSetting s c → (rows : List Row) (position : ℕ) (x : Text) (rest : List Text)

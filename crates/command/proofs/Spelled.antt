@@ -7,7 +7,7 @@ use Rattle.std.specs.Str.{bytes_eq}
 use Rattle.clap.specs.Words.{Text}
 use Rattle.command.specs.Forms.{Flag, Setting, flag_name, setting_name}
 use Rattle.command.specs.Forms.Flag.{the_qdo, the_qcir, the_binary, the_trim, the_decide}
-use Rattle.command.specs.Forms.Setting.{the_budget, the_restarts}
+use Rattle.command.specs.Forms.Setting.{the_budget, the_keep, the_restarts}
 
 -- what stands behind a name: nothing, or `=` and the value
 abbrev pub value_tail : Option Text → Text
@@ -70,28 +70,34 @@ joined_word s t = codes "--" ++ (setting_name s ++ (codes "=" ++ t))
 pub option_spelled : (s : Setting) (w : Text) → long_of w ≡ Some (setting_name s, None) → w ≡ option_word s
 option_spelled the_budget w e = long_spelled w (codes "budget") None e
 option_spelled the_restarts w e = long_spelled w (codes "restarts") None e
+option_spelled the_keep w e = long_spelled w (codes "keep") None e
 
 pub joined_spelled : (s : Setting) (w t : Text) → long_of w ≡ Some (setting_name s, Some t) → w ≡ joined_word s t
 joined_spelled the_budget w t e = long_spelled w (codes "budget") (Some t) e
 joined_spelled the_restarts w t e = long_spelled w (codes "restarts") (Some t) e
+joined_spelled the_keep w t e = long_spelled w (codes "keep") (Some t) e
 
 -- and what is spelled so has this name
 pub option_long : (s : Setting) → long_of (option_word s) ≡ Some (setting_name s, None)
 option_long the_budget = refl
 option_long the_restarts = refl
+option_long the_keep = refl
 
 pub joined_long : (s : Setting) (t : Text) → long_of (joined_word s t) ≡ Some (setting_name s, Some t)
 joined_long the_budget t = refl
 joined_long the_restarts t = refl
+joined_long the_keep t = refl
 
 -- it isn't `--`
 pub option_not_dashes : (s : Setting) → bytes_eq (option_word s) (45 ∷ 45 ∷ []) ≡ false
 option_not_dashes the_budget = refl
 option_not_dashes the_restarts = refl
+option_not_dashes the_keep = refl
 
 pub joined_not_dashes : (s : Setting) (t : Text) → bytes_eq (joined_word s t) (45 ∷ 45 ∷ []) ≡ false
 joined_not_dashes the_budget t = refl
 joined_not_dashes the_restarts t = refl
+joined_not_dashes the_keep t = refl
 
 -- ---- the word of a flag
 

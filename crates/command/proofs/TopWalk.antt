@@ -134,29 +134,29 @@ all_are = (
 
 -- how `clap` is told of the command
 abbrev pub app_for : Command → App
-app_for (Solve n k q g) = solve_app
-app_for (Trace n k g) = command_app (codes "trace") []
-app_for (Cert n k b t g) = cert_app
-app_for (Check n k d g) = check_app
-app_for (Script n k g) = command_app (codes "script") []
+app_for (Solve n k l q g) = solve_app
+app_for (Trace n k l g) = command_app (codes "trace") []
+app_for (Cert n k l b t g) = cert_app
+app_for (Check n k l d g) = check_app
+app_for (Script n k l g) = command_app (codes "script") []
 app_for (Gen s v k) = gen_app
 app_for (Demo s k) = demo_app
 
 pub is_command : (c : Command) → IsCommand (app_for c)
-is_command (Solve n k q g) = all_are.0
-is_command (Trace n k g) = all_are.1.0
-is_command (Cert n k b t g) = all_are.1.1.0
-is_command (Check n k d g) = all_are.1.1.1.0
-is_command (Script n k g) = all_are.1.1.1.1.0
+is_command (Solve n k l q g) = all_are.0
+is_command (Trace n k l g) = all_are.1.0
+is_command (Cert n k l b t g) = all_are.1.1.0
+is_command (Check n k l d g) = all_are.1.1.1.0
+is_command (Script n k l g) = all_are.1.1.1.1.0
 is_command (Gen s v k) = all_are.1.1.1.1.1.0
 is_command (Demo s k) = all_are.1.1.1.1.1.1.0
 
 pub word_is : (c : Command) → (app_for c).top.name ≡ word_of c
-word_is (Solve n k q g) = refl
-word_is (Trace n k g) = refl
-word_is (Cert n k b t g) = refl
-word_is (Check n k d g) = refl
-word_is (Script n k g) = refl
+word_is (Solve n k l q g) = refl
+word_is (Trace n k l g) = refl
+word_is (Cert n k l b t g) = refl
+word_is (Check n k l d g) = refl
+word_is (Script n k l g) = refl
 word_is (Gen s v k) = refl
 word_is (Demo s k) = refl
 

@@ -7,7 +7,7 @@ use Rattle.clap.specs.declared.ArgMatches.{ArgMatches}
 use Rattle.clap.proofs.WalkLemmas.{first_value-rows}
 use Rattle.command.specs.Account.{AreInput, AreValues, HasNoHyphen, IsNumberAt, IsSet, is_set}
 use Rattle.command.specs.Forms.{word_of}
-use Rattle.command.specs.Forms.Setting.{the_restarts}
+use Rattle.command.specs.Forms.Setting.{the_keep, the_restarts}
 use Rattle.command.specs.declared.command.Command.{Command}
 use Rattle.command.specs.declared.command.Command.TheVariants.{Cert, Check, Demo, Gen, Script, Solve, Trace}
 
@@ -15,7 +15,7 @@ pub if_none : {X : Type 0} (o : Option X) (P : Type 0) → P → IfNone o P
 if_none None P p = p
 if_none (Some x) P p = tt
 
-module _ (m : ArgMatches) (n k : ℕ) (given : Option Text) where
+module _ (m : ArgMatches) (n k l : ℕ) (given : Option Text) where
   abbrev budget_found : Option Text
   budget_found = first_value (found_of m) (codes "budget")
 
@@ -23,7 +23,7 @@ module _ (m : ArgMatches) (n k : ℕ) (given : Option Text) where
   name_found = first_value (found_of m) (codes "name")
 
   abbrev Found : Type 0
-  Found = AreInput (rows_of (found_of m)) n k given
+  Found = AreInput (rows_of (found_of m)) n k l given
 
   pub no_budget : None ≡ budget_found → Found → ⊥
   no_budget is v = let bad = is ∙ first_value-rows (found_of m) (codes "budget") ∙ v.0.0 in absurd cc
@@ -36,19 +36,24 @@ module _ (m : ArgMatches) (n k : ℕ) (given : Option Text) where
   pub other_restarts : ((j : ℕ) → IsSet the_restarts (rows_of (found_of m)) j → ⊥) → Found → ⊥
   other_restarts none v = none k v.1
 
+  pub other_kept : ((j : ℕ) → IsSet the_keep (rows_of (found_of m)) j → ⊥) → Found → ⊥
+  other_kept none v = none l v.2
+
   pub other_name : (o : Option Text) → o ≡ name_found → (HasNoHyphen o → ⊥) → Found → ⊥
   other_name o is bad v =
-      let same = sym v.2 ∙ sym (first_value-rows (found_of m) (codes "name")) ∙ sym is in
-      bad (subst HasNoHyphen same v.3)
+      let same = sym v.3 ∙ sym (first_value-rows (found_of m) (codes "name")) ∙ sym is in
+      bad (subst HasNoHyphen same v.4)
 
   pub values : (t : Text) → n < 2 ^ 64 → Some t ≡ budget_found → t ≡ decimal n
-      → IsSet the_restarts (rows_of (found_of m)) k → given ≡ name_found → HasNoHyphen given → Found
-  values t small budget_at text restarts name_at fine = (
+      → IsSet the_restarts (rows_of (found_of m)) k → IsSet the_keep (rows_of (found_of m)) l → given ≡ name_found
+      → HasNoHyphen given → Found
+  values t small budget_at text restarts kept name_at fine = (
     (
       sym (first_value-rows (found_of m) (codes "budget")) ∙ sym budget_at ∙ ap (λ x. Some x) text,
       (omega arith, omega (arith, small)),
     ),
     restarts,
+    kept,
     sym (first_value-rows (found_of m) (codes "name")) ∙ sym name_at,
     fine,
   )
@@ -90,11 +95,11 @@ module _ (rows : List Row) (word : Text) where
 
   -- without an input there is a command of numbers at most
   pub no_input : (word ≡ codes "gen" → ⊥) → (word ≡ codes "demo" → ⊥)
-      → ((n k : ℕ) (g : Option Text) → AreInput rows n k g → ⊥) → IsNoCommand
-  no_input gen demo none (Solve n k q g) e v = none n k _ v.0
-  no_input gen demo none (Trace n k g) e v = none n k _ v
-  no_input gen demo none (Cert n k b t g) e v = none n k _ v.0
-  no_input gen demo none (Check n k d g) e v = none n k _ v.0
-  no_input gen demo none (Script n k g) e v = none n k _ v
+      → ((n k l : ℕ) (g : Option Text) → AreInput rows n k l g → ⊥) → IsNoCommand
+  no_input gen demo none (Solve n k l q g) e v = none n k l _ v.0
+  no_input gen demo none (Trace n k l g) e v = none n k l _ v
+  no_input gen demo none (Cert n k l b t g) e v = none n k l _ v.0
+  no_input gen demo none (Check n k l d g) e v = none n k l _ v.0
+  no_input gen demo none (Script n k l g) e v = none n k l _ v
   no_input gen demo none (Gen s v k) e h = gen (sym e)
   no_input gen demo none (Demo s k) e h = demo (sym e)

@@ -11,9 +11,9 @@ use Rattle.clap.specs.declared.builder.ValueParser.TheVariants as parser
 use Rattle.command.specs.declared.command.Command.{Command}
 use Rattle.command.specs.declared.command.SolveForm.{SolveForm}
 use Rattle.command.specs.declared.command.Command.TheVariants.{Solve, Trace, Cert, Check, Script, Gen, Demo}
-use Rattle.command.specs.Forms.{Flag, IsBetween, Setting, flag_name, greatest_of, is_qcir, is_qdo, setting_name, word_of}
+use Rattle.command.specs.Forms.{Flag, IsBetween, Setting, flag_name, greatest_of, is_qcir, is_qdo, least_of, setting_name, word_of}
 use Rattle.command.specs.Forms.Flag.{the_qdo, the_qcir, the_binary, the_trim, the_decide}
-use Rattle.command.specs.Forms.Setting.{the_budget, the_restarts}
+use Rattle.command.specs.Forms.Setting.{the_budget, the_keep, the_restarts}
 
 -- ---- what `clap` is told
 
@@ -21,13 +21,14 @@ use Rattle.command.specs.Forms.Setting.{the_budget, the_restarts}
 abbrev pub default_text : Setting → Text
 default_text the_budget = codes "18446744073709551615"
 default_text the_restarts = codes "0"
+default_text the_keep = codes "512"
 
--- `--budget N`, or `--restarts R`
+-- `--budget N`, `--restarts R`, or `--keep K`
 abbrev pub setting_rule : Setting → Rule
 setting_rule s = record (new_rule (setting_name s)) {
   long = Some (setting_name s);
   value_names = 1;
-  parser = Some (parser.Unsigned 0 (greatest_of s));
+  parser = Some (parser.Unsigned (least_of s) (greatest_of s));
   defaults = default_text s ∷ [];
 }
 
@@ -43,24 +44,25 @@ name_rule = record (new_rule (codes "name")) { value_names = 1 }
 abbrev pub number_rule : Text → ℕ → ℕ → Rule
 number_rule id least most = record (new_rule id) { required = true; parser = Some (parser.Unsigned least most) }
 
--- `WORD [--budget N] [--restarts R] [NAME]`, for the word of a command
+-- `WORD [--budget N] [--restarts R] [--keep K] [NAME]`, for the word of a command
 abbrev pub input_app : Text → App
 input_app word =
-    with_rule (with_rule (with_rule (new_app word) (setting_rule the_budget)) (setting_rule the_restarts)) name_rule
+    with_rule (with_rule (with_rule (with_rule (new_app word) (setting_rule the_budget)) (setting_rule the_restarts))
+    (setting_rule the_keep)) name_rule
 
--- `WORD [--budget N] [--restarts R] [--FLAG] .. [NAME]`, for a command that takes these flags
+-- `WORD [--budget N] [--restarts R] [--keep K] [--FLAG] .. [NAME]`, for a command that takes these flags
 abbrev pub command_app : Text → List Flag → App
 command_app word flags = fold (λ app flag. with_rule app (flag_rule (flag_name flag))) (input_app word) flags
 
--- `solve [--budget N] [--restarts R] [--qdo] [--qcir] [NAME]`
+-- `solve [--budget N] [--restarts R] [--keep K] [--qdo] [--qcir] [NAME]`
 abbrev pub solve_app : App
 solve_app = command_app (codes "solve") (the_qdo ∷ the_qcir ∷ [])
 
--- `cert [--budget N] [--restarts R] [--binary] [--trim] [NAME]`
+-- `cert [--budget N] [--restarts R] [--keep K] [--binary] [--trim] [NAME]`
 abbrev pub cert_app : App
 cert_app = command_app (codes "cert") (the_binary ∷ the_trim ∷ [])
 
--- `check [--budget N] [--restarts R] [--decide] [NAME]`
+-- `check [--budget N] [--restarts R] [--keep K] [--decide] [NAME]`
 abbrev pub check_app : App
 check_app = command_app (codes "check") (the_decide ∷ [])
 
@@ -104,12 +106,12 @@ IsNumberAt id least most rows n = (first_of id rows ≡ Some (decimal n)) × IsB
 
 -- the number of the option is this one, and in form
 abbrev pub IsSet : Setting → List Row → ℕ → Type 0
-IsSet s rows n = IsNumberAt (setting_name s) 0 (greatest_of s) rows n
+IsSet s rows n = IsNumberAt (setting_name s) (least_of s) (greatest_of s) rows n
 
--- the budget, the number of restarts and the name are these, and in form
-abbrev pub AreInput : List Row → (budget restarts : ℕ) → Option Text → Type 0
-AreInput rows budget restarts name = IsSet the_budget rows budget × IsSet the_restarts rows restarts
-    × (first_of (codes "name") rows ≡ name) × HasNoHyphen name
+-- the budget, the number of restarts, that of rows to keep and the name are these, and in form
+abbrev pub AreInput : List Row → (budget restarts kept : ℕ) → Option Text → Type 0
+AreInput rows budget restarts kept name = IsSet the_budget rows budget × IsSet the_restarts rows restarts
+    × IsSet the_keep rows kept × (first_of (codes "name") rows ≡ name) × HasNoHyphen name
 
 -- the numbers of `gen`
 abbrev pub AreGen : List Row → ℕ → ℕ → ℕ → Type 0
@@ -127,14 +129,16 @@ IsFormOf rows form = (is_qdo form ≡ is_set (codes "qdo") rows) × (is_qcir for
 
 -- the values that `clap` found are those of the command, and in form
 abbrev pub AreValues : List Row → Command → Type 0
-AreValues rows (Solve budget restarts form name) = AreInput rows budget restarts (option_map (λ s. s.now) name)
+AreValues rows (Solve budget restarts kept form name) =
+    AreInput rows budget restarts kept (option_map (λ s. s.now) name)
     × IsFormOf rows form
-AreValues rows (Trace budget restarts name) = AreInput rows budget restarts (option_map (λ s. s.now) name)
-AreValues rows (Cert budget restarts binary trim name) = AreInput rows budget restarts (option_map (λ s. s.now) name)
+AreValues rows (Trace budget restarts kept name) = AreInput rows budget restarts kept (option_map (λ s. s.now) name)
+AreValues rows (Cert budget restarts kept binary trim name) =
+    AreInput rows budget restarts kept (option_map (λ s. s.now) name)
     × (binary ≡ is_set (codes "binary") rows) × (trim ≡ is_set (codes "trim") rows)
-AreValues rows (Check budget restarts decide name) =
-    AreInput rows budget restarts (option_map (λ s. s.now) name) × (decide ≡ is_set (codes "decide") rows)
-AreValues rows (Script budget restarts name) = AreInput rows budget restarts (option_map (λ s. s.now) name)
+AreValues rows (Check budget restarts kept decide name) =
+    AreInput rows budget restarts kept (option_map (λ s. s.now) name) × (decide ≡ is_set (codes "decide") rows)
+AreValues rows (Script budget restarts kept name) = AreInput rows budget restarts kept (option_map (λ s. s.now) name)
 AreValues rows (Gen seed vars clauses) = AreGen rows seed vars clauses
 AreValues rows (Demo seed count) = AreDemo rows seed count
 

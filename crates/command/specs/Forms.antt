@@ -12,27 +12,41 @@ use Rattle.command.specs.declared.refused.Refused.TheVariants.{Usage, NoMemory}
 abbrev pub Text : Type 0
 Text = List ℕ
 
--- ---- a command that reads an input: `WORD [--budget N] [--restarts R] [--FLAG] .. [NAME]`
+-- a number from the least to the most
+abbrev pub IsBetween : ℕ → ℕ → ℕ → Type 0
+IsBetween least most n = (least ≤ n) × (n ≤ most)
 
--- an option with a number: `--budget N`, or `--restarts R`
+-- ---- a command that reads an input: `WORD [--budget N] [--restarts R] [--keep K] [--FLAG] .. [NAME]`
+
+-- an option with a number: `--budget N`, `--restarts R`, or `--keep K`
 pub data Setting : Type 0 where
   the_budget : Setting
   the_restarts : Setting
+  the_keep : Setting
 
 -- its name
 abbrev pub setting_name : Setting → Text
 setting_name the_budget = codes "budget"
 setting_name the_restarts = codes "restarts"
+setting_name the_keep = codes "keep"
+
+-- its least number
+abbrev pub least_of : Setting → ℕ
+least_of the_budget = 0
+least_of the_restarts = 0
+least_of the_keep = 16
 
 -- its greatest number
 abbrev pub greatest_of : Setting → ℕ
 greatest_of the_budget = 2 ^ 64 - 1
 greatest_of the_restarts = 1000000
+greatest_of the_keep = 16777216
 
 -- its number where it isn't given
 abbrev pub default_of : Setting → ℕ
 default_of the_budget = 2 ^ 64 - 1
 default_of the_restarts = 0
+default_of the_keep = 512
 
 -- an option without a number: `--qdo`, `--qcir`, `--binary`, `--trim`, or `--decide`
 pub data Flag : Type 0 where
@@ -116,10 +130,11 @@ pub record AreInAnyOrder (words : List Text) (parts : List Part) : Type 0 where
   pub permutation : IsPermutation parts order
   pub words_are : words ≡ flat_map spelled order
 
--- `[--OPTION N]`, with N in decimal, up to the option's greatest number
+-- `[--OPTION N]`, with N in decimal, from the option's least number to its greatest
 abbrev pub GivesSetting : Setting → List Part → ℕ → Type 0
 GivesSetting s parts n = ((parts ≡ []) × (n ≡ default_of s))
-    ⊎ ((n ≤ greatest_of s) × ((parts ≡ setting_part s (decimal n) ∷ []) ⊎ (parts ≡ joined_part s (decimal n) ∷ [])))
+    ⊎ (IsBetween (least_of s) (greatest_of s) n
+    × ((parts ≡ setting_part s (decimal n) ∷ []) ⊎ (parts ≡ joined_part s (decimal n) ∷ [])))
 
 -- `[--FLAG] ..`: the flags that are given
 abbrev pub flag_parts : (Flag → Bool) → List Part
@@ -130,53 +145,53 @@ abbrev pub GivesName : List Part → Option Text → Type 0
 GivesName parts None = parts ≡ []
 GivesName parts (Some name) = (parts ≡ name_part name ∷ []) × (slice_get name 0 ≢ Some 45)
 
--- `[--budget N] [--restarts R] [NAME]` and the flags that are given, in any order
-pub record GivesInput (words : List Text) (budget restarts : ℕ) (flags : Flag → Bool) (name : Option Text) : Type 0
+-- `[--budget N] [--restarts R] [--keep K] [NAME]` and the flags that are given, in any order
+pub record GivesInput (words : List Text) (budget restarts kept : ℕ) (flags : Flag → Bool) (name : Option Text) : Type 0
   where
     pub budget_parts : List Part
     pub restarts_parts : List Part
+    pub kept_parts : List Part
     pub name_parts : List Part
     pub gives_budget : GivesSetting the_budget budget_parts budget
     pub gives_restarts : GivesSetting the_restarts restarts_parts restarts
+    pub gives_kept : GivesSetting the_keep kept_parts kept
     pub gives_name : GivesName name_parts name
-    pub in_any_order : AreInAnyOrder words (budget_parts ++ restarts_parts ++ name_parts ++ flag_parts flags)
+    pub in_any_order : AreInAnyOrder words
+        (budget_parts ++ restarts_parts ++ kept_parts ++ name_parts ++ flag_parts flags)
 
--- behind the program's name, the word of a command and then `[--budget N] [--restarts R] [--FLAG] .. [NAME]`
-abbrev pub AsksInput : Text → List Text → (budget restarts : ℕ) → (Flag → Bool) → Option Text → Type 0
-AsksInput word words budget restarts flags name = (program : Text) × (rest : List Text)
-    × (words ≡ program ∷ word ∷ rest) × GivesInput rest budget restarts flags name
+-- behind the program's name, the word of a command and then `[--budget N] [--restarts R] [--keep K] [--FLAG] .. [NAME]`
+abbrev pub AsksInput : Text → List Text → (budget restarts kept : ℕ) → (Flag → Bool) → Option Text → Type 0
+AsksInput word words budget restarts kept flags name = (program : Text) × (rest : List Text)
+    × (words ≡ program ∷ word ∷ rest) × GivesInput rest budget restarts kept flags name
 
--- `solve [--budget N] [--restarts R] [--qdo | --qcir] [NAME]`
-abbrev pub AsksSolve : List Text → (budget restarts : ℕ) → SolveForm → Option Text → Type 0
-AsksSolve words budget restarts form name = AsksInput (codes "solve") words budget restarts (solve_flags form) name
+-- `solve [--budget N] [--restarts R] [--keep K] [--qdo | --qcir] [NAME]`
+abbrev pub AsksSolve : List Text → (budget restarts kept : ℕ) → SolveForm → Option Text → Type 0
+AsksSolve words budget restarts kept form name =
+    AsksInput (codes "solve") words budget restarts kept (solve_flags form) name
 
--- `trace [--budget N] [--restarts R] [NAME]`
-abbrev pub AsksTrace : List Text → (budget restarts : ℕ) → Option Text → Type 0
-AsksTrace words budget restarts name = AsksInput (codes "trace") words budget restarts no_flags name
+-- `trace [--budget N] [--restarts R] [--keep K] [NAME]`
+abbrev pub AsksTrace : List Text → (budget restarts kept : ℕ) → Option Text → Type 0
+AsksTrace words budget restarts kept name = AsksInput (codes "trace") words budget restarts kept no_flags name
 
--- `cert [--budget N] [--restarts R] [--binary] [--trim] [NAME]`
-abbrev pub AsksCert : List Text → (budget restarts : ℕ) → (binary trim : Bool) → Option Text → Type 0
-AsksCert words budget restarts binary trim name =
-    AsksInput (codes "cert") words budget restarts (cert_flags binary trim) name
+-- `cert [--budget N] [--restarts R] [--keep K] [--binary] [--trim] [NAME]`
+abbrev pub AsksCert : List Text → (budget restarts kept : ℕ) → (binary trim : Bool) → Option Text → Type 0
+AsksCert words budget restarts kept binary trim name =
+    AsksInput (codes "cert") words budget restarts kept (cert_flags binary trim) name
 
--- `check [--budget N] [--restarts R] [--decide] [NAME]`
-abbrev pub AsksCheck : List Text → (budget restarts : ℕ) → Bool → Option Text → Type 0
-AsksCheck words budget restarts decide name =
-    AsksInput (codes "check") words budget restarts (check_flags decide) name
+-- `check [--budget N] [--restarts R] [--keep K] [--decide] [NAME]`
+abbrev pub AsksCheck : List Text → (budget restarts kept : ℕ) → Bool → Option Text → Type 0
+AsksCheck words budget restarts kept decide name =
+    AsksInput (codes "check") words budget restarts kept (check_flags decide) name
 
--- `script [--budget N] [--restarts R] [NAME]`
-abbrev pub AsksScript : List Text → (budget restarts : ℕ) → Option Text → Type 0
-AsksScript words budget restarts name = AsksInput (codes "script") words budget restarts no_flags name
+-- `script [--budget N] [--restarts R] [--keep K] [NAME]`
+abbrev pub AsksScript : List Text → (budget restarts kept : ℕ) → Option Text → Type 0
+AsksScript words budget restarts kept name = AsksInput (codes "script") words budget restarts kept no_flags name
 
 -- ---- a command of numbers: `WORD NUMBER ..`
 
 -- behind the program's name, the word of a command and then these numbers in decimal
 abbrev pub AsksNumbers : Text → List Text → List ℕ → Type 0
 AsksNumbers word words numbers = (program : Text) × (words ≡ program ∷ word ∷ map decimal numbers)
-
--- a number from the least to the most
-abbrev pub IsBetween : ℕ → ℕ → ℕ → Type 0
-IsBetween least most n = (least ≤ n) × (n ≤ most)
 
 -- `gen SEED VARS CLAUSES`
 abbrev pub AsksGen : List Text → ℕ → ℕ → ℕ → Type 0
@@ -192,63 +207,74 @@ AsksDemo words seed count = AsksNumbers (codes "demo") words (seed ∷ count ∷
 
 -- the words ask for the command
 abbrev pub Asks : List Text → Command → Type 0
-Asks words (Solve budget restarts form name) = AsksSolve words budget restarts form (option_map (λ s. s.now) name)
-Asks words (Trace budget restarts name) = AsksTrace words budget restarts (option_map (λ s. s.now) name)
-Asks words (Cert budget restarts binary trim name) =
-    AsksCert words budget restarts binary trim (option_map (λ s. s.now) name)
-Asks words (Check budget restarts decide name) =
-    AsksCheck words budget restarts decide (option_map (λ s. s.now) name)
-Asks words (Script budget restarts name) = AsksScript words budget restarts (option_map (λ s. s.now) name)
+Asks words (Solve budget restarts kept form name) =
+    AsksSolve words budget restarts kept form (option_map (λ s. s.now) name)
+Asks words (Trace budget restarts kept name) = AsksTrace words budget restarts kept (option_map (λ s. s.now) name)
+Asks words (Cert budget restarts kept binary trim name) =
+    AsksCert words budget restarts kept binary trim (option_map (λ s. s.now) name)
+Asks words (Check budget restarts kept decide name) =
+    AsksCheck words budget restarts kept decide (option_map (λ s. s.now) name)
+Asks words (Script budget restarts kept name) = AsksScript words budget restarts kept (option_map (λ s. s.now) name)
 Asks words (Gen seed vars clauses) = AsksGen words seed vars clauses
 Asks words (Demo seed count) = AsksDemo words seed count
 
 -- the word of the command
 abbrev pub word_of : Command → Text
-word_of (Solve budget restarts form name) = codes "solve"
-word_of (Trace budget restarts name) = codes "trace"
-word_of (Cert budget restarts binary trim name) = codes "cert"
-word_of (Check budget restarts decide name) = codes "check"
-word_of (Script budget restarts name) = codes "script"
+word_of (Solve budget restarts kept form name) = codes "solve"
+word_of (Trace budget restarts kept name) = codes "trace"
+word_of (Cert budget restarts kept binary trim name) = codes "cert"
+word_of (Check budget restarts kept decide name) = codes "check"
+word_of (Script budget restarts kept name) = codes "script"
 word_of (Gen seed vars clauses) = codes "gen"
 word_of (Demo seed count) = codes "demo"
 
 -- the budget of the command: 2^64 - 1 for one that takes none
 abbrev pub budget_of : Command → ℕ
-budget_of (Solve budget restarts form name) = budget
-budget_of (Trace budget restarts name) = budget
-budget_of (Cert budget restarts binary trim name) = budget
-budget_of (Check budget restarts decide name) = budget
-budget_of (Script budget restarts name) = budget
+budget_of (Solve budget restarts kept form name) = budget
+budget_of (Trace budget restarts kept name) = budget
+budget_of (Cert budget restarts kept binary trim name) = budget
+budget_of (Check budget restarts kept decide name) = budget
+budget_of (Script budget restarts kept name) = budget
 budget_of (Gen seed vars clauses) = 2 ^ 64 - 1
 budget_of (Demo seed count) = 2 ^ 64 - 1
 
 -- the number of restarts of the command: none for one that takes none
 abbrev pub restarts_of : Command → ℕ
-restarts_of (Solve budget restarts form name) = restarts
-restarts_of (Trace budget restarts name) = restarts
-restarts_of (Cert budget restarts binary trim name) = restarts
-restarts_of (Check budget restarts decide name) = restarts
-restarts_of (Script budget restarts name) = restarts
+restarts_of (Solve budget restarts kept form name) = restarts
+restarts_of (Trace budget restarts kept name) = restarts
+restarts_of (Cert budget restarts kept binary trim name) = restarts
+restarts_of (Check budget restarts kept decide name) = restarts
+restarts_of (Script budget restarts kept name) = restarts
 restarts_of (Gen seed vars clauses) = 0
 restarts_of (Demo seed count) = 0
 
+-- how many rows the command may keep: 512 for one that takes no number of them
+abbrev pub kept_of : Command → ℕ
+kept_of (Solve budget restarts kept form name) = kept
+kept_of (Trace budget restarts kept name) = kept
+kept_of (Cert budget restarts kept binary trim name) = kept
+kept_of (Check budget restarts kept decide name) = kept
+kept_of (Script budget restarts kept name) = kept
+kept_of (Gen seed vars clauses) = 512
+kept_of (Demo seed count) = 512
+
 -- which flags are given to the command
 abbrev pub flags_of : Command → Flag → Bool
-flags_of (Solve budget restarts form name) = solve_flags form
-flags_of (Trace budget restarts name) = no_flags
-flags_of (Cert budget restarts binary trim name) = cert_flags binary trim
-flags_of (Check budget restarts decide name) = check_flags decide
-flags_of (Script budget restarts name) = no_flags
+flags_of (Solve budget restarts kept form name) = solve_flags form
+flags_of (Trace budget restarts kept name) = no_flags
+flags_of (Cert budget restarts kept binary trim name) = cert_flags binary trim
+flags_of (Check budget restarts kept decide name) = check_flags decide
+flags_of (Script budget restarts kept name) = no_flags
 flags_of (Gen seed vars clauses) = no_flags
 flags_of (Demo seed count) = no_flags
 
 -- the text of the name of the command's input, if it has one
 abbrev pub name_of : Command → Option Text
-name_of (Solve budget restarts form name) = option_map (λ s. s.now) name
-name_of (Trace budget restarts name) = option_map (λ s. s.now) name
-name_of (Cert budget restarts binary trim name) = option_map (λ s. s.now) name
-name_of (Check budget restarts decide name) = option_map (λ s. s.now) name
-name_of (Script budget restarts name) = option_map (λ s. s.now) name
+name_of (Solve budget restarts kept form name) = option_map (λ s. s.now) name
+name_of (Trace budget restarts kept name) = option_map (λ s. s.now) name
+name_of (Cert budget restarts kept binary trim name) = option_map (λ s. s.now) name
+name_of (Check budget restarts kept decide name) = option_map (λ s. s.now) name
+name_of (Script budget restarts kept name) = option_map (λ s. s.now) name
 name_of (Gen seed vars clauses) = None
 name_of (Demo seed count) = None
 
@@ -263,6 +289,7 @@ pub record AreAlike (c d : Command) : Type 0 where
   pub words : word_of c ≡ word_of d
   pub budgets : budget_of c ≡ budget_of d
   pub restarts : restarts_of c ≡ restarts_of d
+  pub kept : kept_of c ≡ kept_of d
   pub flags : (flag : Flag) → flags_of c flag ≡ flags_of d flag
   pub names : name_of c ≡ name_of d
   pub numbers : numbers_of c ≡ numbers_of d

@@ -3,13 +3,17 @@ ghost use Rattle.std.specs.Prelude.{◌≡◌, IfOk, false};
 ghost use Rattle.clap.specs.Words.{app_of, rule_of};
 ghost use Rattle.clap.specs.declared.builder.Command.TheViews.{out-Command as fields_of};
 ghost use Rattle.command.specs.Account.{cert_app, check_app, demo_app, flag_rule, gen_app, input_app, number_rule, qbf_app, setting_rule, solve_app};
-ghost use Rattle.command.specs.Forms.Setting.{the_budget, the_restarts};
+ghost use Rattle.command.specs.Forms.Setting.{the_budget, the_keep, the_restarts};
 
 use clap::builder::ValueParser;
 use clap::{Arg, ArgAction, Command, value_parser};
 use std::alloc::{AllocError, Global};
 
 pub(crate) const GREATEST_RESTARTS: u32 = 1_000_000;
+
+pub(crate) const LEAST_KEPT: u32 = 16;
+
+pub(crate) const GREATEST_KEPT: u32 = 16_777_216;
 
 pub(crate) const GREATEST_SEED: u32 = u32::MAX;
 
@@ -112,6 +116,7 @@ fn command<'a>(alloc: Global, word: &'a str, about: &'a str) -> Result<Command<'
         .about(about)
         .arg(budget(alloc))?
         .arg(restarts(alloc))?
+        .arg(keep(alloc))?
         .arg(name)
 }
 
@@ -139,6 +144,19 @@ fn restarts<'a>(alloc: Global) -> Arg<'a>
         .help("How often a search may begin anew, at most 1000000")
         .value_parser(ValueParser::unsigned(0, u64::from(GREATEST_RESTARTS)))
         .default_value("0")
+}
+
+// The option `--keep K`.
+fn keep<'a>(alloc: Global) -> Arg<'a>
+    ensures rule { rule_of result ≡ setting_rule the_keep }
+    ensures local { result.global ≡ false }
+{
+    Arg::new(alloc, "keep")
+        .long("keep")
+        .value_name("K")
+        .help("How many long learned rows a search may keep, from 16 to 16777216")
+        .value_parser(ValueParser::unsigned(u64::from(LEAST_KEPT), u64::from(GREATEST_KEPT)))
+        .default_value("512")
 }
 
 // An option without a number, of which help says this.

@@ -95,8 +95,8 @@ fn contains_dashes(words: &[String]) -> bool
 /// A law: words ask for one command at most.
 pub fn words_ask_for_one_command()
     // whatever the words of two commands that read an input are
-    ensures values { (words : List Text) (v w : Text) (m n j k : ℕ) (q r : Flag → Bool) (g h : Option Text)
-        → AsksInput v words m j q g → AsksInput w words n k r h
-        → (v ≡ w) × (m ≡ n) × (j ≡ k) × ((flag : Flag) → q flag ≡ r flag) × (g ≡ h) }
+    ensures values { (words : List Text) (v w : Text) (m n j k i l : ℕ) (q r : Flag → Bool)
+        (g h : Option Text) → AsksInput v words m j i q g → AsksInput w words n k l r h
+        → (v ≡ w) × (m ≡ n) × (j ≡ k) × (i ≡ l) × ((flag : Flag) → q flag ≡ r flag) × (g ≡ h) }
     ensures commands { (words : List Text) (c d : CommandSpec) → Asks words c → Asks words d → AreAlike c d }
 {}

@@ -8,8 +8,8 @@ ghost use Rattle.command.specs.declared.command.SolveForm.{SolveForm as FormSpec
 
 use super::command::{Command, SolveForm};
 use super::form::{
-    GREATEST_CLAUSES, GREATEST_COUNT, GREATEST_RESTARTS, GREATEST_SEED, GREATEST_VARS, LEAST_COUNT,
-    LEAST_VARS,
+    GREATEST_CLAUSES, GREATEST_COUNT, GREATEST_KEPT, GREATEST_RESTARTS, GREATEST_SEED,
+    GREATEST_VARS, LEAST_COUNT, LEAST_KEPT, LEAST_VARS,
 };
 use super::number::{number_between, number_of};
 use clap::ArgMatches;
@@ -33,22 +33,25 @@ fn input_command<'a>(word: &str, found: &ArgMatches<'a>) -> Option<Command<'a>>
     ensures none { word.now ≢ codes "gen" → word.now ≢ codes "demo" → IfNone result ((c : CommandSpec)
         → word_of c ≡ word.now → ¬ AreValues (rows_of (found_of found.now)) c) }
 {
-    let (budget, restarts, name) = input_of(found)?;
+    let (budget, restarts, kept, name) = input_of(found)?;
     match word {
         "solve" => Some(Command::Solve {
             budget,
             restarts,
+            kept,
             form: form_of(found)?,
             name,
         }),
         "trace" => Some(Command::Trace {
             budget,
             restarts,
+            kept,
             name,
         }),
         "cert" => Some(Command::Cert {
             budget,
             restarts,
+            kept,
             binary: is_set(found, "binary"),
             trim: is_set(found, "trim"),
             name,
@@ -56,12 +59,14 @@ fn input_command<'a>(word: &str, found: &ArgMatches<'a>) -> Option<Command<'a>>
         "check" => Some(Command::Check {
             budget,
             restarts,
+            kept,
             decide: is_set(found, "decide"),
             name,
         }),
         "script" => Some(Command::Script {
             budget,
             restarts,
+            kept,
             name,
         }),
         _ => None,
@@ -91,18 +96,21 @@ fn is_set(found: &ArgMatches<'_>, name: &str) -> bool
     }
 }
 
-// The budget, the number of restarts and the name in the matches of a command, if they are in form.
-fn input_of<'a>(found: &ArgMatches<'a>) -> Option<(u64, u32, Option<&'a str>)>
-    ensures some { IfSome result (λ v. AreInput (rows_of (found_of found.now)) v.0 v.1 (option_map (λ s. s.now) v.2)) }
-    ensures none { IfNone result ((n k : ℕ) (g : Option Text) → ¬ AreInput (rows_of (found_of found.now)) n k g) }
+// The budget, the number of restarts, that of rows to keep and the name in the matches of a command, if they are in
+// form.
+fn input_of<'a>(found: &ArgMatches<'a>) -> Option<(u64, u32, u32, Option<&'a str>)>
+    ensures some { IfSome result (λ v.
+        AreInput (rows_of (found_of found.now)) v.0 v.1 v.2 (option_map (λ s. s.now) v.3)) }
+    ensures none { IfNone result ((n k l : ℕ) (g : Option Text) → ¬ AreInput (rows_of (found_of found.now)) n k l g) }
 {
     let budget = number_of(found.get_str("budget")?)?;
     let restarts = number_at(found, "restarts", 0, GREATEST_RESTARTS)?;
+    let kept = number_at(found, "keep", LEAST_KEPT, GREATEST_KEPT)?;
     let name = found.get_str("name");
     if !has_no_hyphen(name) {
         return None;
     }
-    Some((budget, restarts, name))
+    Some((budget, restarts, kept, name))
 }
 
 // Whether a name, if there is one, doesn't begin with `-`.

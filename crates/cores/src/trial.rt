@@ -32,6 +32,8 @@ pub struct Question<'a> {
     pub budget: u64,
     /// How often each trial may begin anew.
     pub restarts: u32,
+    /// How many long learned rows may stay in each trial where they are no reasons.
+    pub kept: u32,
 }
 
 // Puts clauses in under a tag. With no memory some of them may be in.
@@ -127,6 +129,7 @@ fn decide(
         matrix,
         question.assumptions,
         question.restarts,
+        question.kept,
         &mut steps,
     )?;
     Ok(truth_against(outcome.loser))

@@ -39,6 +39,7 @@ use Rattle.engine.specs.declared.verdict.Held.{Held}
 use Rattle.engine.specs.declared.verdict.Verdict.{Verdict}
 use Rattle.engine.specs.Marks.{AreMarked}
 use Rattle.engine.specs.Kept.{AddsIn, AreTied, HasFinishesOf, IsEngine, IsFound, IsHeld, group_tag, joined_tag, tag_for, tagged_rows, under}
+use Rattle.engine.specs.State.{VerdictState}
 use Rattle.engine.specs.Verdicts.{told}
 use Rattle.engine.proofs.Framing.{active_opened, all_tagged, apart, dropped_marked, grown_none, is_left, marked_same, other_frames, other_groups, put_marked, rising_grown, rising_marked, rising_opened, rows_gone, rows_leaving, rows_pushed, rows_stay, some_with_leaving, some_with_row, tagged_grown, tagged_with_row, under_added, under_frames, under_left, under_top}
 use Rattle.engine.proofs.Marking.{rows_inside}
@@ -418,6 +419,7 @@ module _ (d e : State) (same : SameSteps d e) where
         proof = proof;
         end = held.verdict.end;
         row = row;
+        kept = held.kept;
       })
       (proof_kept held.assumed held.verdict.end) (same.literals held.verdict.end)
 
@@ -478,7 +480,7 @@ roomier f old new v counts marks stays same watched is = record {
   cubes = λ none. cubes_kept old new watched same (is.cubes none);
   reductions = rw same is.reductions;
   variables = is.variables;
-  long = subst (λ (d : State). IfSome v (λ _. long_in d ≤ 513 + size_of f.scopes)) (sym same) is.long;
+  long = subst (λ (d : State). IfSome v (λ (h : Held). long_in d ≤ h.kept + 1 + size_of f.scopes)) (sym same) is.long;
   marked = subst (AreMarked f.frames marks f.scopes) (sym same) is.marked;
 }
 
@@ -521,8 +523,15 @@ none_long s resting none =
     (λ a. absurd (contains_nil id (subst (λ ids. Contains ids id) none (watched.listed a.0 id a.1))))
     (watched.marked id))
 
+-- with a verdict they are few, also where it is told
+pub long_told : (v : Option Held) (d : State) (m n : ℕ) → m ≡ long_in d
+    → IfSome v (λ (h : Held). long_in d ≤ h.kept + 1 + n)
+    → IfSome (option_map (told d) v) (λ (w : VerdictState). m ≤ w.kept + 1 + n)
+long_told None d m n same few = tt
+long_told (Some held) d m n same few = omega (arith, same, few)
+
 -- with fewer of them
 pub fewer_long : (v : Option Held) (d e : State) (n : ℕ) → long_in e ≤ long_in d
-    → IfSome v (λ _. long_in d ≤ 513 + n) → IfSome v (λ _. long_in e ≤ 513 + n)
+    → IfSome v (λ (h : Held). long_in d ≤ h.kept + 1 + n) → IfSome v (λ (h : Held). long_in e ≤ h.kept + 1 + n)
 fewer_long None d e n fewer few = tt
 fewer_long (Some held) d e n fewer few = omega arith

@@ -1,5 +1,5 @@
 -- What a solve tells.
-use Rattle.std.proofs.Common.{◌≡◌, ℕ, Bool, true, false, List, Option, Some, None, refl, sym, ap, ◌∙◌, subst, ⊎_elim}
+use Rattle.std.proofs.Common.{◌≡◌, ℕ, Bool, true, false, List, Some, refl, sym, ap, ◌∙◌, subst, ⊎_elim}
 use Rattle.prefix.specs.declared.quant.Quant.{Quant}
 use Rattle.prefix.specs.declared.quant.Quant.TheVariants.{Exists, Forall}
 use Rattle.prefix.specs.Literal.{Literal}
@@ -8,12 +8,11 @@ use Rattle.prefix.specs.Sides.{bad_of}
 use Rattle.steps.specs.Counter.{Counter}
 use Rattle.std.specs.Prelude.{Contains}
 use Rattle.truth.specs.Truth.{truth_under}
-use Rattle.calculus.specs.Derivations.{Inference, IsDerivation, Reason, Why, side_core}
+use Rattle.calculus.specs.Derivations.{Inference, IsDerivation, Reason, side_core}
 use Rattle.calculus.specs.Rows.{Row, variables_in}
-use Rattle.calculus.specs.Derivations.Why.{Given, ReducedFrom, ResolvedFrom, FinishedFrom}
 use Rattle.calculus.specs.Verdicts.{AreOuter, EndsInFinish, IsProof, last_reason, proof_of}
 use Rattle.calculus.specs.VerdictTheorems.{EndRowsGiveProofs, ProofsDecide}
-use Rattle.derive.specs.State.{Note, State, is_step, may_be_antecedent, note_at, row_of, side_at, steps_of, why_at, why_in}
+use Rattle.derive.specs.State.{State, is_step, note_at, row_of, side_at, steps_of, why_at}
 use Rattle.derive.specs.Theorems.{StepsAreListed}
 use Rattle.frames.specs.State.{OpenFormula, open_clauses}
 use Rattle.step_core.specs.Cores.{IsFinishAt, end_row_in, proof_at, step_under}

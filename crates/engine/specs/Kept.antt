@@ -93,7 +93,8 @@ HasFinishesOf (Some held) d = (id : ℕ) → IsFinishId d id → id ≡ held.ver
 
 -- What holds of an engine between calls. The counts allow the live reductions and one removal more, which is for the
 -- finish; a verdict is of as many variables as were counted, or fewer; with a verdict few long learned rows are
--- attached; and what stood when a frame was pushed names no variable that came later.
+-- attached beside those that its solve might keep; and what stood when a frame was pushed names no variable that came
+-- later.
 pub record IsEngine (formula : OpenFormula) (s : SearchState) (verdict : Option Held) (counts : Counts)
     (marks : List ℕ) : Type 0 where
   pub tied : AreTied formula s
@@ -103,5 +104,5 @@ pub record IsEngine (formula : OpenFormula) (s : SearchState) (verdict : Option 
   pub reductions : reductions_in s.derivation <
       removal_bound counts.clauses counts.solves counts.budget counts.restarts counts.vars
   pub variables : IfSome verdict (λ _. size_of formula.scopes ≤ counts.vars)
-  pub long : IfSome verdict (λ _. long_in s.derivation ≤ 513 + size_of formula.scopes)
+  pub long : IfSome verdict (λ held. long_in s.derivation ≤ held.kept + 1 + size_of formula.scopes)
   pub marked : AreMarked formula.frames marks formula.scopes s.derivation

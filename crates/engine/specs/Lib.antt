@@ -2,6 +2,7 @@ pub mod Asks
 pub mod Cores
 pub mod Counting
 pub mod Given
+pub mod Keeping
 pub mod Kept
 pub mod Marks
 pub mod Refusals

@@ -9,23 +9,26 @@ use Rattle.frames.specs.State.{OpenFormula, new_formula}
 use Rattle.frames.specs.Commands.{Command, formula_after}
 use Rattle.engine.specs.declared.counts.Counts.{Counts}
 use Rattle.engine.specs.Counting.{no_counts}
+use Rattle.engine.specs.Keeping.{first_kept}
 
--- a verdict that is kept: the truth, the assumptions that it was found under, its proof, and the step that this ends
--- in, by its id and with its row
+-- a verdict that is kept: the truth, the assumptions that it was found under, its proof, the step that this ends in, by
+-- its id and with its row, and how many long learned rows its solve might keep
 pub record VerdictState : Type 0 where
   pub truth : Bool
   pub assumptions : List Literal
   pub proof : List Inference
   pub end : ℕ
   pub row : Row
+  pub kept : ℕ
 
 -- the open formula with its assumptions, the verdict where no change came after it, the counts, how often a solve may
--- begin anew, and how many long learned rows are attached
+-- begin anew, how many long learned rows it may keep, and how many are attached
 pub record EngineState : Type 0 where
   pub formula : OpenFormula
   pub verdict : Option VerdictState
   pub counts : Counts
   pub restarts : ℕ
+  pub kept_rows : ℕ
   pub kept_long : ℕ
 
 -- an engine of no scopes and no clauses, for scripts of a version
@@ -35,6 +38,7 @@ engine_of version = record {
   verdict = None;
   counts = no_counts;
   restarts = 0;
+  kept_rows = first_kept;
   kept_long = 0;
 }
 

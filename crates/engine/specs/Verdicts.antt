@@ -27,6 +27,7 @@ told d held = record {
   proof = proof_at d held.assumed held.verdict.end;
   end = held.verdict.end;
   row = row_of d held.verdict.end;
+  kept = held.kept;
 }
 
 -- a verdict is kept, with the assumptions of the formula and with a proof of it under these, whose last row is that of

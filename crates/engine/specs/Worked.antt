@@ -18,6 +18,7 @@ use Rattle.search.specs.Finishes.{finishes_in}
 use Rattle.engine.specs.declared.counts.Counts.{Counts}
 use Rattle.engine.specs.declared.verdict.Verdict.{Verdict}
 use Rattle.engine.specs.Counting.{more, one_more, with_clause, with_clauses, with_solve}
+use Rattle.engine.specs.Keeping.{MayBeKept}
 use Rattle.engine.specs.Kept.{frame_rows, group_tag, joined_tag, tagged_rows, under}
 use Rattle.engine.specs.State.{EngineState, changed, new_engine}
 use Rattle.engine.specs.Verdicts.{HasProof, told}
@@ -62,9 +63,15 @@ finished_proof =
 abbrev pub decided : EngineState
 decided = record {
   formula = (state_of framed_commands).formula;
-  verdict = Some (told derived (record { verdict = record { truth = false; end = 6 }; assumed = []; relevant = [] }));
+  verdict = Some (told derived (record {
+    verdict = record { truth = false; end = 6 };
+    assumed = [];
+    relevant = [];
+    kept = 9;
+  }));
   counts = some_counts;
   restarts = 0;
+  kept_rows = 20;
   kept_long = 3;
 }
 
@@ -112,5 +119,13 @@ pub record WorkedEngines : Type 0 where
   -- no long learned row is attached at first; a change leaves those that are
   pub none_long : new_engine.kept_long ≡ 0
   pub some_long : (changed decided Push).kept_long ≡ 3
+  -- 512 may be kept at first; a change leaves the number that was set
+  pub first_rows : new_engine.kept_rows ≡ 512
+  pub some_rows : (changed decided Push).kept_rows ≡ 20
+  -- from 16 to 16,777,216 may be set
+  pub least_rows : MayBeKept 16
+  pub most_rows : MayBeKept 16777216
+  pub too_few_rows : MayBeKept 15 → ⊥
+  pub too_many_rows : MayBeKept 16777217 → ⊥
   -- no verdict, no proof
   pub none : (formula : OpenFormula) (verdict : Verdict) → HasProof formula verdict None → ⊥

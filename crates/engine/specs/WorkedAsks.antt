@@ -28,7 +28,7 @@ formula_of scopes clauses =
 -- a verdict with its assumptions, its proof and its last row
 abbrev pub verdict_with : Bool → List Literal → List Inference → Row → VerdictState
 verdict_with truth assumptions proof row =
-    record { truth = truth; assumptions = assumptions; proof = proof; end = 0; row = row }
+    record { truth = truth; assumptions = assumptions; proof = proof; end = 0; row = row; kept = 512 }
 
 -- under a 1, e 2 the clauses -1 2 and -1 -2
 abbrev pub opposing : OpenFormula
@@ -65,12 +65,19 @@ satisfied_under = verdict_with true (minus 1 ∷ plus 2 ∷ []) (record { row = 
 -- an engine with a formula, and with a verdict or none
 abbrev pub engine_of : OpenFormula → Option VerdictState → EngineState
 engine_of formula verdict =
-    record { formula = formula; verdict = verdict; counts = some_counts; restarts = 0; kept_long = 0 }
+    record {
+      formula = formula;
+      verdict = verdict;
+      counts = some_counts;
+      restarts = 0;
+      kept_rows = 512;
+      kept_long = 0;
+    }
 
 -- a verdict that is held with its assumptions, none of which matters
 abbrev pub held_under : Bool → List Literal → ℕ → Held
 held_under truth assumptions end =
-    record { verdict = record { truth = truth; end = end }; assumed = assumptions; relevant = [] }
+    record { verdict = record { truth = truth; end = end }; assumed = assumptions; relevant = []; kept = 512 }
 
 pub record WorkedRefusals : Type 0 where
   pub no_verdict : ask_number NoVerdict ≡ Some 50

@@ -74,12 +74,12 @@ impl Engine {
     }
 
     /// How many long learned rows are attached: rows with more than three literals that are neither an input clause nor
-    /// the reduction of one. With a verdict these are at most 513, and one for each variable. After an accepted clause
-    /// or row, a pop, a group that was activated or deactivated, or want of memory in one of these, none may be
-    /// attached until the next solve. This takes no memory and constant time.
+    /// the reduction of one. With a verdict these are at most as many as its solve might keep, one more, and one for
+    /// each variable. After an accepted clause or row, a pop, a group that was activated or deactivated, or want of
+    /// memory in one of these, none may be attached until the next solve. This takes no memory and constant time.
     pub fn kept_long(&self) -> usize
         ensures value { result ≡ self.now.kept_long }
-        ensures few { IfSome self.now.verdict (λ _. result ≤ 513 + size_of self.now.formula.scopes) }
+        ensures few { IfSome self.now.verdict (λ v. result ≤ v.kept + 1 + size_of self.now.formula.scopes) }
     {
         self.search.kept_long()
     }

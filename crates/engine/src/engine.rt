@@ -1,5 +1,5 @@
 //! The engine.
-ghost use Rattle.std.specs.Prelude.{◌≡◌, ◌≤◌, ℕ, [], Ok, None, Contains, IfOk, IfErr, OnOk, OnErr};
+ghost use Rattle.std.specs.Prelude.{◌≡◌, ◌≤◌, ℕ, [], Ok, None, Contains, IfOk, IfErr, IfSome, OnOk, OnErr};
 ghost use Rattle.prefix.specs.Scopes.{IsPrefix, all_variables};
 ghost use Rattle.truth.specs.Truth.{truth_under};
 ghost use Rattle.calculus.specs.Search.{IsRefuted};
@@ -8,6 +8,7 @@ ghost use Rattle.search.specs.Counting.{size_of};
 ghost use Rattle.search.specs.Stops.{IsQuickStop};
 ghost use Rattle.engine.specs.Counting.{with_solve};
 ghost use Rattle.engine.specs.State.{engine_of, new_engine};
+ghost use Rattle.engine.specs.Keeping.{MayBeKept};
 ghost use Rattle.engine.specs.Verdicts.{HasProof, IsStopFor};
 
 use crate::counts::Counts;
@@ -25,6 +26,9 @@ use std::marker::Model;
 use steps::Steps;
 use versions::Version;
 
+// How many long learned rows that are no reasons a solve may keep at first.
+const FIRST_KEPT: u32 = 512;
+
 /// An incremental solver: commands build a formula, `solve` decides it under the assumptions, and what it learns stays
 /// for the next call.
 #[derive(Debug, Drop)]
@@ -36,6 +40,8 @@ pub struct Engine {
     pub(crate) counts: Counts,
     // How often a solve may begin anew.
     pub(crate) restarts: u32,
+    // How many long learned rows that are no reasons a solve may keep.
+    pub(crate) kept_rows: u32,
     // For each pushed frame the id that came next when it was pushed.
     pub(crate) marks: Vec<StepId>,
 }
@@ -54,6 +60,7 @@ impl Model for Engine {
       verdict = option_map (told e.search.derivation) e.verdict;
       counts = e.counts;
       restarts = e.restarts;
+      kept_rows = e.kept_rows;
       kept_long = e.search.long;
     } };
 
@@ -80,6 +87,7 @@ impl Engine {
             verdict: None,
             counts: Counts::new(),
             restarts: 0,
+            kept_rows: FIRST_KEPT,
             marks: Vec::new(alloc),
         })
     }
@@ -108,6 +116,16 @@ impl Engine {
         self.restarts = restarts;
     }
 
+    /// How many long learned rows that are no reasons a solve may keep: where there are more, the oldest of them are
+    /// forgotten until half as many are left. It is from 16 to 16,777,216, and before the first call 512. This is no
+    /// change: a verdict stays, and so do the rows until the next solve.
+    pub fn set_kept_rows(&mut self, rows: u32)
+        requires { MayBeKept rows }
+        ensures { self.new ≡ record self.old { kept_rows = rows } }
+    {
+        self.kept_rows = rows;
+    }
+
     /// Decides the open formula under the assumptions. A verdict empties the assumptions; it stays until the next
     /// change, and a solve that stops is one.
     ///
@@ -132,6 +150,8 @@ impl Engine {
         ensures counts { self.new.counts ≡ with_solve steps.old.budget self.old.restarts
             (size_of self.old.formula.scopes) self.old.counts }
         ensures restarts { self.new.restarts ≡ self.old.restarts }
+        ensures kept_rows { self.new.kept_rows ≡ self.old.kept_rows }
+        ensures obeyed { OnOk result (IfSome self.new.verdict (λ v. v.kept ≡ self.old.kept_rows)) }
     {
         self.counts = self.counts.with_solve(
             steps.budget(),
@@ -149,6 +169,7 @@ impl Engine {
             &matrix,
             &assumed,
             self.restarts,
+            self.kept_rows,
             steps,
         )?;
         drop(matrix);
@@ -162,6 +183,7 @@ impl Engine {
             verdict,
             assumed: Literals::from_vec(assumed),
             relevant: Literals::from_vec(relevant),
+            kept: self.kept_rows,
         });
         Ok(verdict)
     }

@@ -68,10 +68,10 @@ impl Engine {
     /// groups that are left, under the verdict's assumptions. So with the clauses of the core's groups they are false,
     /// and with those of all but any one of these groups true. The verdict stays.
     ///
-    /// Each trial has this budget of steps, and the restarts of the engine. Refused, in this order, with NoVerdict,
-    /// with NotUnsat where the formula is true, and with NoMemory. Spent comes only where the budget of a trial is
-    /// spent, which is never so where it suffices for the variables and the restarts. It takes the time of putting all
-    /// open clauses into a search of its own, and of a solve for each active group.
+    /// Each trial has this budget of steps, and the restarts and the kept rows of the engine. Refused, in this order,
+    /// with NoVerdict, with NotUnsat where the formula is true, and with NoMemory. Spent comes only where the budget of
+    /// a trial is spent, which is never so where it suffices for the variables and the restarts. It takes the time of
+    /// putting all open clauses into a search of its own, and of a solve for each active group.
     pub fn group_core(&self, budget: u64) -> Result<Vec<u32>, CoreRefusal>
         ensures refused { MatchOption (core_refusal self.now)
             (IfSome self.now.verdict (λ v. IfErr result
@@ -98,6 +98,7 @@ impl Engine {
             assumptions: held.assumed.lits(),
             budget,
             restarts: self.restarts,
+            kept: self.kept_rows,
         };
         let core = core_of(
             self.alloc,

@@ -53,6 +53,7 @@ pub(crate) fn decide(
     matrix: &Matrix<'_>,
     assumed: &[Lit],
     restarts: u32,
+    kept: u32,
     steps: &mut Steps,
 ) -> Result<Verdict, SolveStop>
     requires tied { AreTied frames.now.formula search.old }
@@ -69,7 +70,7 @@ pub(crate) fn decide(
         ≤ reductions_in search.old.derivation + (steps.new.spent - steps.old.spent) + 1 }
     ensures fit { reductions_in search.new.derivation < 2 ^ 64 }
     ensures few { steps.new.spent - steps.old.spent < step_limit restarts (size_of frames.now.formula.scopes) }
-    ensures long { OnOk result (long_in search.new.derivation ≤ 513 + size_of frames.now.formula.scopes) }
+    ensures long { OnOk result (long_in search.new.derivation ≤ kept + 1 + size_of frames.now.formula.scopes) }
     ensures within { steps.new.spent ≤ steps.new.budget }
     ensures budget { steps.new.budget ≡ steps.old.budget }
     ensures rises { steps.old.spent ≤ steps.new.spent }
@@ -77,7 +78,7 @@ pub(crate) fn decide(
 {
     // They are of the first scope, and ascend.
     let _assumptions = frames.assumptions();
-    let found = search.solve(frames.prefix(), matrix, assumed, restarts, steps);
+    let found = search.solve(frames.prefix(), matrix, assumed, restarts, kept, steps);
     // The counter is within its budget, and ids are fewer than 2 ^ 64.
     let _budget = steps.budget();
     let _next = search.derivation().next_id();

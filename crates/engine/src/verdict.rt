@@ -16,12 +16,14 @@ pub struct Verdict {
     pub end: StepId,
 }
 
-// A verdict that is held, with the assumptions that it was found under and with those of them that matter.
+// A verdict that is held, with the assumptions that it was found under, with those of them that matter, and with how
+// many long learned rows its solve might keep.
 #[derive(Debug, Drop)]
 pub(crate) struct Held {
     pub(crate) verdict: Verdict,
     pub(crate) assumed: Literals,
     pub(crate) relevant: Literals,
+    pub(crate) kept: u32,
 }
 
 // Literals in their order; contracts see them as that list.

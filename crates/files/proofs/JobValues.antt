@@ -67,8 +67,8 @@ bare_is f reads =
     cc
 
 -- and with a budget that suffices, that of a true formula has four
-pub true_length : (f : Formula) (a : Answer) (text : List ℕ) → f ≡ anything_fits → IsAnswerTo (terms_of 16 0) f a
-    → IsJobText Solve (terms_of 16 0) f a text → length text ≤ 4
+pub true_length : (f : Formula) (a : Answer) (text : List ℕ) → f ≡ anything_fits → IsAnswerTo (terms_of 16 0 512) f a
+    → IsJobText Solve (terms_of 16 0 512) f a text → length text ≤ 4
 true_length f Sat text is right h =
     subst (λ (t : List ℕ). length t ≤ 4) (sym h.says) (let z : 4 ≤ 4 = omega arith in z)
 true_length f Unsat text is right h =
@@ -78,8 +78,9 @@ true_length f Unknown text is right h =
     omega (arith, low))
 
 -- the line of a true circuit, with a budget that suffices for its one variable
-pub circuit_length : (f : Formula) (a : Answer) (text : List ℕ) → f ≡ negated Exists → IsAnswerTo (terms_of 64 0) f a
-    → IsJobText Qcir (terms_of 64 0) f a text → length text ≤ 4
+pub circuit_length : (f : Formula) (a : Answer) (text : List ℕ) → f ≡ negated Exists → IsAnswerTo
+    (terms_of 64 0 512) f a
+    → IsJobText Qcir (terms_of 64 0 512) f a text → length text ≤ 4
 circuit_length f Sat text is right h =
     subst (λ (t : List ℕ). length t ≤ 4) (sym h.says) (let z : 4 ≤ 4 = omega arith in z)
 circuit_length f Unsat text is right h =

@@ -18,7 +18,7 @@ no_gates = record { aig = record { inputs = 0; gates = [] }; winner = Exists; in
 pub none : AreDistinct []
 none i j d before within e = absurd (let no : ⊥ = omega arith in no)
 
-pub no_gates_certify : Certifies (opened anything_fits) (unassumed true) [] (gates_for (terms_of 0 0) anything_fits)
+pub no_gates_certify : Certifies (opened anything_fits) (unassumed true) [] (gates_for (terms_of 0 0 512) anything_fits)
     no_gates
 no_gates_certify = record {
   winner = refl;

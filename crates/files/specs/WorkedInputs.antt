@@ -63,16 +63,18 @@ pub record WorkedInputs : Type 0 where
   pub not_refused : (number at : ℕ) → Says as_circuit one_text (refused number at) → ⊥
   pub not_limited : (quantity : Quantity) (at : ℕ) → Says as_circuit one_text (limit quantity at) → ⊥
   -- the answer to a circuit is its own truth, and unknown only by a budget that is short with its gates
-  pub sat : Solves as_circuit (terms_of 0 0) one_text Sat
-  pub not_unsat : Solves as_circuit (terms_of 0 0) one_text Unsat → ⊥
-  pub unsat : Solves as_circuit (terms_of 0 0) each_text Unsat
-  pub not_sat : Solves as_circuit (terms_of 0 0) each_text Sat → ⊥
-  pub unknown : Solves as_circuit (terms_of 19 0) gate_text Unknown
-  pub not_unknown : Solves as_circuit (terms_of 192 0) gate_text Unknown → ⊥
+  pub sat : Solves as_circuit (terms_of 0 0 512) one_text Sat
+  pub not_unsat : Solves as_circuit (terms_of 0 0 512) one_text Unsat → ⊥
+  pub unsat : Solves as_circuit (terms_of 0 0 512) each_text Unsat
+  pub not_sat : Solves as_circuit (terms_of 0 0 512) each_text Sat → ⊥
+  pub unknown : Solves as_circuit (terms_of 19 0 512) gate_text Unknown
+  pub not_unknown : Solves as_circuit (terms_of 192 0 512) gate_text Unknown → ⊥
   -- endings
-  pub ends_refused : IsEnding as_circuit (terms_of 0 0) formula_text (Refused 70 1)
-  pub not_ended : IsEnding as_circuit (terms_of 0 0) one_text (Refused 70 1) → ⊥
-  pub not_beyond : (quantity : Quantity) (at : ℕ) → IsEnding as_circuit (terms_of 0 0) one_text (Limit quantity at) → ⊥
-  pub not_beyond_check : (quantity : Quantity) → IsEnding as_circuit (terms_of 0 0) one_text (CheckLimit quantity) → ⊥
-  pub done : IsEnding as_circuit (terms_of 0 0) one_text (Done 10)
-  pub not_done : IsEnding as_circuit (terms_of 0 0) one_text (Done 20) → ⊥
+  pub ends_refused : IsEnding as_circuit (terms_of 0 0 512) formula_text (Refused 70 1)
+  pub not_ended : IsEnding as_circuit (terms_of 0 0 512) one_text (Refused 70 1) → ⊥
+  pub not_beyond : (quantity : Quantity) (at : ℕ) → IsEnding as_circuit (terms_of 0 0 512) one_text
+      (Limit quantity at) → ⊥
+  pub not_beyond_check : (quantity : Quantity) → IsEnding as_circuit (terms_of 0 0 512) one_text (CheckLimit quantity)
+      → ⊥
+  pub done : IsEnding as_circuit (terms_of 0 0 512) one_text (Done 10)
+  pub not_done : IsEnding as_circuit (terms_of 0 0 512) one_text (Done 20) → ⊥

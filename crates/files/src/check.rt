@@ -21,6 +21,7 @@ ghost use Rattle.files.specs.Solve.{IsEnding};
 ghost use Rattle.solve.specs.Entries.{AddsEntry, IsStopAt};
 ghost use Rattle.solve.specs.Outside.{SendsReply, TakesInput};
 ghost use Rattle.solve.specs.Terms.{Terms, terms_of};
+ghost use Rattle.engine.specs.Keeping.{MayBeKept};
 
 use crate::file::whole_circuit;
 use aig::Strategy;
@@ -38,12 +39,13 @@ use std::alloc::Global;
 use trail::Stopped;
 use truth::{Formula, no_assumptions};
 
-// On what terms a certificate is checked: the budget of each search, how often it may begin anew, and whether the check
-// formula is decided too.
+// On what terms a certificate is checked: the budget of each search, how often it may begin anew, how many long learned
+// rows it may keep, and whether the check formula is decided too.
 #[derive(Clone, Copy, Debug)]
 pub(crate) struct Request {
     pub budget: u64,
     pub restarts: u32,
+    pub kept: u32,
     pub decide: bool,
 }
 
@@ -80,14 +82,16 @@ pub fn run_check<D: Desk, S: Sink>(
     alloc: Global,
     budget: u64,
     restarts: u32,
+    kept: u32,
     decide: bool,
     desk: &mut D,
     sink: &mut S,
     stops: &mut Vec<Stopped>,
 ) -> Ending
+    requires { MayBeKept kept }
     // Where no formula was read, the ending is what the text says, where the desk tells what it holds.
     ensures unread { IsUnread result → IfSome (D.left desk.old)
-        (λ text. IsEnding as_formula (terms_of budget restarts) text result) }
+        (λ text. IsEnding as_formula (terms_of budget restarts kept) text result) }
     // A text whose formula was checked was read to its end.
     ensures read { IsFinished result → IfSome (D.left desk.old) (λ _. D.left desk.new ≡ Some []) }
     // Faults come from outside alone, and a check comes to its end only where there was none.
@@ -96,10 +100,11 @@ pub fn run_check<D: Desk, S: Sink>(
     ensures flows { D.flows desk.old → (result ≢ Ending.ReadFault) × D.flows desk.new }
     ensures write_fault { IsCounted (result ≡ Ending.WriteFault) (IsFinished result) (S.faults sink.old)
         (S.faults sink.new) }
-    ensures room { RoomForCheck decide (terms_of budget restarts) (D.left desk.old) (S.has_room sink.old) → result ≢
+    ensures room { RoomForCheck decide (terms_of budget restarts kept) (D.left desk.old) (S.has_room sink.old)
+        → result ≢
         Ending.WriteFault }
     // What is written, with what a search tells that stopped, and that all of it is flushed.
-    ensures output { LeavesCheck decide (terms_of budget restarts) (D.left desk.old)
+    ensures output { LeavesCheck decide (terms_of budget restarts kept) (D.left desk.old)
         (S.written sink.old, S.written sink.new) (stops.old.items, stops.new.items) result }
     ensures flushed { IsFinished result → AllFlushed (S.written sink.new) (S.flushed sink.old) (S.flushed sink.new) }
     // What the desk holds, and whether it is steady, stays.
@@ -109,6 +114,7 @@ pub fn run_check<D: Desk, S: Sink>(
     let request = Request {
         budget,
         restarts,
+        kept,
         decide,
     };
     ending_of(check(alloc, request, desk, sink, stops))
@@ -136,12 +142,15 @@ fn check<D: Desk, S: Sink>(
     sink: &mut S,
     stops: &mut Vec<Stopped>,
 ) -> Result<Outcome, Ending>
+    requires { MayBeKept request.kept }
     ensures ending { IfErr result (λ e. ¬ IsFinished e × (IsUnread e → IfSome (D.left desk.old)
-        (λ text. IsEnding as_formula (terms_of request.budget request.restarts) text e))) }
+        (λ text. IsEnding as_formula (terms_of request.budget request.restarts request.kept) text e))) }
     ensures desk { TakesInput D.content D.left D.faults D.steady D.flows desk.old desk.new result }
     ensures sink { SendsReply S.written S.flushed S.faults (RoomForCheck request.decide
-        (terms_of request.budget request.restarts) (D.left desk.old) (S.has_room sink.old)) sink.old sink.new result }
-    ensures output { LeavesCheck request.decide (terms_of request.budget request.restarts) (D.left desk.old)
+        (terms_of request.budget request.restarts request.kept) (D.left desk.old) (S.has_room sink.old)) sink.old
+        sink.new result }
+    ensures output { LeavesCheck request.decide (terms_of request.budget request.restarts request.kept)
+        (D.left desk.old)
         (S.written sink.old, S.written sink.new) (stops.old.items, stops.new.items) (ending_after result) }
 {
     let (mut engine, f) = load(alloc, desk)?;
@@ -171,14 +180,17 @@ fn check_held<S: Sink>(
     stops: &mut Vec<Stopped>,
 ) -> Result<Outcome, Ending>
     requires formed { IsFormed f.now }
+    requires keeps { MayBeKept request.kept }
     requires holds { HoldsFormula f.now.prefix f.now.clauses engine.old }
     ensures { SendsOutcome S.written S.flushed S.faults S.has_room
-        (IsCheck request.decide (terms_of request.budget request.restarts) f.now (stops.old.items, stops.new.items))
+        (IsCheck request.decide (terms_of request.budget request.restarts request.kept) f.now
+        (stops.old.items, stops.new.items))
         sink.old sink.new (stops.old.items, stops.new.items) result }
 {
     // For the proof: the truth under no assumptions is the truth.
     no_assumptions();
     engine.set_restarts(request.restarts);
+    engine.set_kept_rows(request.kept);
     stops.reserve(1)?;
     let decision = decide(engine, request.budget)?;
     let answer = decision.answer();
@@ -199,12 +211,14 @@ fn write_check<S: Sink>(
     stops: &mut Vec<Stopped>,
 ) -> Result<Outcome, Ending>
     requires formed { IsFormed f.now }
-    requires decided { HasDecided (terms_of request.budget request.restarts) f.now answer engine.now }
+    requires keeps { MayBeKept request.kept }
+    requires decided { HasDecided (terms_of request.budget request.restarts request.kept) f.now answer engine.now }
     ensures { (before : List Account)
-        → AddsEntry (IsStopAt (terms_of request.budget request.restarts) (size_of f.now.prefix)) before stops.old.items
+        → AddsEntry (IsStopAt (terms_of request.budget request.restarts request.kept) (size_of f.now.prefix)) before
+        stops.old.items
         answer
         → WritesOutcome S.written S.flushed S.faults S.has_room
-        (IsCheck request.decide (terms_of request.budget request.restarts) f.now (before, stops.new.items))
+        (IsCheck request.decide (terms_of request.budget request.restarts request.kept) f.now (before, stops.new.items))
         sink.old sink.new (before, stops.new.items) result }
 {
     match answer {
@@ -228,9 +242,12 @@ fn check_verdict<S: Sink>(
     stops: &mut Vec<Stopped>,
 ) -> Result<Outcome, Ending>
     requires formed { IsFormed f.now }
-    requires decided { HasDecided (terms_of request.budget request.restarts) f.now (answer_with value) engine.now }
+    requires keeps { MayBeKept request.kept }
+    requires decided { HasDecided (terms_of request.budget request.restarts request.kept) f.now
+        (answer_with value) engine.now }
     ensures { WritesOutcome S.written S.flushed S.faults S.has_room
-        (IsCheck request.decide (terms_of request.budget request.restarts) f.now (stops.old.items, stops.new.items))
+        (IsCheck request.decide (terms_of request.budget request.restarts request.kept) f.now
+        (stops.old.items, stops.new.items))
         sink.old sink.new (stops.old.items, stops.new.items) result }
 {
     let circuit = whole_circuit(engine)?;
@@ -267,9 +284,10 @@ fn write_checked<S: Sink>(
     stops: &mut Vec<Stopped>,
 ) -> Result<Outcome, Ending>
     requires formed { IsFormed g.now }
+    requires keeps { MayBeKept request.kept }
     requires unsatisfiable { truth g.now.prefix g.now.clauses ≡ false }
     ensures { WritesOutcome S.written S.flushed S.faults S.has_room
-        (IsCheckReply request.decide (terms_of request.budget request.restarts) g.now value
+        (IsCheckReply request.decide (terms_of request.budget request.restarts request.kept) g.now value
         (stops.old.items, stops.new.items)) sink.old sink.new (stops.old.items, stops.new.items) result }
 {
     if request.decide {
@@ -296,10 +314,11 @@ fn decide_check<S: Sink>(
     stops: &mut Vec<Stopped>,
 ) -> Result<Outcome, Ending>
     requires formed { IsFormed g.now }
+    requires keeps { MayBeKept request.kept }
     requires unsatisfiable { truth g.now.prefix g.now.clauses ≡ false }
     requires asked { request.decide ≡ true }
     ensures { WritesOutcome S.written S.flushed S.faults S.has_room
-        (IsCheckReply request.decide (terms_of request.budget request.restarts) g.now value
+        (IsCheckReply request.decide (terms_of request.budget request.restarts request.kept) g.now value
         (stops.old.items, stops.new.items)) sink.old sink.new (stops.old.items, stops.new.items) result }
 {
     stops.reserve(1)?;
@@ -312,13 +331,15 @@ fn decide_check<S: Sink>(
 
 // What a search on a formula comes to.
 fn search(alloc: Global, g: &Formula, request: Request) -> Result<Decision, NoMemory>
-    requires { IsFormed g.now }
-    ensures { IfOk result (IsFound (terms_of request.budget request.restarts) g.now) }
+    requires formed { IsFormed g.now }
+    requires keeps { MayBeKept request.kept }
+    ensures { IfOk result (IsFound (terms_of request.budget request.restarts request.kept) g.now) }
 {
     // For the proof: the truth under no assumptions is the truth.
     no_assumptions();
     let mut engine = engine_with(alloc, g)?;
     engine.set_restarts(request.restarts);
+    engine.set_kept_rows(request.kept);
     decide(&mut engine, request.budget)
 }
 

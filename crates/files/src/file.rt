@@ -25,6 +25,7 @@ ghost use Rattle.solve.specs.Standing.{Standing};
 ghost use Rattle.solve.specs.Holding.{Holds};
 ghost use Rattle.solve.specs.Outside.{SendsReply, TakesInput};
 ghost use Rattle.solve.specs.Terms.{Terms, terms_of};
+ghost use Rattle.engine.specs.Keeping.{MayBeKept};
 ghost use Rattle.truth.specs.declared.formula.Formula.{Formula as AnyFormula};
 
 use crate::input::read_input;
@@ -50,11 +51,12 @@ pub(crate) struct Header {
 }
 
 /// Reads the formula that is left of the chosen input, or the circuit for `Job::Qcir`, decides it by search with a
-/// budget of that many steps, which may begin anew so often, and writes what the job asks for: the answer's line, `SAT`
-/// or `UNSAT`; its solution line with the values of outermost variables (QDIMACS 1.1, output format); the trace of the
-/// verdict's proof (QRP); or the circuit by which its winner wins (AIGER 1.9, in ASCII or binary, trimmed or not). A
-/// circuit is decided by its formula (`qcir::translate`), and its own variables and gates are the formula's. Where the
-/// budget was spent first, it writes `UNKNOWN`, or the solution line of that.
+/// budget of that many steps, which may begin anew so often and keep so many long learned rows that are no reasons, and
+/// writes what the job asks for: the answer's line, `SAT` or `UNSAT`; its solution line with the values of outermost
+/// variables (QDIMACS 1.1, output format); the trace of the verdict's proof (QRP); or the circuit by which its winner
+/// wins (AIGER 1.9, in ASCII or binary, trimmed or not). A circuit is decided by its formula (`qcir::translate`), and
+/// its own variables and gates are the formula's. Where the budget was spent first, it writes `UNKNOWN`, or the
+/// solution line of that.
 ///
 /// UNKNOWN comes only where the budget is below the step limit of the formula's variables and of so many restarts, and
 /// where propagation alone refutes the clauses only where it is below 2 * n * (n + 3), for n variables. What the search
@@ -65,13 +67,15 @@ pub fn run_file<D: Desk, S: Sink>(
     job: Job,
     budget: u64,
     restarts: u32,
+    kept: u32,
     desk: &mut D,
     sink: &mut S,
     stops: &mut Vec<Stopped>,
 ) -> Ending
+    requires { MayBeKept kept }
     // The ending is what the text says, where the desk tells what it holds.
     ensures ending { IfSome (D.left desk.old)
-        (λ text. IsEnding (format_of job) (terms_of budget restarts) text result) }
+        (λ text. IsEnding (format_of job) (terms_of budget restarts kept) text result) }
     ensures status { (s : ℕ) → result ≡ Ending.Done s → HasAnswer s }
     // A text that is decided was read to its end.
     ensures read { IsDone result → IfSome (D.left desk.old) (λ _. D.left desk.new ≡ Some []) }
@@ -80,10 +84,10 @@ pub fn run_file<D: Desk, S: Sink>(
     ensures flows { D.flows desk.old → (result ≢ Ending.ReadFault) × D.flows desk.new }
     ensures write_fault { IsCounted (result ≡ Ending.WriteFault) (IsDone result) (S.faults sink.old)
         (S.faults sink.new) }
-    ensures room { RoomForJob job (terms_of budget restarts) (D.left desk.old) (S.has_room sink.old) → result ≢
+    ensures room { RoomForJob job (terms_of budget restarts kept) (D.left desk.old) (S.has_room sink.old) → result ≢
         Ending.WriteFault }
     // What is written, with what a search tells that stopped, and that all of it is flushed where there is an answer.
-    ensures output { LeavesOutput job (terms_of budget restarts) (D.left desk.old)
+    ensures output { LeavesOutput job (terms_of budget restarts kept) (D.left desk.old)
         (S.written sink.old, S.written sink.new)
         (stops.old.items, stops.new.items) result }
     ensures flushed { IsDone result → AllFlushed (S.written sink.new) (S.flushed sink.old) (S.flushed sink.new) }
@@ -91,7 +95,7 @@ pub fn run_file<D: Desk, S: Sink>(
     ensures content { (n : List ℕ) → D.content desk.new n ≡ D.content desk.old n }
     ensures stays { (n : List ℕ) → D.steady desk.old n → D.steady desk.new n }
 {
-    match answer(alloc, job, budget, restarts, desk, sink, stops) {
+    match answer(alloc, job, budget, restarts, kept, desk, sink, stops) {
         Ok(answer) => Ending::Done(answer.status()),
         Err(ending) => ending,
     }
@@ -103,23 +107,35 @@ fn answer<D: Desk, S: Sink>(
     job: Job,
     budget: u64,
     restarts: u32,
+    kept: u32,
     desk: &mut D,
     sink: &mut S,
     stops: &mut Vec<Stopped>,
 ) -> Result<Answer, Ending>
+    requires { MayBeKept kept }
     ensures answer { IfOk result (λ a. IfSome (D.left desk.old)
-        (λ text. Solves (format_of job) (terms_of budget restarts) text a)) }
+        (λ text. Solves (format_of job) (terms_of budget restarts kept) text a)) }
     ensures ending { IfErr result (λ e. ¬ IsDone e × IfSome (D.left desk.old)
-        (λ text. IsEnding (format_of job) (terms_of budget restarts) text e)) }
+        (λ text. IsEnding (format_of job) (terms_of budget restarts kept) text e)) }
     ensures desk { TakesInput D.content D.left D.faults D.steady D.flows desk.old desk.new result }
     ensures sink { SendsReply S.written S.flushed S.faults
-        (RoomForJob job (terms_of budget restarts) (D.left desk.old) (S.has_room sink.old)) sink.old sink.new result }
-    ensures output { LeavesOutput job (terms_of budget restarts) (D.left desk.old)
+        (RoomForJob job (terms_of budget restarts kept) (D.left desk.old) (S.has_room sink.old)) sink.old sink.new
+        result }
+    ensures output { LeavesOutput job (terms_of budget restarts kept) (D.left desk.old)
         (S.written sink.old, S.written sink.new)
         (stops.old.items, stops.new.items) (ending_with result) }
 {
     let (mut engine, header) = load(alloc, job, desk)?;
-    reply(&mut engine, header, job, budget, restarts, sink, stops)
+    reply(
+        &mut engine,
+        header,
+        job,
+        budget,
+        restarts,
+        kept,
+        sink,
+        stops,
+    )
 }
 
 // An engine that holds the formula of the chosen input, and the numbers of its header.
@@ -146,16 +162,19 @@ fn reply<S: Sink>(
     job: Job,
     budget: u64,
     restarts: u32,
+    kept: u32,
     sink: &mut S,
     stops: &mut Vec<Stopped>,
 ) -> Result<Answer, Ending>
+    requires { MayBeKept kept }
     ensures { (f : AnyFormula) → HoldsFormula f.prefix f.clauses engine.old → IsHeaderOf f header → RepliesTo S.written
-        S.flushed S.faults S.has_room job (terms_of budget restarts) f sink.old sink.new
+        S.flushed S.faults S.has_room job (terms_of budget restarts kept) f sink.old sink.new
         (stops.old.items, stops.new.items) result }
 {
     // For the proof: the truth under no assumptions is the truth.
     no_assumptions();
     engine.set_restarts(restarts);
+    engine.set_kept_rows(kept);
     stops.reserve(1)?;
     let decision = decide(engine, budget)?;
     let answer = decision.answer();

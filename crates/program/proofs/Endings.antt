@@ -76,7 +76,7 @@ write_fault (CheckLimit quantity) has is = absurd (omega (arith, is))
 module _ (words : List Text) (content : Content) (left : Option Text) (output : Option Text × Option Text)
     (told : List Account × List Account) where
   -- what is so of words without a form, of want of memory, and of the work on each task, is so of each run
-  each : (P : RunEnding → Type 0)
+  pub each : (P : RunEnding → Type 0)
       → ((text : _) → HasNoForm words → Keeps output.0 output.1 → told.1 ≡ told.0 → P (Usage text))
       → (Keeps output.0 output.1 → told.1 ≡ told.0 → P (Worked NoMemory))
       → ((t : Task) (f : Ending) → AsksFor words t → IsWorkOf t (known_for content t) left output told f

@@ -3,6 +3,7 @@ pub mod Checking
 pub mod Choosing
 pub mod Completing
 pub mod Endings
+pub mod Limiting
 pub mod Sampling
 pub mod Scripting
 pub mod Solving

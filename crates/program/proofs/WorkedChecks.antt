@@ -1,8 +1,9 @@
 -- Worked values: what a status says of a certificate that is checked, and what the check writes.
-use Rattle.std.proofs.Common.{◌≡◌, ◌∙◌, ◌<◌, ◌-◌, ◌^◌, ℕ, true, false, List, [], ◌∷◌, codes, Contains, IfSome, Some, None, ap, inl, ⊎_elim, refl, sym, subst, arith}
+use Rattle.std.proofs.Common.{◌≡◌, ◌∙◌, ◌<◌, ◌-◌, ◌^◌, ℕ, zero, suc, Bool, true, false, List, [], ◌∷◌, codes, Contains, IfSome, Option, Some, None, ap, inl, ⊎_elim, refl, sym, subst, take, arith}
 use Rattle.std.proofs.lemmas.Bool.{false≢true}
 use Rattle.std.specs.Io.KnownBytes.{Appends}
 use Rattle.steps.specs.Counter.{step_limit}
+use Rattle.trail.specs.State.{Account}
 use Rattle.truth.specs.declared.formula.Formula.{Formula}
 use Rattle.truth.specs.Truth.{truth}
 use Rattle.search.specs.Counting.{size_of}
@@ -15,6 +16,7 @@ use Rattle.command.specs.Forms.Flag.{the_decide}
 use Rattle.command.specs.declared.command.Command.{Command}
 use Rattle.command.specs.declared.command.Command.TheVariants.{Cert, Check, Demo, Gen, Script, Solve, Trace}
 use Rattle.command.proofs.AccountLemmas.{one_command}
+use Rattle.solve.specs.Terms.{Terms}
 use Rattle.solve.specs.declared.answer.Answer.TheVariants.{Unsat}
 use Rattle.files.specs.declared.check.Outcome.{Outcome}
 use Rattle.files.specs.declared.check.Outcome.TheVariants.{Beyond, Checked, Undecided, Unknown}
@@ -25,8 +27,8 @@ use Rattle.files.specs.Worked.{anything_fits}
 use Rattle.files.proofs.JobValues.{bare, bare_is, bare_reads}
 use Rattle.program.specs.Asked.{AskedEither, IsSample, OfCheckTask, OfFormula, OfScript, task_of}
 use Rattle.program.specs.Complete.{IsValid, IsValidFor}
-use Rattle.program.specs.Run.{EndsIn, IsBeyond, IsLimited, IsUndecidedCheck, IsVerdict}
-use Rattle.program.specs.Told.{IsCheckOutput}
+use Rattle.program.specs.Run.{EndsIn, IsBeyond, IsLimited, IsLimitedCheck, IsUndecidedCheck, IsVerdict, check_limit_line}
+use Rattle.program.specs.Told.{IsCheckOutput, IsOneBeyond}
 use Rattle.qscript.specs.Reads.{done}
 use Rattle.program.proofs.Solving.{other_verdict}
 use Rattle.program.proofs.WorkedVerdicts.{great_reads, great_text, holds}
@@ -37,27 +39,28 @@ abbrev pub check_words : List Text
 check_words = codes "qbf" ∷ codes "check" ∷ []
 
 abbrev pub check : Command
-check = Check whole 0 false None
+check = Check whole 0 512 false None
 
 pub asks_check : Asks check_words check
 asks_check = (codes "qbf", [], refl, no_part (check_flags false) refl)
 
 is_check : (c : Command) → AreAlike c check → c ≡ check
-is_check (Check budget restarts decide None) alike =
+is_check (Check budget restarts kept decide None) alike =
     let first : budget ≡ whole = alike.budgets in
     let second : restarts ≡ 0 = alike.restarts in
+    let last : kept ≡ 512 = alike.kept in
     let third : decide ≡ false = alike.flags the_decide in
-    ap (λ b. Check b restarts decide None) first ∙ ap (λ r. Check whole r decide None) second
-    ∙ ap (λ d. Check whole 0 d None) third
-is_check (Check budget restarts decide (Some name)) alike =
+    ap (λ b. Check b restarts kept decide None) first ∙ ap (λ r. Check whole r kept decide None) second
+    ∙ ap (λ k. Check whole 0 k decide None) last ∙ ap (λ d. Check whole 0 512 d None) third
+is_check (Check budget restarts kept decide (Some name)) alike =
     absurd (let no : Some name.now ≡ None = alike.names in cc)
-is_check (Solve budget restarts form name) alike =
+is_check (Solve budget restarts kept form name) alike =
     absurd (let n : 111 ≡ 104 = ap (letter 1) alike.words in omega (arith, n))
-is_check (Trace budget restarts name) alike =
+is_check (Trace budget restarts kept name) alike =
     absurd (let n : 114 ≡ 104 = ap (letter 1) alike.words in omega (arith, n))
-is_check (Cert budget restarts binary trim name) alike =
+is_check (Cert budget restarts kept binary trim name) alike =
     absurd (let n : 101 ≡ 104 = ap (letter 1) alike.words in omega (arith, n))
-is_check (Script budget restarts name) alike =
+is_check (Script budget restarts kept name) alike =
     absurd (let n : 99 ≡ 104 = ap (letter 1) alike.words in omega (arith, n))
 is_check (Gen seed vars clauses) alike = absurd (let n : 101 ≡ 104 = ap (letter 1) alike.words in omega (arith, n))
 is_check (Demo seed count) alike = absurd (let n : 101 ≡ 104 = ap (letter 1) alike.words in omega (arith, n))
@@ -129,3 +132,31 @@ pub silent_for_true : IsCheckOutput true plain (Some bare) (Some [], Some []) []
     → (quantity : Quantity) × (text : Text) × IsCheckOn true plain (Some bare) ([], []) (Beyond quantity) text
     × Appends (Some []) (Some []) text
 silent_for_true h = ⊎_elim (λ none. absurd (within_limits none.0)) (λ is. is) (h.limit refl)
+
+-- what is said of one circuit: the check formula of a certificate of the text's formula goes beyond a limit
+pub beyond_a_limit : (decide : Bool) (terms : Terms) (written : Option Text × Option Text) (stops : List Account)
+    (faults : ℕ × ℕ) (said : Option Text × Option Text) (input : Text)
+    → IsOneBeyond terms written stops faults said input → IsLimitedCheck decide terms input
+beyond_a_limit decide terms written stops faults said input h =
+    (h.quantity, (h.formula, h.reads, h.beyond.value, h.beyond.circuit, h.beyond.certified, h.beyond.limit))
+
+-- not without the circuit's text, nor without the line, nor with another line
+pub without_circuit : (terms : Terms) (stops : List Account) (faults : ℕ × ℕ) (said : Option Text × Option Text)
+    (input : Text) → IsOneBeyond terms (Some [], Some []) stops faults said input → ⊥
+without_circuit terms stops faults said input h =
+    let none : [] ≡ h.text = h.output in
+    let lines = h.beyond.denotes.lines in
+    absurd (let no = none ∙ lines in cc)
+
+pub without_line : (terms : Terms) (written : Option Text × Option Text) (stops : List Account) (input : Text)
+    → IsOneBeyond terms written stops (0, 0) (Some [], Some []) input → ⊥
+without_line terms written stops input h =
+    absurd (let no : [] ≡ check_limit_line h.quantity = h.whole (λ rose. omega (arith, rose)) in cc)
+
+pub with_other_line : (terms : Terms) (written : Option Text × Option Text) (stops : List Account) (faults : ℕ × ℕ)
+    (input : Text) → IsOneBeyond terms written stops faults (Some [], Some (codes "no\n")) input → ⊥
+with_other_line terms written stops faults input h = by h.front.count h.front.appended
+  where
+    by : (n : ℕ) → codes "no\n" ≡ take n (check_limit_line h.quantity) → ⊥
+    by zero is = absurd (cc)
+    by (suc n) is = absurd (let first : 110 ≡ 113 = ap (letter 0) is in omega (arith, first))

@@ -136,7 +136,7 @@ both the_binary = false
 both the_trim = false
 both the_decide = false
 
-has_both : AsksInput (codes "solve") both_words whole 0 both None
+has_both : AsksInput (codes "solve") both_words whole 0 512 both None
 has_both = (
   codes "qbf",
   codes "--qdo" ∷ codes "--qcir" ∷ [],
@@ -144,9 +144,11 @@ has_both = (
   record {
     budget_parts = [];
     restarts_parts = [];
+    kept_parts = [];
     name_parts = [];
     gives_budget = inl (refl, refl);
     gives_restarts = inl (refl, refl);
+    gives_kept = inl (refl, refl);
     gives_name = refl;
     in_any_order = record {
       order = flag_part the_qdo ∷ flag_part the_qcir ∷ [];
@@ -167,20 +169,20 @@ second (w ∷ []) = []
 second (w ∷ v ∷ rest) = v
 
 pub none_for_both : HasNoForm both_words
-none_for_both (Solve n k form name) asks =
-    let same = one_input both_words _ _ n whole k 0 (solve_flags form) both _ None asks has_both in
-    no_form form (same.3 the_qdo) (same.3 the_qcir)
-none_for_both (Trace n k name) asks =
-    let same = one_input both_words _ _ n whole k 0 no_flags both _ None asks has_both in
+none_for_both (Solve n k l form name) asks =
+    let same = one_input both_words _ _ n whole k 0 l 512 (solve_flags form) both _ None asks has_both in
+    no_form form (same.4 the_qdo) (same.4 the_qcir)
+none_for_both (Trace n k l name) asks =
+    let same = one_input both_words _ _ n whole k 0 l 512 no_flags both _ None asks has_both in
     absurd (let no : 114 ≡ 111 = ap (letter 1) same.0 in omega (arith, no))
-none_for_both (Cert n k binary trim name) asks =
-    let same = one_input both_words _ _ n whole k 0 (cert_flags binary trim) both _ None asks has_both in
+none_for_both (Cert n k l binary trim name) asks =
+    let same = one_input both_words _ _ n whole k 0 l 512 (cert_flags binary trim) both _ None asks has_both in
     absurd (let no : 101 ≡ 111 = ap (letter 1) same.0 in omega (arith, no))
-none_for_both (Check n k decide name) asks =
-    let same = one_input both_words _ _ n whole k 0 (check_flags decide) both _ None asks has_both in
+none_for_both (Check n k l decide name) asks =
+    let same = one_input both_words _ _ n whole k 0 l 512 (check_flags decide) both _ None asks has_both in
     absurd (let no : 104 ≡ 111 = ap (letter 1) same.0 in omega (arith, no))
-none_for_both (Script n k name) asks =
-    let same = one_input both_words _ _ n whole k 0 no_flags both _ None asks has_both in
+none_for_both (Script n k l name) asks =
+    let same = one_input both_words _ _ n whole k 0 l 512 no_flags both _ None asks has_both in
     absurd (let no : 99 ≡ 111 = ap (letter 1) same.0 in omega (arith, no))
 none_for_both (Gen seed vars clauses) asks =
     absurd (let no : 111 ≡ 101 = ap (λ words. letter 1 (second words)) asks.0.1 in omega (arith, no))

@@ -17,25 +17,25 @@ use Rattle.program.specs.Asked.{IsSample, OfCheckTask, OfFormula, OfScript, Room
 use Rattle.program.specs.Told.{IsCheckOutput, IsJobOutput, IsOutputOf, IsSampleOutput}
 
 abbrev qdo : Command
-qdo = Solve 7 1 Qdo None
+qdo = Solve 7 1 512 Qdo None
 
 abbrev circuit : Command
-circuit = Solve 7 1 Qcir None
+circuit = Solve 7 1 512 Qcir None
 
 abbrev trace : Command
-trace = Trace 7 1 None
+trace = Trace 7 1 512 None
 
 abbrev cert : Command
-cert = Cert 7 1 true false None
+cert = Cert 7 1 512 true false None
 
 abbrev check : Command
-check = Check 7 1 true None
+check = Check 7 1 512 true None
 
 abbrev demo : Command
 demo = Demo 0 1
 
 abbrev seven : Terms
-seven = terms_of 7 1
+seven = terms_of 7 1 512
 
 -- the jobs of `solve`
 pub with_qdo : solve_job Qdo ≡ QdoJob

@@ -377,7 +377,8 @@ bad_formula (f, reads) =
     absurd (let same : refused 11 1 ≡ parsed f = one_outcome bad_text (refused 11 1) (parsed f) bad_reads reads in cc)
 
 pub all_valid : AllByRecursion (λ c. IsValidFor (task_of c) (holds bare))
-    (Solve 7 1 Qdo None ∷ Trace 7 1 None ∷ Cert 7 1 true true None ∷ Check 7 1 true None ∷ gen ∷ Demo 0 1 ∷ [])
+    (Solve 7 1 512 Qdo None ∷ Trace 7 1 512 None ∷ Cert 7 1 512 true true None ∷ Check 7 1 512 true None ∷ gen
+    ∷ Demo 0 1 ∷ [])
 all_valid = (
   (anything_fits, bare_reads),
   (
@@ -390,7 +391,7 @@ all_valid = (
 )
 
 pub none_valid : AllByRecursion (λ c. IsValidFor (task_of c) (holds bad_text) → ⊥)
-    (Solve 7 1 Qdo None ∷ Trace 7 1 None ∷ Cert 7 1 true true None ∷ Check 7 1 true None ∷ [])
+    (Solve 7 1 512 Qdo None ∷ Trace 7 1 512 None ∷ Cert 7 1 512 true true None ∷ Check 7 1 512 true None ∷ [])
 none_valid = (bad_formula, (bad_formula, (bad_formula, (bad_formula, tt))))
 
 pub bad_script_invalid : IsValid script_words (holds bad_script) → ⊥

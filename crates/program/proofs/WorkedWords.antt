@@ -34,29 +34,31 @@ abbrev pub whole : ℕ
 whole = 2 ^ 64 - 1
 
 abbrev pub plain : Terms
-plain = terms_of whole 0
+plain = terms_of whole 0 512
 
 -- the commands that they ask for
 abbrev pub solve : Command
-solve = Solve whole 0 Plain None
+solve = Solve whole 0 512 Plain None
 
 abbrev pub decide_circuit : Command
-decide_circuit = Solve whole 0 Qcir None
+decide_circuit = Solve whole 0 512 Qcir None
 
 abbrev pub script : Command
-script = Script whole 0 None
+script = Script whole 0 512 None
 
 abbrev pub gen : Command
 gen = Gen 0 3 1
 
 -- no word but the command
-pub no_part : (flags : Flag → Bool) → flag_parts flags ≡ [] → GivesInput [] whole 0 flags None
+pub no_part : (flags : Flag → Bool) → flag_parts flags ≡ [] → GivesInput [] whole 0 512 flags None
 no_part flags none = record {
   budget_parts = [];
   restarts_parts = [];
+  kept_parts = [];
   name_parts = [];
   gives_budget = inl (refl, refl);
   gives_restarts = inl (refl, refl);
+  gives_kept = inl (refl, refl);
   gives_name = refl;
   in_any_order = record {
     order = [];
@@ -77,9 +79,11 @@ asks_circuit = (
   record {
     budget_parts = [];
     restarts_parts = [];
+    kept_parts = [];
     name_parts = [];
     gives_budget = inl (refl, refl);
     gives_restarts = inl (refl, refl);
+    gives_kept = inl (refl, refl);
     gives_name = refl;
     in_any_order = record {
       order = flag_part the_qcir ∷ [];
@@ -113,38 +117,43 @@ is_circuit Qdo qcir = absurd (let no : false ≡ true = qcir in cc)
 is_circuit Qcir qcir = refl
 
 is_solve : (c : Command) → AreAlike c solve → c ≡ solve
-is_solve (Solve budget restarts form None) alike =
+is_solve (Solve budget restarts kept form None) alike =
     let first : budget ≡ whole = alike.budgets in
     let second : restarts ≡ 0 = alike.restarts in
+    let last : kept ≡ 512 = alike.kept in
     let third : form ≡ Plain = is_plain form (alike.flags the_qdo) (alike.flags the_qcir) in
-    ap (λ b. Solve b restarts form None) first ∙ ap (λ r. Solve whole r form None) second
-    ∙ ap (λ q. Solve whole 0 q None) third
-is_solve (Solve budget restarts form (Some name)) alike = absurd (let no : Some name.now ≡ None = alike.names in cc)
-is_solve (Trace budget restarts name) alike = absurd (let n : 114 ≡ 111 = ap (letter 1) alike.words in omega (arith, n))
-is_solve (Cert budget restarts binary trim name) alike =
+    ap (λ b. Solve b restarts kept form None) first ∙ ap (λ r. Solve whole r kept form None) second
+    ∙ ap (λ k. Solve whole 0 k form None) last ∙ ap (λ q. Solve whole 0 512 q None) third
+is_solve (Solve budget restarts kept form (Some name)) alike =
+    absurd (let no : Some name.now ≡ None = alike.names in cc)
+is_solve (Trace budget restarts kept name) alike =
+    absurd (let n : 114 ≡ 111 = ap (letter 1) alike.words in omega (arith, n))
+is_solve (Cert budget restarts kept binary trim name) alike =
     absurd (let n : 101 ≡ 111 = ap (letter 1) alike.words in omega (arith, n))
-is_solve (Check budget restarts decide name) alike =
+is_solve (Check budget restarts kept decide name) alike =
     absurd (let n : 104 ≡ 111 = ap (letter 1) alike.words in omega (arith, n))
-is_solve (Script budget restarts name) alike = absurd (let n : 99 ≡ 111 = ap (letter 1) alike.words in omega (arith, n))
+is_solve (Script budget restarts kept name) alike =
+    absurd (let n : 99 ≡ 111 = ap (letter 1) alike.words in omega (arith, n))
 is_solve (Gen seed vars clauses) alike = absurd (let n : 101 ≡ 111 = ap (letter 1) alike.words in omega (arith, n))
 is_solve (Demo seed count) alike = absurd (let n : 101 ≡ 111 = ap (letter 1) alike.words in omega (arith, n))
 
 is_decide_circuit : (c : Command) → AreAlike c decide_circuit → c ≡ decide_circuit
-is_decide_circuit (Solve budget restarts form None) alike =
+is_decide_circuit (Solve budget restarts kept form None) alike =
     let first : budget ≡ whole = alike.budgets in
     let second : restarts ≡ 0 = alike.restarts in
+    let last : kept ≡ 512 = alike.kept in
     let third : form ≡ Qcir = is_circuit form (alike.flags the_qcir) in
-    ap (λ b. Solve b restarts form None) first ∙ ap (λ r. Solve whole r form None) second
-    ∙ ap (λ q. Solve whole 0 q None) third
-is_decide_circuit (Solve budget restarts form (Some name)) alike =
+    ap (λ b. Solve b restarts kept form None) first ∙ ap (λ r. Solve whole r kept form None) second
+    ∙ ap (λ k. Solve whole 0 k form None) last ∙ ap (λ q. Solve whole 0 512 q None) third
+is_decide_circuit (Solve budget restarts kept form (Some name)) alike =
     absurd (let no : Some name.now ≡ None = alike.names in cc)
-is_decide_circuit (Trace budget restarts name) alike =
+is_decide_circuit (Trace budget restarts kept name) alike =
     absurd (let n : 114 ≡ 111 = ap (letter 1) alike.words in omega (arith, n))
-is_decide_circuit (Cert budget restarts binary trim name) alike =
+is_decide_circuit (Cert budget restarts kept binary trim name) alike =
     absurd (let n : 101 ≡ 111 = ap (letter 1) alike.words in omega (arith, n))
-is_decide_circuit (Check budget restarts decide name) alike =
+is_decide_circuit (Check budget restarts kept decide name) alike =
     absurd (let n : 104 ≡ 111 = ap (letter 1) alike.words in omega (arith, n))
-is_decide_circuit (Script budget restarts name) alike =
+is_decide_circuit (Script budget restarts kept name) alike =
     absurd (let n : 99 ≡ 111 = ap (letter 1) alike.words in omega (arith, n))
 is_decide_circuit (Gen seed vars clauses) alike =
     absurd (let n : 101 ≡ 111 = ap (letter 1) alike.words in omega (arith, n))
@@ -152,17 +161,20 @@ is_decide_circuit (Demo seed count) alike =
     absurd (let n : 101 ≡ 111 = ap (letter 1) alike.words in omega (arith, n))
 
 is_script : (c : Command) → AreAlike c script → c ≡ script
-is_script (Script budget restarts None) alike =
+is_script (Script budget restarts kept None) alike =
     let first : budget ≡ whole = alike.budgets in
     let second : restarts ≡ 0 = alike.restarts in
-    ap (λ b. Script b restarts None) first ∙ ap (λ r. Script whole r None) second
-is_script (Script budget restarts (Some name)) alike = absurd (let no : Some name.now ≡ None = alike.names in cc)
-is_script (Solve budget restarts form name) alike =
+    let last : kept ≡ 512 = alike.kept in
+    ap (λ b. Script b restarts kept None) first ∙ ap (λ r. Script whole r kept None) second
+    ∙ ap (λ k. Script whole 0 k None) last
+is_script (Script budget restarts kept (Some name)) alike = absurd (let no : Some name.now ≡ None = alike.names in cc)
+is_script (Solve budget restarts kept form name) alike =
     absurd (let n : 111 ≡ 99 = ap (letter 1) alike.words in omega (arith, n))
-is_script (Trace budget restarts name) alike = absurd (let n : 114 ≡ 99 = ap (letter 1) alike.words in omega (arith, n))
-is_script (Cert budget restarts binary trim name) alike =
+is_script (Trace budget restarts kept name) alike =
+    absurd (let n : 114 ≡ 99 = ap (letter 1) alike.words in omega (arith, n))
+is_script (Cert budget restarts kept binary trim name) alike =
     absurd (let n : 101 ≡ 99 = ap (letter 1) alike.words in omega (arith, n))
-is_script (Check budget restarts decide name) alike =
+is_script (Check budget restarts kept decide name) alike =
     absurd (let n : 104 ≡ 99 = ap (letter 1) alike.words in omega (arith, n))
 is_script (Gen seed vars clauses) alike = absurd (let n : 101 ≡ 99 = ap (letter 1) alike.words in omega (arith, n))
 is_script (Demo seed count) alike = absurd (let n : 101 ≡ 99 = ap (letter 1) alike.words in omega (arith, n))
@@ -174,14 +186,16 @@ is_gen (Gen seed vars clauses) alike =
     let second : vars ≡ 3 = cc in
     let third : clauses ≡ 1 = cc in
     ap (λ x. Gen x vars clauses) first ∙ ap (λ x. Gen 0 x clauses) second ∙ ap (λ x. Gen 0 3 x) third
-is_gen (Solve budget restarts form name) alike =
+is_gen (Solve budget restarts kept form name) alike =
     absurd (let n : 111 ≡ 101 = ap (letter 1) alike.words in omega (arith, n))
-is_gen (Trace budget restarts name) alike = absurd (let n : 114 ≡ 101 = ap (letter 1) alike.words in omega (arith, n))
-is_gen (Cert budget restarts binary trim name) alike =
+is_gen (Trace budget restarts kept name) alike =
+    absurd (let n : 114 ≡ 101 = ap (letter 1) alike.words in omega (arith, n))
+is_gen (Cert budget restarts kept binary trim name) alike =
     absurd (let n : 99 ≡ 103 = ap (letter 0) alike.words in omega (arith, n))
-is_gen (Check budget restarts decide name) alike =
+is_gen (Check budget restarts kept decide name) alike =
     absurd (let n : 104 ≡ 101 = ap (letter 1) alike.words in omega (arith, n))
-is_gen (Script budget restarts name) alike = absurd (let n : 99 ≡ 101 = ap (letter 1) alike.words in omega (arith, n))
+is_gen (Script budget restarts kept name) alike =
+    absurd (let n : 99 ≡ 101 = ap (letter 1) alike.words in omega (arith, n))
 is_gen (Demo seed count) alike = absurd (let n : 100 ≡ 103 = ap (letter 0) alike.words in omega (arith, n))
 
 pub only_solve : (c : Command) → Asks solve_words c → c ≡ solve
@@ -198,15 +212,15 @@ only_gen c asks = is_gen c (one_command gen_words c gen asks asks_gen)
 
 -- no words ask for none
 pub no_words : HasNoForm []
-no_words (Solve budget restarts form name) asks =
+no_words (Solve budget restarts kept form name) asks =
     absurd (let no : ◌≡◌ {A = List Text} [] (asks.0 ∷ codes "solve" ∷ asks.1) = asks.2 in cc)
-no_words (Trace budget restarts name) asks =
+no_words (Trace budget restarts kept name) asks =
     absurd (let no : ◌≡◌ {A = List Text} [] (asks.0 ∷ codes "trace" ∷ asks.1) = asks.2 in cc)
-no_words (Cert budget restarts binary trim name) asks =
+no_words (Cert budget restarts kept binary trim name) asks =
     absurd (let no : ◌≡◌ {A = List Text} [] (asks.0 ∷ codes "cert" ∷ asks.1) = asks.2 in cc)
-no_words (Check budget restarts decide name) asks =
+no_words (Check budget restarts kept decide name) asks =
     absurd (let no : ◌≡◌ {A = List Text} [] (asks.0 ∷ codes "check" ∷ asks.1) = asks.2 in cc)
-no_words (Script budget restarts name) asks =
+no_words (Script budget restarts kept name) asks =
     absurd (let no : ◌≡◌ {A = List Text} [] (asks.0 ∷ codes "script" ∷ asks.1) = asks.2 in cc)
 no_words (Gen seed vars clauses) asks = absurd (let no : ◌≡◌ {A = List Text} [] (asks.0.0 ∷ codes "gen"
     ∷ map decimal (seed ∷ vars ∷ clauses ∷ [])) = asks.0.1 in cc)

@@ -38,16 +38,16 @@ pub data Task : Type 0 where
 
 -- What each command comes to.
 abbrev pub task_of : Command → Task
-task_of (Solve budget restarts form name) =
-    job_task (solve_job form) (terms_of budget restarts) (input_name (option_map (λ s. s.now) name))
-task_of (Trace budget restarts name) =
-    job_task TraceJob (terms_of budget restarts) (input_name (option_map (λ s. s.now) name))
-task_of (Cert budget restarts binary trim name) =
-    job_task (CertJob binary trim) (terms_of budget restarts) (input_name (option_map (λ s. s.now) name))
-task_of (Check budget restarts decide name) =
-    check_task decide (terms_of budget restarts) (input_name (option_map (λ s. s.now) name))
-task_of (Script budget restarts name) =
-    script_task (terms_of budget restarts) (input_name (option_map (λ s. s.now) name))
+task_of (Solve budget restarts kept form name) =
+    job_task (solve_job form) (terms_of budget restarts kept) (input_name (option_map (λ s. s.now) name))
+task_of (Trace budget restarts kept name) =
+    job_task TraceJob (terms_of budget restarts kept) (input_name (option_map (λ s. s.now) name))
+task_of (Cert budget restarts kept binary trim name) =
+    job_task (CertJob binary trim) (terms_of budget restarts kept) (input_name (option_map (λ s. s.now) name))
+task_of (Check budget restarts kept decide name) =
+    check_task decide (terms_of budget restarts kept) (input_name (option_map (λ s. s.now) name))
+task_of (Script budget restarts kept name) =
+    script_task (terms_of budget restarts kept) (input_name (option_map (λ s. s.now) name))
 task_of (Gen seed vars clauses) = text_task (formula_text (made seed vars clauses))
 task_of (Demo seed count) = text_task (counts_text seed count)
 

@@ -2,6 +2,10 @@
 use Rattle.std.specs.Prelude.{◌≡◌, ◌≢◌, ◌⊎◌, ℕ, Bool, List, [], ◌∷◌, Contains, Option, IfSome}
 use Rattle.std.specs.Io.KnownBytes.{Appends, Keeps}
 use Rattle.ports.specs.Bytes.{AppendsFront}
+use Rattle.ports.specs.Causes.{Rose}
+use Rattle.qdimacs.specs.Reads.{Reads}
+use Rattle.qdimacs.specs.Rules.{parsed}
+use Rattle.truth.specs.declared.formula.Formula.{Formula}
 use Rattle.trail.specs.State.{Account}
 use Rattle.command.specs.Forms.{Asks, Text}
 use Rattle.command.specs.declared.command.Command.{Command}
@@ -16,16 +20,16 @@ use Rattle.reading.specs.declared.refusal.Quantity.{Quantity}
 use Rattle.files.specs.declared.check.Outcome.{Outcome}
 use Rattle.files.specs.declared.check.Outcome.TheVariants.{Beyond}
 use Rattle.solve.specs.declared.ending.Ending.TheVariants.{Done}
-use Rattle.files.specs.Checks.{IsCheckOn, check_ending}
+use Rattle.files.specs.Checks.{IsBeyond, IsCheckOn, check_ending}
 use Rattle.files.specs.Inputs.Format.{as_formula}
 use Rattle.files.specs.Jobs.{IsReplyOn}
 use Rattle.files.specs.Solve.{HasAnswer, OfAnswer}
 use Rattle.solve.specs.Standing.{Standing}
 use Rattle.solve.specs.Terms.{Terms}
 use Rattle.files.specs.declared.job.Job.{Job}
-use Rattle.program.specs.Asked.{Task, known_for, task_of}
+use Rattle.program.specs.Asked.{AskedCheck, AskedEither, Task, known_for, task_of}
 use Rattle.program.specs.Asked.Task.{job_task, check_task, script_task, text_task}
-use Rattle.program.specs.Run.{IsLimited}
+use Rattle.program.specs.Run.{IsLimited, IsLimitedScript, check_limit_line}
 
 -- What a job on a formula leaves on the output and tells: its reply with an answer, a front of one after a write fault,
 -- and else nothing. With UNKNOWN an entry is told of its search, and else none. `written` is what stood on the output
@@ -52,6 +56,26 @@ pub record IsCheckOutput (decide : Bool) (terms : Terms) (known : Option Text) (
   pub front : status ≡ 4 → (outcome : Outcome) × (text : Text)
       × IsCheckOn decide terms known ([], stops) outcome text × AppendsFront written.0 written.1 text
   pub nothing : Contains (2 ∷ 3 ∷ 5 ∷ []) status → Keeps written.0 written.1 × (stops ≡ [])
+
+-- The check formula of one circuit goes beyond a limit. That circuit is on the output, and the line that names what
+-- there is too much of on the error output, `said`: a front of it, and all of it where no fault was counted there.
+pub record IsOneBeyond (terms : Terms) (written : Option Text × Option Text) (stops : List Account) (faults : ℕ × ℕ)
+    (said : Option Text × Option Text) (input : Text) : Type 0 where
+  pub formula : Formula
+  pub reads : Reads input (parsed formula)
+  pub quantity : Quantity
+  pub text : Text
+  pub beyond : IsBeyond terms formula quantity ([], stops) text
+  pub output : Appends written.0 written.1 text
+  pub front : AppendsFront said.0 said.1 (check_limit_line quantity)
+  pub whole : ¬ Rose faults.0 faults.1 → Appends said.0 said.1 (check_limit_line quantity)
+
+-- What goes beyond a limit with status 6: the input, or the check formula of one circuit.
+abbrev pub IsLimitOf : (words : List Text) (content : Text → Option Text) (written : Option Text × Option Text)
+    (stops : List Account) (faults : ℕ × ℕ) (said : Option Text × Option Text) → Type 0
+IsLimitOf words content written stops faults said =
+    AskedEither words content (λ format terms text. IsLimited format text) (λ terms text. IsLimitedScript text)
+    ⊎ AskedCheck words content (λ decide terms text. IsOneBeyond terms written stops faults said text)
 
 -- What a script leaves on the output: allowed replies to commands, all of them, or after a write fault a front of them.
 -- The commands are the first of the text's script, by the version that its header names, if the text is told, and all

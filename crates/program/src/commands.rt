@@ -10,10 +10,11 @@ ghost use Rattle.session.specs.Scripts.{RoomForReplies};
 ghost use Rattle.solve.specs.Endings.{IsDone};
 ghost use Rattle.files.specs.Solve.{HasAnswer};
 ghost use Rattle.solve.specs.Terms.{terms_of};
+ghost use Rattle.engine.specs.Keeping.{MayBeKept};
 ghost use Rattle.program.specs.Asked.{AskedAny, RoomForOutput, RoomForTask, SteadyFor, SteadyForInput, input_name as name_of_input, known_for, solve_job, task_of};
 ghost use Rattle.program.specs.Complete.{IsComplete, IsValid};
 ghost use Rattle.program.specs.Run.{IsErrorOutput, IsVerdict, line_of, status_of};
-ghost use Rattle.program.specs.Told.{IsOutput};
+ghost use Rattle.program.specs.Told.{IsLimitOf, IsOutput};
 ghost use Rattle.program.specs.Work.{Carried, IsAnswered, IsCheckWork, IsDue, IsJobWork, IsReplied, IsWorkOf};
 
 use crate::ending::RunEnding;
@@ -27,20 +28,21 @@ use std::alloc::Global;
 use trail::Stopped;
 
 /// Carries out the command that the words ask for, the program's name first:
-/// - `solve [--budget N] [--restarts R] [--qdo | --qcir] [NAME]` decides the formula of the file NAME, or of standard
-///   input, by search with a budget of N steps, which may begin anew R times, and writes `SAT`, `UNSAT` or `UNKNOWN` to
-///   `out`; with `--qdo` the lines of QDIMACS 1.1's output format. With `--qcir` the input is a quantified circuit
-///   (QCIR-14), which is decided by its formula (`qcir::translate`).
-/// - `trace [--budget N] [--restarts R] [NAME]` writes in the place of `SAT` and `UNSAT` the trace of the verdict's
-///   proof (QRP).
-/// - `cert [--budget N] [--restarts R] [--binary] [--trim] [NAME]` writes there the circuit by which the verdict's
-///   winner wins (AIGER 1.9): in ASCII, or with `--binary` in the binary form; with `--trim` without the gates that no
-///   output is reached from. `UNKNOWN` stays a line of text.
-/// - `check [--budget N] [--restarts R] [--decide] [NAME]` writes there the formula that says that this circuit loses,
-///   as QDIMACS, which is unsatisfiable; with `--decide` it decides that formula, with a budget of its own, and writes
-///   `WINS`, or `UNDECIDED` with status 0 where that budget was spent.
-/// - `script [--budget N] [--restarts R] [NAME]` replies on `out` to the commands of that input, each of its solves
-///   with a budget of N steps and R restarts.
+/// - `solve [--budget N] [--restarts R] [--keep K] [--qdo | --qcir] [NAME]` decides the formula of the file NAME, or of
+///   standard input, by search with a budget of N steps, which may begin anew R times and keep K long learned rows that
+///   are no reasons, and writes `SAT`, `UNSAT` or `UNKNOWN` to `out`; with `--qdo` the lines of QDIMACS 1.1's output
+///   format. With `--qcir` the input is a quantified circuit (QCIR-14), which is decided by its formula
+///   (`qcir::translate`).
+/// - `trace [--budget N] [--restarts R] [--keep K] [NAME]` writes in the place of `SAT` and `UNSAT` the trace of the
+///   verdict's proof (QRP).
+/// - `cert [--budget N] [--restarts R] [--keep K] [--binary] [--trim] [NAME]` writes there the circuit by which the
+///   verdict's winner wins (AIGER 1.9): in ASCII, or with `--binary` in the binary form; with `--trim` without the
+///   gates that no output is reached from. `UNKNOWN` stays a line of text.
+/// - `check [--budget N] [--restarts R] [--keep K] [--decide] [NAME]` writes there the formula that says that this
+///   circuit loses, as QDIMACS, which is unsatisfiable; with `--decide` it decides that formula, with a budget of its
+///   own, and writes `WINS`, or `UNDECIDED` with status 0 where that budget was spent.
+/// - `script [--budget N] [--restarts R] [--keep K] [NAME]` replies on `out` to the commands of that input, each of its
+///   solves with a budget of N steps, R restarts and K rows.
 /// - `gen SEED VARS CLAUSES` writes a formula that is made from a seed, and `demo SEED COUNT` how many of so many of
 ///   these are true and false.
 ///
@@ -76,9 +78,8 @@ pub fn run<D: Desk, O: Sink, E: Sink>(
     ensures steady { SteadyForInput (map string_bytes words.now) (D.steady desk.old) → result ≢ 3 }
     ensures room { RoomForOutput (map string_bytes words.now) (D.content desk.old) (O.has_room out.old) → result ≢ 4 }
 
-    // a valid input is answered, or its check formula goes beyond a limit, where no fault comes and there is memory
-    ensures complete { IsValid (map string_bytes words.now) (D.content desk.old)
-        → ¬ Rose (D.faults desk.old) (D.faults desk.new) → ¬ Rose (O.faults out.old) (O.faults out.new)
+    // a valid input is answered, or its check formula goes beyond a limit, where there is no fault and there is memory
+    ensures complete { IsValid (map string_bytes words.now) (D.content desk.old) → result ≢ 3 → result ≢ 4
         → IsComplete (map string_bytes words.now) (D.content desk.old) result }
 
     // what stands on the output, with what is told of searches that stopped: an entry for each UNKNOWN; and that all of
@@ -86,6 +87,12 @@ pub fn run<D: Desk, O: Sink, E: Sink>(
     ensures output { IsOutput (map string_bytes words.now) (D.content desk.old) (O.written out.old, O.written out.new)
         stops.new.items result }
     ensures flushed { HasAnswer result → AllFlushed (O.written out.new) (O.flushed out.old) (O.flushed out.new) }
+
+    // with status 6 the input goes beyond a limit, or the check formula of the circuit that is written, which the error
+    // output names
+    ensures limit { result ≡ 6 → IsLimitOf (map string_bytes words.now) (D.content desk.old)
+        (O.written out.old, O.written out.new) stops.new.items (E.faults err.old, E.faults err.new)
+        (E.written err.old, E.written err.new) }
 
     // what stands on the error output
     ensures error { IsErrorOutput (map string_bytes words.now) (D.content desk.old) (E.faults err.old, E.faults err.new)
@@ -149,6 +156,7 @@ fn carry_out<D: Desk, O: Sink>(
         Command::Solve {
             budget,
             restarts,
+            kept,
             form,
             name,
         } => work(
@@ -156,6 +164,7 @@ fn carry_out<D: Desk, O: Sink>(
             job_of(form),
             budget,
             restarts,
+            kept,
             name,
             desk,
             out,
@@ -164,11 +173,23 @@ fn carry_out<D: Desk, O: Sink>(
         Command::Trace {
             budget,
             restarts,
+            kept,
             name,
-        } => work(alloc, Job::Trace, budget, restarts, name, desk, out, stops),
+        } => work(
+            alloc,
+            Job::Trace,
+            budget,
+            restarts,
+            kept,
+            name,
+            desk,
+            out,
+            stops,
+        ),
         Command::Cert {
             budget,
             restarts,
+            kept,
             binary,
             trim,
             name,
@@ -177,6 +198,7 @@ fn carry_out<D: Desk, O: Sink>(
             Job::Cert { binary, trim },
             budget,
             restarts,
+            kept,
             name,
             desk,
             out,
@@ -185,14 +207,18 @@ fn carry_out<D: Desk, O: Sink>(
         Command::Check {
             budget,
             restarts,
+            kept,
             decide,
             name,
-        } => check(alloc, budget, restarts, decide, name, desk, out, stops),
+        } => check(
+            alloc, budget, restarts, kept, decide, name, desk, out, stops,
+        ),
         Command::Script {
             budget,
             restarts,
+            kept,
             name,
-        } => reply(alloc, budget, restarts, name, desk, out, stops),
+        } => reply(alloc, budget, restarts, kept, name, desk, out, stops),
         Command::Gen {
             seed,
             vars,
@@ -219,24 +245,26 @@ fn work<D: Desk, O: Sink>(
     job: Job,
     budget: u64,
     restarts: u32,
+    kept: u32,
     name: Option<&str>,
     desk: &mut D,
     out: &mut O,
     stops: &mut Vec<Stopped>,
 ) -> Ending
-    ensures solved { IsJobWork job (terms_of budget restarts)
+    requires { MayBeKept kept }
+    ensures solved { IsJobWork job (terms_of budget restarts kept)
         (D.content desk.old (name_of_input (option_map (λ s. s.now) name.entry)))
         (D.left desk.new) (O.written out.old, O.written out.new) (stops.old.items, stops.new.items) result }
     ensures outside { IsDue D.faults O.written O.flushed O.faults
         (D.steady desk.old (name_of_input (option_map (λ s. s.now) name.entry)))
-        (RoomForJob job (terms_of budget restarts)
+        (RoomForJob job (terms_of budget restarts kept)
         (D.content desk.old (name_of_input (option_map (λ s. s.now) name.entry))) (O.has_room out.old))
         (desk.old, desk.new) (out.old, out.new) (λ e. result ≡ e) (IsDone result) }
 {
     if desk.choose(input_name(name)).is_err() {
         return Ending::ReadFault;
     }
-    run_file(alloc, job, budget, restarts, desk, out, stops)
+    run_file(alloc, job, budget, restarts, kept, desk, out, stops)
 }
 
 // Checks the certificate of the formula of an input.
@@ -244,25 +272,27 @@ fn check<D: Desk, O: Sink>(
     alloc: Global,
     budget: u64,
     restarts: u32,
+    kept: u32,
     decide: bool,
     name: Option<&str>,
     desk: &mut D,
     out: &mut O,
     stops: &mut Vec<Stopped>,
 ) -> Ending
-    ensures checked { IsCheckWork decide (terms_of budget restarts)
+    requires { MayBeKept kept }
+    ensures checked { IsCheckWork decide (terms_of budget restarts kept)
         (D.content desk.old (name_of_input (option_map (λ s. s.now) name.entry)))
         (D.left desk.new) (O.written out.old, O.written out.new) (stops.old.items, stops.new.items) result }
     ensures outside { IsDue D.faults O.written O.flushed O.faults
         (D.steady desk.old (name_of_input (option_map (λ s. s.now) name.entry)))
-        (RoomForCheck decide (terms_of budget restarts)
+        (RoomForCheck decide (terms_of budget restarts kept)
         (D.content desk.old (name_of_input (option_map (λ s. s.now) name.entry))) (O.has_room out.old))
         (desk.old, desk.new) (out.old, out.new) (λ e. result ≡ e) (IsDone result) }
 {
     if desk.choose(input_name(name)).is_err() {
         return Ending::ReadFault;
     }
-    run_check(alloc, budget, restarts, decide, desk, out, stops)
+    run_check(alloc, budget, restarts, kept, decide, desk, out, stops)
 }
 
 // Replies to the script of an input.
@@ -270,24 +300,26 @@ fn reply<D: Desk, O: Sink>(
     alloc: Global,
     budget: u64,
     restarts: u32,
+    kept: u32,
     name: Option<&str>,
     desk: &mut D,
     out: &mut O,
     stops: &mut Vec<Stopped>,
 ) -> Ending
-    ensures replied { IsReplied (terms_of budget restarts) (D.content desk.old
+    requires { MayBeKept kept }
+    ensures replied { IsReplied (terms_of budget restarts kept) (D.content desk.old
         (name_of_input (option_map (λ s. s.now) name.entry)))
         (D.left desk.new) (O.written out.old, O.written out.new) (stops.old.items, stops.new.items) result }
     ensures outside { IsDue D.faults O.written O.flushed O.faults
         (D.steady desk.old (name_of_input (option_map (λ s. s.now) name.entry)))
-        (RoomForReplies (terms_of budget restarts)
+        (RoomForReplies (terms_of budget restarts kept)
         (D.content desk.old (name_of_input (option_map (λ s. s.now) name.entry))) (O.has_room out.old))
         (desk.old, desk.new) (out.old, out.new) (λ e. result ≡ e) (IsDone result) }
 {
     if desk.choose(input_name(name)).is_err() {
         return Ending::ReadFault;
     }
-    run_script(alloc, budget, restarts, desk, out, stops)
+    run_script(alloc, budget, restarts, kept, desk, out, stops)
 }
 
 // The name of the input: without one it is standard input.

@@ -1,14 +1,16 @@
 -- Steps that nothing kept rests on are dropped while a search goes on.
-use Rattle.std.proofs.Common.{◌≡◌, ◌<◌, ◌≤◌, ◌+◌, ◌⊎◌, nat_lt, Bool, cond, length, ℕ, ◌++◌, true, List, Some, Contains, IsTrue, is_some, refl, sym, ap, subst, ◌∙◌, inl, inr, ⊎_elim, arith}
+use Rattle.std.proofs.Common.{◌≡◌, ◌<◌, ◌≤◌, ◌+◌, nat_lt, Bool, cond, length, ℕ, ◌++◌, true, List, Some, Contains, IsTrue, is_some, refl, sym, ap, subst, ◌∙◌, ⊎_elim, arith}
 use Rattle.std.proofs.lemmas.Bool.{cases_Bool, cond-true, false≢true, ltb-true}
 use Rattle.std.proofs.lemmas.List.Elements.{Contains-append_left, Contains-append_right}
+use Rattle.std.proofs.lemmas.List.Sums.{count_by-le-length}
+use Rattle.std.proofs.Math.Nat.{div-le_self}
 use Rattle.prefix.specs.declared.quant.Quant.{Quant}
 use Rattle.prefix.specs.Literal.{negation}
 use Rattle.prefix.specs.Scopes.{Scope}
 use Rattle.rows.specs.Arena.{literals_of}
 use Rattle.calculus.proofs.Sizes.{row_length, trail_length}
 use Rattle.calculus.specs.Rows.{Row}
-use Rattle.calculus.specs.Search.{IsCleanBut, IsUnitIn, before_on, cause_on, value_on}
+use Rattle.calculus.specs.Search.{IsCleanBut, IsUnitIn, Placed, before_on, cause_on, value_on}
 use Rattle.calculus.specs.Search.Cause.{Propagated}
 use Rattle.calculus.specs.Derivations.{RestsOn}
 use Rattle.calculus.specs.Derivations.Why.{ReducedFrom}
@@ -20,7 +22,7 @@ use Rattle.trail.specs.State.{TrailState}
 use Rattle.watch.specs.Laws.{AgreeingLaws, HoldingLaws}
 use Rattle.clean.specs.Reasons.{HaveReasons, IsReason}
 use Rattle.clean.proofs.Keeping.{step_row}
-use Rattle.search.specs.Forgetting.{AreLive, Clears, Forgets, HasFewLong, HaveAllReasons, Thins, left_long, many_long, without_detached}
+use Rattle.search.specs.Forgetting.{AreLive, Clears, Forgets, HasFewLong, HaveAllReasons, LetsOldest, Thins, is_by_long, left_long, long_reasons, without_detached}
 use Rattle.search.specs.Counting.{size_of}
 use Rattle.search.specs.Long.{is_input, is_learned, is_long}
 use Rattle.search.specs.State.{IsAttached, IsSearching, SearchState}
@@ -128,14 +130,21 @@ pub extended : (old now other watched : List ℕ) (ok : Bool) → now ≡ cond o
 extended old now other watched ok is done same =
     is ∙ (cond-true ok (old ++ other) old done ∙ ap (λ (ids : List ℕ). old ++ ids) same)
 
+-- the literals that were propagated from long rows are at most as many as the variables
+few_reasons : (scopes : List Scope) (s : SearchState) → IsSearching scopes s → long_reasons s ≤ size_of scopes
+few_reasons scopes s searching =
+    let few = count_by-le-length (λ (p : Placed). is_by_long s.derivation p.cause) s.trail.placed in
+    let short = trail_length scopes s.trail.placed searching.paused.intact.trail.ordered in
+    omega (arith, few, short)
+
 -- some rows were detached and left out, and steps dropped
-pub forgets : (scopes : List Scope) (old mid new : SearchState) (most : ℕ) → IsSearching scopes old
-    → Thins scopes old mid → (mid.long ≤ most) ⊎ (mid.long ≤ length old.trail.placed)
-    → most ≤ many_long + length old.trail.placed → left_long ≤ mid.long → Clears scopes (without_detached mid) new
-    → Forgets scopes old new
-forgets scopes old mid new most searching thins few least enough clears =
-    let short = trail_length scopes old.trail.placed searching.paused.intact.trail.ordered in
-    let long : mid.long ≤ 512 + size_of scopes = ⊎_elim (λ a. omega arith) (λ b. omega arith) few in
+pub forgets : (kept : ℕ) (scopes : List Scope) (old mid new : SearchState) → IsSearching scopes old
+    → Thins scopes old mid → LetsOldest old mid → kept + long_reasons old < old.long
+    → mid.long ≡ left_long kept + long_reasons old → Clears scopes (without_detached mid) new
+    → Forgets kept scopes old new
+forgets kept scopes old mid new searching thins oldest more left clears =
+    let reasons = few_reasons scopes old searching in
+    let half : left_long kept ≤ kept = div-le_self kept 2 in
     let same = clears.long in
     let reduced = reductions_same old.derivation mid.derivation thins.steps in
     let fewer = clears.reductions in
@@ -145,33 +154,39 @@ forgets scopes old mid new most searching thins few least enough clears =
       older = older_then old.derivation mid.derivation new.derivation
           (older_same old.derivation mid.derivation thins.steps) clears.older;
       trail = clears.trail ∙ thins.trail;
-      few = omega (arith, long, same);
-      enough = inr (omega (arith, enough, same));
+      few = omega (arith, reasons, half, same, left);
+      none = λ least. absurd (omega (arith, least, more));
+      left = λ _. same ∙ left;
       lets = record {
         was = λ side id a. thins.lets.was side id (clears.was side id a);
         stays = λ side id a may. clears.attached side id (thins.lets.stays side id a may);
       };
+      oldest = λ side other gone id at not still. oldest side other gone id at
+          (λ a. not (clears.attached side gone a)) (clears.was other id still);
       reductions = omega (arith, reduced, fewer);
     }
 
-pub forgets_none : (scopes : List Scope) (s : SearchState) → IsSearching scopes s → HasFewLong scopes s
-    → Forgets scopes s s
-forgets_none scopes s searching few = record {
+pub forgets_none : (kept : ℕ) (scopes : List Scope) (s : SearchState) → IsSearching scopes s
+    → s.long ≤ kept + long_reasons s → Forgets kept scopes s s
+forgets_none kept scopes s searching least = record {
   searching = searching;
   clauses = refl;
   older = older_none s.derivation;
   trail = refl;
-  few = few;
-  enough = inl refl;
+  few = let reasons = few_reasons scopes s searching in omega (arith, reasons, least);
+  none = λ _. refl;
+  left = λ more. absurd (omega (arith, least, more));
   lets = record { was = λ side id a. a; stays = λ side id a may. a };
+  oldest = λ side other gone id at not still may. absurd (not at);
   reductions = omega arith;
 }
 
 -- a row was attached: a short one, or one of few
-pub few_kept : (scopes : List Scope) (old new : SearchState) (id : ℕ) → IsLegalFor scopes old.derivation
-    → IsTrue (is_step old.derivation id) → (IsTrue (is_long old.derivation id) → old.long ≤ many_long)
-    → new.long ≤ old.long + one_if (is_long old.derivation id) → HasFewLong scopes old → HasFewLong scopes new
-few_kept scopes old new id legal step may one few =
+pub few_kept : (kept : ℕ) (scopes : List Scope) (old new : SearchState) (id : ℕ) → IsLegalFor scopes old.derivation
+    → IsTrue (is_step old.derivation id) → (IsTrue (is_long old.derivation id) → old.long ≤ kept)
+    → new.long ≤ old.long + one_if (is_long old.derivation id) → HasFewLong kept scopes old
+    → HasFewLong kept scopes new
+few_kept kept scopes old new id legal step may one few =
     let row = row_of old.derivation id in
     ⊎_elim
     (λ t.

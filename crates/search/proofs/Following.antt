@@ -467,9 +467,10 @@ advances_at scopes slack s between new before now end same counted h =
     (subst (λ (c : Counter). Advances scopes slack s between before c) (sym counted) h)
 
 -- long rows may be forgotten once more was assigned
-pub advances_forgot : (scopes : List Scope) (slack : ℕ) (s between new : SearchState) (before now : Counter)
-    → Advances scopes slack s between before now → Forgets scopes between new → Advances scopes slack s new before now
-advances_forgot scopes slack s between new before now h forgets = record {
+pub advances_forgot : (kept : ℕ) (scopes : List Scope) (slack : ℕ) (s between new : SearchState) (before now : Counter)
+    → Advances scopes slack s between before now → Forgets kept scopes between new
+    → Advances scopes slack s new before now
+advances_forgot kept scopes slack s between new before now h forgets = record {
   searching = forgets.searching;
   clauses = forgets.clauses ∙ h.clauses;
   older = older_then s.derivation between.derivation new.derivation h.older forgets.older;

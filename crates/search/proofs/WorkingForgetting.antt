@@ -1,5 +1,5 @@
 -- The worked values of what is forgotten.
-use Rattle.std.proofs.Common.{◌≡◌, ℕ, zero, suc, ◌≤◌, true, false, cond, nat_eq, length, [], ◌∷◌, Contains, Some, None, IsTrue, refl, sym, ap, subst, ◌∙◌, inl, inr, ⊎_elim, arith}
+use Rattle.std.proofs.Common.{◌≡◌, ℕ, zero, suc, ◌+◌, ◌<◌, ◌≤◌, List, true, false, cond, nat_eq, length, [], ◌∷◌, Contains, Some, None, IsTrue, refl, sym, ap, subst, ◌∙◌, ⊎_elim, arith}
 use Rattle.std.proofs.lemmas.Bool.{cases_Bool, false≢true}
 use Rattle.prefix.specs.declared.quant.Quant.{Quant}
 use Rattle.prefix.specs.declared.quant.Quant.TheVariants.{Exists, Forall}
@@ -11,13 +11,13 @@ use Rattle.calculus.specs.WorkedSearch.{three}
 use Rattle.trail.specs.State.{TrailState}
 use Rattle.derive.specs.State.{is_live}
 use Rattle.watch.specs.Links.{is_attached}
-use Rattle.search.specs.Forgetting.{LeavesEnough, Lets, may_go}
+use Rattle.search.specs.Forgetting.{ComesBefore, Lets, LetsOldest, left_long, long_reasons, may_go}
 use Rattle.search.specs.Long.{is_kept_long, is_long, long_in}
-use Rattle.search.specs.State.{rows_of, with_long}
+use Rattle.search.specs.State.{SearchState, rows_of, with_long}
 use Rattle.search.specs.Worked.{attached_to, detached, trail_of}
 use Rattle.search.proofs.Clearing.{clears_none, forgets_none}
 use Rattle.search.proofs.Thinning.{thins_none}
-use Rattle.search.specs.WorkedForgetting.{WorkedForgetting, four, long_row, one_row, propagated_by, resolvent, search_with, with_reduction}
+use Rattle.search.specs.WorkedForgetting.{WorkedForgetting, four, long_row, one_row, propagated_by, resolvent, search_with, two_rows, with_reduction}
 
 counted : (side : Quant) → is_kept_long (one_row side resolvent four (attached_to side)) 0 ≡ true
 counted Exists = refl
@@ -63,6 +63,9 @@ zero_one e = absurd (omega arith)
 too_many : 516 ≤ 515 → ⊥
 too_many l = absurd (omega arith)
 
+one_too_many : 21 ≤ 20 → ⊥
+one_too_many l = absurd (omega arith)
+
 only_reason : (side : Quant) (x id : ℕ) → cause_on (propagated_by side 0) x ≡ Some (Propagated id)
     → Contains (0 ∷ []) id
 only_reason side x id e =
@@ -87,9 +90,59 @@ one_zero e = absurd (omega arith)
 other_trail : (side : Quant) → trail_of (propagated_by side 7) ≡ trail_of [] → ⊥
 other_trail side e = one_zero (ap (λ (t : TrailState). length t.placed) e)
 
-too_few : LeavesEnough (with_long (long_row Exists []) 516) (with_long (long_row Exists []) 255) → ⊥
-too_few enough = ⊎_elim (λ e. let same : 255 ≡ 516 = e in absurd (omega arith))
-    (λ l. let low : 256 ≤ 255 = l in absurd (omega arith)) enough
+-- of one literal
+one_reason : (side : Quant) → long_reasons (long_row side (propagated_by side 0)) ≡ 1
+one_reason Exists = refl
+one_reason Forall = refl
+
+no_reason : (side : Quant) → long_reasons (search_with side four detached (propagated_by side 0)) ≡ 0
+no_reason Exists = refl
+no_reason Forall = refl
+
+-- numbers that aren't the same
+never : (a b : ℕ) → a < b → a ≡ b → ⊥
+never a b less e = absurd (omega arith)
+
+past_two : (j : ℕ) → suc (suc j) < 2 → ⊥
+past_two j low = absurd (omega arith)
+
+three_five : ComesBefore (3 ∷ 5 ∷ []) 3 5
+three_five zero low e = absurd (never 3 5 (omega arith) e)
+three_five (suc zero) low e = (0, omega arith, refl)
+three_five (suc (suc j)) low e = absurd (past_two j low)
+
+not_behind : (ids : List ℕ) (first id : ℕ) → ComesBefore (id ∷ ids) first id → ⊥
+not_behind ids first id before =
+    let g = before 0 (let l : length (id ∷ ids) ≡ suc (length ids) = refl in omega arith) refl in
+    let l = g.1 in absurd (omega arith)
+
+-- of two rows
+both_here : (side : Quant) → is_attached side (rows_of (two_rows side (attached_to side) (attached_to side))) 1 ≡ true
+both_here Exists = refl
+both_here Forall = refl
+
+first_here : (side : Quant) → is_attached side (rows_of (two_rows side (attached_to side) detached)) 0 ≡ true
+first_here Exists = refl
+first_here Forall = refl
+
+none_second : (side p : Quant) → is_attached p (rows_of (two_rows side (attached_to side) detached)) 1 ≡ false
+none_second side p = refl
+
+second_gone : (side : Quant) → LetsOldest (two_rows side (attached_to side) (attached_to side))
+    (two_rows side (attached_to side) detached) → ⊥
+second_gone side oldest =
+    not_behind (1 ∷ []) 1 0
+    (oldest side side 1 0 (both_here side) (λ a. false≢true (sym (none_second side side) ∙ a)) (first_here side) refl)
+
+first_gone : (side : Quant) → LetsOldest (two_rows side (attached_to side) (attached_to side))
+    (two_rows side detached (attached_to side))
+first_gone side p other (suc zero) id at not still may j low e = absurd (not at)
+first_gone side p other (suc (suc gone)) id at not still may j low e = absurd (false≢true at)
+first_gone side p other zero zero at not still may j low e = absurd (false≢true still)
+first_gone side p other zero (suc (suc id)) at not still may j low e = absurd (false≢true still)
+first_gone side p other zero (suc zero) at not still may zero low e = absurd (never 0 1 (omega arith) e)
+first_gone side p other zero (suc zero) at not still may (suc zero) low e = (0, omega arith, refl)
+first_gone side p other zero (suc zero) at not still may (suc (suc j)) low e = absurd (past_two j low)
 
 -- a reason was attached, and isn't then
 reason_gone : (side : Quant) → Lets (long_row side (propagated_by side 0))
@@ -97,6 +150,37 @@ reason_gone : (side : Quant) → Lets (long_row side (propagated_by side 0))
 reason_gone side lets =
     false≢true (sym (none_attached side side (propagated_by side 0) 0)
     ∙ lets.stays side 0 (ours side (propagated_by side 0)) refl)
+
+-- nothing changes where no more than may be kept are no reasons
+
+early : (side : Quant)
+    → ((with_long (long_row side []) 512).long ≤ 512 + long_reasons (with_long (long_row side []) 512)
+    → with_long (long_row side []) 256 ≡ with_long (long_row side []) 512) → ⊥
+early side none =
+    let few : 512 ≤ 512 + 0 = omega arith in
+    never 256 512 (omega arith) (ap (λ (s : SearchState). s.long) (none few))
+
+early_beside : (side : Quant) → (513 ≤ 512 + long_reasons (long_row side (propagated_by side 0))
+    → with_long (long_row side (propagated_by side 0)) 257 ≡ with_long (long_row side (propagated_by side 0)) 513) → ⊥
+early_beside side none =
+    let one = one_reason side in
+    never 257 513 (omega arith) (ap (λ (s : SearchState). s.long) (none (omega (arith, one))))
+
+-- else half of them are left
+
+late : (side : Quant) (left : ℕ) → (left ≡ 256 → ⊥)
+    → (512 + long_reasons (with_long (long_row side []) 513) < 513
+    → left ≡ left_long 512 + long_reasons (with_long (long_row side []) 513)) → ⊥
+late side left not is =
+    let many : 512 + 0 < 513 = omega arith in
+    not (is many)
+
+late_beside : (side : Quant) → (512 + long_reasons (long_row side (propagated_by side 0)) < 514
+    → 256 ≡ left_long 512 + long_reasons (long_row side (propagated_by side 0))) → ⊥
+late_beside side is =
+    let one = one_reason side in
+    let left : 256 ≡ left_long 512 + long_reasons (long_row side (propagated_by side 0)) = is (omega (arith, one)) in
+    never 256 257 (omega arith) (left ∙ ap (λ n. 256 + n) one)
 
 pub forgetting : (side : Quant) → WorkedForgetting side
 forgetting side = record {
@@ -120,6 +204,10 @@ forgetting side = record {
   other_row = refl;
   decided = refl;
   other_variable = refl;
+  by_long = one_reason side;
+  by_other = refl;
+  by_detached = no_reason side;
+  by_none = refl;
   may = refl;
   may_not = refl;
   short_stays = refl;
@@ -128,6 +216,10 @@ forgetting side = record {
     stays = stays_not side;
   };
   stays = reason_gone side;
+  before = three_five;
+  not_before = not_behind (5 ∷ []) 5 3;
+  oldest = first_gone side;
+  newest = second_gone side;
   held = refl;
   left = refl;
   left_out = refl;
@@ -137,9 +229,9 @@ forgetting side = record {
   not_live = λ live. false≢true (live 1 (contains_head 1 []));
   few = omega arith;
   many = too_many;
-  enough = inr (omega arith);
-  no_more = inl refl;
-  not_enough = too_few;
+  fewer = omega arith;
+  too_many = one_too_many;
+  half = refl;
   thins_none = λ scopes s h. thins_none scopes s h.paused.intact h.paused.tallied;
   clears_none = clears_none;
   forgets_none = forgets_none;
@@ -153,6 +245,11 @@ forgetting side = record {
   clears_more = λ h. false≢true (sym (none_attached side side [] 0) ∙ h.was side 0 (ours side []));
   forgets_trail = λ h. other_trail side h.trail;
   forgets_reason = λ h. reason_gone side h.lets;
-  forgets_too_few = λ h. too_many h.few;
-  forgets_too_many = λ h. too_few h.enough;
+  forgets_newest = λ h. second_gone side h.oldest;
+  forgets_early = λ h. early side h.none;
+  forgets_reasons = λ h. early_beside side h.none;
+  forgets_late = λ h. late side 513 (λ e. never 256 513 (omega arith) (sym e)) h.left;
+  forgets_too_many = λ h. late side 255 (never 255 256 (omega arith)) h.left;
+  forgets_too_few = λ h. late side 257 (λ e. never 256 257 (omega arith) (sym e)) h.left;
+  forgets_beside = λ h. late_beside side h.left;
 }

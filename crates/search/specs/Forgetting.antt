@@ -1,16 +1,16 @@
 -- What forgetting long learned rows leaves.
-use Rattle.std.specs.Prelude.{◌≡◌, ◌+◌, ◌≤◌, ◌⊎◌, ◌==◌, ℕ, Bool, false, not, ◌&&◌, List, Option, None, Some, is_some, Contains, IsTrue, filter}
+use Rattle.std.specs.Prelude.{◌≡◌, ◌+◌, ◌/◌, ◌<◌, ◌≤◌, ◌==◌, ℕ, Bool, true, false, not, ◌&&◌, List, Option, None, Some, is_some, Contains, IsTrue, count_by, filter, length, slice_index_or}
 use Rattle.std.specs.List.{list_any}
 use Rattle.prefix.specs.declared.quant.Quant.{Quant}
 use Rattle.prefix.specs.Literal.{Literal}
 use Rattle.prefix.specs.Scopes.{Scope}
 use Rattle.rows.specs.Arena.{Arena, link_at}
-use Rattle.calculus.specs.Search.{Cause, Trail, cause_on}
+use Rattle.calculus.specs.Search.{Cause, Placed, Trail, cause_on}
 use Rattle.calculus.specs.Search.Cause.{Assumed, Decided, Propagated}
 use Rattle.derive.specs.State.{State, clauses_of, is_live, row_of}
 use Rattle.clean.specs.Turns.{reductions_in}
 use Rattle.search.specs.Counting.{size_of}
-use Rattle.search.specs.Long.{is_long}
+use Rattle.search.specs.Long.{is_kept_long, is_long}
 use Rattle.search.specs.Moves.{KeepsOlder, SameSteps}
 use Rattle.search.specs.State.{IsAttached, IsIntact, IsSearching, IsTallied, SearchState, rows_of}
 
@@ -36,10 +36,30 @@ is_reason s id = list_any (λ (l : Literal). is_from id (cause_on s.trail.placed
 abbrev pub may_go : SearchState → ℕ → Bool
 may_go s id = is_long s.derivation id && not (is_reason s id)
 
+-- whether a literal with this cause was propagated from a long learned row that is attached
+abbrev pub is_by_long : State → Cause → Bool
+is_by_long d Assumed = false
+is_by_long d Decided = false
+is_by_long d (Propagated id) = is_kept_long d id
+
+-- how many literals of the trail were, each from a row of its own
+abbrev pub long_reasons : SearchState → ℕ
+long_reasons s = count_by (λ (p : Placed). is_by_long s.derivation p.cause) s.trail.placed
+
 -- only rows that may be forgotten are detached, and no row is attached
 pub record Lets (old new : SearchState) : Type 0 where
   pub was : (side : Quant) (id : ℕ) → IsAttached new side id → IsAttached old side id
   pub stays : (side : Quant) (id : ℕ) → IsAttached old side id → may_go old id ≡ false → IsAttached new side id
+
+-- wherever a row stands on a list, another one stands before it
+abbrev pub ComesBefore : List ℕ → ℕ → ℕ → Type 0
+ComesBefore ids first id = (j : ℕ) → j < length ids → slice_index_or ids j 0 ≡ id
+    → (i : ℕ) × (i < j) × (slice_index_or ids i 0 ≡ first)
+
+-- a row that is detached was listed before each one that might have been forgotten and stays attached
+abbrev pub LetsOldest : SearchState → SearchState → Type 0
+LetsOldest old new = (side other : Quant) (gone id : ℕ) → IsAttached old side gone → (IsAttached new side gone → ⊥)
+    → IsAttached new other id → may_go old id ≡ true → ComesBefore old.watched gone id
 
 -- some rows were detached, which are still on the list; nothing else changes
 pub record Thins (scopes : List Scope) (old new : SearchState) : Type 0 where
@@ -78,30 +98,24 @@ pub record Clears (scopes : List Scope) (old new : SearchState) : Type 0 where
   pub was : (side : Quant) (id : ℕ) → IsAttached new side id → IsAttached old side id
   pub reductions : reductions_in new.derivation ≤ reductions_in old.derivation
 
--- where more long learned rows than these are no reasons, some are forgotten
-abbrev pub many_long : ℕ
-many_long = 512
+-- where more long learned rows than may be kept are no reasons, so many of them are left
+abbrev pub left_long : ℕ → ℕ
+left_long kept = kept / 2
 
--- so many of them are left then
-abbrev pub left_long : ℕ
-left_long = 256
+-- the long learned rows that are attached are few: as many as may be kept, and one for each variable
+abbrev pub HasFewLong : ℕ → List Scope → SearchState → Type 0
+HasFewLong kept scopes s = s.long ≤ kept + size_of scopes
 
--- the long learned rows that are attached are few
-abbrev pub HasFewLong : List Scope → SearchState → Type 0
-HasFewLong scopes s = s.long ≤ many_long + size_of scopes
-
--- as many long learned rows are attached as before, or at least as many as are to be left
-abbrev pub LeavesEnough : SearchState → SearchState → Type 0
-LeavesEnough old new = (new.long ≡ old.long) ⊎ (left_long ≤ new.long)
-
--- the long learned rows are few, but not fewer than are to be left, with the same clauses and the same trail; only rows
--- that might be forgotten are gone
-pub record Forgets (scopes : List Scope) (old new : SearchState) : Type 0 where
+-- Where no more long learned rows than may be kept are no reasons, nothing changes. Where more are, the oldest of these
+-- are forgotten until half of those that may be kept are left. The clauses and the trail stay the same.
+pub record Forgets (kept : ℕ) (scopes : List Scope) (old new : SearchState) : Type 0 where
   pub searching : IsSearching scopes new
   pub clauses : clauses_of new.derivation ≡ clauses_of old.derivation
   pub older : KeepsOlder old.derivation new.derivation
   pub trail : new.trail ≡ old.trail
-  pub few : HasFewLong scopes new
-  pub enough : LeavesEnough old new
+  pub few : HasFewLong kept scopes new
+  pub none : old.long ≤ kept + long_reasons old → new ≡ old
+  pub left : kept + long_reasons old < old.long → new.long ≡ left_long kept + long_reasons old
   pub lets : Lets old new
+  pub oldest : LetsOldest old new
   pub reductions : reductions_in new.derivation ≤ reductions_in old.derivation

@@ -20,10 +20,10 @@ pub record StopsWhenDue {A : Type 0} (scopes : List Scope) (slack : ℕ) (old ne
   pub reductions : ReducesFew old.derivation new.derivation before now
 
 -- A part of a turn that is its last goes on, with more assignments or restarts, or ends with an end row. There are no
--- more restarts than that many, and long learned rows stay few.
-pub record GoesOn (scopes : List Scope) (slack most : ℕ) (old new : SearchState) (before now : Counter)
+-- more restarts than that many, and long learned rows stay few beside those that may be kept.
+pub record GoesOn (scopes : List Scope) (slack most kept : ℕ) (old new : SearchState) (before now : Counter)
     (result : Result (Option EndRow) Stop) : Type 0 where
   pub go : result ≡ Ok None → Advances scopes slack old new before now
   pub end : IfOk result (λ end. IfSome end (λ e. Ends scopes slack old new before now e.side e.row))
   pub restarts : old.trail.restarts ≤ most → new.trail.restarts ≤ most
-  pub long : HasFewLong scopes old → OnOk result (HasFewLong scopes new)
+  pub long : HasFewLong kept scopes old → OnOk result (HasFewLong kept scopes new)

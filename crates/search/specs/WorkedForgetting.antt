@@ -1,6 +1,6 @@
 -- Worked values: which rows are long learned ones, how many of them are attached, which are reasons, which may be
 -- forgotten, and what forgetting leaves, with rows of both sides.
-use Rattle.std.specs.Prelude.{◌≡◌, ℕ, true, false, List, [], ◌∷◌, Option, Some}
+use Rattle.std.specs.Prelude.{◌≡◌, ◌+◌, ◌≤◌, ℕ, true, false, List, [], ◌∷◌, Option, Some}
 use Rattle.prefix.specs.declared.quant.Quant.{Quant}
 use Rattle.prefix.specs.declared.quant.Quant.TheVariants.{Exists, Forall}
 use Rattle.prefix.specs.Scopes.{Scope}
@@ -13,7 +13,7 @@ use Rattle.calculus.specs.Search.Cause.{Decided, Propagated}
 use Rattle.calculus.specs.Worked.{plus}
 use Rattle.calculus.specs.WorkedSearch.{alternating, bad, three}
 use Rattle.derive.specs.State.{State, with_step}
-use Rattle.search.specs.Forgetting.{AreLive, Clears, Forgets, HasFewLong, HaveAllReasons, LeavesEnough, Lets, Thins, is_held, is_reason, may_go, without_detached}
+use Rattle.search.specs.Forgetting.{AreLive, Clears, ComesBefore, Forgets, HasFewLong, HaveAllReasons, Lets, LetsOldest, Thins, is_held, is_reason, left_long, long_reasons, may_go, without_detached}
 use Rattle.search.specs.Long.{is_kept_long, is_long, long_in}
 use Rattle.search.specs.State.{IsSearching, IsTallied, SearchState, rows_of, with_long}
 use Rattle.search.specs.Worked.{attached_to, detached, search_of, trail_of}
@@ -49,6 +49,16 @@ propagated_by side id = record { literal = bad side 2; cause = Propagated id } �
 abbrev pub long_row : Quant → Trail → SearchState
 long_row side placed = search_with side four (attached_to side) placed
 
+-- two long learned rows of a side, the steps 0 and 1, with these links, both listed to be watched
+abbrev pub two_rows : Quant → List (Option ℕ) → List (Option ℕ) → SearchState
+two_rows side first second =
+    record (search_of (record {
+      notes = Some (record { side = side; why = resolvent; tag = 0 })
+          ∷ Some (record { side = side; why = resolvent; tag = 0 }) ∷ [];
+      rows = Some (Some (record { literals = four; links = first })
+          ∷ Some (record { literals = four; links = second }) ∷ []);
+    }) (trail_of [])) { watched = 0 ∷ 1 ∷ [] }
+
 pub record WorkedForgetting (side : Quant) : Type 0 where
   -- a resolvent of four literals is long, one of three isn't
   pub learned : is_long (one_row side resolvent four detached) 0 ≡ true
@@ -76,12 +86,24 @@ pub record WorkedForgetting (side : Quant) : Type 0 where
   pub other_row : is_reason (long_row side (propagated_by side 7)) 0 ≡ false
   pub decided : is_reason (long_row side (record { literal = bad side 2; cause = Decided } ∷ [])) 0 ≡ false
   pub other_variable : is_reason (search_with side (plus 1 ∷ plus 3 ∷ []) detached (propagated_by side 0)) 0 ≡ false
+  -- it counts as a reason where it is attached and 2 was propagated from it
+  pub by_long : long_reasons (long_row side (propagated_by side 0)) ≡ 1
+  pub by_other : long_reasons (long_row side (propagated_by side 7)) ≡ 0
+  pub by_detached : long_reasons (search_with side four detached (propagated_by side 0)) ≡ 0
+  pub by_none : long_reasons (long_row side (record { literal = bad side 2; cause = Decided } ∷ [])) ≡ 0
   -- a long row may go, but not a reason, nor a short row
   pub may : may_go (long_row side []) 0 ≡ true
   pub may_not : may_go (long_row side (propagated_by side 0)) 0 ≡ false
   pub short_stays : may_go (search_with side three detached []) 0 ≡ false
   pub goes : Lets (long_row side []) (search_with side four detached [])
   pub stays : Lets (long_row side (propagated_by side 0)) (search_with side four detached (propagated_by side 0)) → ⊥
+  -- 3 is listed before 5, and not behind it; of two rows the first goes first
+  pub before : ComesBefore (3 ∷ 5 ∷ []) 3 5
+  pub not_before : ComesBefore (3 ∷ 5 ∷ []) 5 3 → ⊥
+  pub oldest : LetsOldest (two_rows side (attached_to side) (attached_to side))
+      (two_rows side detached (attached_to side))
+  pub newest : LetsOldest (two_rows side (attached_to side) (attached_to side))
+      (two_rows side (attached_to side) detached) → ⊥
   -- what isn't attached is left out
   pub held : is_held (rows_of (long_row side [])) 0 ≡ true
   pub left : (without_detached (long_row side [])).watched ≡ 0 ∷ []
@@ -91,18 +113,18 @@ pub record WorkedForgetting (side : Quant) : Type 0 where
   pub not_all : HaveAllReasons (one_row side resolvent four detached) (propagated_by side 0) [] → ⊥
   pub live : AreLive (one_row side resolvent four detached) (0 ∷ [])
   pub not_live : AreLive (one_row side resolvent four detached) (1 ∷ []) → ⊥
-  -- 512 and one for each of three variables are few
-  pub few : HasFewLong (alternating side) (with_long (long_row side []) 515)
-  pub many : HasFewLong (alternating side) (with_long (long_row side []) 516) → ⊥
-  -- 256 are enough, and fewer only where there were no more
-  pub enough : LeavesEnough (with_long (long_row side []) 516) (with_long (long_row side []) 256)
-  pub no_more : LeavesEnough (with_long (long_row side []) 255) (with_long (long_row side []) 255)
-  pub not_enough : LeavesEnough (with_long (long_row side []) 516) (with_long (long_row side []) 255) → ⊥
+  -- where 512 may be kept, these and one for each of three variables are few; where 17 may be, 20 are
+  pub few : HasFewLong 512 (alternating side) (with_long (long_row side []) 515)
+  pub many : HasFewLong 512 (alternating side) (with_long (long_row side []) 516) → ⊥
+  pub fewer : HasFewLong 17 (alternating side) (with_long (long_row side []) 20)
+  pub too_many : HasFewLong 17 (alternating side) (with_long (long_row side []) 21) → ⊥
+  -- of 17 half are 8
+  pub half : left_long 17 ≡ 8
   -- nothing needs to go; where few are attached nothing needs to be forgotten
   pub thins_none : (scopes : List Scope) (s : SearchState) → IsSearching scopes s → Thins scopes s s
   pub clears_none : (scopes : List Scope) (s : SearchState) → IsSearching scopes s → Clears scopes s s
-  pub forgets_none : (scopes : List Scope) (s : SearchState) → IsSearching scopes s → HasFewLong scopes s
-      → Forgets scopes s s
+  pub forgets_none : (kept : ℕ) (scopes : List Scope) (s : SearchState) → IsSearching scopes s
+      → s.long ≤ kept + long_reasons s → Forgets kept scopes s s
   -- not with another trail, nor where a reason is detached
   pub thins_trail : Thins (alternating side) (long_row side []) (long_row side (propagated_by side 7)) → ⊥
   pub thins_reason : Thins (alternating side) (long_row side (propagated_by side 0))
@@ -115,11 +137,23 @@ pub record WorkedForgetting (side : Quant) : Type 0 where
   pub clears_count : Clears (alternating side) (long_row side []) (with_long (long_row side []) 1) → ⊥
   pub clears_row : Clears (alternating side) (long_row side []) (search_with side four detached []) → ⊥
   pub clears_more : Clears (alternating side) (search_with side four detached []) (long_row side []) → ⊥
-  -- not with another trail, nor where a reason is detached, nor where too many are left, or too few
-  pub forgets_trail : Forgets (alternating side) (long_row side []) (long_row side (propagated_by side 7)) → ⊥
-  pub forgets_reason : Forgets (alternating side) (long_row side (propagated_by side 0))
+  -- not with another trail, nor where a reason is detached, or the second of two rows
+  pub forgets_trail : Forgets 512 (alternating side) (long_row side []) (long_row side (propagated_by side 7)) → ⊥
+  pub forgets_reason : Forgets 512 (alternating side) (long_row side (propagated_by side 0))
       (search_with side four detached (propagated_by side 0)) → ⊥
-  pub forgets_too_few : Forgets (alternating side) (with_long (long_row side []) 516)
-      (with_long (long_row side []) 516) → ⊥
-  pub forgets_too_many : Forgets (alternating side) (with_long (long_row side []) 516)
+  pub forgets_newest : Forgets 512 (alternating side) (two_rows side (attached_to side) (attached_to side))
+      (two_rows side (attached_to side) detached) → ⊥
+  -- where 512 may be kept, nothing changes with 512, nor with 513 of which one is a reason
+  pub forgets_early : Forgets 512 (alternating side) (with_long (long_row side []) 512)
+      (with_long (long_row side []) 256) → ⊥
+  pub forgets_reasons : Forgets 512 (alternating side) (with_long (long_row side (propagated_by side 0)) 513)
+      (with_long (long_row side (propagated_by side 0)) 257) → ⊥
+  -- with 513 of which none is a reason 256 are left, neither 255 nor 257, and beside one that is a reason 257
+  pub forgets_late : Forgets 512 (alternating side) (with_long (long_row side []) 513)
+      (with_long (long_row side []) 513) → ⊥
+  pub forgets_too_many : Forgets 512 (alternating side) (with_long (long_row side []) 513)
       (with_long (long_row side []) 255) → ⊥
+  pub forgets_too_few : Forgets 512 (alternating side) (with_long (long_row side []) 513)
+      (with_long (long_row side []) 257) → ⊥
+  pub forgets_beside : Forgets 512 (alternating side) (with_long (long_row side (propagated_by side 0)) 514)
+      (with_long (long_row side (propagated_by side 0)) 256) → ⊥

@@ -5,21 +5,21 @@ ghost use Rattle.derive.specs.State.{has_rows, is_live, next_id, side_at};
 ghost use Rattle.watch.specs.Links.{is_attached};
 ghost use Rattle.clean.specs.Reasons.{IsReducedStep};
 ghost use Rattle.search.specs.State.{IsAttached, IsIntact, IsPaused, IsResting, IsSearching, IsTallied, rows_of, with_long};
-ghost use Rattle.search.specs.Forgetting.{HasFewLong, many_long};
+ghost use Rattle.search.specs.Forgetting.{HasFewLong};
 ghost use Rattle.search.specs.Long.{is_long};
 ghost use Rattle.search.specs.Moves.{SameSteps};
 ghost use Rattle.search.specs.Forcing.{HasNoCubes, NoCubeAttached};
 ghost use Rattle.search.specs.Watching.{Joins, JoinsAll, Keeps, Parts};
 
-use crate::forgetting::{MOST, is_long};
+use crate::forgetting::is_long;
 use crate::search::Search;
 use derive::{Derivation, StepId};
 use memory::NoMemory;
 use prefix::Prefix;
 
 impl Search {
-    // Attaches a row to watch to the watch of its side, unless it is attached.
-    pub(crate) fn attach(&mut self, prefix: &Prefix, id: StepId)
+    // Attaches a row to watch to the watch of its side, unless it is attached; it isn't counted.
+    pub(crate) fn attach_uncounted(&mut self, prefix: &Prefix, id: StepId)
         requires intact { IsIntact prefix.now self.old }
         requires live { IsTrue (is_live self.old.derivation id) }
         requires listed { Contains self.old.watched id }
@@ -31,8 +31,8 @@ impl Search {
             .attach(side, &mut self.derivation, &self.trail, prefix, id);
     }
 
-    // Detaches a row to watch from the watch of its side, if it is attached.
-    fn detach(&mut self, id: StepId)
+    // Detaches a row to watch from the watch of its side, if it is attached; it is counted still.
+    fn detach_uncounted(&mut self, id: StepId)
         requires intact { (scopes : List Scope) × IsIntact scopes self.old }
         requires live { IsTrue (is_live self.old.derivation id) }
         ensures parts { Parts self.old self.new id }
@@ -43,7 +43,7 @@ impl Search {
     }
 
     // Attaches a row to watch, unless it is attached, and counts it where it is a long learned one.
-    pub(crate) fn join(&mut self, prefix: &Prefix, id: StepId)
+    pub(crate) fn attach(&mut self, prefix: &Prefix, id: StepId)
         requires intact { IsIntact prefix.now self.old }
         requires tallied { IsTallied self.old }
         requires live { IsTrue (is_live self.old.derivation id) }
@@ -55,7 +55,7 @@ impl Search {
         if self.has(id) {
             return;
         }
-        self.attach(prefix, id);
+        self.attach_uncounted(prefix, id);
         self.count(id);
     }
 
@@ -74,7 +74,7 @@ impl Search {
     }
 
     // Detaches a row to watch, if it is attached, and counts it no more.
-    pub(crate) fn part(&mut self, id: StepId)
+    pub(crate) fn detach(&mut self, id: StepId)
         requires intact { (scopes : List Scope) × IsIntact scopes self.old }
         requires tallied { IsTallied self.old }
         requires live { IsTrue (is_live self.old.derivation id) }
@@ -84,7 +84,7 @@ impl Search {
         ensures one { self.old.long ≤ self.new.long + 1 }
     {
         if self.has(id) {
-            self.detach(id);
+            self.detach_uncounted(id);
             self.discount(id);
         }
     }
@@ -110,12 +110,12 @@ impl Search {
         ensures cubes { HasNoCubes self.old → NoCubeAttached self.new }
     {
         if !self.joined || self.watched.len() >= self.tidy_at {
-            self.join_all(prefix);
+            self.attach_listed(prefix);
         }
     }
 
-    // The same by a look at each of them.
-    fn join_all(&mut self, prefix: &Prefix)
+    // Attaches every live row to watch by a look at each of them. Those of steps that were dropped go off the list.
+    fn attach_listed(&mut self, prefix: &Prefix)
         requires intact { IsIntact prefix.now self.old }
         requires tallied { IsTallied self.old }
         ensures paused { IsPaused prefix.now self.new }
@@ -123,27 +123,27 @@ impl Search {
         ensures steps { SameSteps self.old.derivation self.new.derivation }
         ensures part { (id : ℕ) → Contains self.new.watched id → Contains self.old.watched id }
     {
-        forget_dropped(&mut self.watched, &self.derivation);
+        unlist_dropped(&mut self.watched, &self.derivation);
         self.tidy_at = self.watched.len().saturating_add(self.watched.len() / 4);
         for k in 0..self.watched.len() {
-            self.join_at(prefix, k);
+            self.attach_at(prefix, k);
         }
     }
 
     // Attaches the rows to watch from a place on the list on.
-    pub(crate) fn join_from(&mut self, prefix: &Prefix, place: usize)
+    pub(crate) fn attach_from(&mut self, prefix: &Prefix, place: usize)
         requires intact { IsIntact prefix.now self.old }
         requires tallied { IsTallied self.old }
         requires live { (id : ℕ) → Contains (drop place self.old.watched) id → IsTrue (is_live self.old.derivation id) }
         ensures { JoinsAll prefix.now self.old self.new (drop place self.old.watched) }
     {
         for k in place..self.watched.len() {
-            self.join_at(prefix, k);
+            self.attach_at(prefix, k);
         }
     }
 
     // Attaches the row to watch with this place on the list.
-    fn join_at(&mut self, prefix: &Prefix, k: usize)
+    fn attach_at(&mut self, prefix: &Prefix, k: usize)
         requires intact { IsIntact prefix.now self.old }
         requires tallied { IsTallied self.old }
         requires within { k < length self.old.watched }
@@ -152,11 +152,11 @@ impl Search {
         ensures tallied { IsTallied self.new }
     {
         let id = self.watched[k];
-        self.join(prefix, id);
+        self.attach(prefix, id);
     }
 
-    // Keeps a row that was learned: it is watched from now on, and attached, unless it is attached already.
-    pub(crate) fn keep(&mut self, prefix: &Prefix, row: StepId) -> Result<(), NoMemory>
+    // Attaches a row that was learned, unless it is attached: it is watched from now on.
+    pub(crate) fn attach_learned(&mut self, prefix: &Prefix, row: StepId) -> Result<(), NoMemory>
         requires searching { IsSearching prefix.now self.old }
         requires reduced { IsReducedStep (side_at self.old.derivation row) prefix.now self.old.derivation row }
         ensures keeps { Keeps prefix.now self.old self.new }
@@ -167,31 +167,31 @@ impl Search {
             return Ok(());
         }
         self.watched.push(row)?;
-        self.join(prefix, row);
+        self.attach(prefix, row);
         Ok(())
     }
 
-    // Keeps an end row, for a later solve to end by, where there is memory for it: but for a long one where many long
-    // ones are kept. Where the watches weren't quiet since the solve began, a row with the same literals may be
-    // attached already, and none is kept: what this solve found without a decision, a later one finds so too.
-    pub(crate) fn keep_end(&mut self, prefix: &Prefix, row: StepId)
+    // Attaches an end row, for a later solve to end by, where there is memory for it: but for a long one beside more
+    // long ones than may be kept. Where the watches weren't quiet since the solve began, a row with the same literals
+    // may be attached already, and none is attached: what this solve found without a decision, a later one finds too.
+    pub(crate) fn attach_end(&mut self, prefix: &Prefix, row: StepId, kept: u32)
         requires searching { IsSearching prefix.now self.old }
         requires reduced { IsReducedStep (side_at self.old.derivation row) prefix.now self.old.derivation row }
         ensures keeps { Keeps prefix.now self.old self.new }
-        ensures long { HasFewLong prefix.now self.old → HasFewLong prefix.now self.new }
+        ensures long { HasFewLong kept prefix.now self.old → HasFewLong kept prefix.now self.new }
     {
-        if self.was_quiet && self.may_stay(row) {
-            let _ = self.keep(prefix, row);
+        if self.was_quiet && self.may_stay(row, kept) {
+            let _ = self.attach_learned(prefix, row);
         }
     }
 
-    // Whether a live row is short, or not many long ones are attached.
-    fn may_stay(&self, row: StepId) -> bool
+    // Whether a live row is short, or no more long ones are attached than may be kept.
+    fn may_stay(&self, row: StepId, kept: u32) -> bool
         requires live { IsTrue (is_live self.now.derivation row) }
         requires rows { IsTrue (has_rows self.now.derivation) }
-        ensures { IsTrue result → IsTrue (is_long self.now.derivation row) → self.now.long ≤ many_long }
+        ensures { IsTrue result → IsTrue (is_long self.now.derivation row) → self.now.long ≤ kept }
     {
-        self.long <= MOST || !is_long(&self.derivation, row)
+        self.long <= kept as usize || !is_long(&self.derivation, row)
     }
 
     // Whether a live row is attached to the watch of its side.
@@ -207,7 +207,7 @@ impl Search {
 }
 
 // Takes out the ids of steps that were dropped.
-fn forget_dropped(watched: &mut Vec<StepId>, derivation: &Derivation)
+fn unlist_dropped(watched: &mut Vec<StepId>, derivation: &Derivation)
     ensures { watched.new.items ≡ filter (λ id. is_live derivation.now id) watched.old.items }
 {
     watched.retain(|id| derivation.is_live(*id));

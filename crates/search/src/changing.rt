@@ -82,9 +82,9 @@ impl Search {
         ensures older { KeepsOlder self.old.derivation self.new.derivation }
     {
         let from = self.derivation.missing_from(lits);
-        self.part_from(from, &Leaving::Cubes);
+        self.detach_from(from, &Leaving::Cubes);
         let id = self.input(prefix, lits, frame)?;
-        self.join(prefix, id);
+        self.attach(prefix, id);
         Ok(())
     }
 
@@ -136,9 +136,9 @@ impl Search {
         ensures older { KeepsOlder self.old.derivation self.new.derivation }
     {
         let from = self.derivation.missing_one_from(clauses);
-        self.part_from(from, &Leaving::Cubes);
+        self.detach_from(from, &Leaving::Cubes);
         let place = self.input_all(prefix, clauses, frame)?;
-        self.join_from(prefix, place);
+        self.attach_from(prefix, place);
         Ok(())
     }
 
@@ -186,7 +186,7 @@ impl Search {
         ensures older { KeepsOlder self.old.derivation self.new.derivation }
     {
         let from = self.derivation.frame_from(frame);
-        self.part_from(from, &Leaving::Frame(frame));
+        self.detach_from(from, &Leaving::Frame(frame));
         self.derivation.drop_frame(frame);
     }
 
@@ -227,7 +227,7 @@ impl Search {
         ensures finishes { GainsNoFinish self.old.derivation self.new.derivation }
         ensures reductions { reductions_in self.new.derivation ≤ reductions_in self.old.derivation }
     {
-        self.part_outside(prefix, from);
+        self.detach_outside(prefix, from);
         self.derivation.drop_outside(from, prefix);
     }
 

@@ -1,17 +1,18 @@
 //! Long learned rows: how many are attached, and which are forgotten. Where a sweep is due, room is taken before
 //! anything is detached, for all reasons and all rows to watch; then nothing can fail, and want of memory leaves the
 //! search as it was.
-ghost use Rattle.std.specs.Prelude.{◌≡◌, ◌+◌, ◌<◌, ◌≤◌, ◌⊎◌, ◌^◌, ℕ, if◌then◌else◌, IsTrue, List, OnOk, OnErr, Contains, Some, [], filter, length, slice_index, vec_capacity};
+ghost use Rattle.std.specs.Prelude.{◌≡◌, ◌+◌, ◌<◌, ◌≤◌, ◌⊎◌, ◌^◌, ℕ, if◌then◌else◌, IsTrue, List, OnOk, OnErr, Contains, Some, [], filter, length, slice_index, slice_index_or, vec_capacity};
 ghost use Rattle.std.specs.List.{list_any};
+ghost use Rattle.prefix.specs.declared.quant.Quant.{Quant};
 ghost use Rattle.prefix.specs.Literal.{Literal};
 ghost use Rattle.prefix.specs.Scopes.{Scope};
 ghost use Rattle.rows.specs.Arena.{Arena};
-ghost use Rattle.calculus.specs.Search.{cause_on, place_on};
+ghost use Rattle.calculus.specs.Search.{Placed, cause_on, place_on};
 ghost use Rattle.calculus.specs.Search.Cause.{Propagated as propagated};
 ghost use Rattle.derive.specs.State.{arena_of, has_rows, is_live, note_at, row_of};
 ghost use Rattle.search.specs.Long.{is_input, is_kept_long, is_learned, is_long, long_in};
-ghost use Rattle.search.specs.Forgetting.{AreLive, Clears, Forgets, HaveAllReasons, Thins, is_from, is_held, is_reason, left_long, many_long, may_go, reason_of, without_detached};
-ghost use Rattle.search.specs.State.{IsIntact, IsResting, IsSearching, IsTallied};
+ghost use Rattle.search.specs.Forgetting.{AreLive, Clears, Forgets, HaveAllReasons, LetsOldest, Thins, is_by_long, is_from, is_held, is_reason, long_reasons, may_go, reason_of, without_detached};
+ghost use Rattle.search.specs.State.{IsAttached, IsIntact, IsResting, IsSearching, IsTallied};
 
 use crate::search::Search;
 use derive::{Derivation, Step, StepId};
@@ -19,12 +20,6 @@ use memory::NoMemory;
 use prefix::{Prefix, Var};
 use rows::Rows;
 use trail::{Trail, Why};
-
-// Where more long learned rows than these are no reasons, some are forgotten.
-pub(crate) const MOST: usize = 512;
-
-// So many of them are left then.
-const LEFT: usize = 256;
 
 impl Search {
     /// How many long learned rows are attached: rows with more than three literals that are neither an input clause nor
@@ -37,30 +32,32 @@ impl Search {
         self.long
     }
 
-    // Forgets the oldest long learned rows where many are no reasons: they are detached, and steps may be dropped. What
-    // else is attached stays so.
-    pub(crate) fn forget(&mut self, prefix: &Prefix) -> Result<(), NoMemory>
+    // Reduces the database where more long learned rows than may be kept are no reasons: the oldest are detached, and
+    // steps may be dropped. What else is attached stays so.
+    pub(crate) fn reduce_database(&mut self, prefix: &Prefix, kept: u32) -> Result<(), NoMemory>
         requires searching { IsSearching prefix.now self.old }
-        ensures ok { OnOk result (Forgets prefix.now self.old self.new) }
+        ensures ok { OnOk result (Forgets kept prefix.now self.old self.new) }
         ensures err { OnErr result (self.new ≡ self.old) }
     {
-        if self.long <= MOST {
+        let kept = kept as usize;
+        if self.long <= kept {
             return Ok(());
         }
-        let most = self.long - MOST;
+        let most = self.long - kept;
         let reasons = self.long_reasons(most);
         if most <= reasons {
             return Ok(());
         }
-        self.forget_oldest(prefix, LEFT + reasons)
+        self.reduce_to_half(prefix, kept, reasons)
     }
 
-    // How many long learned rows that are attached are reasons, counted up to so many, from those of the last literals
-    // on.
+    // How many literals were propagated from long learned rows that are attached, counted up to so many, from the last
+    // literal on.
     fn long_reasons(&mut self, most: usize) -> usize
         requires { IsTrue (has_rows self.old.derivation) }
         ensures same { self.new ≡ self.old }
-        ensures few { result ≤ length self.old.trail.placed }
+        ensures few { result ≤ long_reasons self.old }
+        ensures all { result < most → result ≡ long_reasons self.old }
     {
         let mut count = 0;
         let mut place = self.trail.len();
@@ -77,7 +74,9 @@ impl Search {
     fn has_long_reason(&mut self, place: usize) -> bool
         requires rows { IsTrue (has_rows self.old.derivation) }
         requires within { place < length self.old.trail.placed }
-        ensures { self.new ≡ self.old }
+        ensures same { self.new ≡ self.old }
+        ensures is { (other : Placed) → result ≡ is_by_long self.old.derivation
+            (slice_index_or self.old.trail.placed place other).cause }
     {
         let Some(id) = propagated_from(&self.trail, self.trail.at(place).var()) else {
             return false;
@@ -85,56 +84,67 @@ impl Search {
         self.derivation.is_live(id) && is_long(&self.derivation, id) && self.has(id)
     }
 
-    // The same until so many long learned rows are left, or all of them are reasons.
-    fn forget_oldest(&mut self, prefix: &Prefix, most: usize) -> Result<(), NoMemory>
+    // Reduces the database where more than may be kept are no reasons: half of those that may be kept are left beside
+    // the reasons, of which there are so many.
+    fn reduce_to_half(
+        &mut self,
+        prefix: &Prefix,
+        kept: usize,
+        reasons: usize,
+    ) -> Result<(), NoMemory>
         requires searching { IsSearching prefix.now self.old }
-        requires least { left_long ≤ most }
-        requires more { most ≤ self.old.long }
-        requires most { most ≤ many_long + length self.old.trail.placed }
-        ensures ok { OnOk result (Forgets prefix.now self.old self.new) }
+        requires more { kept + reasons < self.old.long }
+        requires reasons { reasons ≡ long_reasons self.old }
+        requires fits { kept + reasons < 2 ^ 64 }
+        ensures ok { OnOk result (Forgets kept prefix.now self.old self.new) }
         ensures err { OnErr result (self.new ≡ self.old) }
     {
+        let most = kept / 2 + reasons;
         if self.derivation.next_id() < self.sweep_at {
-            self.thin(prefix, most);
-            self.leave_out();
+            self.detach_oldest(prefix, most);
+            self.unlist_detached();
             return Ok(());
         }
         let mut keep = Vec::new(*self.watched.allocator());
         push_reasons(&mut keep, &self.trail, &self.derivation)?;
         keep.reserve(self.watched.len())?;
-        self.thin(prefix, most);
-        self.leave_out();
-        self.clear(prefix, &mut keep);
+        self.detach_oldest(prefix, most);
+        self.unlist_detached();
+        self.sweep(prefix, &mut keep);
         Ok(())
     }
 
     // Detaches the oldest rows that may be forgotten, until so many long ones are left.
-    fn thin(&mut self, prefix: &Prefix, most: usize)
+    fn detach_oldest(&mut self, prefix: &Prefix, most: usize)
         requires { IsSearching prefix.now self.old }
         ensures thins { Thins prefix.now self.old self.new }
         ensures enough { most ≤ self.old.long → most ≤ self.new.long }
-        ensures few { (self.new.long ≤ most) ⊎ (self.new.long ≤ length self.old.trail.placed) }
+        ensures few { (self.new.long ≤ most) ⊎ (self.new.long ≤ long_reasons self.old) }
+        ensures oldest { LetsOldest self.old self.new }
     {
-        for k in 0..self.watched.len() {
-            self.thin_at(prefix, k, most);
+        let mut k = 0;
+        while self.long > most && k < self.watched.len() {
+            self.detach_free(prefix, k);
+            k += 1;
         }
     }
 
-    // The same with the row to watch with this place on the list alone.
-    fn thin_at(&mut self, prefix: &Prefix, k: usize, most: usize)
+    // Detaches the row to watch with this place on the list, if it may be forgotten.
+    fn detach_free(&mut self, prefix: &Prefix, k: usize)
         requires intact { IsIntact prefix.now self.old }
         requires tallied { IsTallied self.old }
         requires within { k < length self.old.watched }
         ensures thins { Thins prefix.now self.old self.new }
-        ensures seen { (self.new.long ≤ most)
-            ⊎ (IsTrue (is_kept_long self.new.derivation (slice_index self.old.watched k)) →
-            IsTrue (is_reason self.new (slice_index self.old.watched k))) }
+        ensures seen { IsTrue (is_kept_long self.new.derivation (slice_index self.old.watched k)) →
+            IsTrue (is_reason self.new (slice_index self.old.watched k)) }
+        ensures only { (side : Quant) (id : ℕ) → IsAttached self.old side id → (IsAttached self.new side id → ⊥) →
+            id ≡ slice_index self.old.watched k }
         ensures fewer { self.new.long ≤ self.old.long }
-        ensures enough { most ≤ self.old.long → most ≤ self.new.long }
+        ensures one { self.old.long ≤ self.new.long + 1 }
     {
         let id = self.watched[k];
-        if self.long > most && self.derivation.is_live(id) && self.may_go(id) {
-            self.part(id);
+        if self.derivation.is_live(id) && self.may_go(id) {
+            self.detach(id);
         }
     }
 
@@ -148,16 +158,16 @@ impl Search {
     }
 
     // Leaves the rows that aren't attached out of the list of those to watch.
-    fn leave_out(&mut self)
+    fn unlist_detached(&mut self)
         requires { IsTrue (has_rows self.old.derivation) }
         ensures { self.new ≡ without_detached self.old }
     {
-        leave_out_detached(&mut self.watched, &mut self.derivation);
+        retain_attached(&mut self.watched, &mut self.derivation);
     }
 
     // Drops the steps that are no input clauses and that neither a row to watch nor one of these steps rests on. This
     // is due again once half as many ids were given as steps are live then, and a few more the more ids there are.
-    fn clear(&mut self, prefix: &Prefix, keep: &mut Vec<StepId>)
+    fn sweep(&mut self, prefix: &Prefix, keep: &mut Vec<StepId>)
         requires searching { IsSearching prefix.now self.old }
         requires watched { AreLive self.old.derivation self.old.watched }
         requires live { AreLive self.old.derivation keep.old.items }
@@ -284,7 +294,7 @@ fn is_propagated_from(trail: &Trail, v: Var, id: StepId) -> bool
 }
 
 // Takes out the ids of rows that aren't attached to a watch.
-fn leave_out_detached(watched: &mut Vec<StepId>, derivation: &mut Derivation)
+fn retain_attached(watched: &mut Vec<StepId>, derivation: &mut Derivation)
     requires { IsTrue (has_rows derivation.old) }
     ensures watched { watched.new.items ≡ filter (is_held (arena_of derivation.old)) watched.old.items }
     ensures same { derivation.new ≡ derivation.old }
@@ -294,7 +304,7 @@ fn leave_out_detached(watched: &mut Vec<StepId>, derivation: &mut Derivation)
     derivation.put_rows(rows);
 }
 
-// The same with the rows at hand.
+// Takes out the ids of rows that aren't attached, with the rows at hand.
 fn retain_held(watched: &mut Vec<StepId>, rows: &Rows)
     ensures { watched.new.items ≡ filter (is_held rows.now) watched.old.items }
 {

@@ -55,7 +55,7 @@ impl Leaving<'_> {
 impl Search {
     // Detaches the rows from an id on that leave. Where some of them don't go, the next solve attaches those that are
     // left.
-    pub(crate) fn part_from(&mut self, from: StepId, leaving: &Leaving)
+    pub(crate) fn detach_from(&mut self, from: StepId, leaving: &Leaving)
         requires intact { (scopes : List Scope) × IsIntact scopes self.old }
         requires tallied { IsTallied self.old }
         ensures sheds { Sheds (Goes leaving.now self.old.derivation) self.old self.new }
@@ -63,12 +63,12 @@ impl Search {
     {
         let next = self.derivation.next_id();
         for id in from..next {
-            self.part_at(id, leaving);
+            self.detach_at(id, leaving);
         }
     }
 
     // Detaches a row, if it is live and leaves.
-    fn part_at(&mut self, id: StepId, leaving: &Leaving)
+    fn detach_at(&mut self, id: StepId, leaving: &Leaving)
         requires intact { (scopes : List Scope) × IsIntact scopes self.old }
         requires tallied { IsTallied self.old }
         ensures sheds { Sheds (Goes leaving.now self.old.derivation) self.old self.new }
@@ -81,11 +81,11 @@ impl Search {
             return;
         }
         let goes = leaving.takes(&self.derivation, id);
-        self.shed(id, goes);
+        self.detach_going(id, goes);
     }
 
     // Detaches a row, if it is attached. Where it doesn't go, the next solve attaches it again.
-    fn shed(&mut self, id: StepId, goes: bool)
+    fn detach_going(&mut self, id: StepId, goes: bool)
         requires intact { (scopes : List Scope) × IsIntact scopes self.old }
         requires tallied { IsTallied self.old }
         requires live { IsTrue (is_live self.old.derivation id) }
@@ -94,13 +94,13 @@ impl Search {
     {
         if self.has(id) {
             self.joined &= goes;
-            self.part(id);
+            self.detach(id);
         }
     }
 
     // Detaches the rows that fall where the steps go that name a variable outside a prefix, and of each side the rows
     // behind the first of these.
-    pub(crate) fn part_outside(&mut self, prefix: &Prefix, from: StepId)
+    pub(crate) fn detach_outside(&mut self, prefix: &Prefix, from: StepId)
         requires intact { (scopes : List Scope) × IsIntact scopes self.old }
         requires tallied { IsTallied self.old }
         requires below { NoneOutsideBelow prefix.now from self.old.derivation }
@@ -109,8 +109,8 @@ impl Search {
         ensures none { NoneFalls (names (is_outside prefix.now) (rows_of self.new)) self.new }
     {
         let clauses = self.derivation.outside_from(Quant::Exists, from, prefix);
-        self.part_from(clauses, &Leaving::Outside(Quant::Exists, prefix));
+        self.detach_from(clauses, &Leaving::Outside(Quant::Exists, prefix));
         let cubes = self.derivation.outside_from(Quant::Forall, from, prefix);
-        self.part_from(cubes, &Leaving::Outside(Quant::Forall, prefix));
+        self.detach_from(cubes, &Leaving::Outside(Quant::Forall, prefix));
     }
 }

@@ -16,13 +16,13 @@ ghost use Rattle.clean.specs.Reasons.{HaveReasons, IsReducedStep};
 ghost use Rattle.clean.specs.Marks.{CleansReasons, KeepsReasons, StopsCleaning, marks_left};
 ghost use Rattle.clean.specs.Turns.{reductions_in};
 ghost use Rattle.analyse.specs.Lessons.{IsLesson, NeedsResolution};
-ghost use Rattle.search.specs.State.{IsSearching};
+ghost use Rattle.search.specs.State.{IsAttached, IsSearching};
 ghost use Rattle.search.specs.Counting.{lesson_cost, size_of};
 ghost use Rattle.search.specs.Parts.{GoesOn, StopsWhenDue};
 ghost use Rattle.search.specs.Moves.{Advances, Analyses, BeginsAnew, Halts, Pushes, Undoes, WasDue};
 
 use crate::outcome::EndRow;
-use crate::search::{LESSONS, Search};
+use crate::search::{RESTART_INTERVAL, Search};
 use analyse::{Lesson, analyse};
 use decide::Decider;
 use derive::{Derivation, Step, StepId};
@@ -39,12 +39,13 @@ impl Search {
         side: Quant,
         row: StepId,
         restarts: u32,
+        kept: u32,
         steps: &mut Steps,
     ) -> Result<Option<EndRow>, Stop>
         requires searching { IsSearching prefix.now self.old }
         requires row { IsReducedStep side prefix.now self.old.derivation row }
         requires bad { IsBadRow side prefix.now (value_on self.old.trail.placed) (row_of self.old.derivation row) }
-        ensures goes { GoesOn prefix.now 1 restarts self.old self.new steps.old steps.new result }
+        ensures goes { GoesOn prefix.now 1 restarts kept self.old self.new steps.old steps.new result }
         ensures stops { StopsWhenDue prefix.now 1 self.old self.new steps.old steps.new result }
         ensures ends { last_level self.old.trail.placed ≡ 0 → result ≢ Ok None }
         ensures few { last_level self.old.trail.placed ≡ 0 → result ≡ Err spent → left steps.old
@@ -52,7 +53,7 @@ impl Search {
     {
         match self.analysed(prefix, side, row, steps)? {
             Lesson::End { row } => {
-                self.keep_end(prefix, row);
+                self.attach_end(prefix, row, kept);
                 Ok(Some(EndRow { side, row }))
             }
             Lesson::Learn {
@@ -62,17 +63,17 @@ impl Search {
                 ..
             } => {
                 if self.is_restart_due(restarts) {
-                    self.begin_anew(prefix, row)?;
+                    self.restart(prefix, row)?;
                 } else {
                     self.backjump(prefix, side, row, lit, level, steps)?;
                 }
-                self.forget(prefix)?;
+                self.reduce_database(prefix, kept)?;
                 Ok(None)
             }
         }
     }
 
-    // Counts a lesson, and tells whether the search is to begin anew after it, which it may so often.
+    // Counts a lesson, and tells whether a restart is due after it; so many may be made.
     fn is_restart_due(&mut self, restarts: u32) -> bool
         ensures same { self.new ≡ self.old }
         ensures fewer { IsTrue result → self.old.trail.restarts < restarts }
@@ -82,12 +83,12 @@ impl Search {
         if self.lessons_left > 0 {
             return false;
         }
-        self.lessons_left = LESSONS;
+        self.lessons_left = RESTART_INTERVAL;
         self.trail.restarts() < u64::from(restarts)
     }
 
-    // Undoes to level 0, from where the search begins anew, and keeps a learned row.
-    fn begin_anew(&mut self, prefix: &Prefix, row: StepId) -> Result<(), NoMemory>
+    // Restarts: undoes to level 0, and attaches a learned row.
+    fn restart(&mut self, prefix: &Prefix, row: StepId) -> Result<(), NoMemory>
         requires searching { IsSearching prefix.now self.old }
         requires row { IsReducedStep (side_at self.old.derivation row) prefix.now self.old.derivation row }
         requires below { 0 < last_level self.old.trail.placed }
@@ -96,17 +97,18 @@ impl Search {
             Advances prefix.now (lesson_cost (size_of prefix.now)) self.old self.new steps steps) }
         ensures err { OnErr result ((steps : Counter) →
             Halts prefix.now (lesson_cost (size_of prefix.now)) self.old self.new steps steps) }
+        ensures kept { OnOk result (IsAttached self.new (side_at self.old.derivation row) row) }
         ensures reductions { reductions_in self.new.derivation ≡ reductions_in self.old.derivation }
         ensures restarts { self.new.trail.restarts ≡ self.old.trail.restarts + 1 }
     {
         bump(&mut self.decider, self.derivation.lits(row));
-        self.restart(prefix);
-        self.keep(prefix, row)?;
+        self.undo_all(prefix);
+        self.attach_learned(prefix, row)?;
         Ok(())
     }
 
-    // Undoes to level 0, from where the search begins anew.
-    fn restart(&mut self, prefix: &Prefix)
+    // Undoes to level 0, and counts a restart.
+    fn undo_all(&mut self, prefix: &Prefix)
         requires searching { IsSearching prefix.now self.old }
         requires below { 0 < last_level self.old.trail.placed }
         ensures { BeginsAnew prefix.now self.old self.new }
@@ -155,7 +157,7 @@ impl Search {
         lesson
     }
 
-    // Undoes to the level of a learned row, keeps the row, and assigns the literal in which it is unit then.
+    // Undoes to the level of a learned row, attaches the row, and assigns the literal in which it is unit then.
     fn backjump(
         &mut self,
         prefix: &Prefix,
@@ -174,12 +176,13 @@ impl Search {
             steps.old steps.new) }
         ensures spent { result ≡ Err spent → steps.new.spent ≡ steps.new.budget }
         ensures due { result ≡ Err spent → WasDue prefix.now self.old self.new }
+        ensures kept { OnOk result (IsAttached self.new side row) }
         ensures reductions { reductions_in self.new.derivation ≡ reductions_in self.old.derivation }
         ensures restarts { self.new.trail.restarts ≡ self.old.trail.restarts }
     {
         bump(&mut self.decider, self.derivation.lits(row));
         self.undo(prefix, level);
-        self.keep(prefix, row)?;
+        self.attach_learned(prefix, row)?;
         self.propagate(prefix, side, row, lit, steps)?;
         Ok(())
     }
@@ -301,7 +304,7 @@ fn bump_resolved(decider: &mut Decider, derivation: &Derivation, first: StepId, 
     }
 }
 
-// The same for one of the steps, if it is live.
+// Raises the priorities of the variables of the rows below an id that one step was resolved from, if it is live.
 fn bump_antecedents(decider: &mut Decider, derivation: &Derivation, first: StepId, id: StepId)
     requires { IsTrue (has_rows derivation.now) }
     ensures { decider.new ≡ decider.old }

@@ -12,8 +12,8 @@ use std::alloc::Global;
 use std::marker::Model;
 use trail::Trail;
 
-// A restart is due with each such lesson of a solve.
-pub(crate) const LESSONS: u8 = 64;
+// After so many lessons of a solve a restart is due.
+pub(crate) const RESTART_INTERVAL: u8 = 64;
 
 /// A search with what it learned so far. Contracts see it as the derivation, the trail, both watches, the signs that
 /// variables had last, the ids of the rows to watch, whether the live ones are attached, and how many long learned rows
@@ -79,7 +79,7 @@ impl Search {
             long: 0,
             tidy_at: 0,
             sweep_at: 0,
-            lessons_left: LESSONS,
+            lessons_left: RESTART_INTERVAL,
             was_quiet: false,
         }
     }

@@ -23,7 +23,7 @@ ghost use Rattle.search.specs.Moves.{IsMatrix, KeepsOlder};
 ghost use Rattle.search.specs.Stops.{IsOutcome, IsQuickStop, IsStop, WasSpentWhenDue};
 
 use crate::outcome::{EndRow, Outcome, SolveStop};
-use crate::search::{LESSONS, Search};
+use crate::search::{RESTART_INTERVAL, Search};
 use derive::StepId;
 use matrix::Matrix;
 use memory::NoMemory;
@@ -41,21 +41,22 @@ impl Search {
     /// For each step that it takes at most one reduction comes in; and it takes fewer steps than suffice for the
     /// variables.
     ///
-    /// Where more than 512 long learned rows are no reasons, which it looks for at its start and after each lesson, the
-    /// oldest of these are forgotten until 256 of them are left. Steps that nothing kept rests on are dropped then, or
-    /// at a later such time, once half as many ids were given as steps were live the last time, and one for 64 of all
-    /// ids. With an outcome at most 513 long learned rows and one for each variable are kept.
+    /// Where more than `kept` long learned rows are no reasons, which it looks for at its start and after each lesson,
+    /// the oldest of these are forgotten until half of `kept` are left. Steps that nothing kept rests on are dropped
+    /// then, or at a later such time, once half as many ids were given as steps were live the last time, and one for 64
+    /// of all ids. With an outcome at most `kept` long learned rows, one more, and one for each variable are kept.
     ///
     /// Spent comes only where a step is due and the budget is spent, which with as many steps left as suffice for the
     /// variables and the restarts is never so. After it and after want of memory the search is at rest, with the same
     /// open clauses. The row that ends it stays attached for later solves, where there is memory for it, unless no call
-    /// of the watches was quiet, or it is long beside more than 512 long ones. No clause says so.
+    /// of the watches was quiet, or it is long beside more than `kept` long ones. No clause says so.
     pub fn solve(
         &mut self,
         prefix: &Prefix,
         matrix: &Matrix<'_>,
         assumptions: &[Lit],
         restarts: u32,
+        kept: u32,
         steps: &mut Steps,
     ) -> Result<Outcome, SolveStop>
         requires resting { IsResting prefix.now self.old }
@@ -75,12 +76,12 @@ impl Search {
         ensures reductions { reductions_in self.new.derivation
             ≤ reductions_in self.old.derivation + (steps.new.spent - steps.old.spent) }
         ensures few { steps.new.spent - steps.old.spent < step_limit restarts (size_of prefix.now) }
-        ensures long { OnOk result (long_in self.new.derivation ≤ 513 + size_of prefix.now) }
+        ensures long { OnOk result (long_in self.new.derivation ≤ kept + 1 + size_of prefix.now) }
         ensures budget { steps.new.budget ≡ steps.old.budget }
         ensures rises { steps.old.spent ≤ steps.new.spent }
     {
-        self.start(prefix)?;
-        match self.run(prefix, matrix, assumptions, restarts, steps) {
+        self.start(prefix, kept)?;
+        match self.run(prefix, matrix, assumptions, restarts, kept, steps) {
             Ok(end) => self.conclude(prefix, matrix, end, assumptions),
             Err(Stop::Spent) => Err(SolveStop::Spent(self.stop(prefix, steps))),
             Err(Stop::NoMemory) => {
@@ -90,11 +91,11 @@ impl Search {
         }
     }
 
-    // Attaches what is watched, and forgets long learned rows where there are many.
-    fn start(&mut self, prefix: &Prefix) -> Result<(), NoMemory>
+    // Attaches what is watched, and forgets long learned rows where there are more than may be kept.
+    fn start(&mut self, prefix: &Prefix, kept: u32) -> Result<(), NoMemory>
         requires { IsResting prefix.now self.old }
         ensures paused { OnOk result (IsPaused prefix.now self.new) }
-        ensures long { OnOk result (HasFewLong prefix.now self.new) }
+        ensures long { OnOk result (HasFewLong kept prefix.now self.new) }
         ensures trail { OnOk result (self.new.trail ≡ self.old.trail) }
         ensures clauses { clauses_of self.new.derivation ≡ clauses_of self.old.derivation }
         ensures older { KeepsOlder self.old.derivation self.new.derivation }
@@ -104,7 +105,7 @@ impl Search {
         ensures unfinished { OnErr result (HasNoFinish self.new.derivation) }
     {
         self.attach_all(prefix);
-        match self.forget(prefix) {
+        match self.reduce_database(prefix, kept) {
             Ok(()) => Ok(()),
             Err(stop) => {
                 self.give_up(prefix);
@@ -133,10 +134,11 @@ impl Search {
         matrix: &Matrix<'_>,
         assumptions: &[Lit],
         restarts: u32,
+        kept: u32,
         steps: &mut Steps,
     ) -> Result<EndRow, Stop>
         requires paused { IsPaused prefix.now self.old }
-        requires long { HasFewLong prefix.now self.old }
+        requires long { HasFewLong kept prefix.now self.old }
         requires rest { IsAtRest self.old.trail }
         requires matrix { IsMatrix self.old.derivation matrix.now }
         requires outer { AreOuter prefix.now assumptions.now }
@@ -148,7 +150,7 @@ impl Search {
         ensures end { IfOk result (λ e. IsEndRow e.side prefix.now assumptions.now (row_of self.new.derivation e.row)) }
         ensures bounded { IsBounded (size_of prefix.now) steps.old.spent self.new.trail steps.new }
         ensures restarts { self.new.trail.restarts ≤ restarts }
-        ensures long { OnOk result (HasFewLong prefix.now self.new) }
+        ensures long { OnOk result (HasFewLong kept prefix.now self.new) }
         ensures due { result ≡ Err spent → WasSpentWhenDue prefix.now self.old.derivation assumptions.now steps.old
             self.new.trail.assigned }
         ensures spent { result ≡ Err spent → steps.new.spent ≡ steps.new.budget }
@@ -160,7 +162,7 @@ impl Search {
     {
         self.assume(prefix, assumptions, steps)?;
         'turns: loop {
-            if let Some(end) = self.turn(prefix, matrix, restarts, steps)? {
+            if let Some(end) = self.turn(prefix, matrix, restarts, kept, steps)? {
                 return Ok(end);
             }
         }
@@ -274,7 +276,7 @@ impl Search {
         self.trail.clear();
         self.watches.undone(0);
         self.joined = true;
-        self.lessons_left = LESSONS;
+        self.lessons_left = RESTART_INTERVAL;
         self.was_quiet = false;
     }
 
@@ -294,7 +296,7 @@ impl Search {
         let stopped = self.trail.stop(prefix, steps);
         self.watches.undone(0);
         self.joined = true;
-        self.lessons_left = LESSONS;
+        self.lessons_left = RESTART_INTERVAL;
         self.was_quiet = false;
         self.drop_finish(prefix);
         stopped

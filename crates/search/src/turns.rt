@@ -34,12 +34,13 @@ impl Search {
         prefix: &Prefix,
         matrix: &Matrix<'_>,
         restarts: u32,
+        kept: u32,
         steps: &mut Steps,
     ) -> Result<Option<EndRow>, Stop>
         requires searching { IsSearching prefix.now self.old }
         requires allowed { self.old.trail.allowed ≡ Anything }
         requires matrix { IsMatrix self.old.derivation matrix.now }
-        ensures goes { GoesOn prefix.now 0 restarts self.old self.new steps.old steps.new result }
+        ensures goes { GoesOn prefix.now 0 restarts kept self.old self.new steps.old steps.new result }
         ensures stops { StopsWhenDue prefix.now 0 self.old self.new steps.old steps.new result }
         ensures forced { (start : ℕ) → IsRefuting prefix.now matrix.now start self.old steps.old → result ≡ Ok None →
             IsRefuting prefix.now matrix.now start self.new steps.new }
@@ -51,8 +52,8 @@ impl Search {
                 self.propagate(prefix, side, row, lit, steps)?;
                 Ok(None)
             }
-            Found::Bad(side, row) => self.learn(prefix, side, row, restarts, steps),
-            Found::Quiet => self.quiet(prefix, matrix, restarts, steps),
+            Found::Bad(side, row) => self.learn(prefix, side, row, restarts, kept, steps),
+            Found::Quiet => self.quiet(prefix, matrix, restarts, kept, steps),
         }
     }
 
@@ -89,19 +90,20 @@ impl Search {
         prefix: &Prefix,
         matrix: &Matrix<'_>,
         restarts: u32,
+        kept: u32,
         steps: &mut Steps,
     ) -> Result<Option<EndRow>, Stop>
         requires searching { IsSearching prefix.now self.old }
         requires quiet { AreQuiet exists prefix.now (value_on self.old.trail.placed) (rows_of self.old) }
         requires allowed { self.old.trail.allowed ≡ Anything }
         requires matrix { IsMatrix self.old.derivation matrix.now }
-        ensures goes { GoesOn prefix.now 0 restarts self.old self.new steps.old steps.new result }
+        ensures goes { GoesOn prefix.now 0 restarts kept self.old self.new steps.old steps.new result }
         ensures stops { StopsWhenDue prefix.now 0 self.old self.new steps.old steps.new result }
     {
         self.was_quiet = true;
         let Some(lit) = self.decider.next_decision(&self.trail, prefix) else {
             let cube = self.solution(prefix, matrix, steps)?;
-            return self.learn(prefix, Quant::Forall, cube, restarts, steps);
+            return self.learn(prefix, Quant::Forall, cube, restarts, kept, steps);
         };
         self.decide(prefix, lit, steps)?;
         Ok(None)

@@ -144,6 +144,7 @@ pub record HasChanged (change : FrameCommand) (before e : EngineState) : Type 0 
   pub vars : e.counts.vars ≡ before.counts.vars
   pub restarts : e.restarts ≡ before.restarts
   pub most_restarts : e.counts.restarts ≡ before.counts.restarts
+  pub kept : e.kept_rows ≡ before.kept_rows
 
 pub has_changed : (change : FrameCommand) (before e : EngineState) (long : ℕ)
     → e ≡ record (changed before change) { kept_long = long }
@@ -157,6 +158,7 @@ has_changed change before e long same none_more = record {
   vars = ap (λ (f : EngineState). f.counts.vars) same;
   restarts = ap (λ (f : EngineState). f.restarts) same;
   most_restarts = ap (λ (f : EngineState). f.counts.restarts) same;
+  kept = ap (λ (f : EngineState). f.kept_rows) same;
 }
 
 pub has_clause : (clause : List ℤ) (before e : EngineState)
@@ -176,6 +178,7 @@ has_clause clause before e same = record {
   vars = ap (λ (f : EngineState). f.counts.vars) same;
   restarts = ap (λ (f : EngineState). f.restarts) same;
   most_restarts = ap (λ (f : EngineState). f.counts.restarts) same;
+  kept = ap (λ (f : EngineState). f.kept_rows) same;
 }
 
 pub has_group : (group : ℕ) (before e : EngineState)
@@ -195,6 +198,7 @@ has_group group before e same = record {
   vars = ap (λ (f : EngineState). f.counts.vars) same;
   restarts = ap (λ (f : EngineState). f.restarts) same;
   most_restarts = ap (λ (f : EngineState). f.counts.restarts) same;
+  kept = ap (λ (f : EngineState). f.kept_rows) same;
 }
 
 -- what is held of an engine is held of one with another number of long learned rows
@@ -210,6 +214,7 @@ held_again terms s before e long holds same = subst (λ f. Holds terms f s) (sym
   budgets = holds.budgets;
   restarts = holds.restarts;
   most_restarts = holds.most_restarts;
+  kept = holds.kept;
   variables = holds.variables;
 })
 
@@ -262,6 +267,7 @@ module _ {S : Type 0} (written flushed : S → Option (List ℕ)) (faults : S �
         let now = leaves.restarts in
         let low = holds.most_restarts in
         omega (arith, same, now, low);
+    kept = leaves.kept ∙ holds.kept;
     variables =
         let same = leaves.vars in
         let low = holds.variables in

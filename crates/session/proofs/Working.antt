@@ -13,10 +13,10 @@ use Rattle.solve.specs.Standing.{Standing, start}
 use Rattle.solve.specs.Terms.{terms_of}
 use Rattle.solve.proofs.OneStep.{refutes}
 
-pub no_silence : AllowedReplies (terms_of 0 0) (Pop ∷ []) (says []) → ⊥
+pub no_silence : AllowedReplies (terms_of 0 0 512) (Pop ∷ []) (says []) → ⊥
 no_silence h = at h.0 h.1
   where
-    at : (after : Standing) → Leads (terms_of 0 0) start (Pop ∷ []) (says []) after → ⊥
+    at : (after : Standing) → Leads (terms_of 0 0 512) start (Pop ∷ []) (says []) after → ⊥
     at after l = absurd (let t : [] ≡ refused_text 40 ++ l.1.text =
         ap (λ (o : Output). o.text) l.3 ∙ ap (λ (o : Output). o.text ++ l.1.text) l.4.0 in cc)
 
@@ -29,7 +29,7 @@ empty_ends r = absurd (let same : done ≡ refused 30 1 =
     (computed_reading (codes "p qscript 1\n")) r.1.1).2
     in cc)
 
-pub one_row : AllowedReplies (terms_of 0 0) (Clause [] ∷ Solve ∷ []) (says (codes "UNSAT\n"))
+pub one_row : AllowedReplies (terms_of 0 0 512) (Clause [] ∷ Solve ∷ []) (says (codes "UNSAT\n"))
 one_row = (
   refuted,
   (

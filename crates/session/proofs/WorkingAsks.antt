@@ -79,11 +79,11 @@ module _ (terms : Terms) where
       reply
 
 -- after such changes of a script with groups
-differs : (cs : List Change) → AreChanges (terms_of 0 0) (start_of Three) cs → (b : Bool)
+differs : (cs : List Change) → AreChanges (terms_of 0 0 512) (start_of Three) cs → (b : Bool)
     → truth_of (changed (start_of Three) cs).script.formula ≡ b → Says (commands_of cs) (not b) → ⊥
 differs cs are b truth (after, leads) =
-    solve_tells (terms_of 0 0) (changed (start_of Three) cs) b truth after
-    (all_quiet (terms_of 0 0) (start_of Three) cs are (says (verdict_text (not b))) after leads)
+    solve_tells (terms_of 0 0 512) (changed (start_of Three) cs) b truth after
+    (all_quiet (terms_of 0 0 512) (start_of Three) cs are (says (verdict_text (not b))) after leads)
 
 -- the changes of the worked values
 abbrev one_pairs : List Change

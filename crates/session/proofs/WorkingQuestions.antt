@@ -57,16 +57,16 @@ questions = record {
   other_core = λ after h. ⊎_elim
       (λ (t : TellsCore refuted_by_group (says (codes "core 0\n")) after). (
       let n : 7 ≡ 9 = ap (λ (o : Output). length o.text) t.told.0 in omega arith))
-      (λ (g : GivesUpCore (terms_of 0 0) refuted_by_group (says (codes "core 0\n")) after).
+      (λ (g : GivesUpCore (terms_of 0 0 512) refuted_by_group (says (codes "core 0\n")) after).
       unknown_tells (says (codes "core 0\n")) g.stopped refl g.says_unknown) h;
   core_alone = λ out h. ⊎_elim
       (λ (t : TellsCore refuted_by_group out (gone refuted_by_group)).
       not_gone refuted_by_group (record { truth = false; assumptions = [] }) refl t.same)
-      (λ (g : GivesUpCore (terms_of 0 0) refuted_by_group out (gone refuted_by_group)).
+      (λ (g : GivesUpCore (terms_of 0 0 512) refuted_by_group out (gone refuted_by_group)).
       not_gone refuted_by_group (record { truth = false; assumptions = [] }) refl g.same) h;
   no_core = λ text after h. ⊎_elim
       (λ (t : TellsCore lost (says text) after). true≢false t.told.1.refuted)
-      (λ (g : GivesUpCore (terms_of 0 0) lost (says text) after).
+      (λ (g : GivesUpCore (terms_of 0 0 512) lost (says text) after).
       unknown_tells (says text) g.stopped refl g.says_unknown) h;
   unknown = inr (record {
     stopped = spent_at 0;
@@ -78,23 +78,23 @@ questions = record {
   no_entry = λ after h. ⊎_elim
       (λ (t : TellsCore refuted_by_group (unknown_with []) after). (
       let n : 8 ≡ 9 = ap (λ (o : Output). length o.text) t.told.0 in omega arith))
-      (λ (g : GivesUpCore (terms_of 0 0) refuted_by_group (unknown_with []) after).
+      (λ (g : GivesUpCore (terms_of 0 0 512) refuted_by_group (unknown_with []) after).
       unknown_tells (unknown_with []) g.stopped refl g.says_unknown) h;
   other_budget = λ after h. ⊎_elim
       (λ (t : TellsCore refuted_by_group (unknown_with (spent_at 1 ∷ [])) after).
       no_entry_said (core_text (1 ∷ [])) (unknown_with (spent_at 1 ∷ [])) refl t.told.0)
-      (λ (g : GivesUpCore (terms_of 0 0) refuted_by_group (unknown_with (spent_at 1 ∷ [])) after). (
+      (λ (g : GivesUpCore (terms_of 0 0 512) refuted_by_group (unknown_with (spent_at 1 ∷ [])) after). (
       let e : spent_at 1 ∷ [] ≡ g.stopped ∷ [] = ap (λ (o : Output). o.stops) g.says_unknown in
       let f : spent_at 1 ≡ g.stopped = cc in
       let n : 1 ≡ 0 = ap (λ (a : Account). a.budget) f ∙ g.stop.budget in omega arith)) h;
   other_text = λ after h. ⊎_elim
       (λ (t : TellsCore refuted_by_group (record { text = []; stops = spent_at 0 ∷ [] }) after).
       no_entry_said (core_text (1 ∷ [])) (record { text = []; stops = spent_at 0 ∷ [] }) refl t.told.0)
-      (λ (g : GivesUpCore (terms_of 0 0) refuted_by_group (record { text = []; stops = spent_at 0 ∷ [] }) after). (
+      (λ (g : GivesUpCore (terms_of 0 0 512) refuted_by_group (record { text = []; stops = spent_at 0 ∷ [] }) after). (
       let n : 0 ≡ 8 = ap (λ (o : Output). length o.text) g.says_unknown in omega arith)) h;
   enough = λ after h. ⊎_elim
       (λ (t : TellsCore refuted_by_group (unknown_with (spent_at 16 ∷ [])) after).
       no_entry_said (core_text (1 ∷ [])) (unknown_with (spent_at 16 ∷ [])) refl t.told.0)
-      (λ (g : GivesUpCore (terms_of 16 0) refuted_by_group (unknown_with (spent_at 16 ∷ [])) after). (
+      (λ (g : GivesUpCore (terms_of 16 0 512) refuted_by_group (unknown_with (spent_at 16 ∷ [])) after). (
       let n : 16 < 16 = g.short in omega arith)) h;
 }

@@ -41,11 +41,11 @@ pub record WorkedReplies : Type 0 where
   pub none_relevant : relevant_text [] ≡ codes "relevant 0\n"
   pub one_relevant : relevant_text (record { variable = 1; positive = false } ∷ []) ≡ codes "relevant -1 0\n"
   -- refused commands, each with its line
-  pub lines : AllowedReplies (terms_of 0 0) (Pop ∷ Assume (pos 5) ∷ Value 1 ∷ [])
+  pub lines : AllowedReplies (terms_of 0 0 512) (Pop ∷ Assume (pos 5) ∷ Value 1 ∷ [])
       (says (codes "refused 40\nrefused 41\nrefused 50\n"))
-  pub not_silent : AllowedReplies (terms_of 0 0) (Pop ∷ []) (says []) → ⊥
+  pub not_silent : AllowedReplies (terms_of 0 0 512) (Pop ∷ []) (says []) → ⊥
   -- an accepted clause has no reply, and the empty one makes the formula false, whatever the budget
-  pub unsat : AllowedReplies (terms_of 0 0) (Clause [] ∷ Solve ∷ []) (says (codes "UNSAT\n"))
+  pub unsat : AllowedReplies (terms_of 0 0 512) (Clause [] ∷ Solve ∷ []) (says (codes "UNSAT\n"))
   -- an empty script ends well
   pub empty : IsScriptEnding (codes "p qscript 1\n") (Done 0)
   pub not_refused : IsScriptEnding (codes "p qscript 1\n") (Refused 30 1) → ⊥

@@ -21,7 +21,7 @@ two_refusals = codes "refused 40\nrefused 40\n"
 
 -- what is written, with nothing told of a search
 abbrev pub Replied : List ℕ → Ending → Type 0
-Replied text ending = AreAnswered (terms_of 0 0) (Some two_pops) (Some [], Some text) ([], []) ending
+Replied text ending = AreAnswered (terms_of 0 0 512) (Some two_pops) (Some [], Some text) ([], []) ending
 
 pub record WorkedScripts : Type 0 where
   -- the first commands of a script, none and all of them among these, by the version of its header
@@ -49,8 +49,9 @@ pub record WorkedScripts : Type 0 where
   -- commands that are not the script's have no reply
   pub not_its_own : Replied (codes "UNSAT\n") NoMemory → ⊥
   -- what is told of a search has its `UNKNOWN`
-  pub told : AreAnswered (terms_of 0 0) (Some two_pops) (Some [], Some two_refusals) ([], at_thirty_six ∷ []) (Done 0)
+  pub told : AreAnswered (terms_of 0 0 512) (Some two_pops) (Some [], Some two_refusals) ([], at_thirty_six ∷ [])
+      (Done 0)
       → ⊥
   -- 22 bytes are room for all replies, and 21 aren't
-  pub room : RoomForReplies (terms_of 0 0) (Some two_pops) (λ n. n ≤ 22)
-  pub no_room : RoomForReplies (terms_of 0 0) (Some two_pops) (λ n. n ≤ 21) → ⊥
+  pub room : RoomForReplies (terms_of 0 0 512) (Some two_pops) (λ n. n ≤ 22)
+  pub no_room : RoomForReplies (terms_of 0 0 512) (Some two_pops) (λ n. n ≤ 21) → ⊥

@@ -23,7 +23,7 @@ questions = Value 1 ∷ Relevant ∷ Trace ∷ Cert ∷ []
 
 -- a session with this engine
 abbrev pub session_with : EngineState → SessionState
-session_with e = record { terms = terms_of 0 0; engine = e }
+session_with e = record { terms = terms_of 0 0 512; engine = e }
 
 -- the same engine with so many long learned rows
 abbrev pub two_long : EngineState

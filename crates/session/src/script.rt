@@ -12,6 +12,7 @@ ghost use Rattle.solve.specs.Outside.{SendsReply, TakesInput};
 ghost use Rattle.solve.specs.Standing.{Standing, start_of};
 ghost use Rattle.solve.specs.Holding.{Holds};
 ghost use Rattle.solve.specs.Terms.{terms_of};
+ghost use Rattle.engine.specs.Keeping.{MayBeKept};
 ghost use Rattle.versions.specs.declared.version.Version.{Version as AnyVersion};
 
 use crate::reply::{Reply, SessionStop};
@@ -25,7 +26,8 @@ use trail::Stopped;
 use versions::Version;
 
 /// Reads the script that is left of the chosen input, and replies to its commands as they come; each solve takes at
-/// most so many steps, and begins anew at most so often. Where the script ends well, the output is flushed then.
+/// most so many steps, begins anew at most so often, and keeps so many long learned rows that are no reasons. Where the
+/// script ends well, the output is flushed then.
 ///
 /// The replies are allowed ones (`specs/Replies`) to the commands of the lines before the first malformed one, which
 /// ends the run, as want of memory and a fault do. What each search tells that stopped is put into `stops`.
@@ -33,10 +35,12 @@ pub fn run_script<D: Desk, S: Sink>(
     alloc: Global,
     budget: u64,
     restarts: u32,
+    kept: u32,
     desk: &mut D,
     sink: &mut S,
     stops: &mut Vec<Stopped>,
 ) -> Ending
+    requires { MayBeKept kept }
     // The ending is what the text says, where the desk tells what it holds.
     ensures ending { IfSome (D.left desk.old) (λ text. IsScriptEnding text result) }
     ensures status { (s : ℕ) → result ≡ Ending.Done s → s ≡ 0 }
@@ -47,17 +51,18 @@ pub fn run_script<D: Desk, S: Sink>(
     ensures flows { D.flows desk.old → (result ≢ Ending.ReadFault) × D.flows desk.new }
     ensures write_fault { IsCounted (result ≡ Ending.WriteFault) (IsDone result) (S.faults sink.old)
         (S.faults sink.new) }
-    ensures room { RoomForReplies (terms_of budget restarts) (D.left desk.old) (S.has_room sink.old) → result ≢
+    ensures room { RoomForReplies (terms_of budget restarts kept) (D.left desk.old) (S.has_room sink.old) → result ≢
         Ending.WriteFault }
     // What is written, what is told of the searches that stopped, and that all of it is flushed at the end.
-    ensures answered { AreAnswered (terms_of budget restarts) (D.left desk.old) (S.written sink.old, S.written sink.new)
+    ensures answered { AreAnswered (terms_of budget restarts kept) (D.left desk.old)
+        (S.written sink.old, S.written sink.new)
         (stops.old.items, stops.new.items) result }
     ensures flushed { IsDone result → AllFlushed (S.written sink.new) (S.flushed sink.old) (S.flushed sink.new) }
     // What the desk holds, and whether it is steady, stays.
     ensures content { (n : List ℕ) → D.content desk.new n ≡ D.content desk.old n }
     ensures stays { (n : List ℕ) → D.steady desk.old n → D.steady desk.new n }
 {
-    match answer_script(alloc, budget, restarts, desk, sink, stops) {
+    match answer_script(alloc, budget, restarts, kept, desk, sink, stops) {
         Ok(()) => Ending::Done(0),
         Err(ending) => ending,
     }
@@ -68,21 +73,25 @@ fn answer_script<D: Desk, S: Sink>(
     alloc: Global,
     budget: u64,
     restarts: u32,
+    kept: u32,
     desk: &mut D,
     sink: &mut S,
     stops: &mut Vec<Stopped>,
 ) -> Result<(), Ending>
+    requires { MayBeKept kept }
     ensures ending { IfSome (D.left desk.old) (λ text. IsScriptEnding text (ending_of result)) }
     ensures err { IfErr result (λ e. ¬ IsDone e) }
     ensures desk { TakesInput D.content D.left D.faults D.steady D.flows desk.old desk.new result }
     ensures sink { SendsReply S.written S.flushed S.faults
-        (RoomForReplies (terms_of budget restarts) (D.left desk.old) (S.has_room sink.old)) sink.old sink.new result }
-    ensures answered { AreAnswered (terms_of budget restarts) (D.left desk.old) (S.written sink.old, S.written sink.new)
+        (RoomForReplies (terms_of budget restarts kept) (D.left desk.old) (S.has_room sink.old)) sink.old sink.new
+        result }
+    ensures answered { AreAnswered (terms_of budget restarts kept) (D.left desk.old)
+        (S.written sink.old, S.written sink.new)
         (stops.old.items, stops.new.items) (ending_of result) }
 {
     let mut reader = ScriptReader::new(alloc)?;
     let version = reader.read_header(desk)?;
-    let mut session = session_with(alloc, version, budget, restarts)?;
+    let mut session = session_with(alloc, version, budget, restarts, kept)?;
     answer_all(&mut session, &mut reader, desk, sink, stops)
 }
 
@@ -106,19 +115,23 @@ fn answer_all<D: Desk, S: Sink>(
     Ok(sink.flush()?)
 }
 
-// A session of no commands in this version, with this budget, each solve of which may begin anew so often.
+// A session of no commands in this version, with this budget, each solve of which may begin anew so often, and keep so
+// many long learned rows.
 fn session_with(
     alloc: Global,
     version: Version,
     budget: u64,
     restarts: u32,
+    kept: u32,
 ) -> Result<Session, NoMemory>
+    requires { MayBeKept kept }
     ensures made { IsOk result }
-    ensures terms { IfOk result (λ s. s.terms ≡ terms_of budget restarts) }
-    ensures holds { IfOk result (λ s. Holds (terms_of budget restarts) s.engine (start_of version)) }
+    ensures terms { IfOk result (λ s. s.terms ≡ terms_of budget restarts kept) }
+    ensures holds { IfOk result (λ s. Holds (terms_of budget restarts kept) s.engine (start_of version)) }
 {
     let mut session = Session::with_version(alloc, budget, version)?;
     session.set_restarts(restarts);
+    session.set_kept_rows(kept);
     Ok(session)
 }
 

@@ -5,7 +5,8 @@ ghost use Rattle.solve.specs.Standing.{Standing, start, start_of};
 ghost use Rattle.solve.specs.Holding.{Holds};
 ghost use Rattle.session.specs.Replies.{refusal_number};
 ghost use Rattle.session.specs.Steps.{IsQuestion, IsSent, LeavesAtWant, Refuses, StepsOf};
-ghost use Rattle.solve.specs.Terms.{Terms, terms_of, with_restarts};
+ghost use Rattle.solve.specs.Terms.{Terms, terms_of, with_kept, with_restarts};
+ghost use Rattle.engine.specs.Keeping.{MayBeKept, first_kept};
 
 use crate::lines::{write_groups, write_refused, write_relevant, write_value};
 use crate::reply::{Reply, SessionStop};
@@ -19,6 +20,9 @@ use std::alloc::Global;
 use std::marker::Model;
 use versions::Version;
 
+// How many long learned rows a solve may keep at first.
+const FIRST_KEPT: u32 = 512;
+
 /// An engine that takes the commands of a script and writes their replies. Contracts see the terms of each solve and
 /// the engine.
 #[derive(Debug, Drop)]
@@ -27,6 +31,8 @@ pub struct Session {
     restarts: u32,
     // The greatest number of restarts that was set so far.
     greatest: u32,
+    // How many long learned rows a solve may keep.
+    kept: u32,
     engine: Engine,
 }
 
@@ -36,18 +42,19 @@ impl Model for Session {
     ghost Value = { SessionState };
 
     ghost view = { λ s. record {
-      terms = record { budget = s.budget; restarts = s.restarts; greatest = s.greatest };
+      terms = record { budget = s.budget; restarts = s.restarts; greatest = s.greatest; kept = s.kept };
       engine = s.engine;
     } };
 }
 
 impl Session {
-    /// A session of no commands, in version 1, in which each solve takes at most so many steps, and never begins anew
-    /// until `set_restarts` allows it. This takes no memory.
+    /// A session of no commands, in version 1, in which each solve takes at most so many steps. It never begins anew
+    /// until `set_restarts` allows it, and keeps 512 long learned rows that are no reasons until `set_kept_rows` says
+    /// another number. This takes no memory.
     pub fn new(alloc: Global, budget: u64) -> Result<Self, NoMemory>
         ensures made { IsOk result }
-        ensures terms { IfOk result (λ s. s.terms ≡ terms_of budget 0) }
-        ensures holds { IfOk result (λ s. Holds (terms_of budget 0) s.engine start) }
+        ensures terms { IfOk result (λ s. s.terms ≡ terms_of budget 0 first_kept) }
+        ensures holds { IfOk result (λ s. Holds (terms_of budget 0 first_kept) s.engine start) }
     {
         Self::with_version(alloc, budget, Version::One)
     }
@@ -55,13 +62,14 @@ impl Session {
     /// The same in a version of the script format, which says how long a variable stays.
     pub fn with_version(alloc: Global, budget: u64, version: Version) -> Result<Self, NoMemory>
         ensures made { IsOk result }
-        ensures terms { IfOk result (λ s. s.terms ≡ terms_of budget 0) }
-        ensures holds { IfOk result (λ s. Holds (terms_of budget 0) s.engine (start_of version)) }
+        ensures terms { IfOk result (λ s. s.terms ≡ terms_of budget 0 first_kept) }
+        ensures holds { IfOk result (λ s. Holds (terms_of budget 0 first_kept) s.engine (start_of version)) }
     {
         Ok(Self {
             budget,
             restarts: 0,
             greatest: 0,
+            kept: FIRST_KEPT,
             engine: Engine::with_version(alloc, version)?,
         })
     }
@@ -76,6 +84,19 @@ impl Session {
         self.restarts = restarts;
         self.greatest = self.greatest.max(restarts);
         self.engine.set_restarts(restarts);
+    }
+
+    /// How many long learned rows that are no reasons a solve may keep from now on, from 16 to 16,777,216. This is no
+    /// change: a verdict stays.
+    pub fn set_kept_rows(&mut self, rows: u32)
+        requires { MayBeKept rows }
+        ensures terms { self.new.terms ≡ with_kept rows self.old.terms }
+        ensures engine { self.new.engine ≡ record self.old.engine { kept_rows = rows } }
+        ensures holds { (s : Standing) → Holds self.old.terms self.old.engine s
+            → Holds self.new.terms self.new.engine s }
+    {
+        self.kept = rows;
+        self.engine.set_kept_rows(rows);
     }
 
     /// Carries a command out, and writes its reply; nothing is flushed.

@@ -1,5 +1,5 @@
 -- Answers to a formula that was loaded and decided.
-use Rattle.std.proofs.Common.{◌≡◌, ℕ, Bool, true, false, List, [], ◌++◌, length, codes, Some, None, refl, sym, ap, subst, ◌∙◌, arith, append-nil, ⊎_elim}
+use Rattle.std.proofs.Common.{◌≡◌, ℕ, Bool, true, false, List, [], ◌++◌, length, codes, Some, None, refl, sym, ap, ap₂, subst, ◌∙◌, arith, append-nil, ⊎_elim}
 use Rattle.std.specs.Prelude.{max, option_map}
 use Rattle.truth.specs.declared.formula.Formula.{Formula}
 use Rattle.truth.specs.Truth.{truth, truth_under}
@@ -10,6 +10,7 @@ use Rattle.frames.specs.Commands.{Solve as Decide, Verdict as Found}
 use Rattle.frames.specs.Fold.{ScriptState, state_after}
 use Rattle.frames.specs.State.{open_clauses}
 use Rattle.search.specs.Counting.{size_of}
+use Rattle.engine.specs.Keeping.{first_kept}
 use Rattle.engine.specs.State.{EngineState}
 use Rattle.solve.specs.declared.answer.Answer.{Answer}
 use Rattle.solve.specs.declared.answer.Answer.TheVariants.{Sat, Unsat, Unknown}
@@ -23,11 +24,14 @@ use Rattle.solve.specs.Entries.{AddsEntry, IsStopAt}
 use Rattle.solve.specs.Terms.{Terms, terms_of}
 use Rattle.solve.specs.declared.decision.Decision.{Decision}
 
--- an engine that holds a formula holds what the commands come to that build it, however often it may begin anew
-pub built_held : (budget restarts : ℕ) (f : Formula) (e now : EngineState) → HoldsFormula f.prefix f.clauses e
-    → now ≡ record e { restarts = restarts } → Holds (terms_of budget restarts) now (built f)
-built_held budget restarts f e now holds is =
-    subst (λ n. Holds (terms_of budget restarts) n (built f)) (sym is) (record {
+-- an engine that holds a formula holds what the commands come to that build it, however often it may begin anew, and
+-- however many rows it may keep
+pub built_held : (budget restarts kept : ℕ) (f : Formula) (e begun now : EngineState)
+    → HoldsFormula f.prefix f.clauses e → begun ≡ record e { restarts = restarts }
+    → now ≡ record begun { kept_rows = kept } → Holds (terms_of budget restarts kept) now (built f)
+built_held budget restarts kept f e begun now holds first second =
+    subst (λ n. Holds (terms_of budget restarts kept) n (built f))
+    (sym (second ∙ ap (λ (x : EngineState). record x { kept_rows = kept }) first)) (record {
       formula = sym holds.formula;
       verdict = sym (ap (option_map given_of) holds.undecided);
       proof = λ v some. absurd (let g : None ≡ Some v = sym holds.undecided ∙ some in cc);
@@ -37,13 +41,16 @@ built_held budget restarts f e now holds is =
       budgets = let none = holds.unbudgeted in omega (arith, none);
       restarts = refl;
       most_restarts = let none = holds.never in omega (arith, none);
+      kept = refl;
       variables = let none = holds.unsized in omega (arith, none);
     })
 
 -- the same where it never begins anew
 pub never_begun : (budget : ℕ) (f : Formula) (e : EngineState) → HoldsFormula f.prefix f.clauses e
-    → Holds (terms_of budget 0) e (built f)
-never_begun budget f e holds = built_held budget 0 f e e holds (ap (λ r. record e { restarts = r }) holds.restarts)
+    → Holds (terms_of budget 0 first_kept) e (built f)
+never_begun budget f e holds =
+    built_held budget 0 first_kept f e (record e { restarts = 0 }) e holds refl
+    (ap₂ (λ r k. record e { restarts = r; kept_rows = k }) holds.restarts holds.kept)
 
 line_is : (a : Answer) (t : Bool) → answer_line a ≡ verdict_text t → a ≡ answer_with t
 line_is Sat true e = refl

@@ -35,6 +35,11 @@ use Rattle.solve.specs.Terms.{Terms}
 pub one_more_solve : (a most : ℕ) → min (min a most + 1) most ≡ min (a + 1) most
 one_more_solve a most = grind (arith, nat_tests)
 
+-- the decision that tells a truth is right of it
+pub told_is_right : (b : Bool) → IsRight b (decision_of b)
+told_is_right true = refl
+told_is_right false = refl
+
 module _ (terms : Terms) (s : Standing) (before e : EngineState) (holds : Holds terms before s) where
   counted : (n : ℕ) → e.counts ≡ with_solve terms.budget before.restarts n before.counts
       → e.counts.solves ≡ min (s.script.solves + 1) (2 ^ 64 - 1)
@@ -67,6 +72,7 @@ module _ (terms : Terms) (s : Standing) (before e : EngineState) (holds : Holds 
       (truth : v.truth ≡ truth_under before.formula.assumptions before.formula.scopes
       (open_clauses before.formula)) (proof : HasProof before.formula v e.verdict)
       (emptied : e.formula ≡ record before.formula { assumptions = [] }) (same_restarts : e.restarts ≡ before.restarts)
+      (same_kept : e.kept_rows ≡ before.kept_rows)
       (counts : e.counts ≡ with_solve terms.budget before.restarts (size_of before.formula.scopes) before.counts)
       (plays : IfSome e.verdict (PlaysFirst e.formula)) where
     abbrev state : VerdictState
@@ -95,6 +101,7 @@ module _ (terms : Terms) (s : Standing) (before e : EngineState) (holds : Holds 
       budgets = no_greater_budget counts;
       restarts = same_restarts ∙ holds.restarts;
       most_restarts = no_more_restarts counts same_restarts;
+      kept = same_kept ∙ holds.kept;
       variables = no_more_variables counts;
     }
 
@@ -134,7 +141,7 @@ module _ (terms : Terms) (s : Standing) (before e : EngineState) (holds : Holds 
         says_truth = line t;
         state = refl;
       });
-      right = subst (λ b. IsRight b (decision_of t)) (sym right) (has t);
+      right = subst (λ b. IsRight b (decision_of t)) (sym right) (told_is_right t);
       holds = held;
     }
       where
@@ -146,14 +153,10 @@ module _ (terms : Terms) (s : Standing) (before e : EngineState) (holds : Holds 
         line true = refl
         line false = refl
 
-        has : (b : Bool) → IsRight b (decision_of b)
-        has true = refl
-        has false = refl
-
   module _ (counter now : Counter) (stopped : Account) (fresh : counter.spent ≡ 0)
       (whole : counter.budget ≡ terms.budget)
       (ends : now.budget ≡ counter.budget) (kept : e.formula ≡ before.formula) (none : e.verdict ≡ None)
-      (same_restarts : e.restarts ≡ before.restarts)
+      (same_restarts : e.restarts ≡ before.restarts) (same_kept : e.kept_rows ≡ before.kept_rows)
       (counts : e.counts ≡ with_solve counter.budget before.restarts (size_of before.formula.scopes) before.counts)
       (stop : IsStopFor before.restarts before.formula counter now (Spent stopped))
       (quick : before.counts.solves ≡ 0 → IsRefuted before.formula.scopes (open_clauses before.formula)
@@ -191,6 +194,7 @@ module _ (terms : Terms) (s : Standing) (before e : EngineState) (holds : Holds 
         budgets = no_greater_budget same_counts;
         restarts = same_restarts ∙ holds.restarts;
         most_restarts = no_more_restarts same_counts same_restarts;
+        kept = same_kept ∙ holds.kept;
         variables = no_more_variables same_counts;
       };
     }

@@ -216,6 +216,7 @@ module _ (scopes : List Scope) (clauses : List (List Literal)) (valid : IsPrefix
     unsized = ap (λ (e : EngineState). e.counts.vars) is_new ∙ holds.unsized;
     restarts = ap (λ (e : EngineState). e.restarts) is_new ∙ holds.restarts;
     never = ap (λ (e : EngineState). e.counts.restarts) is_new ∙ holds.never;
+    kept = ap (λ (e : EngineState). e.kept_rows) is_new ∙ holds.kept;
   }
 
 -- one more variable of a scope
@@ -241,6 +242,7 @@ module _ (scopes : List Scope) (q : Quant) (vs : List ℕ) (i n v : ℕ) (low : 
     unsized = ap (λ (e : EngineState). e.counts.vars) is_new ∙ holds.unsized;
     restarts = ap (λ (e : EngineState). e.restarts) is_new ∙ holds.restarts;
     never = ap (λ (e : EngineState). e.counts.restarts) is_new ∙ holds.never;
+    kept = ap (λ (e : EngineState). e.kept_rows) is_new ∙ holds.kept;
   }
 
 -- a scope without variables
@@ -256,6 +258,7 @@ scope_fed old new q holds is_new = record {
   unsized = ap (λ (e : EngineState). e.counts.vars) is_new ∙ holds.unsized;
   restarts = ap (λ (e : EngineState). e.restarts) is_new ∙ holds.restarts;
   never = ap (λ (e : EngineState). e.counts.restarts) is_new ∙ holds.never;
+  kept = ap (λ (e : EngineState). e.kept_rows) is_new ∙ holds.kept;
 }
 
 -- The scopes of a prefix one after another.

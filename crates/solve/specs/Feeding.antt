@@ -3,6 +3,7 @@ use Rattle.std.specs.Prelude.{◌≡◌, ◌≤◌, List, ◌∷◌, None, lengt
 use Rattle.prefix.specs.Literal.{Literal}
 use Rattle.prefix.specs.Scopes.{Scope}
 use Rattle.frames.specs.State.{OpenFormula, empty_formula, empty_frame}
+use Rattle.engine.specs.Keeping.{first_kept}
 use Rattle.engine.specs.State.{EngineState}
 use Rattle.truth.specs.declared.formula.Formula.{Formula}
 use Rattle.solve.specs.Standing.{Standing}
@@ -24,7 +25,7 @@ built f = record {
 }
 
 -- The engine holds these scopes and clauses, accepted no more clauses than these, and has not decided any formula; a
--- search never begins anew.
+-- search never begins anew, and keeps as many long learned rows as at first.
 pub record HoldsFormula (scopes : List Scope) (clauses : List (List Literal)) (e : EngineState) : Type 0 where
   pub formula : e.formula ≡ formula_with scopes clauses
   pub undecided : e.verdict ≡ None
@@ -34,3 +35,4 @@ pub record HoldsFormula (scopes : List Scope) (clauses : List (List Literal)) (e
   pub unsized : e.counts.vars ≡ 0
   pub restarts : e.restarts ≡ 0
   pub never : e.counts.restarts ≡ 0
+  pub kept : e.kept_rows ≡ first_kept

@@ -11,7 +11,8 @@ given_of v = record { truth = v.truth; assumptions = v.assumptions }
 
 -- An engine has the formula and the verdict that commands came to, with its proof and its play's values. It counted no
 -- more clauses and variables than they have, and no solve of a greater budget or of more restarts; its count of solves
--- is theirs, up to its last value. Its next solve may begin anew as often as the terms say.
+-- is theirs, up to its last value. Its next solve may begin anew as often, and keep as many long learned rows, as the
+-- terms say.
 pub record Holds (terms : Terms) (e : EngineState) (s : Standing) : Type 0 where
   pub formula : s.script.formula ≡ e.formula
   pub verdict : s.script.verdict ≡ option_map given_of e.verdict
@@ -22,4 +23,5 @@ pub record Holds (terms : Terms) (e : EngineState) (s : Standing) : Type 0 where
   pub budgets : e.counts.budget ≤ terms.budget
   pub restarts : e.restarts ≡ terms.restarts
   pub most_restarts : max e.counts.restarts e.restarts ≤ terms.greatest
+  pub kept : e.kept_rows ≡ terms.kept
   pub variables : e.counts.vars ≤ s.script.greatest

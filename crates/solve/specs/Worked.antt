@@ -19,7 +19,7 @@ use Rattle.solve.specs.Certificates.{IsCertText, IsCertificate}
 use Rattle.solve.specs.Answers.{IsAnswerTo}
 use Rattle.solve.specs.Standing.{Standing}
 use Rattle.solve.specs.Entries.{AddsEntry, IsStopAt}
-use Rattle.solve.specs.Terms.{terms_of, with_restarts}
+use Rattle.solve.specs.Terms.{terms_of, with_kept, with_restarts}
 use Rattle.solve.specs.declared.decision.Decision.TheVariants.{Sat as is_sat, Unknown as is_unknown}
 
 -- 2 differs from 1, with these quantifiers of 1 and 2 in that order
@@ -38,28 +38,36 @@ at_thirty_six = record { budget = 36; vars = 2; assigned = 1; restarts = 0 }
 
 pub record WorkedAnswers : Type 0 where
   -- for each value of 1 there is one of 2, whatever the budget
-  pub sat : IsAnswerTo (terms_of 0 0) (differs Forall Exists) Sat
-  pub not_unsat : IsAnswerTo (terms_of 0 0) (differs Forall Exists) Unsat → ⊥
+  pub sat : IsAnswerTo (terms_of 0 0 512) (differs Forall Exists) Sat
+  pub not_unsat : IsAnswerTo (terms_of 0 0 512) (differs Forall Exists) Unsat → ⊥
   -- no value of 1 differs from both of 2
-  pub unsat : IsAnswerTo (terms_of 0 0) (differs Exists Forall) Unsat
-  pub not_sat : IsAnswerTo (terms_of 0 0) (differs Exists Forall) Sat → ⊥
+  pub unsat : IsAnswerTo (terms_of 0 0 512) (differs Exists Forall) Unsat
+  pub not_sat : IsAnswerTo (terms_of 0 0 512) (differs Exists Forall) Sat → ⊥
   -- below 2 * 2 * (2 + 3) steps any formula of two variables may be unknown, and from 24 * 2 ^ 3 steps on none
-  pub nineteen : IsAnswerTo (terms_of 19 0) (differs Forall Exists) Unknown
-  pub not_enough : IsAnswerTo (terms_of 192 0) (differs Forall Exists) Unknown → ⊥
+  pub nineteen : IsAnswerTo (terms_of 19 0 512) (differs Forall Exists) Unknown
+  pub not_enough : IsAnswerTo (terms_of 192 0 512) (differs Forall Exists) Unknown → ⊥
   -- 36 steps are few for two assignments, and too many for one; and a search begins anew only as often as it may
-  pub told : IsStopAt (terms_of 36 0) 2 at_thirty_six
-  pub not_told : IsStopAt (terms_of 36 0) 2 (record { budget = 36; vars = 2; assigned = 0; restarts = 0 }) → ⊥
-  pub restarted : IsStopAt (terms_of 36 1) 2 (record at_thirty_six { restarts = 1 })
-  pub not_restarted : IsStopAt (terms_of 36 0) 2 (record at_thirty_six { restarts = 1 }) → ⊥
-  pub not_as_before : IsStopAt (with_restarts 0 (terms_of 36 1)) 2 (record at_thirty_six { restarts = 1 }) → ⊥
+  pub told : IsStopAt (terms_of 36 0 512) 2 at_thirty_six
+  pub not_told : IsStopAt (terms_of 36 0 512) 2 (record { budget = 36; vars = 2; assigned = 0; restarts = 0 }) → ⊥
+  pub restarted : IsStopAt (terms_of 36 1 512) 2 (record at_thirty_six { restarts = 1 })
+  pub not_restarted : IsStopAt (terms_of 36 0 512) 2 (record at_thirty_six { restarts = 1 }) → ⊥
+  pub not_as_before : IsStopAt (with_restarts 0 (terms_of 36 1 512)) 2 (record at_thirty_six { restarts = 1 }) → ⊥
   -- with one restart twice as many steps suffice
-  pub twice : IsAnswerTo (terms_of 384 1) (differs Forall Exists) Unknown → ⊥
+  pub twice : IsAnswerTo (terms_of 384 1 512) (differs Forall Exists) Unknown → ⊥
   -- the greatest number of restarts stays
-  pub fewer_restarts : with_restarts 2 (terms_of 9 7) ≡ record { budget = 9; restarts = 2; greatest = 7 }
-  pub more_restarts : with_restarts 9 (terms_of 5 7) ≡ record { budget = 5; restarts = 9; greatest = 9 }
+  pub fewer_restarts : with_restarts 2 (terms_of 9 7 512) ≡ record {
+    budget = 9;
+    restarts = 2;
+    greatest = 7;
+    kept =
+        512;
+  }
+  pub more_restarts : with_restarts 9 (terms_of 5 7 512) ≡ record { budget = 5; restarts = 9; greatest = 9; kept = 512 }
+  -- another number of rows changes nothing else
+  pub fewer_rows : with_kept 20 (terms_of 9 7 512) ≡ terms_of 9 7 20
   -- an entry where the answer is unknown alone
-  pub entry : AddsEntry (IsStopAt (terms_of 36 0) 2) [] (at_thirty_six ∷ []) Unknown
-  pub no_entry : AddsEntry (IsStopAt (terms_of 36 0) 2) [] (at_thirty_six ∷ []) Unsat → ⊥
+  pub entry : AddsEntry (IsStopAt (terms_of 36 0 512) 2) [] (at_thirty_six ∷ []) Unknown
+  pub no_entry : AddsEntry (IsStopAt (terms_of 36 0 512) 2) [] (at_thirty_six ∷ []) Unsat → ⊥
 
 -- The formula with the empty clause alone, where it was solved: it is false.
 abbrev pub contradiction : Standing
@@ -84,9 +92,9 @@ pub record WorkedDecisions : Type 0 where
   pub unsat : Decides contradiction (says (codes "UNSAT\n")) refuted
   pub not_sat : (after : Standing) → Decides contradiction (says (codes "SAT\n")) after → ⊥
   -- with enough steps for its variables a solve doesn't give up
-  pub short : (out : Output) (after : Standing) → GivesUp (terms_of 16 0) contradiction out after → ⊥
+  pub short : (out : Output) (after : Standing) → GivesUp (terms_of 16 0 512) contradiction out after → ⊥
   pub short_again : (out : Output) (after : Standing)
-      → GivesUp (with_restarts 0 (terms_of 16 1)) contradiction out after → ⊥
+      → GivesUp (with_restarts 0 (terms_of 16 1 512)) contradiction out after → ⊥
 
 -- a formula that is false by its one clause
 abbrev pub nothing_fits : Formula

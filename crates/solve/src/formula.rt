@@ -3,7 +3,7 @@ ghost use Rattle.std.specs.Prelude.{◌≡◌, ◌-◌, ◌^◌, IfOk, IfSome, O
 ghost use Rattle.truth.specs.Formed.{IsFormed};
 ghost use Rattle.engine.specs.Asks.{IsVerdictOf, PlaysFirst};
 ghost use Rattle.solve.specs.Answers.{IsAnswerTo};
-ghost use Rattle.solve.specs.Decisions.{IsDecided, decision_of, stopped_at};
+ghost use Rattle.solve.specs.Decisions.{IsDecided, IsRight, decision_of, stopped_at, truth_of};
 ghost use Rattle.solve.specs.Feeding.{HoldsFormula};
 ghost use Rattle.solve.specs.Holding.{Holds};
 ghost use Rattle.solve.specs.Standing.{Standing};
@@ -49,7 +49,7 @@ pub fn engine_of(alloc: Global, f: Formula) -> Result<Engine, NoMemory>
 /// never, as 2 * n * (n + 3) isn't above it for n variables. It fails for want of memory alone.
 pub fn decide_formula(alloc: Global, f: &Formula) -> Result<Answer, NoMemory>
     requires { IsFormed f.now }
-    ensures { IfOk result (IsAnswerTo (terms_of (2 ^ 64 - 1) 0) f.now) }
+    ensures { IfOk result (IsAnswerTo (terms_of (2 ^ 64 - 1) 0 512) f.now) }
 {
     // For the proof: the truth under no assumptions is the truth.
     no_assumptions();
@@ -58,8 +58,10 @@ pub fn decide_formula(alloc: Global, f: &Formula) -> Result<Answer, NoMemory>
     Ok(decision.answer())
 }
 
-/// Solves the open formula of an engine with a budget of that many steps. Without memory the engine has no verdict.
+/// Solves the open formula of an engine with a budget of that many steps. A verdict is the truth, whatever the budgets
+/// of earlier solves were. Without memory the engine has no verdict.
 pub fn decide(engine: &mut Engine, budget: u64) -> Result<Decision, NoMemory>
+    ensures right { IfOk result (IsRight (truth_of engine.old.formula)) }
     ensures ok { (terms : Terms) (s : Standing) → terms.budget ≡ budget → Holds terms engine.old s
         → IfOk result (λ decision. IsDecided terms s decision engine.new) }
     ensures err { (terms : Terms) (s : Standing) → terms.budget ≡ budget → Holds terms engine.old s

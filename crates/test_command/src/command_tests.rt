@@ -8,10 +8,13 @@ type Want<'a> = Result<Command<'a>, &'a str>;
 
 const GREATEST: u64 = u64::MAX;
 
+const KEPT: u32 = 512;
+
 fn solve(budget: u64, form: SolveForm, name: Option<&str>) -> Want<'_> {
     Ok(Command::Solve {
         budget,
         restarts: 0,
+        kept: KEPT,
         form,
         name,
     })
@@ -21,6 +24,7 @@ fn trace(budget: u64, name: Option<&str>) -> Want<'_> {
     Ok(Command::Trace {
         budget,
         restarts: 0,
+        kept: KEPT,
         name,
     })
 }
@@ -29,6 +33,7 @@ fn cert(budget: u64, name: Option<&str>) -> Want<'_> {
     Ok(Command::Cert {
         budget,
         restarts: 0,
+        kept: KEPT,
         binary: false,
         trim: false,
         name,
@@ -39,6 +44,7 @@ fn cert_in_form(binary: bool, trim: bool, name: Option<&str>) -> Want<'_> {
     Ok(Command::Cert {
         budget: GREATEST,
         restarts: 0,
+        kept: KEPT,
         binary,
         trim,
         name,
@@ -49,6 +55,7 @@ fn check(budget: u64, restarts: u32, decide: bool, name: Option<&str>) -> Want<'
     Ok(Command::Check {
         budget,
         restarts,
+        kept: KEPT,
         decide,
         name,
     })
@@ -58,6 +65,7 @@ fn script(budget: u64, name: Option<&str>) -> Want<'_> {
     Ok(Command::Script {
         budget,
         restarts: 0,
+        kept: KEPT,
         name,
     })
 }
@@ -252,8 +260,8 @@ fn checks_are_read(rt: HostRuntime) -> Result<(), Fail> {
     Ok(())
 }
 
-// The same with this many restarts in the place of none.
-fn with_restarts(want: Want<'_>, restarts: u32) -> Want<'_> {
+// The same with this many restarts in the place of none, and with this many rows to keep.
+fn with_numbers(want: Want<'_>, restarts: u32, kept: u32) -> Want<'_> {
     match want {
         Ok(
             Command::Solve {
@@ -265,12 +273,14 @@ fn with_restarts(want: Want<'_>, restarts: u32) -> Want<'_> {
         ) => Ok(Command::Solve {
             budget,
             restarts,
+            kept,
             form,
             name,
         }),
         Ok(Command::Trace { budget, name, .. }) => Ok(Command::Trace {
             budget,
             restarts,
+            kept,
             name,
         }),
         Ok(
@@ -284,6 +294,7 @@ fn with_restarts(want: Want<'_>, restarts: u32) -> Want<'_> {
         ) => Ok(Command::Cert {
             budget,
             restarts,
+            kept,
             binary,
             trim,
             name,
@@ -291,6 +302,7 @@ fn with_restarts(want: Want<'_>, restarts: u32) -> Want<'_> {
         Ok(Command::Script { budget, name, .. }) => Ok(Command::Script {
             budget,
             restarts,
+            kept,
             name,
         }),
         other => other,
@@ -356,7 +368,52 @@ fn restarts_are_read(rt: HostRuntime) -> Result<(), Fail> {
         ),
         ("qbf --restarts 1", 0, Err("'--restarts'")),
     ] {
-        let wanted = with_restarts(want, restarts);
+        let wanted = with_numbers(want, restarts, KEPT);
+        assert!(rt; comes_to(rt.alloc(), line, wanted)?, "{line}");
+    }
+    Ok(())
+}
+
+#[test]
+fn rows_to_keep_are_read(rt: HostRuntime) -> Result<(), Fail> {
+    for (line, kept, want) in [
+        (
+            "qbf solve --keep 16",
+            16,
+            solve(GREATEST, SolveForm::Plain, None),
+        ),
+        (
+            "qbf solve --keep=16777216 f",
+            16_777_216,
+            solve(GREATEST, SolveForm::Plain, Some("f")),
+        ),
+        (
+            "qbf solve --qdo --budget=7 f --keep 20",
+            20,
+            solve(7, SolveForm::Qdo, Some("f")),
+        ),
+        ("qbf trace --keep 20", 20, trace(GREATEST, None)),
+        ("qbf cert f --keep 20", 20, cert(GREATEST, Some("f"))),
+        (
+            "qbf script --keep=20 --budget 7 gen",
+            20,
+            script(7, Some("gen")),
+        ),
+        ("qbf solve --keep 15", KEPT, Err("is not in")),
+        ("qbf trace --keep=0", KEPT, Err("is not in")),
+        ("qbf check --keep 16777217", KEPT, Err("is not in")),
+        ("qbf cert --keep 20 --keep=21", KEPT, Err("multiple times")),
+        ("qbf solve --keep", KEPT, Err("a value is required")),
+        ("qbf solve --keep 020", KEPT, Err("no needless zero")),
+        ("qbf script --keep +20", KEPT, Err("a number has no sign")),
+        ("qbf solve --keep x", KEPT, Err("invalid value 'x'")),
+        (
+            "qbf demo --keep 20 0 1",
+            KEPT,
+            Err("unexpected argument '--keep'"),
+        ),
+    ] {
+        let wanted = with_numbers(want, 0, kept);
         assert!(rt; comes_to(rt.alloc(), line, wanted)?, "{line}");
     }
     Ok(())
@@ -423,6 +480,7 @@ fn other_words_are_refused(rt: HostRuntime) -> Result<(), Fail> {
         ("qbf solve --help", "--qdo "),
         ("qbf solve --help", "--qcir "),
         ("qbf cert --help", "--restarts <R>"),
+        ("qbf check --help", "--keep <K>"),
         ("qbf trace --help", "Usage: qbf trace [OPTIONS] [NAME]"),
         ("qbf cert -h", "Usage: qbf cert [OPTIONS] [NAME]"),
         ("qbf script -h", "Usage: qbf script [OPTIONS] [NAME]"),

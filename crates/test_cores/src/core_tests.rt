@@ -71,6 +71,7 @@ fn core(
         assumptions: &[],
         budget,
         restarts: 0,
+        kept: 512,
     };
     match core_of(alloc, &question, Var::MAX as usize, &others, &parts) {
         Ok(core) => Ok(Some(core)),

@@ -96,7 +96,9 @@ impl Player {
         ensures { clauses_of self.new.derivation ≡ clauses_of self.old.derivation }
     {
         let mut steps = Steps::new(u64::MAX);
-        let outcome = self.search.solve(&self.prefix, matrix, &[], 0, &mut steps)?;
+        let outcome = self
+            .search
+            .solve(&self.prefix, matrix, &[], 0, 512, &mut steps)?;
         Ok(outcome.loser)
     }
 

@@ -70,9 +70,10 @@ const FIRST: [(Turn, Told); 3] = [
     (Turn::Solve, Told::Sat),
 ];
 
-// Whether another number of restarts keeps the verdict.
+// Whether another number of restarts, and of rows to keep, keeps the verdict.
 fn keeps_verdict(session: &mut Session, sink: &mut MemorySink) -> bool {
     session.set_restarts(2);
+    session.set_kept_rows(20);
     after(session, sink, Turn::Relevant) == Told::Written
 }
 

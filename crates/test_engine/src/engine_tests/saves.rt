@@ -1,7 +1,8 @@
-//! What the search saves, in steps: no clause says that lessons, that these are shortened, priorities, first signs or
-//! restarts help, or that end rows are kept. Each number lies between the steps that a solve takes and those that it
-//! takes without one of these.
+//! What the search saves, in steps: no clause says that lessons, that these are shortened, that many are kept,
+//! priorities, first signs or restarts help, or that end rows are kept. Each number lies between the steps that a solve
+//! takes and those that it takes without one of these.
 ghost use Rattle.std.specs.Prelude.{◌<◌};
+ghost use Rattle.engine.specs.Keeping.{MayBeKept};
 
 use super::play::{put, put_scope};
 use super::{Job, holds};
@@ -267,6 +268,28 @@ fn priorities_count_and_lessons_are_shortened(rt: HostRuntime) -> Result<(), Fai
 fn first_signs_are_those_of_most_clauses(rt: HostRuntime) -> Result<(), Fail> {
     let formula = Formula::Many(0, 800, 2_400);
     ends(rt.alloc(), formula, 0, &[(1_000, Ended::Answered(true))])
+}
+
+// Solves a formula in a new engine that may keep so many long learned rows. Fails where a solve doesn't end so.
+fn ends_with(alloc: Global, formula: Formula, kept: u32, turns: &[(u64, Ended)]) -> Result<(), Fail>
+    requires { MayBeKept kept }
+{
+    let mut engine = Engine::new(alloc)?;
+    engine.set_kept_rows(kept);
+    put_and_solve(&mut engine, alloc, formula, 0, turns)
+}
+
+// This takes 40,665 steps. Where more than 512 rows are forgotten it takes 84,894.
+#[test]
+fn many_rows_are_kept_where_they_may_be(rt: HostRuntime) -> Result<(), Fail> {
+    let formula = Formula::Pigeons(7);
+    ends_with(
+        rt.alloc(),
+        formula,
+        100_000,
+        &[(60_000, Ended::Answered(false))],
+    )?;
+    ends_with(rt.alloc(), formula, 512, &[(60_000, Ended::Stopped(0))])
 }
 
 // The search begins anew with the 64th lesson, and where that is allowed with the 128th.

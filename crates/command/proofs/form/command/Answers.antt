@@ -19,8 +19,11 @@ returns c =
     let second_is =
     c.in_ok-arg-2.ensures.shape c.restarts.ensures.local ∙ ap₂ with_rule first_is c.restarts.ensures.rule in
     let second_local = c.in_ok-arg-2.ensures.globals ∙ ap₂ ◌||◌ first_local c.restarts.ensures.local in
+    let third_is =
+    c.in_ok-arg-3.ensures.shape c.keep.ensures.local ∙ ap₂ with_rule second_is c.keep.ensures.rule in
+    let third_local = c.in_ok-arg-3.ensures.globals ∙ ap₂ ◌||◌ second_local c.keep.ensures.local in
     record {
-      app = IfOk-weaker c.arg-3.result _ _ (λ r h. h.shape name_local ∙ ap₂ with_rule second_is name_is)
-          c.arg-3.ensures;
-      local = IfOk-weaker c.arg-3.result _ _ (λ r h. h.globals ∙ ap₂ ◌||◌ second_local name_local) c.arg-3.ensures;
+      app = IfOk-weaker c.arg-4.result _ _ (λ r h. h.shape name_local ∙ ap₂ with_rule third_is name_is)
+          c.arg-4.ensures;
+      local = IfOk-weaker c.arg-4.result _ _ (λ r h. h.globals ∙ ap₂ ◌||◌ third_local name_local) c.arg-4.ensures;
     }

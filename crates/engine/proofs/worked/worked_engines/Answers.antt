@@ -1,4 +1,4 @@
-use Rattle.std.proofs.Common.{◌≡◌, Some, None, refl}
+use Rattle.std.proofs.Common.{◌≡◌, ◌≤◌, Some, None, arith, refl}
 use Rattle.engine.specs.State.{VerdictState}
 use Rattle.engine.proofs.worked.worked_engines.Goals as goal
 
@@ -38,5 +38,11 @@ returns c = record {
   reductions = refl;
   none_long = refl;
   some_long = refl;
+  first_rows = refl;
+  some_rows = refl;
+  least_rows = (omega arith, omega arith);
+  most_rows = (omega arith, omega arith);
+  too_few_rows = λ h. absurd (let low : 16 ≤ 15 = h.0 in omega (arith, low));
+  too_many_rows = λ h. absurd (let high : 16777217 ≤ 16777216 = h.1 in omega (arith, high));
   none = λ f v p. apart p.state p.there;
 }

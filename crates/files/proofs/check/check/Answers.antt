@@ -8,7 +8,8 @@ pub returns-clause-ending : goal.returns-clause-ending
 returns-clause-ending g c =
     let made = c.in_ok-engine.ensures.formula in
     check_ended g.S.Sink.written g.S.Sink.flushed g.S.Sink.faults g.S.Sink.has_room c.args.request.decide
-    (terms_of c.args.request.budget c.args.request.restarts) (g.D.Desk.left c.args.desk.now) c.in_ok-engine.f made.2
+    (terms_of c.args.request.budget c.args.request.restarts c.args.request.kept) (g.D.Desk.left c.args.desk.now)
+    c.in_ok-engine.f made.2
     c.args.sink.now c.check_held.new.sink c.args.stops.now.items c.check_held.new.stops.items c.check_held.result
     c.check_held.ensures
 
@@ -16,7 +17,8 @@ pub returns-clause-output : goal.returns-clause-output
 returns-clause-output g c =
     let made = c.in_ok-engine.ensures.formula in
     check_output g.S.Sink.written g.S.Sink.flushed g.S.Sink.faults g.S.Sink.has_room c.args.request.decide
-    (terms_of c.args.request.budget c.args.request.restarts) (g.D.Desk.left c.args.desk.now) c.in_ok-engine.f made.2
+    (terms_of c.args.request.budget c.args.request.restarts c.args.request.kept) (g.D.Desk.left c.args.desk.now)
+    c.in_ok-engine.f made.2
     c.args.sink.now c.check_held.new.sink c.args.stops.now.items c.check_held.new.stops.items c.check_held.result
     c.check_held.ensures
 
@@ -24,7 +26,8 @@ pub returns-clause-sink : goal.returns-clause-sink
 returns-clause-sink g c =
     let made = c.in_ok-engine.ensures.formula in
     check_sends g.S.Sink.written g.S.Sink.flushed g.S.Sink.faults g.S.Sink.has_room c.args.request.decide
-    (terms_of c.args.request.budget c.args.request.restarts) (g.D.Desk.left c.args.desk.now) c.in_ok-engine.f made.2
+    (terms_of c.args.request.budget c.args.request.restarts c.args.request.kept) (g.D.Desk.left c.args.desk.now)
+    c.in_ok-engine.f made.2
     c.args.sink.now c.check_held.new.sink c.args.stops.now.items c.check_held.new.stops.items c.check_held.result
     c.check_held.ensures
 
@@ -40,6 +43,7 @@ returns-clause-desk g c =
     taken_before g.D.Desk.content g.D.Desk.left g.D.Desk.faults g.D.Desk.steady g.D.Desk.flows
     c.args.desk.now c.load.new.desk _ c.check_held.result c.in_ok-engine.ensures.desk
     (check_read g.S.Sink.written g.S.Sink.flushed g.S.Sink.faults g.S.Sink.has_room c.args.request.decide
-    (terms_of c.args.request.budget c.args.request.restarts) (g.D.Desk.left c.args.desk.now) c.in_ok-engine.f made.2
+    (terms_of c.args.request.budget c.args.request.restarts c.args.request.kept) (g.D.Desk.left c.args.desk.now)
+    c.in_ok-engine.f made.2
     c.args.sink.now c.check_held.new.sink c.args.stops.now.items c.check_held.new.stops.items c.check_held.result
     c.check_held.ensures)

@@ -13,12 +13,13 @@ use Rattle.files.proofs.check.check_held.Goals as goal
 
 pub write_check-requires-clause-decided : goal.write_check-requires-clause-decided
 write_check-requires-clause-decided g c =
-    let terms = terms_of c.args.request.budget c.args.request.restarts in
+    let terms = terms_of c.args.request.budget c.args.request.restarts c.args.request.kept in
     let f = c.args.f.now in
     let decision = c.in_ok-decision.decision in
     let is = c.in_ok-decision.ensures.ok terms (built f) refl
-    (built_held c.args.request.budget c.args.request.restarts f c.args.engine.now c.set_restarts.new.self
-    c.requires.holds c.set_restarts.ensures) in
+    (built_held c.args.request.budget c.args.request.restarts c.args.request.kept f c.args.engine.now
+    c.set_restarts.new.self c.set_kept_rows.new.self
+    c.requires.holds c.set_restarts.ensures c.set_kept_rows.ensures) in
     let found : Decided terms f c.answer-answer.result (told_by decision) is.after =
     subst (λ a. Decided terms f a (told_by decision) is.after) (sym c.answer-answer.ensures)
     (decided c.no_assumptions.ensures terms f decision c.decide.new.engine is) in
@@ -26,7 +27,7 @@ write_check-requires-clause-decided g c =
 
 pub returns-in_err-outcome : goal.returns-in_err-outcome
 returns-in_err-outcome g c =
-    let terms = terms_of c.args.request.budget c.args.request.restarts in
+    let terms = terms_of c.args.request.budget c.args.request.restarts c.args.request.kept in
     let f = c.args.f.now in
     let decision = c.in_ok-decision.decision in
     let before = c.args.stops.now.items in
@@ -34,8 +35,9 @@ returns-in_err-outcome g c =
     let p = err_from_is_err_and c.from_residual-in_err-outcome.result
     c.from_residual-in_err-outcome.ensures.1 in
     let is = c.in_ok-decision.ensures.ok terms (built f) refl
-    (built_held c.args.request.budget c.args.request.restarts f c.args.engine.now c.set_restarts.new.self
-    c.requires.holds c.set_restarts.ensures) in
+    (built_held c.args.request.budget c.args.request.restarts c.args.request.kept f c.args.engine.now
+    c.set_restarts.new.self c.set_kept_rows.new.self
+    c.requires.holds c.set_restarts.ensures c.set_kept_rows.ensures) in
     let found : Decided terms f c.answer-answer.result (told_by decision) is.after =
     subst (λ a. Decided terms f a (told_by decision) is.after) (sym c.answer-answer.ensures)
     (decided c.no_assumptions.ensures terms f decision c.decide.new.engine is) in
@@ -54,15 +56,16 @@ returns-in_err-outcome g c =
 
 pub returns-in_err-flush : goal.returns-in_err-flush
 returns-in_err-flush g c =
-    let terms = terms_of c.args.request.budget c.args.request.restarts in
+    let terms = terms_of c.args.request.budget c.args.request.restarts c.args.request.kept in
     let f = c.args.f.now in
     let decision = c.in_ok-decision.decision in
     let before = c.args.stops.now.items in
     let after = c.write_check.new.stops.items in
     let p = err_from_is_err_and c.from_residual-in_err-flush.result c.from_residual-in_err-flush.ensures.1 in
     let is = c.in_ok-decision.ensures.ok terms (built f) refl
-    (built_held c.args.request.budget c.args.request.restarts f c.args.engine.now c.set_restarts.new.self
-    c.requires.holds c.set_restarts.ensures) in
+    (built_held c.args.request.budget c.args.request.restarts c.args.request.kept f c.args.engine.now
+    c.set_restarts.new.self c.set_kept_rows.new.self
+    c.requires.holds c.set_restarts.ensures c.set_kept_rows.ensures) in
     let found : Decided terms f c.answer-answer.result (told_by decision) is.after =
     subst (λ a. Decided terms f a (told_by decision) is.after) (sym c.answer-answer.ensures)
     (decided c.no_assumptions.ensures terms f decision c.decide.new.engine is) in
@@ -83,14 +86,15 @@ returns-in_err-flush g c =
 
 pub returns : goal.returns
 returns g c =
-    let terms = terms_of c.args.request.budget c.args.request.restarts in
+    let terms = terms_of c.args.request.budget c.args.request.restarts c.args.request.kept in
     let f = c.args.f.now in
     let decision = c.in_ok-decision.decision in
     let before = c.args.stops.now.items in
     let after = c.write_check.new.stops.items in
     let is = c.in_ok-decision.ensures.ok terms (built f) refl
-    (built_held c.args.request.budget c.args.request.restarts f c.args.engine.now c.set_restarts.new.self
-    c.requires.holds c.set_restarts.ensures) in
+    (built_held c.args.request.budget c.args.request.restarts c.args.request.kept f c.args.engine.now
+    c.set_restarts.new.self c.set_kept_rows.new.self
+    c.requires.holds c.set_restarts.ensures c.set_kept_rows.ensures) in
     let found : Decided terms f c.answer-answer.result (told_by decision) is.after =
     subst (λ a. Decided terms f a (told_by decision) is.after) (sym c.answer-answer.ensures)
     (decided c.no_assumptions.ensures terms f decision c.decide.new.engine is) in

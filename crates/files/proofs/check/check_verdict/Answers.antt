@@ -10,7 +10,7 @@ use Rattle.files.proofs.check.check_verdict.Goals as goal
 
 pub check_formula-requires : goal.check_formula-requires
 check_formula-requires g c =
-    let terms = terms_of c.args.request.budget c.args.request.restarts in
+    let terms = terms_of c.args.request.budget c.args.request.restarts c.args.request.kept in
     let made = c.in_ok-circuit.ensures in
     is_for terms c.args.f.now c.args.value c.in_ok-circuit.circuit
     (has_circuit terms c.args.f.now c.args.value c.args.engine.now c.in_ok-circuit.circuit c.requires.decided
@@ -18,7 +18,7 @@ check_formula-requires g c =
 
 pub write_checked-requires-clause-unsatisfiable : goal.write_checked-requires-clause-unsatisfiable
 write_checked-requires-clause-unsatisfiable g c =
-    let terms = terms_of c.args.request.budget c.args.request.restarts in
+    let terms = terms_of c.args.request.budget c.args.request.restarts c.args.request.kept in
     let made = c.in_ok-circuit.ensures in
     is_false terms c.args.f.now c.args.value c.in_ok-circuit.circuit
     (has_circuit terms c.args.f.now c.args.value c.args.engine.now c.in_ok-circuit.circuit c.requires.decided
@@ -26,7 +26,7 @@ write_checked-requires-clause-unsatisfiable g c =
 
 pub returns-in-Ok : goal.returns-in-Ok
 returns-in-Ok g c =
-    let terms = terms_of c.args.request.budget c.args.request.restarts in
+    let terms = terms_of c.args.request.budget c.args.request.restarts c.args.request.kept in
     let f = c.args.f.now in
     let circuit = c.in_ok-circuit.circuit in
     let made = c.in_ok-circuit.ensures in
@@ -42,7 +42,7 @@ returns-in-Ok g c =
 
 pub returns-in-Err-Limit : goal.returns-in-Err-Limit
 returns-in-Err-Limit g c =
-    let terms = terms_of c.args.request.budget c.args.request.restarts in
+    let terms = terms_of c.args.request.budget c.args.request.restarts c.args.request.kept in
     let f = c.args.f.now in
     let circuit = c.in_ok-circuit.circuit in
     let quantity = c.in-Err-Limit.quantity in

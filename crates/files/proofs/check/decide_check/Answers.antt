@@ -14,13 +14,13 @@ use Rattle.files.proofs.check.decide_check.Goals as goal
 
 pub line_of-requires : goal.line_of-requires
 line_of-requires g c =
-    let terms = terms_of c.args.request.budget c.args.request.restarts in
+    let terms = terms_of c.args.request.budget c.args.request.restarts c.args.request.kept in
     never_true terms c.args.g.now c.requires.unsatisfiable c.answer-found.result
     (subst (IsAnswerTo terms c.args.g.now) (sym c.answer-found.ensures) c.in_ok-decision.ensures.right)
 
 pub returns-in_err-write : goal.returns-in_err-write
 returns-in_err-write g c =
-    let terms = terms_of c.args.request.budget c.args.request.restarts in
+    let terms = terms_of c.args.request.budget c.args.request.restarts c.args.request.kept in
     let f = c.args.g.now in
     let decision = c.in_ok-decision.decision in
     let before = c.args.stops.now.items in
@@ -47,7 +47,7 @@ returns-in_err-write g c =
 
 pub returns : goal.returns
 returns g c =
-    let terms = terms_of c.args.request.budget c.args.request.restarts in
+    let terms = terms_of c.args.request.budget c.args.request.restarts c.args.request.kept in
     let f = c.args.g.now in
     let decision = c.in_ok-decision.decision in
     let before = c.args.stops.now.items in

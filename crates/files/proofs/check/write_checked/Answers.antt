@@ -9,7 +9,7 @@ use Rattle.files.proofs.check.write_checked.Goals as goal
 
 pub returns-in_err-write_text : goal.returns-in_err-write_text
 returns-in_err-write_text g c =
-    let terms = terms_of c.args.request.budget c.args.request.restarts in
+    let terms = terms_of c.args.request.budget c.args.request.restarts c.args.request.kept in
     let stops = c.args.stops.now.items in
     let p = err_from_is_err_and c.from_residual.result c.from_residual.ensures.1 in
     text_failed g.S.Sink.written g.S.Sink.flushed g.S.Sink.faults g.S.Sink.has_room
@@ -20,7 +20,7 @@ returns-in_err-write_text g c =
 
 pub returns : goal.returns
 returns g c =
-    let terms = terms_of c.args.request.budget c.args.request.restarts in
+    let terms = terms_of c.args.request.budget c.args.request.restarts c.args.request.kept in
     let stops = c.args.stops.now.items in
     text_sent g.S.Sink.written g.S.Sink.flushed g.S.Sink.faults g.S.Sink.has_room
     (IsCheckReply c.args.request.decide terms c.args.g.now c.args.value (stops, stops)) c.args.sink.now

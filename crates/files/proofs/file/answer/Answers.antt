@@ -8,7 +8,7 @@ pub returns-clause-answer : goal.returns-clause-answer
 returns-clause-answer g c =
     let made = c.in_ok-engine.ensures.formula in
     answers_known g.S.Sink.written g.S.Sink.flushed g.S.Sink.faults g.S.Sink.has_room c.args.job
-    (terms_of c.args.budget c.args.restarts) (g.D.Desk.left c.args.desk.now)
+    (terms_of c.args.budget c.args.restarts c.args.kept) (g.D.Desk.left c.args.desk.now)
     made.0 made.3 c.args.sink.now c.reply.new.sink c.args.stops.now.items c.reply.new.stops.items c.reply.result
     (c.reply.ensures made.0 made.1 made.2)
 
@@ -16,7 +16,7 @@ pub returns-clause-ending : goal.returns-clause-ending
 returns-clause-ending g c =
     let made = c.in_ok-engine.ensures.formula in
     ending_known g.S.Sink.written g.S.Sink.flushed g.S.Sink.faults g.S.Sink.has_room c.args.job
-    (terms_of c.args.budget c.args.restarts) (g.D.Desk.left c.args.desk.now)
+    (terms_of c.args.budget c.args.restarts c.args.kept) (g.D.Desk.left c.args.desk.now)
     made.0 made.3 c.args.sink.now c.reply.new.sink c.args.stops.now.items c.reply.new.stops.items c.reply.result
     (c.reply.ensures made.0 made.1 made.2)
 
@@ -24,7 +24,7 @@ pub returns-clause-output : goal.returns-clause-output
 returns-clause-output g c =
     let made = c.in_ok-engine.ensures.formula in
     output_known g.S.Sink.written g.S.Sink.flushed g.S.Sink.faults g.S.Sink.has_room c.args.job
-    (terms_of c.args.budget c.args.restarts) (g.D.Desk.left c.args.desk.now)
+    (terms_of c.args.budget c.args.restarts c.args.kept) (g.D.Desk.left c.args.desk.now)
     made.0 made.3 c.args.sink.now c.reply.new.sink c.args.stops.now.items c.reply.new.stops.items c.reply.result
     (c.reply.ensures made.0 made.1 made.2)
 
@@ -32,13 +32,17 @@ pub returns-in_err-engine-clause-ending : goal.returns-in_err-engine-clause-endi
 returns-in_err-engine-clause-ending g c =
     let p = err_from_is_err_and c.from_residual.result c.from_residual.ensures.1 in
     let ending = c.in_err-engine.ensures.ending in
-    rw (p.1, p.2) (unread_undone c.in_err-engine.field-0.0 ending.0, ending.1 (terms_of c.args.budget c.args.restarts))
+    rw (p.1, p.2) (
+      unread_undone c.in_err-engine.field-0.0 ending.0,
+      ending.1 (terms_of c.args.budget c.args.restarts
+          c.args.kept),
+    )
 
 pub returns-clause-sink : goal.returns-clause-sink
 returns-clause-sink g c =
     let made = c.in_ok-engine.ensures.formula in
     sends_known g.S.Sink.written g.S.Sink.flushed g.S.Sink.faults g.S.Sink.has_room c.args.job
-    (terms_of c.args.budget c.args.restarts) (g.D.Desk.left c.args.desk.now)
+    (terms_of c.args.budget c.args.restarts c.args.kept) (g.D.Desk.left c.args.desk.now)
     made.0 made.3 c.args.sink.now c.reply.new.sink c.args.stops.now.items c.reply.new.stops.items c.reply.result
     (c.reply.ensures made.0 made.1 made.2)
 
@@ -54,6 +58,6 @@ returns-clause-desk g c =
     taken_before g.D.Desk.content g.D.Desk.left g.D.Desk.faults g.D.Desk.steady g.D.Desk.flows
     c.args.desk.now c.load.new.desk _ c.reply.result c.in_ok-engine.ensures.desk
     (no_read_fault g.S.Sink.written g.S.Sink.flushed g.S.Sink.faults g.S.Sink.has_room c.args.job
-    (terms_of c.args.budget c.args.restarts) (g.D.Desk.left c.args.desk.now)
+    (terms_of c.args.budget c.args.restarts c.args.kept) (g.D.Desk.left c.args.desk.now)
     made.0 made.3 c.args.sink.now c.reply.new.sink c.args.stops.now.items c.reply.new.stops.items c.reply.result
     (c.reply.ensures made.0 made.1 made.2))

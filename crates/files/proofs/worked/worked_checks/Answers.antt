@@ -11,7 +11,7 @@ use Rattle.solve.proofs.OneStep.{empty_cube}
 use Rattle.files.proofs.NoGates.{no_gates, no_gates_certify}
 use Rattle.files.proofs.worked.worked_checks.Goals as goal
 
-certified : HasCircuit (terms_of 0 0) anything_fits true no_gates
+certified : HasCircuit (terms_of 0 0 512) anything_fits true no_gates
 certified = record {
   right = refl;
   strategy = record { inputs = refl; outputs = λ i o below. absurd (let no : i < 0 = below in omega (arith, no)) };

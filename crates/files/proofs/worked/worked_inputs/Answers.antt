@@ -27,7 +27,7 @@ truth_of : Formula → Bool
 truth_of f = truth f.prefix f.clauses
 
 -- no answer to the first text has the status of a false one
-no_such : (answer : Answer) → 20 ≡ answer_status answer → Solves as_circuit (terms_of 0 0) one_text answer → ⊥
+no_such : (answer : Answer) → 20 ≡ answer_status answer → Solves as_circuit (terms_of 0 0 512) one_text answer → ⊥
 unfolding truth_of
 no_such Sat e h = absurd (omega arith)
 no_such Unsat e h = absurd (let bad : true ≡ false =

@@ -18,7 +18,7 @@ use Rattle.solve.proofs.OneStep.{empty_cube, empty_proof}
 use Rattle.files.proofs.NoGates.{no_gates, no_gates_certify, none}
 use Rattle.files.proofs.worked.worked_jobs.Goals as goal
 
-trace : IsJobText Trace (terms_of 0 0) nothing_fits Unsat trace_text
+trace : IsJobText Trace (terms_of 0 0 512) nothing_fits Unsat trace_text
 trace = record {
   witness = record { proof = record { row = []; reason = ByInput } ∷ []; values = [] };
   is_witness = record { proof = empty_proof; values = λ e. absurd (let f : None ≡ Some Forall = e in cc) };
@@ -34,9 +34,9 @@ second_byte text = slice_index_or text 1 0
 pub returns : goal.returns
 unfolding first_byte second_byte digits
 returns c = record {
-  solved = unsat (terms_of 0 0) (codes "UNSAT\n") refl;
+  solved = unsat (terms_of 0 0 512) (codes "UNSAT\n") refl;
   not_solved = λ h. absurd (let f : 83 ≡ 85 = ap first_byte h.says in omega (arith, f));
-  circuit_solved = unsat_circuit (terms_of 0 0);
+  circuit_solved = unsat_circuit (terms_of 0 0 512);
   circuit_not_solved = λ h. absurd (let f : 83 ≡ 85 = ap first_byte h.says in omega (arith, f));
   circuit_unknown = refl;
   circuit_not_silent = λ e. absurd (let f : [] ≡ codes "UNKNOWN\n" = e in cc);
@@ -104,17 +104,17 @@ returns c = record {
     told = (at_nineteen, refl, record { budget = refl; vars = refl; few = lit< tt; restarts = omega arith });
   };
   untold = λ h. absurd (let f : [] ≡ h.told.0 ∷ [] = h.told.1 in cc);
-  room = λ f a text read right says. line_length (terms_of 0 0) f a text says;
+  room = λ f a text read right says. line_length (terms_of 0 0 512) f a text says;
   no_room = λ room. absurd (let few : 6 ≤ 5 = room nothing_fits Unsat (codes "UNSAT\n") tt refl
-      (unsat (terms_of 0 0) (codes "UNSAT\n") refl) in omega (arith, few));
+      (unsat (terms_of 0 0 512) (codes "UNSAT\n") refl) in omega (arith, few));
   room_for_one = λ f a text read right says. true_length f a text (bare_is f read) right says;
   no_room_for_one = λ room. absurd (let few : 4 ≤ 3 = room anything_fits Sat (codes "SAT\n") bare_reads refl
-      (sat (terms_of 16 0)) in
+      (sat (terms_of 16 0 512)) in
       omega (arith, few));
   room_for_circuit = λ f a text read right says.
       circuit_length f a text (is_formula one_text f (negated Exists) read one_says) right says;
   no_room_for_circuit = λ room. absurd (let few : 6 ≤ 4 = room nothing_fits Unsat (codes "UNSAT\n") tt refl
-      (unsat_circuit (terms_of 64 0)) in omega (arith, few));
+      (unsat_circuit (terms_of 64 0 512)) in omega (arith, few));
   kept = (refl, refl);
   not_kept = λ h. absurd (let f : codes "SAT\n" ≡ [] = h.0 in cc);
 }

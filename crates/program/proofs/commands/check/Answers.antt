@@ -23,7 +23,7 @@ returns-clause-checked g c =
     (g.O.Sink.written c.args.out.now, g.O.Sink.written c.run_check.new.sink) in
     let told : List Account × List Account = (c.args.stops.now.items, c.run_check.new.stops.items) in
     let e = c.run_check.result in
-    subst (λ known. IsCheckWork c.args.decide (terms_of c.args.budget c.args.restarts) known
+    subst (λ known. IsCheckWork c.args.decide (terms_of c.args.budget c.args.restarts c.args.kept) known
     (left c.run_check.new.desk) output told e) same (record {
       unread = c.run_check.ensures.unread;
       read = c.run_check.ensures.read;
@@ -48,7 +48,8 @@ returns-clause-outside g c =
       write_fault = done_counted (c.run_check.result ≡ WriteFault) c.run_check.result _ _ did.write_fault;
       steady = λ steady. (did.flows
           (c.choose.ensures.steady (subst (g.D.Desk.steady c.args.desk.now) (sym c.input_name.ensures) steady)).1).0;
-      room = λ room. did.room (subst (λ known. RoomForCheck c.args.decide (terms_of c.args.budget c.args.restarts)
+      room = λ room. did.room (subst (λ known. RoomForCheck c.args.decide (terms_of c.args.budget c.args.restarts
+          c.args.kept)
           known (g.O.Sink.has_room c.args.out.now)) (sym same) room);
       flushed = λ done. did.flushed (done_finished c.run_check.result done);
     }

@@ -29,7 +29,8 @@ returns-clause-replied g c =
     (g.O.Sink.written c.args.out.now, g.O.Sink.written c.run_script.new.sink) in
     let told : List Account × List Account = (c.args.stops.now.items, c.run_script.new.stops.items) in
     let e = c.run_script.result in
-    subst (λ known. IsReplied (terms_of c.args.budget c.args.restarts) known (left c.run_script.new.desk) output told
+    subst (λ known. IsReplied (terms_of c.args.budget c.args.restarts c.args.kept) known (left c.run_script.new.desk)
+    output told
     e) same (record {
       ending = c.run_script.ensures.ending;
       status = c.run_script.ensures.status;
@@ -54,7 +55,7 @@ returns-clause-outside g c =
       write_fault = did.write_fault;
       steady = λ steady. (did.flows
           (c.choose.ensures.steady (subst (g.D.Desk.steady c.args.desk.now) (sym c.input_name.ensures) steady)).1).0;
-      room = λ room. did.room (subst (λ known. RoomForReplies (terms_of c.args.budget c.args.restarts) known
+      room = λ room. did.room (subst (λ known. RoomForReplies (terms_of c.args.budget c.args.restarts c.args.kept) known
           (g.O.Sink.has_room c.args.out.now)) (sym same) room);
       flushed = did.flushed;
     }

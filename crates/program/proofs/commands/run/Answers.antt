@@ -1,12 +1,13 @@
-use Rattle.std.proofs.Common.{Option, map, sym, subst, ◌∙◌}
+use Rattle.std.proofs.Common.{Option, ap, map, sym, subst, ◌∙◌}
 use Rattle.std.specs.Prelude.{string_bytes}
 use Rattle.command.specs.Forms.{Text}
 use Rattle.files.specs.Solve.{HasAnswer}
-use Rattle.program.specs.Run.{IsVerdict, line_of}
+use Rattle.program.specs.Run.{IsVerdict, line_of, status_of}
 use Rattle.program.specs.Told.{IsOutput}
 use Rattle.program.proofs.Endings as by
 use Rattle.program.specs.Complete.{IsComplete}
 use Rattle.program.proofs.Completing.{complete}
+use Rattle.program.proofs.Limiting.{limit_is}
 use Rattle.program.proofs.commands.run.Goals as goal
 
 pub returns-clause-statuses : goal.returns-clause-statuses
@@ -48,8 +49,8 @@ pub returns-clause-complete : goal.returns-clause-complete
 returns-clause-complete g c valid reads writes = subst (IsComplete _ _) (sym c.report.ensures.status)
     (complete _ _ _ _ _ valid
     c.ending_of-ending.result c.ending_of-ending.ensures.carried
-    (λ is. reads (c.ending_of-ending.ensures.outside.read_fault.rose is))
-    (λ is. writes (c.ending_of-ending.ensures.outside.write_fault.rose is)))
+    (λ is. reads (c.report.ensures.status ∙ ap status_of is))
+    (λ is. writes (c.report.ensures.status ∙ ap status_of is)))
 
 pub returns-clause-read_fault : goal.returns-clause-read_fault
 returns-clause-read_fault g c =
@@ -101,3 +102,13 @@ returns-clause-room g c room is = c.ending_of-ending.ensures.outside.room room
 pub returns-clause-flushed : goal.returns-clause-flushed
 returns-clause-flushed g c h = c.ending_of-ending.ensures.outside.flushed
     (by.answered c.ending_of-ending.result (subst HasAnswer c.report.ensures.status h))
+
+pub returns-clause-limit : goal.returns-clause-limit
+returns-clause-limit g c is = limit_is (map string_bytes c.args.words.now) (g.D.Desk.content c.args.desk.now)
+    (g.D.Desk.left c.ending_of-ending.new.desk)
+    (g.O.Sink.written c.args.out.now, g.O.Sink.written c.ending_of-ending.new.out)
+    (c.args.stops.now.items, c.ending_of-ending.new.stops.items) c.requires
+    (g.E.Sink.faults c.args.err.now, g.E.Sink.faults c.report.new.err)
+    (g.E.Sink.written c.args.err.now, g.E.Sink.written c.report.new.err) c.ending_of-ending.result
+    c.ending_of-ending.ensures.carried (c.report.ensures.front, c.report.ensures.whole)
+    (sym c.report.ensures.status ∙ is)

@@ -23,7 +23,8 @@ returns-clause-solved g c =
     (g.O.Sink.written c.args.out.now, g.O.Sink.written c.run_file.new.sink) in
     let told : List Account × List Account = (c.args.stops.now.items, c.run_file.new.stops.items) in
     let e = c.run_file.result in
-    subst (λ known. IsJobWork c.args.job (terms_of c.args.budget c.args.restarts) known (left c.run_file.new.desk)
+    subst (λ known. IsJobWork c.args.job (terms_of c.args.budget c.args.restarts c.args.kept) known
+    (left c.run_file.new.desk)
     output told e) same (record {
       ending = c.run_file.ensures.ending;
       status = c.run_file.ensures.status;
@@ -48,7 +49,8 @@ returns-clause-outside g c =
       write_fault = did.write_fault;
       steady = λ steady. (did.flows
           (c.choose.ensures.steady (subst (g.D.Desk.steady c.args.desk.now) (sym c.input_name.ensures) steady)).1).0;
-      room = λ room. did.room (subst (λ known. RoomForJob c.args.job (terms_of c.args.budget c.args.restarts) known
+      room = λ room. did.room (subst (λ known. RoomForJob c.args.job (terms_of c.args.budget c.args.restarts
+          c.args.kept) known
           (g.O.Sink.has_room c.args.out.now)) (sym same) room);
       flushed = did.flushed;
     }

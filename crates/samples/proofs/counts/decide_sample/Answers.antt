@@ -21,7 +21,7 @@ returns c =
     let size : size_of f.prefix ≡ v =
     ap (λ (f : Formula). size_of f.prefix) c.in_ok-f.ensures.value ∙ ap length (variables_are v)
     ∙ length-range_with_len 1 v in
-    let long : IsShort (terms_of (2 ^ 64 - 1) 0) f → ⊥ =
+    let long : IsShort (terms_of (2 ^ 64 - 1) 0 512) f → ⊥ =
     λ short.
     let under : 2 ^ 64 - 1 < step_limit 0 v = subst (λ n. 2 ^ 64 - 1 < step_limit 0 n) size short.limit in
     let above = enough v few in
@@ -31,5 +31,5 @@ returns c =
     let is : f ≡ sample c.args.seed c.args.i =
     c.in_ok-f.ensures.value ∙ made_alike c.seed_at.result (c.args.seed + c.args.i) v (1 + c.args.i % 37) alike in
     sym (subst (λ (g : Formula). truth g.prefix g.clauses ≡ false) is
-    (decided_false (terms_of (2 ^ 64 - 1) 0) f c.in_ok-decide_formula.field-0 c.in_ok-decide_formula.ensures
+    (decided_false (terms_of (2 ^ 64 - 1) 0 512) f c.in_ok-decide_formula.field-0 c.in_ok-decide_formula.ensures
     c.in_default.not-Sat long))

@@ -30,7 +30,7 @@ empty_left (Some text) (Some rest) new told left = left
 pub returns-in_err-reader-clause-answered : goal.returns-in_err-reader-clause-answered
 returns-in_err-reader-clause-answered g c =
     let p = err_from_is_err_and c.from_residual.result c.from_residual.ensures.1 in
-    rw (p.1, p.2) (none_answered (terms_of c.args.budget c.args.restarts) (g.D.Desk.left c.args.desk.now)
+    rw (p.1, p.2) (none_answered (terms_of c.args.budget c.args.restarts c.args.kept) (g.D.Desk.left c.args.desk.now)
     (g.S.Sink.written c.args.sink.now) c.args.stops.now.items each_script)
 
 pub returns-in_err-version-clause-answered : goal.returns-in_err-version-clause-answered
@@ -42,7 +42,7 @@ returns-in_err-version-clause-answered g c =
     let at = reading c.in_ok-reader.reader in
     let e = c.in_err-version.field-0.0 in
     let heads = c.in_err-version.ensures.script in
-    let terms = terms_of c.args.budget c.args.restarts in
+    let terms = terms_of c.args.budget c.args.restarts c.args.kept in
     let w = g.S.Sink.written c.args.sink.now in
     let stops = c.args.stops.now.items in
     rw (p.1, p.2) (headless_answered terms known w stops at all law e heads)
@@ -56,7 +56,7 @@ returns-in_err-version-clause-ending g c =
     let at = reading c.in_ok-reader.reader in
     let e = c.in_err-version.field-0.0 in
     let heads = c.in_err-version.ensures.script in
-    let terms = terms_of c.args.budget c.args.restarts in
+    let terms = terms_of c.args.budget c.args.restarts c.args.kept in
     let w = g.S.Sink.written c.args.sink.now in
     let stops = c.args.stops.now.items in
     rw (p.1, p.2) (headless_ending terms known w stops at all law e heads)
@@ -70,7 +70,7 @@ returns-in_err-version-clause-err g c =
     let at = reading c.in_ok-reader.reader in
     let e = c.in_err-version.field-0.0 in
     let heads = c.in_err-version.ensures.script in
-    let terms = terms_of c.args.budget c.args.restarts in
+    let terms = terms_of c.args.budget c.args.restarts c.args.kept in
     let w = g.S.Sink.written c.args.sink.now in
     let stops = c.args.stops.now.items in
     rw (p.1, p.2) (headless_open terms known w stops at all law e)
@@ -109,7 +109,7 @@ returns-in_err-version-clause-sink g c =
 pub returns-in_err-session-clause-answered : goal.returns-in_err-session-clause-answered
 returns-in_err-session-clause-answered g c =
     let p = err_from_is_err_and c.from_residual-in_err-session.result c.from_residual-in_err-session.ensures.1 in
-    rw (p.1, p.2) (none_answered (terms_of c.args.budget c.args.restarts) (g.D.Desk.left c.args.desk.now)
+    rw (p.1, p.2) (none_answered (terms_of c.args.budget c.args.restarts c.args.kept) (g.D.Desk.left c.args.desk.now)
     (g.S.Sink.written c.args.sink.now) c.args.stops.now.items each_script)
 
 pub returns-clause-ending : goal.returns-clause-ending

@@ -37,7 +37,7 @@ returns c = record {
     commands = Pop ∷ Pop ∷ [];
     out = says two_refusals;
     after = start;
-    allowed = leads_two (terms_of 0 0);
+    allowed = leads_two (terms_of 0 0 512);
     first = ([], done, both_read);
     all = λ read. (done, both_read);
     front = record { count = 22; within = omega arith; appended = refl };
@@ -45,16 +45,16 @@ returns c = record {
     told = refl;
     ends = tt;
   };
-  one_alone = λ h. absurd (let n : 11 ≡ 22 = read_length (terms_of 0 0) one_refusal [] (Done 0) h tt
+  one_alone = λ h. absurd (let n : 11 ≡ 22 = read_length (terms_of 0 0 512) one_refusal [] (Done 0) h tt
       (λ e. absurd (let f : Done 0 ≡ WriteFault = e in cc)) in omega (arith, n));
-  one_alone_refused = λ h. absurd (let n : 11 ≡ 22 = read_length (terms_of 0 0) one_refusal [] (Refused 31 4) h tt
+  one_alone_refused = λ h. absurd (let n : 11 ≡ 22 = read_length (terms_of 0 0 512) one_refusal [] (Refused 31 4) h tt
       (λ e. absurd (let f : Refused 31 4 ≡ WriteFault = e in cc)) in omega (arith, n));
   one = record {
     version = Some One;
     commands = Pop ∷ [];
     out = says one_refusal;
     after = start;
-    allowed = leads_one (terms_of 0 0);
+    allowed = leads_one (terms_of 0 0 512);
     first = (Pop ∷ [], done, both_read);
     all = λ read. absurd read;
     front = record { count = 11; within = omega arith; appended = refl };
@@ -75,10 +75,10 @@ returns c = record {
     told = refl;
     ends = tt;
   };
-  part = λ h. too_short 3 (whole_length (terms_of 0 0) (codes "ref") [] NoMemory h
+  part = λ h. too_short 3 (whole_length (terms_of 0 0 512) (codes "ref") [] NoMemory h
       (λ e. absurd (let f : NoMemory ≡ WriteFault = e in cc)))
       (λ e. omega (arith, e)) (λ e. omega (arith, e)) (λ e. omega (arith, e));
-  part_read = λ h. too_short 3 (whole_length (terms_of 0 0) (codes "ref") [] ReadFault h
+  part_read = λ h. too_short 3 (whole_length (terms_of 0 0 512) (codes "ref") [] ReadFault h
       (λ e. absurd (let f : ReadFault ≡ WriteFault = e in cc)))
       (λ e. omega (arith, e)) (λ e. omega (arith, e)) (λ e. omega (arith, e));
   front = record {
@@ -86,7 +86,7 @@ returns c = record {
     commands = Pop ∷ Pop ∷ [];
     out = says two_refusals;
     after = start;
-    allowed = leads_two (terms_of 0 0);
+    allowed = leads_two (terms_of 0 0 512);
     first = ([], done, both_read);
     all = λ read. absurd read;
     front = record { count = 14; within = omega arith; appended = refl };
@@ -94,19 +94,19 @@ returns c = record {
     told = refl;
     ends = tt;
   };
-  no_front = λ h. absurd (let n : 83 ≡ 114 = front_head (terms_of 0 0) (codes "SAT\n") [] WriteFault h in
+  no_front = λ h. absurd (let n : 83 ≡ 114 = front_head (terms_of 0 0 512) (codes "SAT\n") [] WriteFault h in
       omega (arith, n));
-  not_its_own = λ h. too_short 6 (whole_length (terms_of 0 0) (codes "UNSAT\n") [] NoMemory h
+  not_its_own = λ h. too_short 6 (whole_length (terms_of 0 0 512) (codes "UNSAT\n") [] NoMemory h
       (λ e. absurd (let f : NoMemory ≡ WriteFault = e in cc)))
       (λ e. omega (arith, e)) (λ e. omega (arith, e)) (λ e. omega (arith, e));
   told = λ h. absurd (let f : at_thirty_six ∷ [] ≡ [] =
-      none_told (terms_of 0 0) two_refusals (at_thirty_six ∷ []) (Done 0) h in cc);
+      none_told (terms_of 0 0 512) two_refusals (at_thirty_six ∷ []) (Done 0) h in cc);
   room = λ version commands out after leads first.
-      let long = reply_length out (some_reply (terms_of 0 0) commands (first_ones version commands first) out after
-      (subst (λ s. Leads (terms_of 0 0) s commands out after) (at_start version commands first) leads))
+      let long = reply_length out (some_reply (terms_of 0 0 512) commands (first_ones version commands first) out after
+      (subst (λ s. Leads (terms_of 0 0 512) s commands out after) (at_start version commands first) leads))
       (length out.text) refl in
       ⊎_elim (λ n. omega (arith, n)) (⊎_elim (λ n. omega (arith, n)) (λ n. omega (arith, n))) long;
   no_room = λ room. absurd (let few : 22 ≤ 21 = room (Some One) (Pop ∷ Pop ∷ []) (says two_refusals) start
-      (leads_two (terms_of 0 0))
+      (leads_two (terms_of 0 0 512))
       ([], done, both_read) in omega (arith, few));
 }

@@ -9,7 +9,7 @@ pub returns : goal.returns
 returns c =
     let f = c.args.f.now in
     let decision = c.in_ok-decision.decision in
-    let is = c.in_ok-decision.ensures.ok (terms_of (2 ^ 64 - 1) 0) (built f) refl
+    let is = c.in_ok-decision.ensures.ok (terms_of (2 ^ 64 - 1) 0 512) (built f) refl
     (never_begun (2 ^ 64 - 1) f c.in_ok-engine.engine c.in_ok-engine.ensures) in
-    subst (IsAnswerTo (terms_of (2 ^ 64 - 1) 0) f) (sym c.answer.ensures)
-    (decided c.no_assumptions.ensures (terms_of (2 ^ 64 - 1) 0) f decision c.decide.new.engine is).right
+    subst (IsAnswerTo (terms_of (2 ^ 64 - 1) 0 512) f) (sym c.answer.ensures)
+    (decided c.no_assumptions.ensures (terms_of (2 ^ 64 - 1) 0 512) f decision c.decide.new.engine is).right

@@ -21,6 +21,7 @@ returns c = record {
   twice = λ s. absurd (let low : 384 < 384 = s.limit in omega (arith, low));
   fewer_restarts = refl;
   more_restarts = refl;
+  fewer_rows = refl;
   entry = (at_thirty_six, refl, record { budget = refl; vars = refl; few = lit< tt; restarts = omega arith });
   no_entry = none_given;
 }

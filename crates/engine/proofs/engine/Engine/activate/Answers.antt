@@ -48,6 +48,7 @@ returns-in_err-count-clause-err c =
       verdict = v;
       counts = c.self.inside.counts;
       restarts = c.self.inside.restarts;
+      kept_rows = c.self.inside.kept_rows;
       kept_long = c.put_group.new.search.long;
     })
     (verdict_kept c.self.inside.search.derivation c.put_group.new.search.derivation e.same c.self.inside.verdict)

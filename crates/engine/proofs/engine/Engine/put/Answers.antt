@@ -51,6 +51,7 @@ returns-in_err-put_clause-clause-err c =
       verdict = v;
       counts = c.self.inside.counts;
       restarts = c.self.inside.restarts;
+      kept_rows = c.self.inside.kept_rows;
       kept_long = c.put_clause.new.search.long;
     })
     e.err (verdict_kept c.self.inside.search.derivation c.put_clause.new.search.derivation e.same
@@ -68,6 +69,7 @@ returns-in_err-put_clause-clause-stays c =
       verdict = option_map (told s.derivation) c.self.inside.verdict;
       counts = c.self.inside.counts;
       restarts = c.self.inside.restarts;
+      kept_rows = c.self.inside.kept_rows;
       kept_long = s.long;
     })
     e.err (e.stays other) ∙ c.self.view_is)

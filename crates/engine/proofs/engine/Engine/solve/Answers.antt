@@ -63,11 +63,19 @@ returns-clause-proof c =
     let assumed : c.from_vec.result ≡ f.assumptions = c.from_vec.ensures ∙ c.in_ok-assumed.ensures
     ∙ c.assumptions.ensures.value in
     let found = subst (λ (a : List Literal). IsFound f d a v) (sym assumed) c.in_ok-verdict.ensures.found in
-    let held : Held = record { verdict = v; assumed = c.from_vec.result; relevant = c.from_vec-2.result } in
+    let held : Held = record {
+      verdict = v;
+      assumed = c.from_vec.result;
+      relevant = c.from_vec-2.result;
+      kept = c.self.inside.kept_rows;
+    } in
     rw (← c.self.view_is)
     (has_proof f d held c.prefix-valid.ensures.valid.distinct (tied_legal f c.decide.new.search tied) found assumed
     c.end_rows_give_proofs.ensures c.proofs_decide.ensures
     c.steps_are_listed.ensures)
+
+pub returns-clause-obeyed : goal.returns-clause-obeyed
+returns-clause-obeyed c = ap (λ (e : EngineState). e.kept_rows) c.self.view_is
 
 pub invariant_of-self-2 : goal.invariant_of-self-2
 invariant_of-self-2 c =

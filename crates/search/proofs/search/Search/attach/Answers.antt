@@ -1,45 +1,44 @@
-use Rattle.std.proofs.Common.{refl, sym, ap, subst}
-use Rattle.search.specs.State.{IsIntact, SearchState}
+use Rattle.std.proofs.Common.{◌≡◌, sym, subst, ◌∙◌}
+use Rattle.search.specs.State.{IsTallied, SearchState}
 use Rattle.search.specs.Watching.{Joins}
-use Rattle.search.specs.contracts.search.Search.{the_view}
-use Rattle.search.proofs.Joining.{joins, row_known}
-use Rattle.search.proofs.Laws.{holding_laws}
+use Rattle.search.proofs.Tallying.{joins_counted, one_joined, tallied_joined, tally_fits}
 use Rattle.search.proofs.search.Search.attach.Goals as goal
 
-pub attach-requires-clause-holds : goal.attach-requires-clause-holds
-attach-requires-clause-holds c =
-    (subst (IsIntact c.args.prefix.now) (sym c.self.view_is) c.requires.intact).watching.holds c.side-side.result
-
-pub attach-requires-clause-known : goal.attach-requires-clause-known
-attach-requires-clause-known c =
-    let intact = subst (IsIntact c.args.prefix.now) (sym c.self.view_is) c.requires.intact in
-    row_known c.args.prefix.now (the_view c.self.inside) c.args.id intact
-    (intact.watched.steps c.args.id (rw (ap (λ (s : SearchState). s.watched) c.self.view_is) c.requires.listed)
-    (rw (ap (λ (s : SearchState). s.derivation) c.self.view_is) c.requires.live)).step c.side-side.result
+pub count-requires-clause-fits : goal.count-requires-clause-fits
+count-requires-clause-fits c =
+    let free = sym c.has.ensures.has ∙ c.if-has.false in
+    let joins = subst (λ (s : SearchState). Joins c.args.prefix.now s c.attach_uncounted.new.self c.args.id)
+    c.has.ensures.same
+    c.attach_uncounted.ensures.joins in
+    tally_fits c.args.prefix.now c.args.self.now c.attach_uncounted.new.self c.args.id joins c.requires.live free
+    c.requires.tallied (subst (λ (s : SearchState). c.attach_uncounted.new.self.long ≡ s.long) c.has.ensures.same
+    c.attach_uncounted.ensures.long)
 
 pub returns-clause-joins : goal.returns-clause-joins
 returns-clause-joins c =
-    let old = the_view c.self.inside in
-    let new : SearchState = record old {
-      derivation = c.attach.new.derivation;
-      clauses = c.attach.new.self.clauses;
-      cubes = c.attach.new.self.cubes;
-    } in
-    subst (λ (s : SearchState). Joins c.args.prefix.now s new c.args.id) c.self.view_is
-    (joins holding_laws c.side-side.result c.args.prefix.now old new (record {
-      trail = refl;
-      signs = refl;
-      watched = refl;
-      joined = refl;
-      others = c.attach.ensures.others;
-      touches = c.attach.ensures.touches;
-      looked = c.attach.ensures.looked;
-    })
-    (subst (IsIntact c.args.prefix.now) (sym c.self.view_is) c.requires.intact)
-    c.args.id
-    c.attach.ensures.attached (
-      rw (ap (λ (s : SearchState). s.watched) c.self.view_is) c.requires.listed,
-      rw (ap (λ (s : SearchState). s.derivation) c.self.view_is) c.requires.live,
-      sym c.side-side.ensures,
-    )
-    c.attach.ensures.holds)
+    let joins = subst (λ (s : SearchState). Joins c.args.prefix.now s c.attach_uncounted.new.self c.args.id)
+    c.has.ensures.same
+    c.attach_uncounted.ensures.joins in
+    subst (λ (s : SearchState). Joins c.args.prefix.now c.args.self.now s c.args.id) (sym c.count.ensures)
+    (joins_counted c.args.prefix.now c.args.self.now c.attach_uncounted.new.self c.args.id _ joins)
+
+pub returns-clause-tallied : goal.returns-clause-tallied
+returns-clause-tallied c =
+    let free = sym c.has.ensures.has ∙ c.if-has.false in
+    let joins = subst (λ (s : SearchState). Joins c.args.prefix.now s c.attach_uncounted.new.self c.args.id)
+    c.has.ensures.same
+    c.attach_uncounted.ensures.joins in
+    subst IsTallied (sym c.count.ensures)
+    (tallied_joined c.args.prefix.now c.args.self.now c.attach_uncounted.new.self c.args.id joins c.requires.live free
+    c.requires.tallied (subst (λ (s : SearchState). c.attach_uncounted.new.self.long ≡ s.long) c.has.ensures.same
+    c.attach_uncounted.ensures.long))
+
+pub returns-clause-one : goal.returns-clause-one
+returns-clause-one c =
+    let joins = subst (λ (s : SearchState). Joins c.args.prefix.now s c.attach_uncounted.new.self c.args.id)
+    c.has.ensures.same
+    c.attach_uncounted.ensures.joins in
+    one_joined c.args.prefix.now c.args.self.now c.attach_uncounted.new.self c.count.new.self c.args.id joins
+    (subst (λ (s : SearchState). c.attach_uncounted.new.self.long ≡ s.long) c.has.ensures.same
+    c.attach_uncounted.ensures.long)
+    c.count.ensures

@@ -1,36 +1,22 @@
-use Rattle.std.proofs.Common.{refl, sym, subst}
-use Rattle.search.specs.State.{IsIntact, SearchState}
+use Rattle.std.proofs.Common.{◌≡◌, sym, subst, ◌∙◌}
+use Rattle.search.specs.State.{IsTallied, SearchState}
 use Rattle.search.specs.Watching.{Parts}
-use Rattle.search.specs.contracts.search.Search.{the_view}
-use Rattle.search.proofs.Joining.{parts}
-use Rattle.search.proofs.Laws.{holding_laws}
+use Rattle.search.proofs.Tallying.{parts_counted, tallied_parted}
 use Rattle.search.proofs.search.Search.detach.Goals as goal
 
-pub detach-requires-clause-threaded : goal.detach-requires-clause-threaded
-detach-requires-clause-threaded c =
-    ((subst (IsIntact c.requires.intact.0) (sym c.self.view_is) c.requires.intact.1).watching.holds
-    c.side-side.result).kept.board
+pub returns-then-has-clause-parts : goal.returns-then-has-clause-parts
+returns-then-has-clause-parts c =
+    let parts = subst (λ (s : SearchState). Parts s c.detach_uncounted.new.self c.args.id) c.has.ensures.same
+    c.detach_uncounted.ensures.parts in
+    subst (λ (s : SearchState). Parts c.args.self.now s c.args.id) (sym c.discount.ensures)
+    (parts_counted c.args.self.now c.detach_uncounted.new.self c.args.id _ parts)
 
-pub returns-clause-parts : goal.returns-clause-parts
-returns-clause-parts c =
-    let old = the_view c.self.inside in
-    let new : SearchState = record old {
-      derivation = c.detach.new.derivation;
-      clauses = c.detach.new.self.clauses;
-      cubes = c.detach.new.self.cubes;
-    } in
-    subst (λ (s : SearchState). Parts s new c.args.id) c.self.view_is
-    (parts holding_laws c.side-side.result c.requires.intact.0 old new (record {
-      trail = refl;
-      signs = refl;
-      watched = refl;
-      joined = refl;
-      others = c.detach.ensures.others;
-      touches = c.detach.ensures.touches;
-      looked = c.detach.ensures.looked;
-    })
-    (subst (IsIntact c.requires.intact.0) (sym c.self.view_is) c.requires.intact.1)
-    c.args.id
-    c.detach.ensures.detached
-    (sym c.side-side.ensures)
-    c.detach.ensures.holds)
+pub returns-then-has-clause-tallied : goal.returns-then-has-clause-tallied
+returns-then-has-clause-tallied c =
+    let held = sym c.has.ensures.has ∙ c.if-has.true in
+    let parts = subst (λ (s : SearchState). Parts s c.detach_uncounted.new.self c.args.id) c.has.ensures.same
+    c.detach_uncounted.ensures.parts in
+    subst IsTallied (sym c.discount.ensures)
+    (tallied_parted c.args.self.now c.detach_uncounted.new.self c.args.id parts c.requires.live held
+    c.requires.tallied (subst (λ (s : SearchState). c.detach_uncounted.new.self.long ≡ s.long) c.has.ensures.same
+    c.detach_uncounted.ensures.long))

@@ -18,19 +18,20 @@ sheds : (c : goal.After-drop_frame)
     → Sheds (λ id. tag_at c.args.self.now.derivation id ≡ c.args.frame) c.args.self.now (the_view c.self-2.inside)
 sheds c =
     subst (Sheds (λ id. tag_at c.args.self.now.derivation id ≡ c.args.frame) c.args.self.now) (sym c.self-2.view_is)
-    c.part_from.ensures.sheds
+    c.detach_from.ensures.sheds
 
 none : (c : goal.After-drop_frame) → NoneFalls (has_tag c.args.frame) (the_view c.self-2.inside)
 none c =
     let old = c.args.self.now.derivation in
-    let new = c.part_from.new.self in
+    let new = c.detach_from.new.self in
     let falls = subst (λ (s : SearchState). (id : ℕ) → Falls (has_tag c.args.frame) s.derivation.notes id
     → (c.frame_from-from.result ≤ id) × (c.args.frame ≤ tag_at s.derivation id)) c.self.view_is
     c.frame_from-from.ensures.falls in
     subst (NoneFalls (has_tag c.args.frame)) (sym c.self-2.view_is)
     (none_reached (has_tag c.args.frame) (λ id. c.args.frame ≤ tag_at old id) new c.frame_from-from.result
-    c.part_from.ensures.free
-    (λ id fell. falls id (frame_falls_before old new.derivation c.part_from.ensures.sheds.steps c.args.frame id fell)))
+    c.detach_from.ensures.free
+    (λ id fell. falls id (frame_falls_before old new.derivation c.detach_from.ensures.sheds.steps c.args.frame id
+    fell)))
 
 loses : (c : goal.After-drop_frame) → Loses (has_tag c.args.frame) c.args.self.now.derivation c.drop_frame.new.self
 loses c =
@@ -69,7 +70,7 @@ pub returns-clause-reductions : goal.returns-clause-reductions
 returns-clause-reductions c =
     let few = reductions_left (has_tag c.args.frame) c.self-2.inside.derivation c.drop_frame.new.self
     c.drop_frame.ensures.drops in
-    let same = reductions_same c.args.self.now.derivation c.part_from.new.self.derivation
-    c.part_from.ensures.sheds.steps in
+    let same = reductions_same c.args.self.now.derivation c.detach_from.new.self.derivation
+    c.detach_from.ensures.sheds.steps in
     let is = ap (λ (s : SearchState). reductions_in s.derivation) c.self-2.view_is in
     omega (arith, few, same, is)

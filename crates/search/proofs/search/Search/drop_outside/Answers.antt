@@ -12,16 +12,17 @@ use Rattle.search.proofs.Shedding.{names_alike, none_below_same}
 use Rattle.search.proofs.Laws.{agreeing_laws, clauses_are_listed, holding_laws, prefixes_may_change, reductions_stay}
 use Rattle.search.proofs.search.Search.drop_outside.Goals as goal
 
-pub part_outside-requires-clause-intact : goal.part_outside-requires-clause-intact
-part_outside-requires-clause-intact c = (c.requires.resting.0, c.requires.resting.2.intact)
+pub detach_outside-requires-clause-intact : goal.detach_outside-requires-clause-intact
+detach_outside-requires-clause-intact c = (c.requires.resting.0, c.requires.resting.2.intact)
 
-pub part_outside-requires-clause-tallied : goal.part_outside-requires-clause-tallied
-part_outside-requires-clause-tallied c = c.requires.resting.2.tallied
+pub detach_outside-requires-clause-tallied : goal.detach_outside-requires-clause-tallied
+detach_outside-requires-clause-tallied c = c.requires.resting.2.tallied
 
 pub drop_outside-requires-clause-below : goal.drop_outside-requires-clause-below
 drop_outside-requires-clause-below c =
     subst (λ (s : SearchState). NoneOutsideBelow c.args.prefix.now c.args.from s.derivation) (sym c.self.view_is)
-    (none_below_same c.args.self.now.derivation c.part_outside.new.self.derivation c.part_outside.ensures.sheds.steps
+    (none_below_same c.args.self.now.derivation c.detach_outside.new.self.derivation
+    c.detach_outside.ensures.sheds.steps
     c.args.prefix.now c.args.from c.requires.below)
 
 sheds : (c : goal.After-drop_outside)
@@ -30,13 +31,13 @@ sheds : (c : goal.After-drop_outside)
     (the_view c.self.inside)
 sheds c =
     subst (Sheds (λ id. mentions (is_outside c.args.prefix.now) (row_of c.args.self.now.derivation id) ≡ true)
-    c.args.self.now) (sym c.self.view_is) c.part_outside.ensures.sheds
+    c.args.self.now) (sym c.self.view_is) c.detach_outside.ensures.sheds
 
 none : (c : goal.After-drop_outside)
     → NoneFalls (names (is_outside c.args.prefix.now) (arena_of c.self.inside.derivation)) (the_view c.self.inside)
 none c =
     subst (λ (s : SearchState). NoneFalls (names (is_outside c.args.prefix.now) (rows_of s)) s) (sym c.self.view_is)
-    c.part_outside.ensures.none
+    c.detach_outside.ensures.none
 
 pub returns-clause-loses : goal.returns-clause-loses
 returns-clause-loses c =
@@ -78,7 +79,7 @@ pub returns-clause-reductions : goal.returns-clause-reductions
 returns-clause-reductions c =
     let few = reductions_left (names (is_outside c.args.prefix.now) (arena_of c.self.inside.derivation))
     c.self.inside.derivation c.drop_outside.new.self c.drop_outside.ensures.drops in
-    let same = reductions_same c.args.self.now.derivation c.part_outside.new.self.derivation
-    c.part_outside.ensures.sheds.steps in
+    let same = reductions_same c.args.self.now.derivation c.detach_outside.new.self.derivation
+    c.detach_outside.ensures.sheds.steps in
     let is = ap (λ (s : SearchState). reductions_in s.derivation) c.self.view_is in
     omega (arith, few, same, is)

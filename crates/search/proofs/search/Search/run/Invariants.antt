@@ -24,7 +24,7 @@ invariant-turns l = record {
   reductions : ReducesFew l.fn.self.derivation l.self.derivation l.fn.steps l.steps;
   forced : NoCubeAttached l.fn.self → IsRefuted l.prefix l.matrix l.assumptions
       → IsRefuting l.prefix l.matrix l.fn.steps.spent l.self l.steps;
-  long : HasFewLong l.prefix l.self;
+  long : HasFewLong l.kept l.prefix l.self;
   matrix : IsMatrix l.self.derivation l.matrix;
 }
 

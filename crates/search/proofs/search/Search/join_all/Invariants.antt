@@ -1,5 +1,0 @@
-use Rattle.search.proofs.Listing.{HasJoined}
-use Rattle.search.proofs.search.Search.join_all.Given as goal
-
-abbrev pub invariant-loop-k : goal.invariant-loop-k
-invariant-loop-k l = HasJoined l.prefix l.initial.self l.self l.k
