@@ -58,11 +58,28 @@ pub fn check_formula(
     // It is as a formula that was read is.
     ensures formed { IfOk result IsFormed }
 {
+    check_circuit(alloc, &f.prefix, f.clauses.clauses(), assumptions, s)
+}
+
+/// The same of a formula whose prefix and clauses are lent.
+pub fn check_circuit(
+    alloc: Global,
+    prefix: &Prefix,
+    clauses: &[LitList],
+    assumptions: &[Lit],
+    s: &Strategy,
+) -> Result<Formula, CheckFault>
+    requires { IsFor prefix.now clauses.now assumptions.now s.now }
+    ensures answer { IsAnswer result (checked clauses.now assumptions.now s.now) }
+    ensures decides { IfOk result (λ g. (truth g.prefix g.clauses ≡ false)
+        ↔ Wins (opposite s.now.winner) prefix.now clauses.now assumptions.now (values_of s.now)) }
+    ensures formed { IfOk result IsFormed }
+{
     check_formulas_decide();
     check_rows_are_formed();
-    let _distinct = f.prefix.scopes();
+    let _distinct = prefix.scopes();
     let _proper = s.aig.gates();
-    make_formula(alloc, f.clauses.clauses(), assumptions, s)
+    make_formula(alloc, clauses, assumptions, s)
 }
 
 // The check formula for these clauses, whatever the circuit does.

@@ -12,7 +12,7 @@ mod names;
 mod put;
 mod worked;
 
-pub use check::check_formula;
+pub use check::{check_circuit, check_formula};
 pub use fault::CheckFault;
 pub use laws::{check_formulas_decide, check_rows_are_formed};
 pub use worked::{worked_answers, worked_checks};

@@ -1,5 +1,5 @@
 -- An engine, as contracts see it.
-use Rattle.std.specs.Prelude.{ℕ, Bool, List, Option, None}
+use Rattle.std.specs.Prelude.{ℕ, Bool, ◌==◌, if◌then◌else◌, List, [], length, Option, None}
 use Rattle.prefix.specs.Literal.{Literal}
 use Rattle.calculus.specs.Rows.{Row}
 use Rattle.calculus.specs.Derivations.{Inference}
@@ -49,3 +49,8 @@ new_engine = engine_of One
 -- an engine after an accepted change of its formula: there is no verdict
 abbrev pub changed : EngineState → Command → EngineState
 changed e command = record e { formula = formula_after e.formula command; verdict = None }
+
+-- an engine without assumptions: where one stood that is a change, so that there is no verdict
+abbrev pub forgotten : EngineState → EngineState
+forgotten e = if length e.formula.assumptions == 0 then e
+    else record e { formula = record e.formula { assumptions = [] }; verdict = None }

@@ -20,7 +20,7 @@ use Rattle.engine.specs.declared.verdict.Verdict.{Verdict}
 use Rattle.engine.specs.Counting.{more, one_more, with_clause, with_clauses, with_solve}
 use Rattle.engine.specs.Keeping.{MayBeKept}
 use Rattle.engine.specs.Kept.{frame_rows, group_tag, joined_tag, tagged_rows, under}
-use Rattle.engine.specs.State.{EngineState, changed, new_engine}
+use Rattle.engine.specs.State.{EngineState, changed, forgotten, new_engine}
 use Rattle.engine.specs.Verdicts.{HasProof, told}
 
 abbrev pub some_counts : Counts
@@ -75,6 +75,10 @@ decided = record {
   kept_long = 3;
 }
 
+-- the same where 1 is assumed
+abbrev pub assuming : EngineState
+assuming = record decided { formula = record decided.formula { assumptions = plus 1 ∷ [] } }
+
 pub record WorkedEngines : Type 0 where
   -- a count stays at its last value
   pub one : one_more 0 ≡ 1
@@ -85,6 +89,9 @@ pub record WorkedEngines : Type 0 where
   -- a change drops the verdict, and counts nothing else
   pub dropped : (changed decided Push).verdict ≡ None
   pub counted : (changed decided Push).counts ≡ some_counts
+  -- assumptions are taken back, which drops the verdict; where none stands it stays
+  pub forgot : forgotten assuming ≡ record decided { verdict = None }
+  pub kept : forgotten decided ≡ decided
   -- so many clauses come back at once
   pub back : (with_clauses 3 some_counts).clauses ≡ 8
   pub back_stays : more 3 (2 ^ 64 - 2) ≡ 2 ^ 64 - 1

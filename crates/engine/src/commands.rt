@@ -5,7 +5,7 @@ ghost use Rattle.truth.specs.Formed.{IsClauseOver};
 ghost use Rattle.frames.specs.Commands.{AddClause, AddScope, AddVariable, Assume, Pop, Push, refusal_of};
 ghost use Rattle.engine.specs.Counting.{with_clause};
 ghost use Rattle.engine.specs.Given.{MayBeGiven, numbers_of};
-ghost use Rattle.engine.specs.State.{changed};
+ghost use Rattle.engine.specs.State.{changed, forgotten};
 
 use crate::engine::Engine;
 use crate::tied::{Given, drop_top, forget_outcome, put_clause};
@@ -165,6 +165,19 @@ impl Engine {
         forget_outcome(&mut self.search, &self.frames);
         self.verdict = None;
         Ok(())
+    }
+
+    /// Takes all assumptions back. Where one stands this is a change; where none does nothing changes, and a verdict
+    /// stays. It takes no memory.
+    pub fn forget_assumptions(&mut self)
+        ensures { self.new ≡ forgotten self.old }
+    {
+        if self.frames.assumptions().is_empty() {
+            return;
+        }
+        forget_outcome(&mut self.search, &self.frames);
+        self.frames.clear_assumptions();
+        self.verdict = None;
     }
 }
 

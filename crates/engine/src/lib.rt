@@ -17,6 +17,7 @@ mod counts;
 mod engine;
 mod group_core;
 mod groups;
+mod looks;
 mod lookup;
 mod refusal;
 mod tied;

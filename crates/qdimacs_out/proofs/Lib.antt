@@ -10,3 +10,4 @@ pub mod Merging
 pub mod ReadBack
 pub mod Readable
 pub mod Lengths
+pub mod Parted

@@ -7,6 +7,7 @@ use Rattle.prefix.specs.Literal.{Literal, signed_number}
 use Rattle.prefix.specs.Scopes.{Scope}
 use Rattle.truth.specs.declared.formula.Formula.{Formula}
 use Rattle.blocks.specs.Lines.{Line, text_of}
+use Rattle.qdimacs_out.specs.declared.lent.Header.{Header}
 
 -- `p cnf VARS CLAUSES` (problem_line)
 abbrev pub header_line : ℕ → ℕ → Line
@@ -41,3 +42,12 @@ formula_lines f = header_line f.declared_vars f.declared_clauses ∷
 -- the text of a formula
 abbrev pub formula_text : Formula → List ℕ
 formula_text f = text_of (formula_lines f)
+
+-- the text of a formula of these scopes and clauses, whose header declares these numbers
+abbrev pub lent_text : Header → List Scope → List (List Literal) → List ℕ
+lent_text header scopes clauses = formula_text (record {
+  prefix = scopes;
+  clauses = clauses;
+  declared_vars = header.vars;
+  declared_clauses = header.clauses;
+})

@@ -5,10 +5,12 @@
 #![tactic(auto)]
 
 mod laws;
+mod lent;
 mod words;
 mod worked;
 mod write;
 
 pub use laws::{read_formulas_are_writable, written_formulas_are_read};
+pub use lent::{Header, write_lent};
 pub use worked::{worked_forms, worked_lines, worked_readings, worked_texts};
 pub use write::write_formula;

@@ -53,7 +53,11 @@ fn put_parts<S: Sink>(f: &Formula, block: &mut Block, sink: &mut S) -> Result<()
 }
 
 // Puts the lines of the scopes.
-fn put_scopes<S: Sink>(prefix: &Prefix, block: &mut Block, sink: &mut S) -> Result<(), Failed>
+pub(crate) fn put_scopes<S: Sink>(
+    prefix: &Prefix,
+    block: &mut Block,
+    sink: &mut S,
+) -> Result<(), Failed>
     ensures { Puts S.written S.flushed S.faults S.has_room sink.old block.old sink.new block.new
         (flat_map scope_text prefix.now) result }
 {
@@ -110,7 +114,11 @@ fn put_variables<S: Sink>(
 }
 
 // Puts the lines of clauses.
-fn put_clauses<S: Sink>(clauses: &[LitList], block: &mut Block, sink: &mut S) -> Result<(), Failed>
+pub(crate) fn put_clauses<S: Sink>(
+    clauses: &[LitList],
+    block: &mut Block,
+    sink: &mut S,
+) -> Result<(), Failed>
     ensures { Puts S.written S.flushed S.faults S.has_room sink.old block.old sink.new block.new
         (flat_map clause_text clauses.now) result }
 {

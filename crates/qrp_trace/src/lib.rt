@@ -9,5 +9,5 @@ mod text;
 mod words;
 mod worked;
 
-pub use text::{put_literals, write_trace};
+pub use text::{greatest_variable, put_literals, write_trace};
 pub use worked::{worked_gaps, worked_texts};

@@ -72,8 +72,8 @@ fn put_header<S: Sink>(
     block.put_line(&words::header(greatest_variable(prefix), core.len()), sink)
 }
 
-// The greatest number of a variable, 0 where there is none.
-fn greatest_variable(prefix: &Prefix) -> usize
+/// The greatest number of a variable, 0 where there is none.
+pub fn greatest_variable(prefix: &Prefix) -> usize
     ensures { result ≡ greatest (all_variables prefix.now) }
 {
     let mut most = 0;

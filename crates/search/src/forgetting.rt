@@ -21,6 +21,9 @@ use prefix::{Prefix, Var};
 use rows::Rows;
 use trail::{Trail, Why};
 
+// The link field of a row that names the watch which it is attached to.
+const MARK: usize = 6;
+
 impl Search {
     /// How many long learned rows are attached: rows with more than three literals that are neither an input clause nor
     /// the reduction of one.
@@ -315,5 +318,5 @@ fn retain_held(watched: &mut Vec<StepId>, rows: &Rows)
 fn is_held(rows: &Rows, id: StepId) -> bool
     ensures { result ≡ is_held rows.now id }
 {
-    rows.is_live(id) && rows.link(id, 6).is_some()
+    rows.is_live(id) && rows.link(id, MARK).is_some()
 }
