@@ -3,8 +3,9 @@
 
 usage: unnamed.py [CRATE..]
 
-Definitions are the public ones of `crates/*/specs`. Worked values are what files `Worked*` there name, and theorems
-what contracts of functions without a body name, with what a definition that they cite names. Behind a definition that
+Definitions are the public ones of `crates/*/specs`. Worked values are what files `Worked*` there name, and what the
+statements of `crates/*/proofs/Worked*` do. Theorems are what contracts of functions without a body name, with what a
+definition that they cite names. Behind a definition that
 no named one is made of stands `alone`. This is a list to go through, and no list of faults: most others are parts of
 one that is named. The last line counts both.
 """
@@ -28,6 +29,18 @@ def code_of(path):
 
 def names_in(text):
     return set(NAME.findall(text))
+
+
+def statements(text):
+    """The lines of a file of lemmas that say what is proved, without the proofs."""
+    said = False
+    for line in text.splitlines():
+        if re.match(r" *(?:pub )?\S+ : ", line):
+            said = True
+        elif re.match(r"(?:  )?\S", line):
+            said = False
+        if said:
+            yield line
 
 
 def definitions(crate):
@@ -56,6 +69,8 @@ def main():
     for crate in crates:
         for path in (crate / "specs").glob("Worked*.antt"):
             named |= names_in(code_of(path))
+        for path in (crate / "proofs").glob("Worked*.antt"):
+            named |= names_in("\n".join(statements(code_of(path))))
         for path in (crate / "src").glob("*.rt"):
             for law in LAW.finditer(code_of(path)):
                 laws |= names_in(law.group(1))

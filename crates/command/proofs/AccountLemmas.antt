@@ -16,7 +16,8 @@ use Rattle.command.specs.Forms.Flag.{the_qdo, the_qcir, the_binary, the_trim, th
 use Rattle.command.specs.Forms.Setting.{the_budget, the_keep, the_restarts}
 use Rattle.command.specs.declared.command.Command.{Command}
 use Rattle.command.specs.declared.command.SolveForm.{SolveForm}
-use Rattle.command.specs.declared.command.Command.TheVariants.{Cert, Check, Demo, Gen, Script, Solve, Trace}
+use Rattle.command.specs.declared.command.Command.TheVariants.{Demo, Gen, Read}
+use Rattle.command.specs.declared.command.Verb.TheVariants.{Cert, Check, Script, Solve, Trace}
 use Rattle.command.specs.declared.refused.Refused.{Refused}
 use Rattle.command.specs.declared.refused.Refused.TheVariants.{Usage, NoMemory}
 use Rattle.command.proofs.InputForms.{setting_small}
@@ -134,22 +135,22 @@ module _ (rows : List Row) where
   check_taken d is the_decide = is
 
 of_input : (rows : List Row) (c : Command) → takes_numbers (word_of c) ≡ false → AreValues rows c → AreOfInput rows c
-of_input rows (Solve n k l q g) e v = record { input = v.0; flags = solve_taken rows q v.1; numbers = refl }
-of_input rows (Trace n k l g) e v =
-    record { input = v; flags = plain_flags rows (codes "trace") refl refl refl; numbers = refl }
-of_input rows (Cert n k l b t g) e v = record { input = v.0; flags = cert_taken rows b t v.1 v.2; numbers = refl }
-of_input rows (Check n k l d g) e v = record { input = v.0; flags = check_taken rows d v.1; numbers = refl }
-of_input rows (Script n k l g) e v =
-    record { input = v; flags = plain_flags rows (codes "script") refl refl refl; numbers = refl }
+of_input rows (Read (Solve q) i) e v = record { input = v.0; flags = solve_taken rows q v.1; numbers = refl }
+of_input rows (Read Trace i) e v =
+    record { input = v.0; flags = plain_flags rows (codes "trace") refl refl refl; numbers = refl }
+of_input rows (Read (Cert b t) i) e v = record { input = v.0; flags = cert_taken rows b t v.1.0 v.1.1; numbers = refl }
+of_input rows (Read (Check d) i) e v = record { input = v.0; flags = check_taken rows d v.1; numbers = refl }
+of_input rows (Read Script i) e v =
+    record { input = v.0; flags = plain_flags rows (codes "script") refl refl refl; numbers = refl }
 of_input rows (Gen s v k) e r = absurd cc
 of_input rows (Demo s k) e r = absurd cc
 
 of_numbers : (rows : List Row) (c : Command) → takes_numbers (word_of c) ≡ true → AreValues rows c → AreOfNumbers rows c
-of_numbers rows (Solve n k l q g) e v = absurd cc
-of_numbers rows (Trace n k l g) e v = absurd cc
-of_numbers rows (Cert n k l b t g) e v = absurd cc
-of_numbers rows (Check n k l d g) e v = absurd cc
-of_numbers rows (Script n k l g) e v = absurd cc
+of_numbers rows (Read (Solve q) i) e v = absurd cc
+of_numbers rows (Read Trace i) e v = absurd cc
+of_numbers rows (Read (Cert b t) i) e v = absurd cc
+of_numbers rows (Read (Check d) i) e v = absurd cc
+of_numbers rows (Read Script i) e v = absurd cc
 of_numbers rows (Gen s v k) e r = record {
   budget = refl;
   restarts = refl;

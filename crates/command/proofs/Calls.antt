@@ -7,12 +7,13 @@ use Rattle.clap.specs.Words.{Row, Rule, Text, fault_of, subcommand_of}
 use Rattle.clap.specs.Walk.{nothing_held, rows_after, with_default}
 use Rattle.clap.specs.Faults.{level_fault}
 use Rattle.command.specs.Account.{AreInput, AreValues, IsFormOf, IsFoundAs, command_apps, has_dashes, is_set, qbf_app}
-use Rattle.command.specs.Forms.{Asks, AsksInput, Flag, GivesInput, GivesSetting, IsBetween, Part, Setting, all_flags, cert_flags, check_flags, default_of, flag_name, greatest_of, is_qcir, is_qdo, least_of, no_flags, solve_flags, word_of}
+use Rattle.command.specs.Forms.{Asks, AsksInput, Flag, GivesInput, GivesSetting, IsBetween, Part, Setting, all_flags, cert_flags, check_flags, default_of, flag_name, greatest_of, is_qcir, is_qdo, least_of, name_in, no_flags, solve_flags, word_of}
 use Rattle.command.specs.Forms.Flag.{the_qdo, the_qcir, the_binary, the_trim, the_decide}
 use Rattle.command.specs.Forms.Setting.{the_budget, the_keep, the_restarts}
 use Rattle.command.specs.declared.command.Command.{Command}
 use Rattle.command.specs.declared.command.SolveForm.{SolveForm}
-use Rattle.command.specs.declared.command.Command.TheVariants.{Cert, Check, Demo, Gen, Script, Solve, Trace}
+use Rattle.command.specs.declared.command.Command.TheVariants.{Demo, Gen, Read}
+use Rattle.command.specs.declared.command.Verb.TheVariants.{Cert, Check, Script, Solve, Trace}
 use Rattle.command.proofs.Turns.{leaf, rules_of}
 use Rattle.command.proofs.WordKinds.{IsNotDashes, KnowsFlag}
 use Rattle.command.proofs.PartWalk.{LacksDashes}
@@ -288,22 +289,23 @@ any_flag_is args n k l q given = flag_is full_rules all_flags full_are args n k 
 -- ---- each command
 
 pub asked : (words : List Text) (c : Command) → IsCalled words c → Asks words c
-asked words (Solve n k l q g) h =
+asked words (Read (Solve q) i) h =
     input_asks solve_rules (the_qdo ∷ the_qcir ∷ []) solve_are (codes "solve") words h.program h.args h.words_are
-    h.lacks h.passes n k l (option_map (λ s. s.now) g) h.values.0 (solve_flags q) (solve_given h.args q h.values.1)
-asked words (Trace n k l g) h =
-    input_asks input_rules [] input_are (codes "trace") words h.program h.args h.words_are h.lacks h.passes n k l
-    (option_map (λ s. s.now) g) h.values no_flags (input_flags h.args)
-asked words (Cert n k l b t g) h =
+    h.lacks h.passes i.budget i.restarts i.kept (name_in i) h.values.0 (solve_flags q)
+    (solve_given h.args q h.values.1)
+asked words (Read Trace i) h =
+    input_asks input_rules [] input_are (codes "trace") words h.program h.args h.words_are h.lacks h.passes
+    i.budget i.restarts i.kept (name_in i) h.values.0 no_flags (input_flags h.args)
+asked words (Read (Cert b t) i) h =
     input_asks cert_rules (the_binary ∷ the_trim ∷ []) cert_are (codes "cert") words h.program h.args h.words_are
-    h.lacks h.passes n k l (option_map (λ s. s.now) g) h.values.0 (cert_flags b t)
-    (cert_given h.args b t h.values.1 h.values.2)
-asked words (Check n k l d g) h =
+    h.lacks h.passes i.budget i.restarts i.kept (name_in i) h.values.0 (cert_flags b t)
+    (cert_given h.args b t h.values.1.0 h.values.1.1)
+asked words (Read (Check d) i) h =
     input_asks check_rules (the_decide ∷ []) check_are (codes "check") words h.program h.args h.words_are h.lacks
-    h.passes n k l (option_map (λ s. s.now) g) h.values.0 (check_flags d) (check_given h.args d h.values.1)
-asked words (Script n k l g) h =
-    input_asks input_rules [] input_are (codes "script") words h.program h.args h.words_are h.lacks h.passes n k l
-    (option_map (λ s. s.now) g) h.values no_flags (input_flags h.args)
+    h.passes i.budget i.restarts i.kept (name_in i) h.values.0 (check_flags d) (check_given h.args d h.values.1)
+asked words (Read Script i) h =
+    input_asks input_rules [] input_are (codes "script") words h.program h.args h.words_are h.lacks h.passes
+    i.budget i.restarts i.kept (name_in i) h.values.0 no_flags (input_flags h.args)
 asked words (Gen s v k) h =
     let args = gen_in_form h.args h.lacks h.passes s v k h.values in
     let small : s < 2 ^ 32 = omega (arith, h.values.0.1.1) in
@@ -314,50 +316,62 @@ asked words (Demo s k) h =
     ((h.program, h.words_are ∙ ap (λ ws. h.program ∷ codes "demo" ∷ ws) args), small, h.values.1.1)
 
 pub calls : (words : List Text) (c : Command) → Asks words c → IsCalled words c
-calls words (Solve n k l q g) (program, args, is, form) =
-    let i = is_solve_input args n k l q (option_map (λ s. s.now) g) form in
-    let flags = flag_is solve_rules (the_qdo ∷ the_qcir ∷ []) solve_are args n k l (solve_flags q)
-    (option_map (λ s. s.now) g) i in
+calls words (Read (Solve q) i) (program, args, is, form) =
+    let given = is_solve_input args i.budget i.restarts i.kept q (name_in i) form in
+    let flags = flag_is solve_rules (the_qdo ∷ the_qcir ∷ []) solve_are args i.budget i.restarts i.kept (solve_flags q)
+    (name_in i) given in
     record {
       program = program;
       args = args;
       words_are = is;
-      lacks = i.lacks;
-      passes = i.passes;
-      values = (i.values, (flags the_qdo, flags the_qcir));
+      lacks = given.lacks;
+      passes = given.passes;
+      values = (given.values, (flags the_qdo, flags the_qcir));
     }
-calls words (Trace n k l g) (program, args, is, form) =
-    let i = is_plain_input args n k l (option_map (λ s. s.now) g) form in
-    record { program = program; args = args; words_are = is; lacks = i.lacks; passes = i.passes; values = i.values }
-calls words (Cert n k l b t g) (program, args, is, form) =
-    let i = is_cert_input args n k l b t (option_map (λ s. s.now) g) form in
-    let flags = flag_is cert_rules (the_binary ∷ the_trim ∷ []) cert_are args n k l (cert_flags b t)
-    (option_map (λ s. s.now) g) i in
+calls words (Read Trace i) (program, args, is, form) =
+    let given = is_plain_input args i.budget i.restarts i.kept (name_in i) form in
     record {
       program = program;
       args = args;
       words_are = is;
-      lacks = i.lacks;
-      passes = i.passes;
-      values = (i.values, flags the_binary, flags the_trim);
+      lacks = given.lacks;
+      passes = given.passes;
+      values = (given.values, tt);
     }
-calls words (Check n k l d g) (program, args, is, form) =
-    let i = is_check_input args n k l d (option_map (λ s. s.now) g) form in
+calls words (Read (Cert b t) i) (program, args, is, form) =
+    let given = is_cert_input args i.budget i.restarts i.kept b t (name_in i) form in
+    let flags = flag_is cert_rules (the_binary ∷ the_trim ∷ []) cert_are args i.budget i.restarts i.kept
+    (cert_flags b t) (name_in i) given in
     record {
       program = program;
       args = args;
       words_are = is;
-      lacks = i.lacks;
-      passes = i.passes;
-      values = (
-        i.values,
-        flag_is check_rules (the_decide ∷ []) check_are args n k l (check_flags d) (option_map (λ s. s.now) g) i
-            the_decide,
-      );
+      lacks = given.lacks;
+      passes = given.passes;
+      values = (given.values, (flags the_binary, flags the_trim));
     }
-calls words (Script n k l g) (program, args, is, form) =
-    let i = is_plain_input args n k l (option_map (λ s. s.now) g) form in
-    record { program = program; args = args; words_are = is; lacks = i.lacks; passes = i.passes; values = i.values }
+calls words (Read (Check d) i) (program, args, is, form) =
+    let given = is_check_input args i.budget i.restarts i.kept d (name_in i) form in
+    let flags = flag_is check_rules (the_decide ∷ []) check_are args i.budget i.restarts i.kept (check_flags d)
+    (name_in i) given in
+    record {
+      program = program;
+      args = args;
+      words_are = is;
+      lacks = given.lacks;
+      passes = given.passes;
+      values = (given.values, flags the_decide);
+    }
+calls words (Read Script i) (program, args, is, form) =
+    let given = is_plain_input args i.budget i.restarts i.kept (name_in i) form in
+    record {
+      program = program;
+      args = args;
+      words_are = is;
+      lacks = given.lacks;
+      passes = given.passes;
+      values = (given.values, tt);
+    }
 calls words (Gen s v k) (asks, small, vars, clauses) =
     let f = gen_found s v k (omega arith, omega (arith, small)) vars (omega arith, clauses) in
     record {

@@ -14,9 +14,11 @@ use Rattle.clap.proofs.WalkLemmas.{walk_stopped}
 use Rattle.clap.proofs.FaultLemmas.{past, stopped_fault}
 use Rattle.clap.proofs.OnLiterals.{clap_on_literals}
 use Rattle.command.specs.Account.{cert_app, check_app, command_app, command_apps, demo_app, gen_app, qbf_app, solve_app}
-use Rattle.command.specs.Forms.{word_of}
+use Rattle.command.specs.Forms.{verb_word, word_of}
 use Rattle.command.specs.declared.command.Command.{Command}
-use Rattle.command.specs.declared.command.Command.TheVariants.{Cert, Check, Demo, Gen, Script, Solve, Trace}
+use Rattle.command.specs.declared.command.Command.TheVariants.{Demo, Gen, Read}
+use Rattle.command.specs.declared.command.Verb.{Verb}
+use Rattle.command.specs.declared.command.Verb.TheVariants.{Cert, Check, Script, Solve, Trace}
 use Rattle.command.proofs.Turns.{IsPlainWord, held, leaf, no_kinds, nothing_after, plain_met, rules_of, some_left}
 use Rattle.command.proofs.WordKinds.{IsNotDashes, first_flag, long_fails, long_fault_is, short_fault_is}
 
@@ -132,31 +134,41 @@ all_are = (
   ),
 )
 
+-- how `clap` is told of a command that reads an input
+abbrev pub verb_app : Verb → App
+verb_app (Solve q) = solve_app
+verb_app Trace = command_app (codes "trace") []
+verb_app (Cert b t) = cert_app
+verb_app (Check d) = check_app
+verb_app Script = command_app (codes "script") []
+
+is_verb : (v : Verb) → IsCommand (verb_app v)
+is_verb (Solve q) = all_are.0
+is_verb Trace = all_are.1.0
+is_verb (Cert b t) = all_are.1.1.0
+is_verb (Check d) = all_are.1.1.1.0
+is_verb Script = all_are.1.1.1.1.0
+
+verb_is : (v : Verb) → (verb_app v).top.name ≡ verb_word v
+verb_is (Solve q) = refl
+verb_is Trace = refl
+verb_is (Cert b t) = refl
+verb_is (Check d) = refl
+verb_is Script = refl
+
 -- how `clap` is told of the command
 abbrev pub app_for : Command → App
-app_for (Solve n k l q g) = solve_app
-app_for (Trace n k l g) = command_app (codes "trace") []
-app_for (Cert n k l b t g) = cert_app
-app_for (Check n k l d g) = check_app
-app_for (Script n k l g) = command_app (codes "script") []
+app_for (Read v i) = verb_app v
 app_for (Gen s v k) = gen_app
 app_for (Demo s k) = demo_app
 
 pub is_command : (c : Command) → IsCommand (app_for c)
-is_command (Solve n k l q g) = all_are.0
-is_command (Trace n k l g) = all_are.1.0
-is_command (Cert n k l b t g) = all_are.1.1.0
-is_command (Check n k l d g) = all_are.1.1.1.0
-is_command (Script n k l g) = all_are.1.1.1.1.0
+is_command (Read v i) = is_verb v
 is_command (Gen s v k) = all_are.1.1.1.1.1.0
 is_command (Demo s k) = all_are.1.1.1.1.1.1.0
 
 pub word_is : (c : Command) → (app_for c).top.name ≡ word_of c
-word_is (Solve n k l q g) = refl
-word_is (Trace n k l g) = refl
-word_is (Cert n k l b t g) = refl
-word_is (Check n k l d g) = refl
-word_is (Script n k l g) = refl
+word_is (Read v i) = verb_is v
 word_is (Gen s v k) = refl
 word_is (Demo s k) = refl
 

@@ -5,11 +5,12 @@ use Rattle.std.specs.Str.{bytes_eq}
 use Rattle.clap.specs.Words.{Row, Text, first_value, found_of, rows_of}
 use Rattle.clap.specs.declared.ArgMatches.{ArgMatches}
 use Rattle.clap.proofs.WalkLemmas.{first_value-rows}
-use Rattle.command.specs.Account.{AreInput, AreValues, HasNoHyphen, IsNumberAt, IsSet, is_set}
-use Rattle.command.specs.Forms.{word_of}
+use Rattle.command.specs.Account.{AreFlagsOf, AreInput, AreValues, HasNoHyphen, IsNumberAt, IsSet, is_set}
+use Rattle.command.specs.Forms.{name_in, verb_word, word_of}
 use Rattle.command.specs.Forms.Setting.{the_keep, the_restarts}
 use Rattle.command.specs.declared.command.Command.{Command}
-use Rattle.command.specs.declared.command.Command.TheVariants.{Cert, Check, Demo, Gen, Script, Solve, Trace}
+use Rattle.command.specs.declared.command.Command.TheVariants.{Demo, Gen, Read}
+use Rattle.command.specs.declared.command.Verb.{Verb}
 
 pub if_none : {X : Type 0} (o : Option X) (P : Type 0) → P → IfNone o P
 if_none None P p = p
@@ -96,10 +97,13 @@ module _ (rows : List Row) (word : Text) where
   -- without an input there is a command of numbers at most
   pub no_input : (word ≡ codes "gen" → ⊥) → (word ≡ codes "demo" → ⊥)
       → ((n k l : ℕ) (g : Option Text) → AreInput rows n k l g → ⊥) → IsNoCommand
-  no_input gen demo none (Solve n k l q g) e v = none n k l _ v.0
-  no_input gen demo none (Trace n k l g) e v = none n k l _ v
-  no_input gen demo none (Cert n k l b t g) e v = none n k l _ v.0
-  no_input gen demo none (Check n k l d g) e v = none n k l _ v.0
-  no_input gen demo none (Script n k l g) e v = none n k l _ v
+  no_input gen demo none (Read verb i) e v = none i.budget i.restarts i.kept (name_in i) v.0
   no_input gen demo none (Gen s v k) e h = gen (sym e)
   no_input gen demo none (Demo s k) e h = demo (sym e)
+
+  -- nor where the word is none that reads one, with its flags
+  pub no_verb : (word ≡ codes "gen" → ⊥) → (word ≡ codes "demo" → ⊥)
+      → ((v : Verb) → verb_word v ≡ word → AreFlagsOf rows v → ⊥) → IsNoCommand
+  no_verb gen demo none (Read verb i) e v = none verb e v.1
+  no_verb gen demo none (Gen s v k) e h = gen (sym e)
+  no_verb gen demo none (Demo s k) e h = demo (sym e)

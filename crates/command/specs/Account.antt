@@ -10,8 +10,10 @@ use Rattle.clap.specs.declared.builder.ArgAction.TheVariants.{SetTrue}
 use Rattle.clap.specs.declared.builder.ValueParser.TheVariants as parser
 use Rattle.command.specs.declared.command.Command.{Command}
 use Rattle.command.specs.declared.command.SolveForm.{SolveForm}
-use Rattle.command.specs.declared.command.Command.TheVariants.{Solve, Trace, Cert, Check, Script, Gen, Demo}
-use Rattle.command.specs.Forms.{Flag, IsBetween, Setting, flag_name, greatest_of, is_qcir, is_qdo, least_of, setting_name, word_of}
+use Rattle.command.specs.declared.command.Command.TheVariants.{Read, Gen, Demo}
+use Rattle.command.specs.declared.command.Verb.{Verb}
+use Rattle.command.specs.declared.command.Verb.TheVariants.{Solve, Trace, Cert, Check, Script}
+use Rattle.command.specs.Forms.{Flag, IsBetween, Setting, flag_name, greatest_of, is_qcir, is_qdo, least_of, name_in, setting_name, word_of}
 use Rattle.command.specs.Forms.Flag.{the_qdo, the_qcir, the_binary, the_trim, the_decide}
 use Rattle.command.specs.Forms.Setting.{the_budget, the_keep, the_restarts}
 
@@ -127,18 +129,18 @@ AreDemo rows seed count = IsNumberAt (codes "SEED") 0 4294967295 rows seed
 abbrev pub IsFormOf : List Row → SolveForm → Type 0
 IsFormOf rows form = (is_qdo form ≡ is_set (codes "qdo") rows) × (is_qcir form ≡ is_set (codes "qcir") rows)
 
+-- the flags that `clap` found are those of a command that reads an input
+abbrev pub AreFlagsOf : List Row → Verb → Type 0
+AreFlagsOf rows (Solve form) = IsFormOf rows form
+AreFlagsOf rows Trace = ⊤
+AreFlagsOf rows (Cert binary trim) = (binary ≡ is_set (codes "binary") rows) × (trim ≡ is_set (codes "trim") rows)
+AreFlagsOf rows (Check decide) = decide ≡ is_set (codes "decide") rows
+AreFlagsOf rows Script = ⊤
+
 -- the values that `clap` found are those of the command, and in form
 abbrev pub AreValues : List Row → Command → Type 0
-AreValues rows (Solve budget restarts kept form name) =
-    AreInput rows budget restarts kept (option_map (λ s. s.now) name)
-    × IsFormOf rows form
-AreValues rows (Trace budget restarts kept name) = AreInput rows budget restarts kept (option_map (λ s. s.now) name)
-AreValues rows (Cert budget restarts kept binary trim name) =
-    AreInput rows budget restarts kept (option_map (λ s. s.now) name)
-    × (binary ≡ is_set (codes "binary") rows) × (trim ≡ is_set (codes "trim") rows)
-AreValues rows (Check budget restarts kept decide name) =
-    AreInput rows budget restarts kept (option_map (λ s. s.now) name) × (decide ≡ is_set (codes "decide") rows)
-AreValues rows (Script budget restarts kept name) = AreInput rows budget restarts kept (option_map (λ s. s.now) name)
+AreValues rows (Read verb input) =
+    AreInput rows input.budget input.restarts input.kept (name_in input) × AreFlagsOf rows verb
 AreValues rows (Gen seed vars clauses) = AreGen rows seed vars clauses
 AreValues rows (Demo seed count) = AreDemo rows seed count
 

@@ -3,9 +3,12 @@ use Rattle.std.specs.Prelude.{◌≡◌, ◌≢◌, ◌⊎◌, ⊤, ℕ, ◌<◌
 use Rattle.std.specs.Fmt.{decimal}
 use Rattle.std.specs.List.{flat_map}
 use Rattle.command.specs.declared.command.Command.{Command}
-use Rattle.command.specs.declared.command.Command.TheVariants.{Solve, Trace, Cert, Check, Script, Gen, Demo}
+use Rattle.command.specs.declared.command.Command.TheVariants.{Read, Gen, Demo}
+use Rattle.command.specs.declared.command.Input.{Input}
 use Rattle.command.specs.declared.command.SolveForm.{SolveForm}
 use Rattle.command.specs.declared.command.SolveForm.TheVariants.{Plain, Qdo, Qcir}
+use Rattle.command.specs.declared.command.Verb.{Verb}
+use Rattle.command.specs.declared.command.Verb.TheVariants.{Solve, Trace, Cert, Check, Script}
 use Rattle.command.specs.declared.refused.Refused.{Refused}
 use Rattle.command.specs.declared.refused.Refused.TheVariants.{Usage, NoMemory}
 
@@ -106,6 +109,22 @@ check_flags decide the_binary = false
 check_flags decide the_trim = false
 check_flags decide the_decide = decide
 
+-- the word of a command that reads an input
+abbrev pub verb_word : Verb → Text
+verb_word (Solve form) = codes "solve"
+verb_word Trace = codes "trace"
+verb_word (Cert binary trim) = codes "cert"
+verb_word (Check decide) = codes "check"
+verb_word Script = codes "script"
+
+-- which flags are given to it
+abbrev pub verb_flags : Verb → Flag → Bool
+verb_flags (Solve form) = solve_flags form
+verb_flags Trace = no_flags
+verb_flags (Cert binary trim) = cert_flags binary trim
+verb_flags (Check decide) = check_flags decide
+verb_flags Script = no_flags
+
 -- a part of the words behind the word of a command
 pub data Part : Type 0 where
   -- `--OPTION TEXT`
@@ -164,28 +183,9 @@ abbrev pub AsksInput : Text → List Text → (budget restarts kept : ℕ) → (
 AsksInput word words budget restarts kept flags name = (program : Text) × (rest : List Text)
     × (words ≡ program ∷ word ∷ rest) × GivesInput rest budget restarts kept flags name
 
--- `solve [--budget N] [--restarts R] [--keep K] [--qdo | --qcir] [NAME]`
-abbrev pub AsksSolve : List Text → (budget restarts kept : ℕ) → SolveForm → Option Text → Type 0
-AsksSolve words budget restarts kept form name =
-    AsksInput (codes "solve") words budget restarts kept (solve_flags form) name
-
--- `trace [--budget N] [--restarts R] [--keep K] [NAME]`
-abbrev pub AsksTrace : List Text → (budget restarts kept : ℕ) → Option Text → Type 0
-AsksTrace words budget restarts kept name = AsksInput (codes "trace") words budget restarts kept no_flags name
-
--- `cert [--budget N] [--restarts R] [--keep K] [--binary] [--trim] [NAME]`
-abbrev pub AsksCert : List Text → (budget restarts kept : ℕ) → (binary trim : Bool) → Option Text → Type 0
-AsksCert words budget restarts kept binary trim name =
-    AsksInput (codes "cert") words budget restarts kept (cert_flags binary trim) name
-
--- `check [--budget N] [--restarts R] [--keep K] [--decide] [NAME]`
-abbrev pub AsksCheck : List Text → (budget restarts kept : ℕ) → Bool → Option Text → Type 0
-AsksCheck words budget restarts kept decide name =
-    AsksInput (codes "check") words budget restarts kept (check_flags decide) name
-
--- `script [--budget N] [--restarts R] [--keep K] [NAME]`
-abbrev pub AsksScript : List Text → (budget restarts kept : ℕ) → Option Text → Type 0
-AsksScript words budget restarts kept name = AsksInput (codes "script") words budget restarts kept no_flags name
+-- the text of the name of an input, if it has one
+abbrev pub name_in : Input → Option Text
+name_in input = option_map (λ s. s.now) input.name
 
 -- ---- a command of numbers: `WORD NUMBER ..`
 
@@ -207,74 +207,44 @@ AsksDemo words seed count = AsksNumbers (codes "demo") words (seed ∷ count ∷
 
 -- the words ask for the command
 abbrev pub Asks : List Text → Command → Type 0
-Asks words (Solve budget restarts kept form name) =
-    AsksSolve words budget restarts kept form (option_map (λ s. s.now) name)
-Asks words (Trace budget restarts kept name) = AsksTrace words budget restarts kept (option_map (λ s. s.now) name)
-Asks words (Cert budget restarts kept binary trim name) =
-    AsksCert words budget restarts kept binary trim (option_map (λ s. s.now) name)
-Asks words (Check budget restarts kept decide name) =
-    AsksCheck words budget restarts kept decide (option_map (λ s. s.now) name)
-Asks words (Script budget restarts kept name) = AsksScript words budget restarts kept (option_map (λ s. s.now) name)
+Asks words (Read verb input) =
+    AsksInput (verb_word verb) words input.budget input.restarts input.kept (verb_flags verb) (name_in input)
 Asks words (Gen seed vars clauses) = AsksGen words seed vars clauses
 Asks words (Demo seed count) = AsksDemo words seed count
 
 -- the word of the command
 abbrev pub word_of : Command → Text
-word_of (Solve budget restarts kept form name) = codes "solve"
-word_of (Trace budget restarts kept name) = codes "trace"
-word_of (Cert budget restarts kept binary trim name) = codes "cert"
-word_of (Check budget restarts kept decide name) = codes "check"
-word_of (Script budget restarts kept name) = codes "script"
+word_of (Read verb input) = verb_word verb
 word_of (Gen seed vars clauses) = codes "gen"
 word_of (Demo seed count) = codes "demo"
 
 -- the budget of the command: 2^64 - 1 for one that takes none
 abbrev pub budget_of : Command → ℕ
-budget_of (Solve budget restarts kept form name) = budget
-budget_of (Trace budget restarts kept name) = budget
-budget_of (Cert budget restarts kept binary trim name) = budget
-budget_of (Check budget restarts kept decide name) = budget
-budget_of (Script budget restarts kept name) = budget
+budget_of (Read verb input) = input.budget
 budget_of (Gen seed vars clauses) = 2 ^ 64 - 1
 budget_of (Demo seed count) = 2 ^ 64 - 1
 
 -- the number of restarts of the command: none for one that takes none
 abbrev pub restarts_of : Command → ℕ
-restarts_of (Solve budget restarts kept form name) = restarts
-restarts_of (Trace budget restarts kept name) = restarts
-restarts_of (Cert budget restarts kept binary trim name) = restarts
-restarts_of (Check budget restarts kept decide name) = restarts
-restarts_of (Script budget restarts kept name) = restarts
+restarts_of (Read verb input) = input.restarts
 restarts_of (Gen seed vars clauses) = 0
 restarts_of (Demo seed count) = 0
 
 -- how many rows the command may keep: 512 for one that takes no number of them
 abbrev pub kept_of : Command → ℕ
-kept_of (Solve budget restarts kept form name) = kept
-kept_of (Trace budget restarts kept name) = kept
-kept_of (Cert budget restarts kept binary trim name) = kept
-kept_of (Check budget restarts kept decide name) = kept
-kept_of (Script budget restarts kept name) = kept
+kept_of (Read verb input) = input.kept
 kept_of (Gen seed vars clauses) = 512
 kept_of (Demo seed count) = 512
 
 -- which flags are given to the command
 abbrev pub flags_of : Command → Flag → Bool
-flags_of (Solve budget restarts kept form name) = solve_flags form
-flags_of (Trace budget restarts kept name) = no_flags
-flags_of (Cert budget restarts kept binary trim name) = cert_flags binary trim
-flags_of (Check budget restarts kept decide name) = check_flags decide
-flags_of (Script budget restarts kept name) = no_flags
+flags_of (Read verb input) = verb_flags verb
 flags_of (Gen seed vars clauses) = no_flags
 flags_of (Demo seed count) = no_flags
 
 -- the text of the name of the command's input, if it has one
 abbrev pub name_of : Command → Option Text
-name_of (Solve budget restarts kept form name) = option_map (λ s. s.now) name
-name_of (Trace budget restarts kept name) = option_map (λ s. s.now) name
-name_of (Cert budget restarts kept binary trim name) = option_map (λ s. s.now) name
-name_of (Check budget restarts kept decide name) = option_map (λ s. s.now) name
-name_of (Script budget restarts kept name) = option_map (λ s. s.now) name
+name_of (Read verb input) = name_in input
 name_of (Gen seed vars clauses) = None
 name_of (Demo seed count) = None
 

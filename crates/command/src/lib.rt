@@ -8,6 +8,6 @@ mod read;
 mod refused;
 mod values;
 
-pub use command::{Command, SolveForm};
+pub use command::{Command, Input, SolveForm, Verb};
 pub use read::{read_command, words_ask_for_one_command};
 pub use refused::Refused;

@@ -1,12 +1,13 @@
 //! The values that `clap` found for a command.
 ghost use Rattle.std.specs.Prelude.{◌≡◌, ◌≢◌, ◌↔◌, ℕ, Option, IsTrue, option_map, Some, IfSome, IfNone, codes};
 ghost use Rattle.clap.specs.Words.{found_of, rows_of};
-ghost use Rattle.command.specs.Account.{AreDemo, AreGen, AreInput, AreValues, HasNoHyphen, IsFormOf, IsNumberAt, is_set};
-ghost use Rattle.command.specs.Forms.{Text, word_of};
+ghost use Rattle.command.specs.Account.{AreDemo, AreFlagsOf, AreGen, AreInput, AreValues, HasNoHyphen, IsFormOf, IsNumberAt, is_set};
+ghost use Rattle.command.specs.Forms.{Text, name_in, verb_word, word_of};
 ghost use Rattle.command.specs.declared.command.Command.{Command as CommandSpec};
 ghost use Rattle.command.specs.declared.command.SolveForm.{SolveForm as FormSpec};
+ghost use Rattle.command.specs.declared.command.Verb.{Verb as VerbSpec};
 
-use super::command::{Command, SolveForm};
+use super::command::{Command, Input, SolveForm, Verb};
 use super::form::{
     GREATEST_CLAUSES, GREATEST_COUNT, GREATEST_KEPT, GREATEST_RESTARTS, GREATEST_SEED,
     GREATEST_VARS, LEAST_COUNT, LEAST_KEPT, LEAST_VARS,
@@ -33,42 +34,30 @@ fn input_command<'a>(word: &str, found: &ArgMatches<'a>) -> Option<Command<'a>>
     ensures none { word.now ≢ codes "gen" → word.now ≢ codes "demo" → IfNone result ((c : CommandSpec)
         → word_of c ≡ word.now → ¬ AreValues (rows_of (found_of found.now)) c) }
 {
-    let (budget, restarts, kept, name) = input_of(found)?;
+    let input = input_of(found)?;
+    let verb = verb_of(word, found)?;
+    Some(Command::Read { verb, input })
+}
+
+// What the command of this word does with its input, if there is one and its flags are in form.
+fn verb_of(word: &str, found: &ArgMatches<'_>) -> Option<Verb>
+    ensures some { IfSome result (λ v. (verb_word v ≡ word.now) × AreFlagsOf (rows_of (found_of found.now)) v) }
+    ensures none { IfNone result ((v : VerbSpec) → verb_word v ≡ word.now
+        → ¬ AreFlagsOf (rows_of (found_of found.now)) v) }
+{
     match word {
-        "solve" => Some(Command::Solve {
-            budget,
-            restarts,
-            kept,
+        "solve" => Some(Verb::Solve {
             form: form_of(found)?,
-            name,
         }),
-        "trace" => Some(Command::Trace {
-            budget,
-            restarts,
-            kept,
-            name,
-        }),
-        "cert" => Some(Command::Cert {
-            budget,
-            restarts,
-            kept,
+        "trace" => Some(Verb::Trace),
+        "cert" => Some(Verb::Cert {
             binary: is_set(found, "binary"),
             trim: is_set(found, "trim"),
-            name,
         }),
-        "check" => Some(Command::Check {
-            budget,
-            restarts,
-            kept,
+        "check" => Some(Verb::Check {
             decide: is_set(found, "decide"),
-            name,
         }),
-        "script" => Some(Command::Script {
-            budget,
-            restarts,
-            kept,
-            name,
-        }),
+        "script" => Some(Verb::Script),
         _ => None,
     }
 }
@@ -96,11 +85,9 @@ fn is_set(found: &ArgMatches<'_>, name: &str) -> bool
     }
 }
 
-// The budget, the number of restarts, that of rows to keep and the name in the matches of a command, if they are in
-// form.
-fn input_of<'a>(found: &ArgMatches<'a>) -> Option<(u64, u32, u32, Option<&'a str>)>
-    ensures some { IfSome result (λ v.
-        AreInput (rows_of (found_of found.now)) v.0 v.1 v.2 (option_map (λ s. s.now) v.3)) }
+// The input in the matches of a command, if its values are in form.
+fn input_of<'a>(found: &ArgMatches<'a>) -> Option<Input<'a>>
+    ensures some { IfSome result (λ i. AreInput (rows_of (found_of found.now)) i.budget i.restarts i.kept (name_in i)) }
     ensures none { IfNone result ((n k l : ℕ) (g : Option Text) → ¬ AreInput (rows_of (found_of found.now)) n k l g) }
 {
     let budget = number_of(found.get_str("budget")?)?;
@@ -110,7 +97,12 @@ fn input_of<'a>(found: &ArgMatches<'a>) -> Option<(u64, u32, u32, Option<&'a str
     if !has_no_hyphen(name) {
         return None;
     }
-    Some((budget, restarts, kept, name))
+    Some(Input {
+        budget,
+        restarts,
+        kept,
+        name,
+    })
 }
 
 // Whether a name, if there is one, doesn't begin with `-`.

@@ -5,3 +5,4 @@ pub mod JobValues
 pub mod Jobs
 pub mod NoGates
 pub mod Outermost
+pub mod Repeated

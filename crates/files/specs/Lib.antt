@@ -5,3 +5,4 @@ pub mod Jobs
 pub mod Solve
 pub mod Worked
 pub mod WorkedInputs
+pub mod WorkedVerdicts

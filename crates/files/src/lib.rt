@@ -15,4 +15,4 @@ mod worked;
 pub use check::run_check;
 pub use file::run_file;
 pub use job::Job;
-pub use worked::{worked_checks, worked_inputs, worked_jobs};
+pub use worked::{worked_checks, worked_circuits, worked_inputs, worked_jobs, worked_verdicts};

@@ -287,20 +287,21 @@ module _ (words : List Text) (content : Content) (left : Option Text) (output : 
   check_reads WriteFault so h = no_answer 4 refl h
   check_reads NoMemory so h = no_answer 5 refl h
 
--- what is done is finished
-pub done_finished : (e : Ending) → IsDone e → IsFinished e
-done_finished (Done status) done = tt
-done_finished (Refused number line) done = done
-done_finished (Limit quantity line) done = done
-done_finished (CheckLimit quantity) done = absurd done
-done_finished ReadFault done = done
-done_finished WriteFault done = done
-done_finished NoMemory done = done
+-- what is finished is done, where it is no limit of a check formula
+pub finished_done : (e : Ending) → ((quantity : Quantity) → e ≡ CheckLimit quantity → ⊥) → IsFinished e → IsDone e
+finished_done (Done status) none finished = tt
+finished_done (Refused number line) none finished = finished
+finished_done (Limit quantity line) none finished = finished
+finished_done (CheckLimit quantity) none finished = absurd (none quantity refl)
+finished_done ReadFault none finished = finished
+finished_done WriteFault none finished = finished
+finished_done NoMemory none finished = finished
 
-pub done_counted : (fault : Type 0) (e : Ending) (before now : ℕ) → IsCounted fault (IsFinished e) before now
-    → IsCounted fault (IsDone e) before now
-done_counted fault e before now counted = record {
+pub finished_counted : (fault : Type 0) (e : Ending) (before now : ℕ)
+    → ((quantity : Quantity) → e ≡ CheckLimit quantity → ⊥) → IsCounted fault (IsDone e) before now
+    → IsCounted fault (IsFinished e) before now
+finished_counted fault e before now none counted = record {
   later = counted.later;
   rose = counted.rose;
-  kept = λ done. counted.kept (done_finished e done);
+  kept = λ finished. counted.kept (finished_done e none finished);
 }

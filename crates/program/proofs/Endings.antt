@@ -4,7 +4,7 @@ use Rattle.std.specs.Io.KnownBytes.{Keeps}
 use Rattle.trail.specs.State.{Account}
 use Rattle.command.specs.Forms.{HasNoForm, Text}
 use Rattle.solve.specs.declared.answer.Answer.TheVariants.{Sat, Unsat, Unknown}
-use Rattle.solve.specs.Endings.{IsDone}
+use Rattle.files.specs.Checks.{IsFinished}
 use Rattle.files.specs.Solve.{HasAnswer}
 use Rattle.solve.specs.declared.ending.Ending.{Ending}
 use Rattle.solve.specs.declared.ending.Ending.TheVariants.{Done, Refused, Limit, CheckLimit, ReadFault, WriteFault, NoMemory}
@@ -14,7 +14,7 @@ use Rattle.program.specs.Asked.{AskedAny, Task, known_for, task_of}
 use Rattle.program.specs.Asked.Task.{job_task, check_task, script_task, text_task}
 use Rattle.program.specs.Run.{IsErrorLine, IsVerdict, line_of, status_of}
 use Rattle.program.specs.Told.{IsOutput, IsOutputOf}
-use Rattle.program.specs.Work.{Carried, IsAnswered, IsWorkOf}
+use Rattle.program.specs.Work.{Carried, IsAtEnd, IsWorkOf}
 use Rattle.program.proofs.Asking.{AsksFor, asked_sample}
 use Rattle.program.proofs.Checking.{check_error, check_output, check_reads, check_status, check_verdict}
 use Rattle.program.proofs.Sampling.{sample_line, sample_output, sample_status, sample_verdict}
@@ -41,7 +41,7 @@ ending_listed (Limit quantity line) h = (7, omega arith, refl)
 ending_listed (CheckLimit quantity) h = (7, omega arith, refl)
 
 -- an answer's status is that of an ending with an answer
-ended : (f : Ending) → HasAnswer (status_of (Worked f)) → IsDone f
+ended : (f : Ending) → HasAnswer (status_of (Worked f)) → IsFinished f
 ended (Done s) h = tt
 ended (Refused number line) h = no_answer 2 refl h
 ended ReadFault h = no_answer 3 refl h
@@ -50,7 +50,7 @@ ended NoMemory h = no_answer 5 refl h
 ended (Limit quantity line) h = no_answer 6 refl h
 ended (CheckLimit quantity) h = no_answer 6 refl h
 
-pub answered : (e : RunEnding) → HasAnswer (status_of e) → IsAnswered e
+pub answered : (e : RunEnding) → HasAnswer (status_of e) → IsAtEnd e
 answered (Usage text) h = no_answer 7 refl h
 answered (Worked f) h = ended f h
 

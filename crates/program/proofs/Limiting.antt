@@ -1,5 +1,5 @@
 -- With status 6 a limit is that of the input, or of the one circuit that is written.
-use Rattle.std.proofs.Common.{◌≡◌, inl, inr, ℕ, Bool, List, [], Option, refl, subst, arith}
+use Rattle.std.proofs.Common.{◌≡◌, inl, inr, ℕ, Bool, List, [], Option, None, Some, refl, subst, arith}
 use Rattle.std.specs.Prelude.{IfSome}
 use Rattle.std.specs.Io.KnownBytes.{Appends}
 use Rattle.ports.specs.Bytes.{AppendsFront}
@@ -10,7 +10,7 @@ use Rattle.qdimacs.specs.Reads.{Reads}
 use Rattle.qdimacs.specs.Rules.{limit, parsed}
 use Rattle.command.specs.Forms.{Text}
 use Rattle.files.specs.declared.job.Job.{Job}
-use Rattle.files.specs.Checks.{IsBeyond}
+use Rattle.files.specs.Checks.{IsBeyond, IsFinished}
 use Rattle.files.specs.Solve.{HasAnswer}
 use Rattle.solve.specs.declared.answer.Answer.TheVariants.{Unknown}
 use Rattle.files.specs.Inputs.{Format, Says, format_of}
@@ -25,7 +25,7 @@ use Rattle.program.specs.Asked.{OfFormula, Task, known_for}
 use Rattle.program.specs.Asked.Task.{job_task, check_task, script_task, text_task}
 use Rattle.program.specs.Run.{IsLimited, IsLimitedScript, line_of, status_of}
 use Rattle.program.specs.Told.{IsLimitOf, IsOneBeyond}
-use Rattle.program.specs.Work.{Carried, IsWorkOf}
+use Rattle.program.specs.Work.{Carried, IsAtEnd, IsWorkOf}
 use Rattle.program.proofs.Asking.{AsksFor, asked_check, asked_formula, asked_script}
 use Rattle.program.proofs.Checking.{check_status}
 use Rattle.program.proofs.Endings.{each}
@@ -44,19 +44,25 @@ at_limit W has input check ReadFault so is = absurd (omega (arith, is))
 at_limit W has input check WriteFault so is = absurd (omega (arith, is))
 at_limit W has input check NoMemory so is = absurd (omega (arith, is))
 
+-- what is so of a text that is told twice
+some_both : (known : Option Text) (P Q : Text → Type 0) → IfSome known P → IfSome known Q
+    → IfSome known (λ text. P text × Q text)
+some_both None P Q p q = tt
+some_both (Some text) P Q p q = (p, q)
+
 module _ (words : List Text) (content : Content) (left : Option Text) (output : Option Text × Option Text)
     (told : List Account × List Account) (empty : told.0 ≡ []) (faults : ℕ × ℕ)
-    (said : Option Text × Option Text) where
+    (said : Option Text × Option Text) (Sound : Type 0) where
   abbrev Limits : Type 0
-  Limits = IsLimitOf words content output told.1 faults said
+  Limits = IsLimitOf words content left output told.1 faults said Sound
 
   -- the line of an ending is said
   abbrev pub Tells : RunEnding → Type 0
   Tells e = AppendsFront said.0 said.1 (line_of e) × (¬ Rose faults.0 faults.1 → Appends said.0 said.1 (line_of e))
 
-  -- what a task's work comes to, with its line said
+  -- what a task's work comes to, with its line said, and sound where it came to its end
   abbrev Works : Task → Ending → Type 0
-  Works t f = IsWorkOf t (known_for content t) left output told f × Tells (Worked f)
+  Works t f = IsWorkOf t (known_for content t) left output told f × Tells (Worked f) × (IsFinished f → Sound)
 
   -- of a formula's text, or a circuit's
   limited : (task : Task) → AsksFor words task → (format : Format) (terms : Terms) (input : Text)
@@ -73,19 +79,25 @@ module _ (words : List Text) (content : Content) (left : Option Text) (output : 
       → (quantity : Quantity) → Works (check_task decide terms input) (CheckLimit quantity) → Limits
   beyond decide terms input asks quantity so =
       let out = so.0.output_of in
-      let P : Bool → Terms → Text → Type 0 = (λ decide terms text. IsOneBeyond terms output told.1 faults said text) in
-      inr (asked_check words (check_task decide terms input) asks content P
-      (some_map (content input) (λ text. Reads text (parsed out.1.formula)) (P decide terms)
-      (λ text reads. record {
-        formula = out.1.formula;
-        reads = reads;
-        quantity = quantity;
-        text = out.0;
-        beyond = subst (λ before. IsBeyond terms out.1.formula quantity (before, told.1) out.0) empty out.1.is;
-        output = out.2;
-        front = so.1.0;
-        whole = so.1.1;
-      }) out.1.read))
+      let P : Bool → Terms → Text → Type 0 =
+      (λ decide terms text. IsOneBeyond terms left output told.1 faults said text) in
+      inr (
+        asked_check words (check_task decide terms input) asks content P
+            (some_map (content input) (λ text. Reads text (parsed out.1.formula) × (left ≡ Some [])) (P decide terms)
+            (λ text is. record {
+              formula = out.1.formula;
+              reads = is.0;
+              quantity = quantity;
+              text = out.0;
+              beyond = subst (λ before. IsBeyond terms out.1.formula quantity (before, told.1) out.0) empty out.1.is;
+              whole_input = is.1;
+              output = out.2;
+              front = so.1.0;
+              whole = so.1.1;
+            }) (some_both (content input) (λ text. Reads text (parsed out.1.formula)) (λ text. left ≡ Some [])
+            out.1.read (so.0.read tt))),
+        so.2 tt,
+      )
 
   by_task : (t : Task) (f : Ending) → AsksFor words t → Works t f → status_of (Worked f) ≡ 6 → Limits
   by_task (job_task job terms input) f asks so is =
@@ -109,8 +121,10 @@ module _ (words : List Text) (content : Content) (left : Option Text) (output : 
       at_limit (Works (text_task text)) (λ s h. (Unknown, h.0.leaves.0))
       (λ quantity at h. absurd h.0.leaves) (λ quantity h. absurd h.0.leaves) f so is
 
-  pub limit_is : (e : RunEnding) → Carried words content left output told e → Tells e → status_of e ≡ 6 → Limits
-  limit_is e carried = each words content left output told (λ e. Tells e → status_of e ≡ 6 → Limits)
-      (λ text none kept same tells is. absurd (omega (arith, is)))
-      (λ kept same tells is. absurd (omega (arith, is)))
-      (λ t f asks so tells is. by_task t f asks (so, tells) is) e carried
+  pub limit_is : (e : RunEnding) → Carried words content left output told e → Tells e → (IsAtEnd e → Sound)
+      → status_of e ≡ 6 → Limits
+  limit_is e carried = each words content left output told
+      (λ e. Tells e → (IsAtEnd e → Sound) → status_of e ≡ 6 → Limits)
+      (λ text none kept same tells sound is. absurd (omega (arith, is)))
+      (λ kept same tells sound is. absurd (omega (arith, is)))
+      (λ t f asks so tells sound is. by_task t f asks (so, tells, sound) is) e carried

@@ -1,5 +1,8 @@
 -- What is known of the work of a command that makes formulas, by its status.
-use Rattle.std.proofs.Common.{◌≡◌, inl, inr, ℕ, List, [], Option, refl, sym, subst, arith, ◌∙◌}
+use Rattle.std.proofs.Common.{◌≡◌, ◌≢◌, ◌≤◌, inl, inr, ℕ, List, [], Option, refl, sym, subst, arith, ◌∙◌}
+use Rattle.ports.specs.Bytes.{AllFlushed}
+use Rattle.ports.specs.Causes.{IsCounted}
+use Rattle.reading.specs.declared.refusal.Quantity.{Quantity}
 use Rattle.trail.specs.State.{Account}
 use Rattle.command.specs.Forms.{HasNoForm, Text}
 use Rattle.solve.specs.declared.ending.Ending.{Ending}
@@ -9,8 +12,12 @@ use Rattle.program.specs.Asked.{AskedSample}
 use Rattle.program.specs.Asked.Task.{text_task}
 use Rattle.program.specs.Run.{IsErrorLine, IsVerdict, line_of, status_of}
 use Rattle.program.specs.Told.{IsSampleOutput}
-use Rattle.program.specs.Work.{IsMade}
+use Rattle.samples.specs.Samples.{LeavesText}
+use Rattle.solve.specs.Endings.{IsDone}
+use Rattle.files.specs.Checks.{IsFinished}
+use Rattle.program.specs.Work.{IsDue, IsMade}
 use Rattle.program.proofs.Asking.{AsksFor, asked_sample, has_form}
+use Rattle.program.proofs.Checking.{finished_counted, finished_done}
 use Rattle.program.proofs.Solving.{Content, plain_line, plain_verdict}
 
 module _ (text : Text) (output : Option Text × Option Text) (told : List Account × List Account) where
@@ -96,3 +103,26 @@ module _ (words : List Text) (content : Content) (output : Option Text × Option
   sample_line ReadFault so = absurd so.leaves
   sample_line WriteFault so = plain_line words content 4 _ (λ e. omega (arith, e)) (λ e. omega (arith, e)) refl
   sample_line NoMemory so = plain_line words content 5 _ (λ e. omega (arith, e)) (λ e. omega (arith, e)) refl
+
+-- what such a command owes to the outside: it reads nothing
+module _ {D O : Type 0} (read_faults : D → ℕ) (written flushes : O → Option Text) (write_faults : O → ℕ)
+    (is_steady is_roomy : Type 0) (desk : D) (old new : O) (text : Text) (e : Ending)
+    (leaves : LeavesText text (written old) (written new) e) where
+  no_check : (quantity : Quantity) → e ≡ CheckLimit quantity → ⊥
+  no_check quantity is = subst (LeavesText text (written old) (written new)) is leaves
+
+  pub made_due : IsCounted (e ≡ WriteFault) (IsDone e) (write_faults old) (write_faults new)
+      → (is_roomy → e ≢ WriteFault) → (IsDone e → AllFlushed (written new) (flushes old) (flushes new))
+      → IsDue read_faults written flushes write_faults is_steady is_roomy (desk, desk) (old, new) (λ f. e ≡ f)
+      (IsFinished e)
+  made_due counted room flushed = record {
+    read_fault = record {
+      later = let same : read_faults desk ≤ read_faults desk = omega arith in same;
+      rose = λ is. absurd (subst (LeavesText text (written old) (written new)) is leaves);
+      kept = λ _. refl;
+    };
+    write_fault = finished_counted (e ≡ WriteFault) e (write_faults old) (write_faults new) no_check counted;
+    steady = λ steady is. subst (LeavesText text (written old) (written new)) is leaves;
+    room = room;
+    flushed = λ finished. flushed (finished_done e no_check finished);
+  }

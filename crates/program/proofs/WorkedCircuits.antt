@@ -12,12 +12,14 @@ use Rattle.qcir_reader.specs.Rules.{parsed as circuit, refused as circuit_refuse
 use Rattle.qcir_reader.specs.Reads.{Reads as ReadsCircuit}
 use Rattle.qcir_reader.proofs.Complete.{one_outcome}
 use Rattle.qscript.specs.Reads.{done}
-use Rattle.command.specs.Forms.{AsksInput, Flag, HasNoForm, Text, is_qcir, is_qdo, no_flags, solve_flags, cert_flags, check_flags}
+use Rattle.command.specs.Forms.{AsksInput, Flag, HasNoForm, Text, is_qcir, is_qdo, name_in, verb_flags, verb_word}
 use Rattle.command.specs.Forms.Flag.{the_binary, the_decide, the_qcir, the_qdo, the_trim}
 use Rattle.command.specs.Forms.Part.{flag_part}
-use Rattle.command.specs.declared.command.Command.TheVariants.{Cert, Check, Demo, Gen, Script, Solve, Trace}
+use Rattle.command.specs.declared.command.Command.TheVariants.{Demo, Gen, Read}
 use Rattle.command.specs.declared.command.SolveForm.{SolveForm}
 use Rattle.command.specs.declared.command.SolveForm.TheVariants.{Plain, Qcir, Qdo}
+use Rattle.command.specs.declared.command.Verb.{Verb}
+use Rattle.command.specs.declared.command.Verb.TheVariants.{Cert, Check, Script, Solve, Trace}
 use Rattle.command.proofs.AccountLemmas.{one_input}
 use Rattle.solve.specs.declared.answer.Answer.TheVariants.{Sat}
 use Rattle.files.specs.Inputs.{Says}
@@ -168,22 +170,18 @@ second [] = []
 second (w ∷ []) = []
 second (w ∷ v ∷ rest) = v
 
+no_verb : (v : Verb) → verb_word v ≡ codes "solve" → ((f : Flag) → verb_flags v f ≡ both f) → ⊥
+no_verb (Solve form) word flags = no_form form (flags the_qdo) (flags the_qcir)
+no_verb Trace word flags = let no : 114 ≡ 111 = ap (letter 1) word in omega (arith, no)
+no_verb (Cert binary trim) word flags = let no : 101 ≡ 111 = ap (letter 1) word in omega (arith, no)
+no_verb (Check decide) word flags = let no : 104 ≡ 111 = ap (letter 1) word in omega (arith, no)
+no_verb Script word flags = let no : 99 ≡ 111 = ap (letter 1) word in omega (arith, no)
+
 pub none_for_both : HasNoForm both_words
-none_for_both (Solve n k l form name) asks =
-    let same = one_input both_words _ _ n whole k 0 l 512 (solve_flags form) both _ None asks has_both in
-    no_form form (same.4 the_qdo) (same.4 the_qcir)
-none_for_both (Trace n k l name) asks =
-    let same = one_input both_words _ _ n whole k 0 l 512 no_flags both _ None asks has_both in
-    absurd (let no : 114 ≡ 111 = ap (letter 1) same.0 in omega (arith, no))
-none_for_both (Cert n k l binary trim name) asks =
-    let same = one_input both_words _ _ n whole k 0 l 512 (cert_flags binary trim) both _ None asks has_both in
-    absurd (let no : 101 ≡ 111 = ap (letter 1) same.0 in omega (arith, no))
-none_for_both (Check n k l decide name) asks =
-    let same = one_input both_words _ _ n whole k 0 l 512 (check_flags decide) both _ None asks has_both in
-    absurd (let no : 104 ≡ 111 = ap (letter 1) same.0 in omega (arith, no))
-none_for_both (Script n k l name) asks =
-    let same = one_input both_words _ _ n whole k 0 l 512 no_flags both _ None asks has_both in
-    absurd (let no : 99 ≡ 111 = ap (letter 1) same.0 in omega (arith, no))
+none_for_both (Read v i) asks =
+    let same = one_input both_words _ _ i.budget whole i.restarts 0 i.kept 512 (verb_flags v) both (name_in i) None
+    asks has_both in
+    no_verb v same.0 same.4
 none_for_both (Gen seed vars clauses) asks =
     absurd (let no : 111 ≡ 101 = ap (λ words. letter 1 (second words)) asks.0.1 in omega (arith, no))
 none_for_both (Demo seed count) asks =

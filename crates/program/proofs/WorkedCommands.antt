@@ -4,7 +4,9 @@ use Rattle.std.specs.Prelude.{IfSome}
 use Rattle.trail.specs.State.{Account}
 use Rattle.command.specs.Forms.{Text}
 use Rattle.command.specs.declared.command.Command.{Command}
-use Rattle.command.specs.declared.command.Command.TheVariants.{Cert, Check, Demo, Solve, Trace}
+use Rattle.command.specs.declared.command.Command.TheVariants.{Demo, Read}
+use Rattle.command.specs.declared.command.Input.{Input}
+use Rattle.command.specs.declared.command.Verb.TheVariants.{Cert, Check, Solve, Trace}
 use Rattle.command.specs.declared.command.SolveForm.TheVariants.{Plain, Qcir, Qdo}
 use Rattle.samples.specs.Samples.{counts_text}
 use Rattle.files.specs.declared.job.Job.TheVariants.{Cert as CertJob, Qcir as QcirJob, Qdo as QdoJob, Solve as SolveJob, Trace as TraceJob}
@@ -16,20 +18,24 @@ use Rattle.solve.specs.Terms.{Terms, terms_of}
 use Rattle.program.specs.Asked.{IsSample, OfCheckTask, OfFormula, OfScript, RoomForTask, SteadyFor, known_for, solve_job, task_of}
 use Rattle.program.specs.Told.{IsCheckOutput, IsJobOutput, IsOutputOf, IsSampleOutput}
 
+-- an input on terms of its own
+abbrev pub some_input : Input
+some_input = record { budget = 7; restarts = 1; kept = 512; name = None }
+
 abbrev qdo : Command
-qdo = Solve 7 1 512 Qdo None
+qdo = Read (Solve Qdo) some_input
 
 abbrev circuit : Command
-circuit = Solve 7 1 512 Qcir None
+circuit = Read (Solve Qcir) some_input
 
 abbrev trace : Command
-trace = Trace 7 1 512 None
+trace = Read Trace some_input
 
 abbrev cert : Command
-cert = Cert 7 1 512 true false None
+cert = Read (Cert true false) some_input
 
 abbrev check : Command
-check = Check 7 1 512 true None
+check = Read (Check true) some_input
 
 abbrev demo : Command
 demo = Demo 0 1

@@ -24,7 +24,8 @@ use Rattle.session.specs.Scripts.{IsScriptOf}
 use Rattle.qscript.specs.Reads.{Ending as ScriptEnding, done, limit as script_limit, refused as script_refused}
 use Rattle.qscript.proofs.Outcomes.{computed_reading, one_reading}
 use Rattle.command.specs.Forms.{Text}
-use Rattle.command.specs.declared.command.Command.TheVariants.{Cert, Check, Demo, Solve, Trace}
+use Rattle.command.specs.declared.command.Command.TheVariants.{Demo, Read}
+use Rattle.command.specs.declared.command.Verb.TheVariants.{Cert, Check, Solve, Trace}
 use Rattle.command.specs.declared.command.SolveForm.TheVariants.{Qdo}
 use Rattle.solve.specs.declared.answer.Answer.TheVariants.{Sat, Unknown, Unsat}
 use Rattle.solve.specs.declared.ending.Ending.{Ending}
@@ -42,6 +43,7 @@ use Rattle.program.specs.Words.{IsRefusal}
 use Rattle.program.specs.declared.ending.RunEnding.TheVariants.{Usage, Worked}
 use Rattle.program.proofs.Solving.{other_verdict}
 use Rattle.program.proofs.Statuses.{absent}
+use Rattle.program.proofs.WorkedCommands.{some_input}
 use Rattle.program.proofs.WorkedWords.{any_of_script, any_of_solve, asks_gen, asks_script, asks_solve, either_of_script, either_of_solve, first_one, gen, gen_words, is_sample, no_check, no_check_of_script, no_words, of_solve, only_gen, only_script, only_solve, plain, script, script_words, solve, solve_words, to_solve, whole}
 
 -- each input holds this text
@@ -377,8 +379,8 @@ bad_formula (f, reads) =
     absurd (let same : refused 11 1 ≡ parsed f = one_outcome bad_text (refused 11 1) (parsed f) bad_reads reads in cc)
 
 pub all_valid : AllByRecursion (λ c. IsValidFor (task_of c) (holds bare))
-    (Solve 7 1 512 Qdo None ∷ Trace 7 1 512 None ∷ Cert 7 1 512 true true None ∷ Check 7 1 512 true None ∷ gen
-    ∷ Demo 0 1 ∷ [])
+    (Read (Solve Qdo) some_input ∷ Read Trace some_input ∷ Read (Cert true true) some_input
+    ∷ Read (Check true) some_input ∷ gen ∷ Demo 0 1 ∷ [])
 all_valid = (
   (anything_fits, bare_reads),
   (
@@ -391,7 +393,8 @@ all_valid = (
 )
 
 pub none_valid : AllByRecursion (λ c. IsValidFor (task_of c) (holds bad_text) → ⊥)
-    (Solve 7 1 512 Qdo None ∷ Trace 7 1 512 None ∷ Cert 7 1 512 true true None ∷ Check 7 1 512 true None ∷ [])
+    (Read (Solve Qdo) some_input ∷ Read Trace some_input ∷ Read (Cert true true) some_input
+    ∷ Read (Check true) some_input ∷ [])
 none_valid = (bad_formula, (bad_formula, (bad_formula, (bad_formula, tt))))
 
 pub bad_script_invalid : IsValid script_words (holds bad_script) → ⊥

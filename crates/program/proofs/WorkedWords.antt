@@ -1,15 +1,18 @@
 -- Worked values: words that ask for one command each, and what is so of their input.
-use Rattle.std.proofs.Common.{◌≡◌, ◌≢◌, ◌∙◌, ◌-◌, ◌^◌, ◌⊎◌, ℕ, Bool, true, false, List, [], ◌∷◌, codes, decimal, map, ap, Option, Some, None, IsPermutation, inl, ⊎_elim, refl, sym, subst, arith}
+use Rattle.std.proofs.Common.{◌≡◌, ◌≢◌, ◌∙◌, ◌-◌, ◌^◌, ◌⊎◌, ℕ, Bool, true, false, List, [], ◌∷◌, codes, decimal, map, ap, ap₂, Option, Some, None, option_map, IsPermutation, inl, ⊎_elim, refl, sym, subst, arith}
 use Rattle.std.specs.Prelude.{IfSome, slice_index_or}
 use Rattle.std.specs.Fmt.{digits}
 use Rattle.std.proofs.lemmas.List.Sorted.{IsPermutation-refl}
-use Rattle.command.specs.Forms.{AreAlike, Asks, Flag, GivesInput, HasNoForm, Part, Text, flag_parts, is_qcir, is_qdo, no_flags, solve_flags}
+use Rattle.command.specs.Forms.{AreAlike, Asks, Flag, GivesInput, HasNoForm, Part, Text, flag_parts, is_qcir, is_qdo, name_in, no_flags, solve_flags, verb_flags, verb_word}
 use Rattle.command.specs.Forms.Flag.{the_qcir, the_qdo}
 use Rattle.command.specs.Forms.Part.{flag_part}
 use Rattle.command.specs.declared.command.Command.{Command}
-use Rattle.command.specs.declared.command.Command.TheVariants.{Cert, Check, Demo, Gen, Script, Solve, Trace}
+use Rattle.command.specs.declared.command.Command.TheVariants.{Demo, Gen, Read}
+use Rattle.command.specs.declared.command.Input.{Input}
 use Rattle.command.specs.declared.command.SolveForm.{SolveForm}
 use Rattle.command.specs.declared.command.SolveForm.TheVariants.{Plain, Qcir, Qdo}
+use Rattle.command.specs.declared.command.Verb.{Verb}
+use Rattle.command.specs.declared.command.Verb.TheVariants.{Cert, Check, Script, Solve, Trace}
 use Rattle.command.proofs.AccountLemmas.{one_command}
 use Rattle.files.specs.Inputs.{Format}
 use Rattle.files.specs.Inputs.Format.{as_circuit, as_formula}
@@ -36,15 +39,19 @@ whole = 2 ^ 64 - 1
 abbrev pub plain : Terms
 plain = terms_of whole 0 512
 
+-- the input without a name, whose numbers aren't given
+abbrev pub bare_input : Input
+bare_input = record { budget = whole; restarts = 0; kept = 512; name = None }
+
 -- the commands that they ask for
 abbrev pub solve : Command
-solve = Solve whole 0 512 Plain None
+solve = Read (Solve Plain) bare_input
 
 abbrev pub decide_circuit : Command
-decide_circuit = Solve whole 0 512 Qcir None
+decide_circuit = Read (Solve Qcir) bare_input
 
 abbrev pub script : Command
-script = Script whole 0 512 None
+script = Read Script bare_input
 
 abbrev pub gen : Command
 gen = Gen 0 3 1
@@ -116,66 +123,61 @@ is_circuit Plain qcir = absurd (let no : false ≡ true = qcir in cc)
 is_circuit Qdo qcir = absurd (let no : false ≡ true = qcir in cc)
 is_circuit Qcir qcir = refl
 
+no_text : {A : Type 0} (f : A → Text) (o : Option A) → option_map f o ≡ None → o ≡ None
+no_text f None h = refl
+no_text f (Some x) h = absurd (let no : Some (f x) ≡ None = h in cc)
+
+-- an input by its values
+pub is_bare : (i : Input) → i.budget ≡ whole → i.restarts ≡ 0 → i.kept ≡ 512 → name_in i ≡ None → i ≡ bare_input
+is_bare i budget restarts kept name =
+    ap (λ b. record i { budget = b }) budget ∙ ap (λ r. record i { budget = whole; restarts = r }) restarts
+    ∙ ap (λ k. record i { budget = whole; restarts = 0; kept = k }) kept
+    ∙ ap (λ n. record bare_input { name = n }) (no_text (λ s. s.now) i.name name)
+
+-- what is done with it, by its word and its flags
+is_solving : (q : SolveForm) → ((form : SolveForm) → ((f : Flag) → solve_flags form f ≡ solve_flags q f) → form ≡ q)
+    → (v : Verb) → verb_word v ≡ codes "solve" → ((f : Flag) → verb_flags v f ≡ solve_flags q f) → v ≡ Solve q
+is_solving q same (Solve form) word flags = ap (λ r. Solve r) (same form flags)
+is_solving q same Trace word flags = absurd (let n : 114 ≡ 111 = ap (letter 1) word in omega (arith, n))
+is_solving q same (Cert b t) word flags = absurd (let n : 101 ≡ 111 = ap (letter 1) word in omega (arith, n))
+is_solving q same (Check d) word flags = absurd (let n : 104 ≡ 111 = ap (letter 1) word in omega (arith, n))
+is_solving q same Script word flags = absurd (let n : 99 ≡ 111 = ap (letter 1) word in omega (arith, n))
+
+is_scripting : (v : Verb) → verb_word v ≡ codes "script" → v ≡ Script
+is_scripting (Solve form) word = absurd (let n : 111 ≡ 99 = ap (letter 1) word in omega (arith, n))
+is_scripting Trace word = absurd (let n : 114 ≡ 99 = ap (letter 1) word in omega (arith, n))
+is_scripting (Cert b t) word = absurd (let n : 101 ≡ 99 = ap (letter 1) word in omega (arith, n))
+is_scripting (Check d) word = absurd (let n : 104 ≡ 99 = ap (letter 1) word in omega (arith, n))
+is_scripting Script word = refl
+
+not_gen : (v : Verb) → verb_word v ≡ codes "gen" → ⊥
+not_gen (Solve form) word = let n : 111 ≡ 101 = ap (letter 1) word in omega (arith, n)
+not_gen Trace word = let n : 114 ≡ 101 = ap (letter 1) word in omega (arith, n)
+not_gen (Cert b t) word = let n : 99 ≡ 103 = ap (letter 0) word in omega (arith, n)
+not_gen (Check d) word = let n : 104 ≡ 101 = ap (letter 1) word in omega (arith, n)
+not_gen Script word = let n : 99 ≡ 101 = ap (letter 1) word in omega (arith, n)
+
 is_solve : (c : Command) → AreAlike c solve → c ≡ solve
-is_solve (Solve budget restarts kept form None) alike =
-    let first : budget ≡ whole = alike.budgets in
-    let second : restarts ≡ 0 = alike.restarts in
-    let last : kept ≡ 512 = alike.kept in
-    let third : form ≡ Plain = is_plain form (alike.flags the_qdo) (alike.flags the_qcir) in
-    ap (λ b. Solve b restarts kept form None) first ∙ ap (λ r. Solve whole r kept form None) second
-    ∙ ap (λ k. Solve whole 0 k form None) last ∙ ap (λ q. Solve whole 0 512 q None) third
-is_solve (Solve budget restarts kept form (Some name)) alike =
-    absurd (let no : Some name.now ≡ None = alike.names in cc)
-is_solve (Trace budget restarts kept name) alike =
-    absurd (let n : 114 ≡ 111 = ap (letter 1) alike.words in omega (arith, n))
-is_solve (Cert budget restarts kept binary trim name) alike =
-    absurd (let n : 101 ≡ 111 = ap (letter 1) alike.words in omega (arith, n))
-is_solve (Check budget restarts kept decide name) alike =
-    absurd (let n : 104 ≡ 111 = ap (letter 1) alike.words in omega (arith, n))
-is_solve (Script budget restarts kept name) alike =
-    absurd (let n : 99 ≡ 111 = ap (letter 1) alike.words in omega (arith, n))
+is_solve (Read v i) alike =
+    ap₂ (λ w j. Read w j)
+    (is_solving Plain (λ form f. is_plain form (f the_qdo) (f the_qcir)) v alike.words alike.flags)
+    (is_bare i alike.budgets alike.restarts alike.kept alike.names)
 is_solve (Gen seed vars clauses) alike = absurd (let n : 101 ≡ 111 = ap (letter 1) alike.words in omega (arith, n))
 is_solve (Demo seed count) alike = absurd (let n : 101 ≡ 111 = ap (letter 1) alike.words in omega (arith, n))
 
 is_decide_circuit : (c : Command) → AreAlike c decide_circuit → c ≡ decide_circuit
-is_decide_circuit (Solve budget restarts kept form None) alike =
-    let first : budget ≡ whole = alike.budgets in
-    let second : restarts ≡ 0 = alike.restarts in
-    let last : kept ≡ 512 = alike.kept in
-    let third : form ≡ Qcir = is_circuit form (alike.flags the_qcir) in
-    ap (λ b. Solve b restarts kept form None) first ∙ ap (λ r. Solve whole r kept form None) second
-    ∙ ap (λ k. Solve whole 0 k form None) last ∙ ap (λ q. Solve whole 0 512 q None) third
-is_decide_circuit (Solve budget restarts kept form (Some name)) alike =
-    absurd (let no : Some name.now ≡ None = alike.names in cc)
-is_decide_circuit (Trace budget restarts kept name) alike =
-    absurd (let n : 114 ≡ 111 = ap (letter 1) alike.words in omega (arith, n))
-is_decide_circuit (Cert budget restarts kept binary trim name) alike =
-    absurd (let n : 101 ≡ 111 = ap (letter 1) alike.words in omega (arith, n))
-is_decide_circuit (Check budget restarts kept decide name) alike =
-    absurd (let n : 104 ≡ 111 = ap (letter 1) alike.words in omega (arith, n))
-is_decide_circuit (Script budget restarts kept name) alike =
-    absurd (let n : 99 ≡ 111 = ap (letter 1) alike.words in omega (arith, n))
+is_decide_circuit (Read v i) alike =
+    ap₂ (λ w j. Read w j) (is_solving Qcir (λ form f. is_circuit form (f the_qcir)) v alike.words alike.flags)
+    (is_bare i alike.budgets alike.restarts alike.kept alike.names)
 is_decide_circuit (Gen seed vars clauses) alike =
     absurd (let n : 101 ≡ 111 = ap (letter 1) alike.words in omega (arith, n))
 is_decide_circuit (Demo seed count) alike =
     absurd (let n : 101 ≡ 111 = ap (letter 1) alike.words in omega (arith, n))
 
 is_script : (c : Command) → AreAlike c script → c ≡ script
-is_script (Script budget restarts kept None) alike =
-    let first : budget ≡ whole = alike.budgets in
-    let second : restarts ≡ 0 = alike.restarts in
-    let last : kept ≡ 512 = alike.kept in
-    ap (λ b. Script b restarts kept None) first ∙ ap (λ r. Script whole r kept None) second
-    ∙ ap (λ k. Script whole 0 k None) last
-is_script (Script budget restarts kept (Some name)) alike = absurd (let no : Some name.now ≡ None = alike.names in cc)
-is_script (Solve budget restarts kept form name) alike =
-    absurd (let n : 111 ≡ 99 = ap (letter 1) alike.words in omega (arith, n))
-is_script (Trace budget restarts kept name) alike =
-    absurd (let n : 114 ≡ 99 = ap (letter 1) alike.words in omega (arith, n))
-is_script (Cert budget restarts kept binary trim name) alike =
-    absurd (let n : 101 ≡ 99 = ap (letter 1) alike.words in omega (arith, n))
-is_script (Check budget restarts kept decide name) alike =
-    absurd (let n : 104 ≡ 99 = ap (letter 1) alike.words in omega (arith, n))
+is_script (Read v i) alike =
+    ap₂ (λ w j. Read w j) (is_scripting v alike.words)
+    (is_bare i alike.budgets alike.restarts alike.kept alike.names)
 is_script (Gen seed vars clauses) alike = absurd (let n : 101 ≡ 99 = ap (letter 1) alike.words in omega (arith, n))
 is_script (Demo seed count) alike = absurd (let n : 101 ≡ 99 = ap (letter 1) alike.words in omega (arith, n))
 
@@ -186,16 +188,7 @@ is_gen (Gen seed vars clauses) alike =
     let second : vars ≡ 3 = cc in
     let third : clauses ≡ 1 = cc in
     ap (λ x. Gen x vars clauses) first ∙ ap (λ x. Gen 0 x clauses) second ∙ ap (λ x. Gen 0 3 x) third
-is_gen (Solve budget restarts kept form name) alike =
-    absurd (let n : 111 ≡ 101 = ap (letter 1) alike.words in omega (arith, n))
-is_gen (Trace budget restarts kept name) alike =
-    absurd (let n : 114 ≡ 101 = ap (letter 1) alike.words in omega (arith, n))
-is_gen (Cert budget restarts kept binary trim name) alike =
-    absurd (let n : 99 ≡ 103 = ap (letter 0) alike.words in omega (arith, n))
-is_gen (Check budget restarts kept decide name) alike =
-    absurd (let n : 104 ≡ 101 = ap (letter 1) alike.words in omega (arith, n))
-is_gen (Script budget restarts kept name) alike =
-    absurd (let n : 99 ≡ 101 = ap (letter 1) alike.words in omega (arith, n))
+is_gen (Read v i) alike = absurd (not_gen v alike.words)
 is_gen (Demo seed count) alike = absurd (let n : 100 ≡ 103 = ap (letter 0) alike.words in omega (arith, n))
 
 pub only_solve : (c : Command) → Asks solve_words c → c ≡ solve
@@ -212,16 +205,8 @@ only_gen c asks = is_gen c (one_command gen_words c gen asks asks_gen)
 
 -- no words ask for none
 pub no_words : HasNoForm []
-no_words (Solve budget restarts kept form name) asks =
-    absurd (let no : ◌≡◌ {A = List Text} [] (asks.0 ∷ codes "solve" ∷ asks.1) = asks.2 in cc)
-no_words (Trace budget restarts kept name) asks =
-    absurd (let no : ◌≡◌ {A = List Text} [] (asks.0 ∷ codes "trace" ∷ asks.1) = asks.2 in cc)
-no_words (Cert budget restarts kept binary trim name) asks =
-    absurd (let no : ◌≡◌ {A = List Text} [] (asks.0 ∷ codes "cert" ∷ asks.1) = asks.2 in cc)
-no_words (Check budget restarts kept decide name) asks =
-    absurd (let no : ◌≡◌ {A = List Text} [] (asks.0 ∷ codes "check" ∷ asks.1) = asks.2 in cc)
-no_words (Script budget restarts kept name) asks =
-    absurd (let no : ◌≡◌ {A = List Text} [] (asks.0 ∷ codes "script" ∷ asks.1) = asks.2 in cc)
+no_words (Read v i) asks =
+    absurd (let no : ◌≡◌ {A = List Text} [] (asks.0 ∷ verb_word v ∷ asks.1) = asks.2 in cc)
 no_words (Gen seed vars clauses) asks = absurd (let no : ◌≡◌ {A = List Text} [] (asks.0.0 ∷ codes "gen"
     ∷ map decimal (seed ∷ vars ∷ clauses ∷ [])) = asks.0.1 in cc)
 no_words (Demo seed count) asks = absurd (let no : ◌≡◌ {A = List Text} [] (asks.0.0 ∷ codes "demo"

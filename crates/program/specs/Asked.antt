@@ -1,10 +1,13 @@
 -- What the words of a run ask for.
-use Rattle.std.specs.Prelude.{ℕ, ◌⊎◌, ⊤, Bool, List, Option, None, Some, IfSome, codes, length, option_map}
-use Rattle.command.specs.Forms.{Asks, Text}
+use Rattle.std.specs.Prelude.{ℕ, ◌⊎◌, ⊤, Bool, List, Option, None, Some, IfSome, codes, length}
+use Rattle.command.specs.Forms.{Asks, Text, name_in}
 use Rattle.command.specs.declared.command.Command.{Command}
 use Rattle.command.specs.declared.command.SolveForm.{SolveForm}
 use Rattle.command.specs.declared.command.SolveForm.TheVariants.{Plain, Qdo, Qcir}
-use Rattle.command.specs.declared.command.Command.TheVariants.{Solve, Trace, Cert, Check, Script, Gen, Demo}
+use Rattle.command.specs.declared.command.Command.TheVariants.{Read, Gen, Demo}
+use Rattle.command.specs.declared.command.Input.{Input}
+use Rattle.command.specs.declared.command.Verb.{Verb}
+use Rattle.command.specs.declared.command.Verb.TheVariants.{Solve, Trace, Cert, Check, Script}
 use Rattle.generate.specs.Made.{made}
 use Rattle.qdimacs_out.specs.Texts.{formula_text}
 use Rattle.samples.specs.Samples.{counts_text}
@@ -36,18 +39,21 @@ pub data Task : Type 0 where
   script_task : Terms → (input : Text) → Task
   text_task : Text → Task
 
+-- The terms of a command's searches.
+abbrev pub terms_in : Input → Terms
+terms_in input = terms_of input.budget input.restarts input.kept
+
+-- What a command comes to that reads an input.
+abbrev pub task_on : Verb → Input → Task
+task_on (Solve form) input = job_task (solve_job form) (terms_in input) (input_name (name_in input))
+task_on Trace input = job_task TraceJob (terms_in input) (input_name (name_in input))
+task_on (Cert binary trim) input = job_task (CertJob binary trim) (terms_in input) (input_name (name_in input))
+task_on (Check decide) input = check_task decide (terms_in input) (input_name (name_in input))
+task_on Script input = script_task (terms_in input) (input_name (name_in input))
+
 -- What each command comes to.
 abbrev pub task_of : Command → Task
-task_of (Solve budget restarts kept form name) =
-    job_task (solve_job form) (terms_of budget restarts kept) (input_name (option_map (λ s. s.now) name))
-task_of (Trace budget restarts kept name) =
-    job_task TraceJob (terms_of budget restarts kept) (input_name (option_map (λ s. s.now) name))
-task_of (Cert budget restarts kept binary trim name) =
-    job_task (CertJob binary trim) (terms_of budget restarts kept) (input_name (option_map (λ s. s.now) name))
-task_of (Check budget restarts kept decide name) =
-    check_task decide (terms_of budget restarts kept) (input_name (option_map (λ s. s.now) name))
-task_of (Script budget restarts kept name) =
-    script_task (terms_of budget restarts kept) (input_name (option_map (λ s. s.now) name))
+task_of (Read verb input) = task_on verb input
 task_of (Gen seed vars clauses) = text_task (formula_text (made seed vars clauses))
 task_of (Demo seed count) = text_task (counts_text seed count)
 

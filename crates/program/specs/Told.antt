@@ -1,7 +1,7 @@
 -- What a run writes, and what it tells of searches that stopped.
-use Rattle.std.specs.Prelude.{◌≡◌, ◌≢◌, ◌⊎◌, ℕ, Bool, List, [], ◌∷◌, Contains, Option, IfSome}
+use Rattle.std.specs.Prelude.{◌≡◌, ◌≢◌, ◌⊎◌, ℕ, Bool, List, [], ◌∷◌, Contains, Option, Some, IfSome}
 use Rattle.std.specs.Io.KnownBytes.{Appends, Keeps}
-use Rattle.ports.specs.Bytes.{AppendsFront}
+use Rattle.ports.specs.Bytes.{AllFlushed, AppendsFront}
 use Rattle.ports.specs.Causes.{Rose}
 use Rattle.qdimacs.specs.Reads.{Reads}
 use Rattle.qdimacs.specs.Rules.{parsed}
@@ -57,25 +57,35 @@ pub record IsCheckOutput (decide : Bool) (terms : Terms) (known : Option Text) (
       × IsCheckOn decide terms known ([], stops) outcome text × AppendsFront written.0 written.1 text
   pub nothing : Contains (2 ∷ 3 ∷ 5 ∷ []) status → Keeps written.0 written.1 × (stops ≡ [])
 
--- The check formula of one circuit goes beyond a limit. That circuit is on the output, and the line that names what
--- there is too much of on the error output, `said`: a front of it, and all of it where no fault was counted there.
-pub record IsOneBeyond (terms : Terms) (written : Option Text × Option Text) (stops : List Account) (faults : ℕ × ℕ)
-    (said : Option Text × Option Text) (input : Text) : Type 0 where
+-- No fault was counted at the input and at the output, and all that stands on the output is flushed: `reads` and
+-- `writes` are the counts of faults before and after, `flushed` what was flushed before and is.
+pub record IsSound (reads writes : ℕ × ℕ) (written : Option Text) (flushed : Option Text × Option Text) : Type 0 where
+  pub no_read_fault : reads.1 ≡ reads.0
+  pub no_write_fault : writes.1 ≡ writes.0
+  pub all_flushed : AllFlushed written flushed.0 flushed.1
+
+-- The check formula of one circuit goes beyond a limit. Nothing is left of the input. That circuit is on the output,
+-- and the line that names what there is too much of on the error output, `said`: a front of it, and all of it where no
+-- fault was counted there.
+pub record IsOneBeyond (terms : Terms) (left : Option Text) (written : Option Text × Option Text)
+    (stops : List Account) (faults : ℕ × ℕ) (said : Option Text × Option Text) (input : Text) : Type 0 where
   pub formula : Formula
   pub reads : Reads input (parsed formula)
   pub quantity : Quantity
   pub text : Text
   pub beyond : IsBeyond terms formula quantity ([], stops) text
+  pub whole_input : left ≡ Some []
   pub output : Appends written.0 written.1 text
   pub front : AppendsFront said.0 said.1 (check_limit_line quantity)
   pub whole : ¬ Rose faults.0 faults.1 → Appends said.0 said.1 (check_limit_line quantity)
 
--- What goes beyond a limit with status 6: the input, or the check formula of one circuit.
-abbrev pub IsLimitOf : (words : List Text) (content : Text → Option Text) (written : Option Text × Option Text)
-    (stops : List Account) (faults : ℕ × ℕ) (said : Option Text × Option Text) → Type 0
-IsLimitOf words content written stops faults said =
+-- What goes beyond a limit with status 6: the input, or the check formula of one circuit, and then `Sound` is so.
+abbrev pub IsLimitOf : (words : List Text) (content : Text → Option Text) (left : Option Text)
+    (written : Option Text × Option Text) (stops : List Account) (faults : ℕ × ℕ)
+    (said : Option Text × Option Text) (Sound : Type 0) → Type 0
+IsLimitOf words content left written stops faults said Sound =
     AskedEither words content (λ format terms text. IsLimited format text) (λ terms text. IsLimitedScript text)
-    ⊎ AskedCheck words content (λ decide terms text. IsOneBeyond terms written stops faults said text)
+    ⊎ (AskedCheck words content (λ decide terms text. IsOneBeyond terms left written stops faults said text) × Sound)
 
 -- What a script leaves on the output: allowed replies to commands, all of them, or after a write fault a front of them.
 -- The commands are the first of the text's script, by the version that its header names, if the text is told, and all

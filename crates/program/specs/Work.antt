@@ -71,10 +71,10 @@ Carried words content left output told (Worked e) =
     ((e ≡ NoMemory) × Keeps output.0 output.1 × (told.1 ≡ told.0))
     ⊎ ((c : Command) × Asks words c × IsWorkOf (task_of c) (known_for content (task_of c)) left output told e)
 
--- the answer is written
-abbrev pub IsAnswered : RunEnding → Type 0
-IsAnswered (Usage text) = ⊥
-IsAnswered (Worked e) = IsDone e
+-- the work came to its end: an answer is written, or the circuit whose check formula goes beyond a limit
+abbrev pub IsAtEnd : RunEnding → Type 0
+IsAtEnd (Usage text) = ⊥
+IsAtEnd (Worked e) = IsFinished e
 
 -- What an ending owes to the outside, by what desks and sinks of these types tell. It is a read fault or a write fault
 -- only where one was counted, never from a desk that is steady for the input or into a sink that has room for what is

@@ -3,22 +3,20 @@ ghost use Rattle.std.specs.Prelude.{◌≡◌, ◌≢◌, [], ◌∷◌, List, m
 ghost use Rattle.std.specs.Io.KnownBytes.{Appends};
 ghost use Rattle.ports.specs.Bytes.{AllFlushed, AppendsFront};
 ghost use Rattle.ports.specs.Causes.{IsCounted, Rose};
-ghost use Rattle.command.specs.Forms.{Asks, Text};
-ghost use Rattle.files.specs.Checks.{RoomForCheck};
+ghost use Rattle.command.specs.Forms.{Asks, Text, name_in};
+ghost use Rattle.files.specs.Checks.{IsFinished, RoomForCheck};
 ghost use Rattle.files.specs.Jobs.{RoomForJob};
 ghost use Rattle.session.specs.Scripts.{RoomForReplies};
-ghost use Rattle.solve.specs.Endings.{IsDone};
 ghost use Rattle.files.specs.Solve.{HasAnswer};
-ghost use Rattle.solve.specs.Terms.{terms_of};
 ghost use Rattle.engine.specs.Keeping.{MayBeKept};
-ghost use Rattle.program.specs.Asked.{AskedAny, RoomForOutput, RoomForTask, SteadyFor, SteadyForInput, input_name as name_of_input, known_for, solve_job, task_of};
+ghost use Rattle.program.specs.Asked.{AskedAny, RoomForOutput, RoomForTask, SteadyFor, SteadyForInput, input_name as name_of_input, known_for, solve_job, task_of, task_on, terms_in};
 ghost use Rattle.program.specs.Complete.{IsComplete, IsValid};
 ghost use Rattle.program.specs.Run.{IsErrorOutput, IsVerdict, line_of, status_of};
-ghost use Rattle.program.specs.Told.{IsLimitOf, IsOutput};
-ghost use Rattle.program.specs.Work.{Carried, IsAnswered, IsCheckWork, IsDue, IsJobWork, IsReplied, IsWorkOf};
+ghost use Rattle.program.specs.Told.{IsLimitOf, IsOutput, IsSound};
+ghost use Rattle.program.specs.Work.{Carried, IsAtEnd, IsCheckWork, IsDue, IsJobWork, IsReplied, IsWorkOf};
 
 use crate::ending::RunEnding;
-use command::{Command, Refused, SolveForm, read_command};
+use command::{Command, Input, Refused, SolveForm, Verb, read_command};
 use files::{Job, run_check, run_file};
 use ports::{Desk, Sink};
 use samples::{count_samples, write_sample};
@@ -89,10 +87,11 @@ pub fn run<D: Desk, O: Sink, E: Sink>(
     ensures flushed { HasAnswer result → AllFlushed (O.written out.new) (O.flushed out.old) (O.flushed out.new) }
 
     // with status 6 the input goes beyond a limit, or the check formula of the circuit that is written, which the error
-    // output names
-    ensures limit { result ≡ 6 → IsLimitOf (map string_bytes words.now) (D.content desk.old)
+    // output names; then the whole input was read, no fault came, and the circuit is flushed
+    ensures limit { result ≡ 6 → IsLimitOf (map string_bytes words.now) (D.content desk.old) (D.left desk.new)
         (O.written out.old, O.written out.new) stops.new.items (E.faults err.old, E.faults err.new)
-        (E.written err.old, E.written err.new) }
+        (E.written err.old, E.written err.new) (IsSound (D.faults desk.old, D.faults desk.new)
+        (O.faults out.old, O.faults out.new) (O.written out.new) (O.flushed out.old, O.flushed out.new)) }
 
     // what stands on the error output
     ensures error { IsErrorOutput (map string_bytes words.now) (D.content desk.old) (E.faults err.old, E.faults err.new)
@@ -126,7 +125,7 @@ fn ending_of<D: Desk, O: Sink>(
     ensures outside { IsDue D.faults O.written O.flushed O.faults
         (SteadyForInput (map string_bytes words.now) (D.steady desk.old))
         (RoomForOutput (map string_bytes words.now) (D.content desk.old) (O.has_room out.old))
-        (desk.old, desk.new) (out.old, out.new) (λ e. result ≡ RunEnding.Worked e) (IsAnswered result) }
+        (desk.old, desk.new) (out.old, out.new) (λ e. result ≡ RunEnding.Worked e) (IsAtEnd result) }
 {
     match read_command(alloc, words) {
         Ok(command) => RunEnding::Worked(carry_out(alloc, command, desk, out, stops)),
@@ -150,81 +149,45 @@ fn carry_out<D: Desk, O: Sink>(
         (SteadyFor (task_of command.entry) (D.steady desk.old))
         (RoomForTask (task_of command.entry) (known_for (D.content desk.old) (task_of command.entry))
         (O.has_room out.old))
-        (desk.old, desk.new) (out.old, out.new) (λ e. result ≡ e) (IsDone result) }
+        (desk.old, desk.new) (out.old, out.new) (λ e. result ≡ e) (IsFinished result) }
 {
     match command {
-        Command::Solve {
-            budget,
-            restarts,
-            kept,
-            form,
-            name,
-        } => work(
-            alloc,
-            job_of(form),
-            budget,
-            restarts,
-            kept,
-            name,
-            desk,
-            out,
-            stops,
-        ),
-        Command::Trace {
-            budget,
-            restarts,
-            kept,
-            name,
-        } => work(
-            alloc,
-            Job::Trace,
-            budget,
-            restarts,
-            kept,
-            name,
-            desk,
-            out,
-            stops,
-        ),
-        Command::Cert {
-            budget,
-            restarts,
-            kept,
-            binary,
-            trim,
-            name,
-        } => work(
-            alloc,
-            Job::Cert { binary, trim },
-            budget,
-            restarts,
-            kept,
-            name,
-            desk,
-            out,
-            stops,
-        ),
-        Command::Check {
-            budget,
-            restarts,
-            kept,
-            decide,
-            name,
-        } => check(
-            alloc, budget, restarts, kept, decide, name, desk, out, stops,
-        ),
-        Command::Script {
-            budget,
-            restarts,
-            kept,
-            name,
-        } => reply(alloc, budget, restarts, kept, name, desk, out, stops),
+        Command::Read { verb, input } => carry_out_on(alloc, verb, &input, desk, out, stops),
         Command::Gen {
             seed,
             vars,
             clauses,
         } => write_sample(alloc, seed, vars, clauses, out),
         Command::Demo { seed, count } => count_samples(alloc, seed, count, out),
+    }
+}
+
+// Carries a command out that reads an input.
+fn carry_out_on<D: Desk, O: Sink>(
+    alloc: Global,
+    verb: Verb,
+    input: &Input<'_>,
+    desk: &mut D,
+    out: &mut O,
+    stops: &mut Vec<Stopped>,
+) -> Ending
+    requires { MayBeKept input.now.kept }
+    ensures work { IsWorkOf (task_on verb input.now) (known_for (D.content desk.old) (task_on verb input.now))
+        (D.left desk.new) (O.written out.old, O.written out.new) (stops.old.items, stops.new.items) result }
+    ensures outside { IsDue D.faults O.written O.flushed O.faults
+        (SteadyFor (task_on verb input.now) (D.steady desk.old))
+        (RoomForTask (task_on verb input.now) (known_for (D.content desk.old) (task_on verb input.now))
+        (O.has_room out.old))
+        (desk.old, desk.new) (out.old, out.new) (λ e. result ≡ e) (IsFinished result) }
+{
+    match verb {
+        Verb::Solve { form } => work(alloc, job_of(form), input, desk, out, stops),
+        Verb::Trace => work(alloc, Job::Trace, input, desk, out, stops),
+        Verb::Cert { binary, trim } => {
+            work(alloc, Job::Cert { binary, trim }, input, desk, out, stops)
+        }
+        Verb::Check { decide } => check(alloc, decide, input, desk, out, stops),
+        Verb::Script => reply(alloc, input, desk, out, stops),
     }
 }
 
@@ -243,83 +206,99 @@ fn job_of(form: SolveForm) -> Job
 fn work<D: Desk, O: Sink>(
     alloc: Global,
     job: Job,
-    budget: u64,
-    restarts: u32,
-    kept: u32,
-    name: Option<&str>,
+    input: &Input<'_>,
     desk: &mut D,
     out: &mut O,
     stops: &mut Vec<Stopped>,
 ) -> Ending
-    requires { MayBeKept kept }
-    ensures solved { IsJobWork job (terms_of budget restarts kept)
-        (D.content desk.old (name_of_input (option_map (λ s. s.now) name.entry)))
+    requires { MayBeKept input.now.kept }
+    ensures solved { IsJobWork job (terms_in input.now)
+        (D.content desk.old (name_of_input (name_in input.now)))
         (D.left desk.new) (O.written out.old, O.written out.new) (stops.old.items, stops.new.items) result }
     ensures outside { IsDue D.faults O.written O.flushed O.faults
-        (D.steady desk.old (name_of_input (option_map (λ s. s.now) name.entry)))
-        (RoomForJob job (terms_of budget restarts kept)
-        (D.content desk.old (name_of_input (option_map (λ s. s.now) name.entry))) (O.has_room out.old))
-        (desk.old, desk.new) (out.old, out.new) (λ e. result ≡ e) (IsDone result) }
+        (D.steady desk.old (name_of_input (name_in input.now)))
+        (RoomForJob job (terms_in input.now)
+        (D.content desk.old (name_of_input (name_in input.now))) (O.has_room out.old))
+        (desk.old, desk.new) (out.old, out.new) (λ e. result ≡ e) (IsFinished result) }
 {
-    if desk.choose(input_name(name)).is_err() {
+    if desk.choose(input_name(input.name)).is_err() {
         return Ending::ReadFault;
     }
-    run_file(alloc, job, budget, restarts, kept, desk, out, stops)
+    run_file(
+        alloc,
+        job,
+        input.budget,
+        input.restarts,
+        input.kept,
+        desk,
+        out,
+        stops,
+    )
 }
 
 // Checks the certificate of the formula of an input.
 fn check<D: Desk, O: Sink>(
     alloc: Global,
-    budget: u64,
-    restarts: u32,
-    kept: u32,
     decide: bool,
-    name: Option<&str>,
+    input: &Input<'_>,
     desk: &mut D,
     out: &mut O,
     stops: &mut Vec<Stopped>,
 ) -> Ending
-    requires { MayBeKept kept }
-    ensures checked { IsCheckWork decide (terms_of budget restarts kept)
-        (D.content desk.old (name_of_input (option_map (λ s. s.now) name.entry)))
+    requires { MayBeKept input.now.kept }
+    ensures checked { IsCheckWork decide (terms_in input.now)
+        (D.content desk.old (name_of_input (name_in input.now)))
         (D.left desk.new) (O.written out.old, O.written out.new) (stops.old.items, stops.new.items) result }
     ensures outside { IsDue D.faults O.written O.flushed O.faults
-        (D.steady desk.old (name_of_input (option_map (λ s. s.now) name.entry)))
-        (RoomForCheck decide (terms_of budget restarts kept)
-        (D.content desk.old (name_of_input (option_map (λ s. s.now) name.entry))) (O.has_room out.old))
-        (desk.old, desk.new) (out.old, out.new) (λ e. result ≡ e) (IsDone result) }
+        (D.steady desk.old (name_of_input (name_in input.now)))
+        (RoomForCheck decide (terms_in input.now)
+        (D.content desk.old (name_of_input (name_in input.now))) (O.has_room out.old))
+        (desk.old, desk.new) (out.old, out.new) (λ e. result ≡ e) (IsFinished result) }
 {
-    if desk.choose(input_name(name)).is_err() {
+    if desk.choose(input_name(input.name)).is_err() {
         return Ending::ReadFault;
     }
-    run_check(alloc, budget, restarts, kept, decide, desk, out, stops)
+    run_check(
+        alloc,
+        input.budget,
+        input.restarts,
+        input.kept,
+        decide,
+        desk,
+        out,
+        stops,
+    )
 }
 
 // Replies to the script of an input.
 fn reply<D: Desk, O: Sink>(
     alloc: Global,
-    budget: u64,
-    restarts: u32,
-    kept: u32,
-    name: Option<&str>,
+    input: &Input<'_>,
     desk: &mut D,
     out: &mut O,
     stops: &mut Vec<Stopped>,
 ) -> Ending
-    requires { MayBeKept kept }
-    ensures replied { IsReplied (terms_of budget restarts kept) (D.content desk.old
-        (name_of_input (option_map (λ s. s.now) name.entry)))
+    requires { MayBeKept input.now.kept }
+    ensures replied { IsReplied (terms_in input.now) (D.content desk.old (name_of_input (name_in input.now)))
         (D.left desk.new) (O.written out.old, O.written out.new) (stops.old.items, stops.new.items) result }
     ensures outside { IsDue D.faults O.written O.flushed O.faults
-        (D.steady desk.old (name_of_input (option_map (λ s. s.now) name.entry)))
-        (RoomForReplies (terms_of budget restarts kept)
-        (D.content desk.old (name_of_input (option_map (λ s. s.now) name.entry))) (O.has_room out.old))
-        (desk.old, desk.new) (out.old, out.new) (λ e. result ≡ e) (IsDone result) }
+        (D.steady desk.old (name_of_input (name_in input.now)))
+        (RoomForReplies (terms_in input.now)
+        (D.content desk.old (name_of_input (name_in input.now))) (O.has_room out.old))
+        (desk.old, desk.new) (out.old, out.new) (λ e. result ≡ e) (IsFinished result) }
 {
-    if desk.choose(input_name(name)).is_err() {
+    if desk.choose(input_name(input.name)).is_err() {
         return Ending::ReadFault;
     }
-    run_script(alloc, budget, restarts, kept, desk, out, stops)
+    run_script(
+        alloc,
+        input.budget,
+        input.restarts,
+        input.kept,
+        desk,
+        out,
+        stops,
+    )
 }
 
 // The name of the input: without one it is standard input.

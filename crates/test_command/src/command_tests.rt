@@ -1,5 +1,5 @@
 //! Command lines, and what the refusals of others say.
-use command::{Command, Refused, SolveForm, read_command};
+use command::{Command, Input, Refused, SolveForm, Verb, read_command};
 use std::alloc::Global;
 use std::test::Fail;
 
@@ -10,64 +10,45 @@ const GREATEST: u64 = u64::MAX;
 
 const KEPT: u32 = 512;
 
-fn solve(budget: u64, form: SolveForm, name: Option<&str>) -> Want<'_> {
-    Ok(Command::Solve {
-        budget,
-        restarts: 0,
-        kept: KEPT,
-        form,
-        name,
+// The command on the input of this name, with a budget alone.
+fn read(verb: Verb, budget: u64, name: Option<&str>) -> Want<'_> {
+    Ok(Command::Read {
+        verb,
+        input: Input {
+            budget,
+            restarts: 0,
+            kept: KEPT,
+            name,
+        },
     })
+}
+
+fn solve(budget: u64, form: SolveForm, name: Option<&str>) -> Want<'_> {
+    read(Verb::Solve { form }, budget, name)
 }
 
 fn trace(budget: u64, name: Option<&str>) -> Want<'_> {
-    Ok(Command::Trace {
-        budget,
-        restarts: 0,
-        kept: KEPT,
-        name,
-    })
+    read(Verb::Trace, budget, name)
 }
 
 fn cert(budget: u64, name: Option<&str>) -> Want<'_> {
-    Ok(Command::Cert {
-        budget,
-        restarts: 0,
-        kept: KEPT,
+    let verb = Verb::Cert {
         binary: false,
         trim: false,
-        name,
-    })
+    };
+    read(verb, budget, name)
 }
 
 fn cert_in_form(binary: bool, trim: bool, name: Option<&str>) -> Want<'_> {
-    Ok(Command::Cert {
-        budget: GREATEST,
-        restarts: 0,
-        kept: KEPT,
-        binary,
-        trim,
-        name,
-    })
+    read(Verb::Cert { binary, trim }, GREATEST, name)
 }
 
-fn check(budget: u64, restarts: u32, decide: bool, name: Option<&str>) -> Want<'_> {
-    Ok(Command::Check {
-        budget,
-        restarts,
-        kept: KEPT,
-        decide,
-        name,
-    })
+fn check(budget: u64, decide: bool, name: Option<&str>) -> Want<'_> {
+    read(Verb::Check { decide }, budget, name)
 }
 
 fn script(budget: u64, name: Option<&str>) -> Want<'_> {
-    Ok(Command::Script {
-        budget,
-        restarts: 0,
-        kept: KEPT,
-        name,
-    })
+    read(Verb::Script, budget, name)
 }
 
 fn generated<'a>(seed: u32, vars: u32, clauses: u32) -> Want<'a> {
@@ -226,16 +207,13 @@ fn forms_of_circuits_are_read(rt: HostRuntime) -> Result<(), Fail> {
 #[test]
 fn checks_are_read(rt: HostRuntime) -> Result<(), Fail> {
     for (line, want) in [
-        ("qbf check", check(GREATEST, 0, false, None)),
-        ("qbf check f", check(GREATEST, 0, false, Some("f"))),
-        ("qbf check --decide", check(GREATEST, 0, true, None)),
-        (
-            "qbf check f --decide --budget 7",
-            check(7, 0, true, Some("f")),
-        ),
+        ("qbf check", check(GREATEST, false, None)),
+        ("qbf check f", check(GREATEST, false, Some("f"))),
+        ("qbf check --decide", check(GREATEST, true, None)),
+        ("qbf check f --decide --budget 7", check(7, true, Some("f"))),
         (
             "qbf check --restarts=2 --budget=7 f",
-            check(7, 2, false, Some("f")),
+            with_numbers(check(7, false, Some("f")), 2, KEPT),
         ),
         ("qbf check --decide --decide", Err("multiple times")),
         (
@@ -260,50 +238,16 @@ fn checks_are_read(rt: HostRuntime) -> Result<(), Fail> {
     Ok(())
 }
 
-// The same with this many restarts in the place of none, and with this many rows to keep.
+// The command with this many restarts and rows to keep.
 fn with_numbers(want: Want<'_>, restarts: u32, kept: u32) -> Want<'_> {
     match want {
-        Ok(
-            Command::Solve {
-                budget,
-                form,
-                name,
-                ..
+        Ok(Command::Read { verb, input }) => Ok(Command::Read {
+            verb,
+            input: Input {
+                restarts,
+                kept,
+                ..input
             },
-        ) => Ok(Command::Solve {
-            budget,
-            restarts,
-            kept,
-            form,
-            name,
-        }),
-        Ok(Command::Trace { budget, name, .. }) => Ok(Command::Trace {
-            budget,
-            restarts,
-            kept,
-            name,
-        }),
-        Ok(
-            Command::Cert {
-                budget,
-                binary,
-                trim,
-                name,
-                ..
-            },
-        ) => Ok(Command::Cert {
-            budget,
-            restarts,
-            kept,
-            binary,
-            trim,
-            name,
-        }),
-        Ok(Command::Script { budget, name, .. }) => Ok(Command::Script {
-            budget,
-            restarts,
-            kept,
-            name,
         }),
         other => other,
     }

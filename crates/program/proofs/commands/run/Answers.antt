@@ -109,6 +109,11 @@ returns-clause-limit g c is = limit_is (map string_bytes c.args.words.now) (g.D.
     (g.O.Sink.written c.args.out.now, g.O.Sink.written c.ending_of-ending.new.out)
     (c.args.stops.now.items, c.ending_of-ending.new.stops.items) c.requires
     (g.E.Sink.faults c.args.err.now, g.E.Sink.faults c.report.new.err)
-    (g.E.Sink.written c.args.err.now, g.E.Sink.written c.report.new.err) c.ending_of-ending.result
+    (g.E.Sink.written c.args.err.now, g.E.Sink.written c.report.new.err) _ c.ending_of-ending.result
     c.ending_of-ending.ensures.carried (c.report.ensures.front, c.report.ensures.whole)
+    (λ ended. record {
+      no_read_fault = c.ending_of-ending.ensures.outside.read_fault.kept ended;
+      no_write_fault = c.ending_of-ending.ensures.outside.write_fault.kept ended;
+      all_flushed = c.ending_of-ending.ensures.outside.flushed ended;
+    })
     (sym c.report.ensures.status ∙ is)
