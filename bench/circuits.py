@@ -18,7 +18,7 @@ import time
 from pathlib import Path
 
 sys.dont_write_bytecode = True
-sys.path.insert(0, str(Path(__file__).resolve().parent.parent / "checks"))
+sys.path.insert(0, str(Path(__file__).resolve().parent.parent / "checks" / "deep"))
 from quantified import Circuit, formula
 
 SCOPES, VARIABLES, INPUTS, RUNS = 4, 250, 3, 5

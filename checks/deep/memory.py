@@ -20,12 +20,13 @@ import sys
 from pathlib import Path
 
 sys.dont_write_bytecode = True
-sys.path.insert(0, str(Path(__file__).resolve().parent.parent / "bench"))
+TOP = Path(__file__).resolve().parents[2]
+sys.path[:0] = [str(TOP / "bench"), str(TOP / "checks" / "gate")]
 import families
 from refusing import Refusing, compiler
 from rules import FALSE, TRUE, Circuit, Fault, Formula, Trace, check_circuit, check_trace, lines_of, require, whole
 
-EXAMPLES = Path(__file__).resolve().parent.parent / "examples"
+EXAMPLES = TOP / "examples"
 EACH = 3000
 # As few requests of the program as no row makes; fewer mean that the library has not seen them.
 FEWEST = 5

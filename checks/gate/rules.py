@@ -1,4 +1,4 @@
-"""Readers of the program's texts, and the rules of circuits and traces: what checks/circuits.py checks by.
+"""Readers of the program's texts, and the rules of circuits and traces: what checks/gate/circuits.py checks by.
 
 The texts are read as strictly as docs/CERTIFICATES.md has them, formulas by docs/QDIMACS.md. The rules of circuits and
 traces are those of docs/CIRCUITS.md and docs/CALCULUS.md, over a formula, under assumptions of its first scope.

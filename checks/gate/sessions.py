@@ -1,8 +1,9 @@
-"""Drawn scripts, and a plain model of what their commands come to: what checks/circuits.py checks `qbf script` by.
+"""Drawn scripts, and a plain model of what their commands come to: what checks/gate/circuits.py checks `qbf script` by.
 
 The model keeps scopes, frames of clauses with the variables that leave with them, groups of clauses, assumptions and
 the last verdict, by docs/SCRIPTS.md and docs/FRAMES.md.
-Truth is found by the whole table of the open formula; traces and circuits are checked by the rules of checks/rules.py.
+Truth is found by the whole table of the open formula; traces and circuits are checked by the rules of
+checks/gate/rules.py.
 """
 
 import random

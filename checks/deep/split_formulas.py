@@ -1,5 +1,5 @@
 #!/usr/bin/env python3
-"""Draws the formulas of checks/split.sh, and checks what was joined.
+"""Draws the formulas of checks/deep/split.sh, and checks what was joined.
 
 usage: split_formulas.py write FOLDER    writes FOLDER/drawn_0.qdimacs and so on, each with words for tools/split
        split_formulas.py check FOLDER    checks FOLDER/drawn_0.joined and so on, which tools/join wrote
@@ -10,7 +10,8 @@ from collections import Counter
 from pathlib import Path
 
 sys.dont_write_bytecode = True
-sys.path.insert(0, str(Path(__file__).resolve().parent.parent / "bench"))
+TOP = Path(__file__).resolve().parents[2]
+sys.path[:0] = [str(TOP / "bench"), str(TOP / "checks" / "gate")]
 import families
 from rules import Circuit, Fault, Formula, check_circuit, require, whole
 

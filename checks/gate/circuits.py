@@ -40,7 +40,7 @@ from functools import partial
 from pathlib import Path
 
 sys.dont_write_bytecode = True
-sys.path.insert(0, str(Path(__file__).resolve().parent.parent / "bench"))
+sys.path.insert(0, str(Path(__file__).resolve().parents[2] / "bench"))
 import families
 from rules import ABC, DEPQBF, FALSE, TRUE, Circuit, Fault, Formula, Trace
 from rules import ask_abc, ask_depqbf, check_circuit, check_trace, in_ascii, require, run, run_bytes, text_of, whole

@@ -9,8 +9,8 @@ other white space, a long or strange word, the tail of another text. It is given
 `cert` or `script`, now and then with few steps, with restarts, with few rows to keep, or to a command for the other
 kind of text.
 
-What is to come of it is found by the readers of checks/reading.py. A malformed text ends with its status, its line on
-the error output, and on the output nothing, or the replies to the commands in front of the malformed line. Any other
+What is to come of it is found by the readers of checks/gate/reading.py. A malformed text ends with its status, its line
+on the error output, and on the output nothing, or the replies to the commands in front of the malformed line. Any other
 ends with the status and the output of its answer, and an empty error output: its truth is that of the whole table,
 where this is small; its trace is checked step by step, its circuit by simulation; and UNKNOWN comes only with few
 steps. No run is ended by a signal, and none takes a second of the processor.
@@ -37,7 +37,7 @@ from reading import Refused, read_formula, read_script
 from rules import SECONDS, TRUE, FALSE, Circuit, Trace, check_circuit, check_trace, require, text_of, whole
 from sessions import check_replies, drawn_commands, grouped_commands, leaving_commands, script_of
 
-EXAMPLES = Path(__file__).resolve().parent.parent / "examples"
+EXAMPLES = Path(__file__).resolve().parents[2] / "examples"
 JOBS = ("solve", "solve --qdo", "trace", "cert")
 # The most variables of a whole table, and inputs of a simulated circuit.
 TABLE = 12

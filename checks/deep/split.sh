@@ -1,8 +1,9 @@
 #!/bin/sh
 # Splits formulas by tools/split, runs the parts by tools/part, and compares what tools/join makes of them with the
 # built program's own answer to the whole: 100 drawn formulas, and parts that answer UNKNOWN, fail or aren't there.
-# Usage: checks/split.sh PROGRAM. Prints a line a case, and ends with status 1 if one failed. JOBS in the environment
-# is how many parts run at a time, 1 without it. Without GNU parallel its case is left out, and a line says so.
+# Usage: checks/deep/split.sh PROGRAM. Prints a line a case, and ends with status 1 if one failed. JOBS in the
+# environment is how many parts run at a time, 1 without it. Without GNU parallel its case is left out, and a line says
+# so.
 set -u
 
 if [ $# -ne 1 ]; then
@@ -11,7 +12,7 @@ if [ $# -ne 1 ]; then
 fi
 program=$1
 checks=$(dirname "$0")
-tools=$checks/../tools
+tools=$checks/../../tools
 folder=$(mktemp -d) || exit 2
 trap 'rm -rf "$folder"' EXIT
 failures=0
@@ -56,8 +57,8 @@ for words in "$folder"/drawn_*.words; do
     report "drawn_${formula##*_}" $? $whole
 done
 
-# What was joined is the whole's verdict, or a circuit that wins the whole by the rules of checks/rules.py. Formulas of
-# each kind were drawn.
+# What was joined is the whole's verdict, or a circuit that wins the whole by the rules of checks/gate/rules.py.
+# Formulas of each kind were drawn.
 python3 -B "$checks/split_formulas.py" check "$folder" || failures=1
 
 # Formulas by hand: existential, true with 1 false alone; existential, false in all parts; universal, true in all.

@@ -1,5 +1,5 @@
-// Refuses what the program that it is loaded into asks of the C library, as the environment says: checks/memory.py and
-// checks/devices.py load it by LD_PRELOAD. Only calls from the program's own code are counted, from 1, and none of the
+// Refuses what the program that it is loaded into asks of the C library, as the environment says: checks/deep/memory.py and
+// checks/deep/devices.py load it by LD_PRELOAD. Only calls from the program's own code are counted, from 1, and none of the
 // loader's and of the C library's own. It is for the GNU C library.
 //
 //   REFUSE_MEMORY=N  the Nth request for memory is refused; with REFUSE_ALL=1 all behind it too

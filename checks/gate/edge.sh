@@ -1,6 +1,6 @@
 #!/bin/sh
 # Runs the built program where no proof can speak: what the system makes of words, files, pipes and full devices.
-# Usage: checks/edge.sh PROGRAM. Prints a line a case, and ends with status 1 if one failed.
+# Usage: checks/gate/edge.sh PROGRAM. Prints a line a case, and ends with status 1 if one failed.
 set -u
 
 if [ $# -ne 1 ]; then
@@ -8,7 +8,7 @@ if [ $# -ne 1 ]; then
     exit 2
 fi
 program=$1
-example=$(dirname "$0")/../crates/qbf_cli/stdin
+example=$(dirname "$0")/../../crates/qbf_cli/stdin
 folder=$(mktemp -d) || exit 2
 trap 'rm -rf "$folder"' EXIT
 failures=0

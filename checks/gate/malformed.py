@@ -1,11 +1,12 @@
 #!/usr/bin/env python3
-"""Runs the built program on malformed texts and words: the rows of checks/malformed.txt, whose head says what a row is.
+"""Runs the built program on malformed texts and words: the rows of checks/gate/malformed.txt, whose head says what a
+row is.
 
 usage: malformed.py PROGRAM
 
 Each run is to end with the row's status, with its output and its error output, to the letter. What a row says of a text
-is also compared with the readers of checks/reading.py, which stand on nothing of the program. Prints a line a case and
-ends with status 1 if one failed.
+is also compared with the readers of checks/gate/reading.py, which stand on nothing of the program. Prints a line a case
+and ends with status 1 if one failed.
 """
 
 import re

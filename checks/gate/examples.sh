@@ -3,7 +3,7 @@
 # docs/SCRIPTS.md and docs/CERTIFICATES.md. The files of examples/ are to be those of the pages, letter by letter, and
 # docs/LIBRARY.md quotes the crate example_engine. docs/ARCHITECTURE.md has the groups and crates of crates.txt. The
 # clauses that pages name in brackets are to be in the contracts.
-# Usage: checks/examples.sh PROGRAM. Prints a line a case, and ends with status 1 if one failed.
+# Usage: checks/gate/examples.sh PROGRAM. Prints a line a case, and ends with status 1 if one failed.
 # This needs Python 3. What needs abc (berkeley-abc), iverilog or aigtoaig is left out without it, and a line says so.
 set -u
 
@@ -12,7 +12,7 @@ if [ $# -ne 1 ]; then
     exit 2
 fi
 program=$(realpath "$1") || exit 2
-root=$(cd "$(dirname "$0")/.." && pwd) || exit 2
+root=$(cd "$(dirname "$0")/../.." && pwd) || exit 2
 examples=$root/examples
 tools=$root/tools
 folder=$(mktemp -d) || exit 2
@@ -226,7 +226,7 @@ fi
 # docs/ARCHITECTURE.md: the groups and the crates of crates.txt, in that order.
 report architecture_crates \
     "$(sed -n 's/^### \([a-z]*\)$/# \1/p; s/^| `\([a-z_]*\)` | .*/\1/p' "$root/docs/ARCHITECTURE.md")" \
-    "$(sed -n 's/^# \([a-z]*\): .*/# \1/p; s/^\([a-z_]*\):.*/\1/p' "$root/crates.txt")"
+    "$(sed -n 's/^# \([a-z]*\): .*/# \1/p; s/^\([a-z_]*\)\( staticlib\)\{0,1\}:.*/\1/p' "$root/crates.txt")"
 
 # docs/LIBRARY.md: the crate's definitions and its code, and the line in crates.txt.
 page_file library_answers docs/LIBRARY.md 'What is an answer' crates/example_engine/specs/Answers.antt
@@ -238,8 +238,8 @@ report library_line "$(block docs/LIBRARY.md 'The line in crates.txt' 1)" \
 
 # The clauses that pages name, and one that isn't there.
 printf '**`program`**: a crate\n\n- `run`: a claim [`steady`, `planted`].\n' > "$folder/planted.md"
-report clauses "$(python3 "$root/checks/clauses.py" 2>&1)" '' \
-    "$(python3 "$root/checks/clauses.py" "$folder/planted.md")" 'planted.md: no clause planted of run'
+report clauses "$(python3 "$root/checks/gate/clauses.py" 2>&1)" '' \
+    "$(python3 "$root/checks/gate/clauses.py" "$folder/planted.md")" 'planted.md: no clause planted of run'
 
 # The version: that of README, of the manual page and of the first heading of CHANGELOG are one.
 version=$(sed -n 's/^## \([0-9.]*\) .*/\1/p' "$root/CHANGELOG.md" | head -1)

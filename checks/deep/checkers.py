@@ -4,10 +4,10 @@
 usage: checkers.py PROGRAM
 
 PROGRAM is a built qbf, such as bin/qbf. Of 300 formulas that are drawn at random from fixed seeds, of those that
-checks/circuits.py has by hand and of small members of the families of bench/families.py, `PROGRAM cert` is asked for
-the circuit and `PROGRAM check` for the formula that says that the circuit loses. This is to be the one that is written
-here by docs/CHECKING.md from the circuit's text, line by line; `PROGRAM check --decide` is to write WINS; and every
-solver is to find the formula unsatisfiable.
+checks/gate/circuits.py has by hand and of small members of the families of bench/families.py, `PROGRAM cert` is asked
+for the circuit and `PROGRAM check` for the formula that says that the circuit loses. This is to be the one that is
+written here by docs/CHECKING.md from the circuit's text, line by line; `PROGRAM check --decide` is to write WINS; and
+every solver is to find the formula unsatisfiable.
 
 Then one literal of the circuit is negated, of a gate or of an output, and the formula is written here for that
 circuit. Every solver is to find it satisfiable exactly where the circuit loses, by simulation of all inputs.
@@ -29,7 +29,8 @@ from functools import partial
 from pathlib import Path
 
 sys.dont_write_bytecode = True
-sys.path.insert(0, str(Path(__file__).resolve().parent.parent / "bench"))
+TOP = Path(__file__).resolve().parents[2]
+sys.path[:0] = [str(TOP / "bench"), str(TOP / "checks" / "gate")]
 import families
 from circuits import at_random, by_hand, of_families, with_gates, with_guesses
 from rules import FALSE, TRUE, Circuit, Fault, Formula, lines_of, matrix_table, require, run, text_of, whole

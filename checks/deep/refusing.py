@@ -1,19 +1,21 @@
-"""Runs a program with some of what it asks of the system refused, by checks/refuse.c."""
+"""Runs a program with some of what it asks of the system refused, by checks/deep/refuse.c."""
 
 import os
 import shutil
 import subprocess
+import sys
 import tempfile
 from concurrent.futures import ThreadPoolExecutor
 from pathlib import Path
 
+sys.path.insert(0, str(Path(__file__).resolve().parents[1] / "gate"))
 from rules import SECONDS, Fault
 
 SOURCE = Path(__file__).with_name("refuse.c")
 
 
 class Run:
-    """How a run ended: status, output, error output, and what was refused in it, as letters of checks/refuse.c."""
+    """How a run ended: status, output, error output, and what was refused in it, as letters of checks/deep/refuse.c."""
 
     def __init__(self, status, out, err, told):
         self.status = status
@@ -38,7 +40,8 @@ class Refusing:
             raise Fault(f"{SOURCE.name} isn't compiled: {done.stderr}")
 
     def run(self, words, text, **asked):
-        """Runs the program with these words on a text. What is asked stands in checks/refuse.c, as refuse_read=3."""
+        """Runs the program with these words on a text. What is asked is a request of checks/deep/refuse.c, as
+        refuse_read=3."""
         told, telling = os.pipe()
         environment = {name.upper(): str(value) for name, value in asked.items()}
         environment.update(LD_PRELOAD=str(self.library), TOLD=str(telling))

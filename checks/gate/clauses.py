@@ -15,7 +15,7 @@ import sys
 from collections import defaultdict
 from pathlib import Path
 
-ROOT = Path(__file__).resolve().parent.parent
+ROOT = Path(__file__).resolve().parents[2]
 PIECE = re.compile(
     r"^(?:pub )?(?:impl|struct|enum|trait)\b(?:<[^{]*?>)? (?:.* for )?(?P<type>\w+)|\bfn (?P<fn>\w+)"
     r"|\b(?:ensures|requires) (?:(?P<clause>\w+) )?\{",

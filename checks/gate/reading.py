@@ -1,6 +1,6 @@
 """Readers of the texts that the program is given, malformed ones too, by docs/QDIMACS.md, docs/SCRIPTS.md and
-docs/QCIR.md: what a text says, or where and why it is refused. checks/malformed.py and checks/mutants.py compare the
-program with them.
+docs/QCIR.md: what a text says, or where and why it is refused. checks/gate/malformed.py and checks/gate/mutants.py
+compare the program with them.
 
 They stand on nothing of the program. What they leave out are the limits of literals and of bytes, which only long texts
 pass.
