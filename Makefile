@@ -1,5 +1,6 @@
-# `make` proves and builds the program and leaves it as bin/qbf; `make test` runs every check; `make install` puts the
-# program, its page of the manual and its completion in bash below PREFIX, and `make uninstall` takes them away.
+# `make` proves and builds the program and leaves it as bin/qbf; `make test` runs every check. `make web` builds the page
+# of web/, and `make serve` serves it to this machine. `make install` puts the program, its page of the manual and its
+# completion in bash below PREFIX, and `make uninstall` takes them away.
 SOURCES := crates.txt $(shell find crates -name out -prune -o -type f -print)
 
 PREFIX ?= /usr/local
@@ -7,7 +8,7 @@ INSTALLED := $(DESTDIR)$(PREFIX)
 PAGE := $(INSTALLED)/share/man/man1/qbf.1
 COMPLETION := $(INSTALLED)/share/bash-completion/completions/qbf
 
-.PHONY: all test install uninstall clean
+.PHONY: all test web serve install uninstall clean
 
 all: bin/qbf
 
@@ -20,6 +21,17 @@ bin/qbf: $(SOURCES)
 test:
 	.ci/run
 
+# The page: its module, which is proved on the way, and the examples beside it. It is served to this machine alone.
+web: web/qbf.wasm
+	python3 web/gather.py
+
+web/qbf.wasm: $(SOURCES) $(wildcard web/module/*)
+	web/module/build.sh web/qbf.wasm
+
+serve: web
+	@echo "http://127.0.0.1:8765/"
+	python3 -m http.server --bind 127.0.0.1 --directory web 8765
+
 install: bin/qbf
 	install -D -m 755 bin/qbf "$(INSTALLED)/bin/qbf"
 	install -D -m 644 man/qbf.1 "$(PAGE)"
@@ -29,4 +41,4 @@ uninstall:
 	rm -f "$(INSTALLED)/bin/qbf" "$(PAGE)" "$(COMPLETION)"
 
 clean:
-	rm -rf bin out crates/*/out
+	rm -rf bin out crates/*/out web/qbf.wasm web/examples

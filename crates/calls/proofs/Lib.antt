@@ -1,0 +1,4 @@
+pub mod Marked
+pub mod Ran
+pub mod Splitting
+pub mod WorkedLines

@@ -1,0 +1,4 @@
+pub mod Lent
+pub mod Words
+pub mod Calls
+pub mod Worked
