@@ -1,0 +1,9 @@
+pub mod Buffers
+pub mod Codes
+pub mod Formulas
+pub mod Made
+pub mod Owned
+pub mod Read
+pub mod Solved
+pub mod Told
+pub mod Worked
