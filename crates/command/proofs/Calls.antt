@@ -190,7 +190,7 @@ default_between the_budget = (omega arith, omega arith)
 default_between the_restarts = (omega arith, omega arith)
 default_between the_keep = (omega arith, omega arith)
 
-pub setting_between : (s : Setting) (parts : List Part) (n : ℕ) → GivesSetting s parts n
+setting_between : (s : Setting) (parts : List Part) (n : ℕ) → GivesSetting s parts n
     → IsBetween (least_of s) (greatest_of s) n
 setting_between s parts n (inl h) = subst (IsBetween (least_of s) (greatest_of s)) (sym h.1) (default_between s)
 setting_between s parts n (inr h) = h.0

@@ -26,8 +26,8 @@ use std::marker::Model;
 use steps::Steps;
 use versions::Version;
 
-// How many long learned rows that are no reasons a solve may keep at first.
-const FIRST_KEPT: u32 = 512;
+/// How many long learned rows that are no reasons a solve may keep at first.
+pub const FIRST_KEPT: u32 = 512;
 
 /// An incremental solver: commands build a formula, `solve` decides it under the assumptions, and what it learns stays
 /// for the next call.

@@ -25,7 +25,7 @@ mod variables;
 mod verdict;
 mod worked;
 
-pub use engine::Engine;
+pub use engine::{Engine, FIRST_KEPT};
 pub use group_core::CoreRefusal;
 pub use refusal::AskRefusal;
 pub use search::SolveStop;

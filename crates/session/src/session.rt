@@ -10,7 +10,7 @@ ghost use Rattle.engine.specs.Keeping.{MayBeKept, first_kept};
 
 use crate::lines::{write_groups, write_refused, write_relevant, write_value};
 use crate::reply::{Reply, SessionStop};
-use engine::{CoreRefusal, Engine};
+use engine::{CoreRefusal, Engine, FIRST_KEPT};
 use frames::FrameRefusal;
 use memory::NoMemory;
 use ports::{Failed, Sink};
@@ -19,9 +19,6 @@ use solve::{Answer, decide, write_answer, write_circuit, write_core};
 use std::alloc::Global;
 use std::marker::Model;
 use versions::Version;
-
-// How many long learned rows a solve may keep at first.
-const FIRST_KEPT: u32 = 512;
 
 /// An engine that takes the commands of a script and writes their replies. Contracts see the terms of each solve and
 /// the engine.
