@@ -1,6 +1,6 @@
 # `make` proves and builds the program and leaves it as bin/qbf. `make lib` does the same with the library for C, as
-# lib/libqbf.a and lib/libqbf.so, and with lib/libqbf_qdpll.a, DepQBF's names over it. `make web` builds the page of web/,
-# and `make serve` serves it to this machine. `make test` runs every check.
+# lib/libqbf.a and lib/libqbf.so, and with lib/libqbf_qdpll.a, DepQBF's names over it. `make web` builds the page of
+# web/, and `make serve` serves it to this machine. `make test` runs every check.
 #
 # `make install` puts the program, its page of the manual and its completion in bash below PREFIX, and the libraries,
 # their headers and what pkg-config reads; `make install-program` and `make install-lib` install the one or the other.
@@ -27,8 +27,10 @@ CFLAGS ?= -O2
 
 all: bin/qbf
 
-# The program is built only once it is proved; it is then run on the example, a true formula.
+# The program is built only once it is proved, its libraries side by side. Then it is run on the example, a true
+# formula.
 bin/qbf: $(SOURCES)
+	tools/prove qbf_cli
 	cd crates/qbf_cli && { rt run -- solve < stdin > /dev/null; test $$? -eq 10; }
 	mkdir -p bin
 	cp crates/qbf_cli/out/qbf_cli bin/qbf
@@ -37,6 +39,7 @@ lib: lib/libqbf.a lib/libqbf.so lib/libqbf_qdpll.a
 
 # The archive of the proved crate, and the kit's three allocation functions, by which it calls malloc, realloc and free.
 lib/libqbf.a: $(SOURCES)
+	tools/prove qbf_c
 	cd crates/qbf_c && rt lib
 	tools/archive crates/qbf_c/out/libqbf_c.a $@
 

@@ -44,6 +44,7 @@ END
 chmod +x "$room/kit/toolchain/bin/clang"
 crate=$here/../../crates/qbf_web
 rm -f "$crate/out/libqbf_web.a"
+"$here/../../tools/prove" qbf_web
 (cd "$crate" && "$room/kit/bin/rt" lib)
 
 # Both machines have pointers of 64 bits, and the same sizes and alignments. So no other line differs than those that
