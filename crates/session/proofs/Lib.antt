@@ -10,3 +10,4 @@ pub mod Telling
 pub mod Working
 pub mod WorkingAsks
 pub mod WorkingQuestions
+pub mod WorkingOutcomes

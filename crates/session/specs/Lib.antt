@@ -6,5 +6,6 @@ pub mod Steps
 pub mod Worked
 pub mod WorkedAsks
 pub mod WorkedGroups
+pub mod WorkedOutcomes
 pub mod WorkedScripts
 pub mod WorkedSteps

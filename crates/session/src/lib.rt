@@ -15,5 +15,6 @@ pub use reply::{Reply, SessionStop};
 pub use script::run_script;
 pub use session::Session;
 pub use worked::{
-    worked_changes, worked_groups, worked_questions, worked_replies, worked_scripts, worked_steps,
+    worked_changes, worked_groups, worked_outcomes, worked_questions, worked_replies,
+    worked_scripts, worked_steps,
 };

@@ -2,6 +2,7 @@
 ghost use Rattle.session.specs.Worked.{WorkedReplies};
 ghost use Rattle.session.specs.WorkedAsks.{WorkedChanges, WorkedQuestions};
 ghost use Rattle.session.specs.WorkedGroups.{WorkedGroups};
+ghost use Rattle.session.specs.WorkedOutcomes.{WorkedOutcomes};
 ghost use Rattle.session.specs.WorkedScripts.{WorkedScripts};
 ghost use Rattle.session.specs.WorkedSteps.{WorkedSteps};
 
@@ -33,4 +34,9 @@ pub fn worked_questions()
 /// Which reply comes to the commands of groups, and what they leave.
 pub fn worked_groups()
     ensures { WorkedGroups }
+{}
+
+/// What a step leaves on a sink and in an engine.
+pub fn worked_outcomes()
+    ensures { WorkedOutcomes }
 {}

@@ -1,21 +1,30 @@
 use Rattle.std.proofs.Common.{◌≡◌, ◌≤◌, List, [], ◌∷◌, length, codes, None, Some, refl, ap, subst, arith, ⊎_elim}
 use Rattle.qscript.specs.declared.command.Command.{Command}
 use Rattle.qscript.specs.declared.command.Command.TheVariants.{Pop, Push}
-use Rattle.qscript.specs.Reads.{done}
-use Rattle.solve.specs.declared.ending.Ending.TheVariants.{Done, NoMemory, ReadFault, Refused, WriteFault}
+use Rattle.qscript.specs.Reads.{done, limit, refused}
+use Rattle.solve.specs.declared.ending.Ending.TheVariants.{Done, Limit, NoMemory, ReadFault, Refused, WriteFault}
 use Rattle.versions.specs.declared.version.Version.TheVariants.{One, Two}
-use Rattle.qscript.proofs.Outcomes.{computed_reading}
+use Rattle.reading.specs.declared.refusal.Quantity.TheVariants.{Bytes}
+use Rattle.qscript.proofs.Outcomes.{computed_reading, one_reading}
 use Rattle.session.specs.Replies.{Leads}
 use Rattle.solve.specs.Outputs.{says}
 use Rattle.solve.specs.Standing.{start}
 use Rattle.solve.specs.Terms.{terms_of}
 use Rattle.solve.specs.Worked.{at_thirty_six}
-use Rattle.session.specs.WorkedScripts.{one_refusal, two_refusals}
+use Rattle.session.specs.WorkedScripts.{one_refusal, sat_line, two_pops, two_refusals}
 use Rattle.session.proofs.ScriptValues.{at_start, both_read, first_ones, first_version, front_head, leads_one, leads_two, none_told, read_length, reply_length, some_reply, too_short, whole_length}
 use Rattle.session.proofs.worked.worked_scripts.Goals as goal
 
 pub returns : goal.returns
 returns c = record {
+  malformed = ([], (Some One, computed_reading sat_line));
+  malformed_done = λ h. absurd (let no : refused 31 2 ≡ done =
+      (one_reading sat_line (Some One) h.2.0 [] h.1 (refused 31 2) done (computed_reading sat_line) h.2.1).2 in cc);
+  other_status = λ h. absurd (let no : 10 ≡ 0 = h.0 in omega (arith, no));
+  no_limit = λ h. absurd (let no : done ≡ limit 4 =
+      (one_reading two_pops (Some One) h.2.0 (Pop ∷ Pop ∷ []) h.1 done (limit 4) both_read h.2.1).2 in cc);
+  of_bytes = λ text quantity line h. h.0;
+  of_no_check = λ text quantity h. h;
   none_first = (Pop ∷ Pop ∷ [], done, both_read);
   one_first = (Pop ∷ [], done, both_read);
   both_first = ([], done, both_read);
@@ -49,6 +58,9 @@ returns c = record {
       (λ e. absurd (let f : Done 0 ≡ WriteFault = e in cc)) in omega (arith, n));
   one_alone_refused = λ h. absurd (let n : 11 ≡ 22 = read_length (terms_of 0 0 512) one_refusal [] (Refused 31 4) h tt
       (λ e. absurd (let f : Refused 31 4 ≡ WriteFault = e in cc)) in omega (arith, n));
+  one_alone_limit = λ h. absurd (let n : 11 ≡ 22 = read_length (terms_of 0 0 512) one_refusal [] (Limit Bytes 4) h tt
+      (λ e. absurd (let f : Limit Bytes 4 ≡ WriteFault = e in cc)) in omega (arith, n));
+  ends_checked = λ h. h.ends;
   one = record {
     version = Some One;
     commands = Pop ∷ [];
