@@ -11,6 +11,7 @@ pub mod Statuses
 pub mod WorkedChecks
 mod WorkedCircuits
 pub mod WorkedCommands
+mod WorkedFaults
 mod WorkedLimits
 mod WorkedOutputs
 pub mod WorkedVerdicts

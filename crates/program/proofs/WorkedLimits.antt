@@ -1,11 +1,22 @@
 -- Worked values: check formulas that go beyond a limit or for which the budget is short, and statuses of valid inputs.
-use Rattle.std.proofs.Common.{◌≡◌, ◌∙◌, ◌<◌, ◌-◌, ◌^◌, ℕ, zero, suc, Bool, true, false, List, [], ◌∷◌, codes, take, Option, Some, None, unwrap_or, inl, inr, ⊎_elim, refl, sym, ap, ap₂, subst, arith, lit<}
+use Rattle.std.proofs.Common.{◌≡◌, ◌∙◌, ◌<◌, ◌≤◌, ◌-◌, ◌^◌, length, ℕ, zero, suc, Bool, true, false, List, [], ◌∷◌, codes, take, Contains, IfSome, Option, Some, None, unwrap_or, inl, inr, ⊎_elim, refl, sym, ap, ap₂, subst, arith, lit<}
 use Rattle.std.proofs.lemmas.Bool.{false≢true}
+use Rattle.std.specs.Prelude.{flat_map, replicate}
+use Rattle.std.specs.List.{AllByRecursion}
+use Rattle.std.proofs.lemmas.List.{length-replicate}
 use Rattle.std.specs.Fmt.{digits}
+use Rattle.std.specs.Io.KnownBytes.{Keeps}
 use Rattle.prefix.specs.declared.quant.Quant.{Quant}
 use Rattle.prefix.specs.declared.quant.Quant.TheVariants.{Exists, Forall}
 use Rattle.steps.specs.Counter.{step_limit}
-use Rattle.truth.specs.Limits.{max_vars}
+use Rattle.trail.specs.State.{Account}
+use Rattle.truth.specs.Formed.{IsClauseOver}
+use Rattle.truth.specs.Limits.{max_clauses, max_vars}
+use Rattle.calculus.specs.Rows.{Row}
+use Rattle.qdimacs_out.specs.Texts.{formula_text}
+use Rattle.qdimacs_out.specs.Writable.{IsWritable}
+use Rattle.qdimacs_out.proofs.Lengths.{text_long}
+use Rattle.qdimacs_out.proofs.ReadBack.{written_read}
 use Rattle.truth.specs.declared.formula.Formula.{Formula}
 use Rattle.search.specs.Counting.{size_of}
 use Rattle.aig.specs.declared.strategy.Strategy.{Strategy}
@@ -20,23 +31,26 @@ use Rattle.qscript.specs.Reads.{limit as script_limit}
 use Rattle.engine.specs.Refusals.{winner_of}
 use Rattle.command.specs.Forms.{Text}
 use Rattle.solve.specs.Answers.{IsShort}
+use Rattle.solve.specs.Worked.{at_thirty_six}
+use Rattle.solve.specs.declared.answer.Answer.TheVariants.{Sat}
 use Rattle.solve.specs.Terms.{Terms, terms_of}
 use Rattle.files.specs.Checks.{HasCircuit, IsCheckOn, check_of}
 use Rattle.files.specs.Inputs.{Says}
+use Rattle.files.specs.Inputs.Format.{as_formula}
 use Rattle.files.specs.Worked.{anything_fits}
-use Rattle.files.specs.WorkedVerdicts.{always, repeated}
+use Rattle.files.specs.WorkedVerdicts.{always, one, repeated}
 use Rattle.files.specs.declared.check.Outcome.{Outcome}
 use Rattle.files.specs.declared.check.Outcome.TheVariants.{Beyond, Checked, Undecided, Unknown}
 use Rattle.files.proofs.JobValues.{bare, bare_is}
-use Rattle.files.proofs.Repeated.{bare as without, certified, fits, is_true, only_circuit, too_many}
+use Rattle.files.proofs.Repeated.{always_denotes, bare as without, certified, fits, is_true, one_scope, only_circuit, too_many}
 use Rattle.program.specs.Asked.{AskedCheck, OfCheckTask, task_of}
 use Rattle.program.specs.Complete.{IsComplete}
-use Rattle.program.specs.Run.{EndsIn, IsCheckBeyond, IsCheckLimit, IsInputLimit, IsLimitedCheck, IsUndecidedCheck, check_limit_line, limit_line}
-use Rattle.program.specs.Told.{IsCheckOutput, IsSound}
+use Rattle.program.specs.Run.{EndsIn, IsCheckBeyond, IsCheckLimit, IsInputLimit, IsLimited, IsLimitedCheck, IsUndecidedCheck, check_limit_line, limit_line}
+use Rattle.program.specs.Told.{IsCheckOutput, IsOneBeyond, IsSound}
 use Rattle.program.proofs.Statuses.{absent, no_answer}
 use Rattle.program.proofs.WorkedChecks.{asks_check, check, check_words, only_check}
 use Rattle.program.proofs.WorkedVerdicts.{great_reads, great_text, holds}
-use Rattle.program.proofs.WorkedWords.{either_of_solve, plain, solve_words, whole}
+use Rattle.program.proofs.WorkedWords.{either_of_script, either_of_solve, plain, script_words, solve_words, whole}
 
 -- a formula that says that 1 is false
 abbrev one_text : Text
@@ -86,6 +100,17 @@ of_check text P h = subst (λ d. OfCheckTask (task_of d) (holds text) P) (only_c
 to_check : (text : Text) (P : Bool → Terms → Text → Type 0) → P false plain text → AskedCheck check_words (holds text) P
 to_check text P is = (check, asks_check, is)
 
+abbrev head_of : Text → ℕ
+head_of [] = 0
+head_of (x ∷ xs) = x
+
+-- the circuit that says that 1 is true, and the line of its check formula
+abbrev circuit_text : Text
+circuit_text = codes "aag 0 0 0 1 0\n1\no0 1\nc\nskolem\n"
+
+abbrev variables_line : Text
+variables_line = codes "qbf: limit variables\n"
+
 -- Where a text says more clauses than there may be variables, its check formula has too many variables: no other
 -- quantity is too great, and the line says so. The status is 6.
 module _ (text : Text) (n : ℕ) (over : max_vars < n) (reads : Reads text (parsed (repeated true n))) where
@@ -123,6 +148,99 @@ module _ (text : Text) (n : ℕ) (over : max_vars < n) (reads : Reads text (pars
 
   pub ends_with_six : IsComplete check_words (holds text) 6
   ends_with_six = inr (refl, to_check text IsLimitedCheck (Variables, beyond))
+
+  -- nothing is left of the input, and the circuit and the line are written
+  pub one_beyond : IsOneBeyond plain (Some []) (Some [], Some circuit_text) [] (0, 0)
+      (Some [], Some variables_line) text
+  one_beyond = record {
+    formula = repeated true n;
+    reads = reads;
+    quantity = Variables;
+    text = circuit_text;
+    beyond = record {
+      value = true;
+      circuit = always true;
+      certified = certified plain true n;
+      limit = too_many n over (always true) refl;
+      denotes = always_denotes;
+      told = refl;
+    };
+    whole_input = refl;
+    output = refl;
+    front = record { count = 21; within = omega arith; appended = refl };
+    whole = λ _. refl;
+  }
+
+  -- not where one byte is left of it
+  pub one_byte_left : IsOneBeyond plain (Some (codes "\n")) (Some [], Some circuit_text) [] (0, 0)
+      (Some [], Some variables_line) text → ⊥
+  one_byte_left h =
+      let no : 1 ≡ 0 = ap (λ (text : Option Text). length (unwrap_or text [])) h.whole_input in omega (arith, no)
+
+  -- with 6 the circuit stands on the output
+  pub no_circuit : IsCheckOutput false plain (Some text) (Some [], Some []) [] 6 → ⊥
+  no_circuit h = ⊎_elim
+      (λ none. absurd (let same : limit none.0.0 none.0.1 ≡ parsed (repeated true n) =
+      one_outcome text (limit none.0.0 none.0.1) (parsed (repeated true n)) none.0.2 reads in cc))
+      (λ is. let no : 0 ≡ 97 = ap head_of is.3 ∙ ap head_of is.2.is.denotes.lines in omega (arith, no))
+      (h.limit refl)
+
+-- there are such texts: the formula's own one, with no more clauses than a text may have
+literals : (n : ℕ) → length (flat_map (λ (clause : Row). clause) (replicate n (one true ∷ []))) ≡ n
+literals zero = refl
+literals (suc n) = ap suc (literals n)
+
+over_one : (n : ℕ) → AllByRecursion (IsClauseOver one_scope) (replicate n (one true ∷ []))
+over_one zero = tt
+over_one (suc n) = (((tt, tt), (refl, tt)), over_one n)
+
+writable : (n : ℕ) → n ≤ max_clauses → IsWritable (repeated true n)
+writable n few = record {
+  turns = tt;
+  filled = ((λ e. absurd (let no : 1 ∷ [] ≡ [] = e in cc)), tt);
+  ascending = ((tt, tt), tt);
+  distinct = (refl, tt);
+  declared = ((omega arith, omega arith), tt);
+  rows = over_one n;
+  fewer = let all = length-replicate n (one true ∷ []) in omega (arith, all);
+  vars_few = omega arith;
+  scopes_few = omega arith;
+  clauses_few = few;
+  literals_few = let all = literals n in omega (arith, all, few);
+}
+
+pub many_read : (n : ℕ) → n ≤ max_clauses → Reads (formula_text (repeated true n)) (parsed (repeated true n))
+many_read n few = written_read (repeated true n) (writable n few) (length-replicate n (one true ∷ []))
+    (let long = text_long (repeated true n) (writable n few) in
+    let all = length-replicate n (one true ∷ []) in
+    let each = literals n in omega (arith, long, all, each, few))
+
+-- of a text that goes beyond a limit itself nothing is written or told
+module _ (output : Text) (stops : List Account) (quiet : IsCheckOutput true plain (Some great_text)
+    (Some [], Some output) stops 6) where
+  of_input : IfSome (Some great_text) (IsLimited as_formula) × Keeps (Some []) (Some output) × (stops ≡ [])
+  of_input = ⊎_elim (λ is. is)
+      (λ is. absurd (let same : parsed is.2.formula ≡ limit Variables 1 =
+      one_outcome great_text (parsed is.2.formula) (limit Variables 1) is.2.read great_reads in cc)) (quiet.limit refl)
+
+pub writes_at_limit : (stops : List Account)
+    → IsCheckOutput true plain (Some great_text) (Some [], Some (codes "x")) stops 6 → ⊥
+writes_at_limit stops h =
+    let no : 1 ≡ 0 = ap (λ (t : Text). length t) (of_input (codes "x") stops h).1 in omega (arith, no)
+
+pub tells_at_limit : (output : Text)
+    → IsCheckOutput true plain (Some great_text) (Some [], Some output) (at_thirty_six ∷ []) 6 → ⊥
+tells_at_limit output h =
+    let no : 1 ≡ 0 = ap (λ (told : List Account). length told) (of_input output (at_thirty_six ∷ []) h).2 in
+    omega (arith, no)
+
+-- a script goes beyond the limit of bytes alone, at its end
+pub only_bytes : (text line : Text) → IsInputLimit script_words (holds text) line
+    → (at : ℕ) × (line ≡ limit_line Bytes at) × EndsIn text (script_limit at)
+only_bytes text line h =
+    let is = either_of_script (holds text) (λ format terms text. Says format text (limit h.0 h.1))
+    (λ terms text. (h.0 ≡ Bytes) × EndsIn text (script_limit h.1)) h.3 in
+    (h.1, h.2 ∙ ap (λ q. limit_line q h.1) is.0, is.1)
 
 -- no formula without clauses has status 6, and no valid input 2
 pub true_with_ten : IsComplete check_words (holds bare) 10
@@ -177,10 +295,6 @@ front_of_win = record {
   nothing = λ i. absent (2 ∷ 3 ∷ 5 ∷ []) 4 refl i;
 }
 
-abbrev head_of : Text → ℕ
-head_of [] = 0
-head_of (x ∷ xs) = x
-
 head_of_front : (count : ℕ) (text : Text) → codes "x" ≡ take count text → 120 ≡ head_of text
 head_of_front zero text e = absurd (let no : codes "x" ≡ [] = e ∙ none text in cc)
   where
@@ -197,9 +311,21 @@ no_x (Checked value) text on e = let no : 120 ≡ 87 = e ∙ ap head_of on.is.is
 no_x Undecided text on e = let no : 120 ≡ 85 = e ∙ ap head_of on.is.1.is.says in omega (arith, no)
 no_x (Beyond quantity) text on e = let no : 120 ≡ 97 = e ∙ ap head_of on.is.denotes.lines in omega (arith, no)
 
+-- with the status of an answer its text stands there
+pub other_win : IsCheckOutput true plain (Some one_text) (Some [], Some (codes "x")) [] 10 → ⊥
+other_win h =
+    let is = h.reply (Sat, refl) in
+    let same : codes "x" ≡ is.1 = is.4 in no_x is.0 is.1 is.3 (ap head_of same)
+
 pub other_front : IsCheckOutput true plain (Some one_text) (Some [], Some (codes "x")) [] 4 → ⊥
 other_front h =
     let is = h.front refl in no_x is.0 is.1 is.2 (head_of_front is.3.count is.1 is.3.appended)
+
+-- with the status of an ending without an answer none is told
+pub tells_more : (status : ℕ) → Contains (2 ∷ 3 ∷ 5 ∷ []) status
+    → IsCheckOutput true plain (Some one_text) (Some [], Some []) (at_thirty_six ∷ []) status → ⊥
+tells_more status ends h =
+    let no : 1 ≡ 0 = ap (λ (told : List Account). length told) (h.nothing ends).1 in omega (arith, no)
 
 -- a call that counts no fault and flushes all that it writes, whatever was counted and flushed before
 pub sound : IsSound (1, 1) (2, 2) (Some (codes "ab")) (Some (codes "a"), Some (codes "ab"))

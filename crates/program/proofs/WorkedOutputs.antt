@@ -1,6 +1,9 @@
 -- Worked values: what a run leaves on the output and tells of searches, and the room that it wants.
-use Rattle.std.proofs.Common.{◌≡◌, ◌≢◌, ◌⊎◌, ◌∙◌, ◌≤◌, ℕ, zero, suc, List, [], ◌∷◌, length, take, codes, Some, Contains, inl, inr, ⊎_elim, refl, sym, ap, subst, arith}
+use Rattle.std.proofs.Common.{◌≡◌, ◌≢◌, ◌⊎◌, ◌∙◌, ◌≤◌, ℕ, zero, suc, false, List, [], ◌∷◌, length, take, codes, Some, Contains, inl, inr, ⊎_elim, refl, sym, ap, subst, arith}
 use Rattle.std.specs.Io.KnownBytes.{Appends, Keeps}
+use Rattle.std.proofs.lemmas.Bool.{true≢false}
+use Rattle.truth.specs.declared.formula.Formula.{Formula}
+use Rattle.truth.specs.Truth.{truth}
 use Rattle.generate.specs.Made.{made}
 use Rattle.trail.specs.State.{Account}
 use Rattle.qdimacs_out.specs.Texts.{formula_text}
@@ -22,7 +25,7 @@ use Rattle.solve.specs.Standing.{start}
 use Rattle.solve.specs.Worked.{at_thirty_six}
 use Rattle.files.specs.Worked.{anything_fits}
 use Rattle.session.specs.WorkedScripts.{one_refusal, two_pops, two_refusals}
-use Rattle.files.proofs.JobValues.{bare, bare_reads, line_length, sat}
+use Rattle.files.proofs.JobValues.{bare, bare_is, bare_reads, line_length, sat}
 use Rattle.session.proofs.ScriptValues.{at_start, both_read, first_ones, front_head, leads_two, none_told, read_length, reply_length, some_reply, too_short, whole_length}
 use Rattle.program.specs.Asked.{RoomForOutput, RoomForTask, known_for, task_of}
 use Rattle.program.specs.Told.{IsJobOutput, IsOutput, IsOutputOf, IsSampleOutput, IsScriptOutput}
@@ -97,6 +100,32 @@ other_line (Unknown, at, rest) = absurd (let no : 10 ≡ 0 = at in omega (arith,
 pub says_unsat : Leaves solve_words bare (codes "UNSAT\n") [] 10 → ⊥
 says_unsat h = other_line ((of_solve bare (codes "UNSAT\n") [] 10
     (λ e. absurd (let no : codes "UNSAT\n" ≡ [] = e in cc)) h).reply (Sat, refl))
+
+-- nor is nothing written
+silent : OfAnswer 10 (λ a. (text : Text) × IsReplyOn SolveJob plain (Some bare) ([], []) a text
+    × Appends (Some []) (Some []) text) → ⊥
+silent (Sat, at, (text, on, appended)) =
+    let no : 0 ≡ 4 = ap (λ (t : Text). length t) (appended ∙ on.reply.says.says) in omega (arith, no)
+silent (Unsat, at, rest) = absurd (let no : 10 ≡ 20 = at in omega (arith, no))
+silent (Unknown, at, rest) = absurd (let no : 10 ≡ 0 = at in omega (arith, no))
+
+pub says_nothing : Leaves solve_words bare [] [] 10 → ⊥
+says_nothing h = ⊎_elim (λ q. absent (5 ∷ 7 ∷ []) 10 refl q.0)
+    (λ r. silent ((subst (λ c. IsOutputOf (task_of c) (known_for (holds bare) (task_of c)) (Some [], Some []) [] 10)
+    (only_solve r.0 r.1) r.2).reply (Sat, refl))) h
+
+-- the reply is one to the formula that the text says
+other_formula : OfAnswer 20 (λ a. (text : Text) × IsReplyOn SolveJob plain (Some bare) ([], []) a text
+    × Appends (Some []) (Some (codes "UNSAT\n")) text) → ⊥
+other_formula (Sat, at, rest) = absurd (let no : 20 ≡ 10 = at in omega (arith, no))
+other_formula (Unsat, at, (text, on, appended)) =
+    absurd (true≢false (subst (λ (f : Formula). truth f.prefix f.clauses ≡ false) (bare_is on.formula on.read)
+    on.reply.right))
+other_formula (Unknown, at, rest) = absurd (let no : 20 ≡ 0 = at in omega (arith, no))
+
+pub says_other_formula : Leaves solve_words bare (codes "UNSAT\n") [] 20 → ⊥
+says_other_formula h = other_formula ((of_solve bare (codes "UNSAT\n") [] 20
+    (λ e. absurd (let no : codes "UNSAT\n" ≡ [] = e in cc)) h).reply (Unsat, refl))
 
 -- each UNKNOWN is told of
 untold : OfAnswer 0 (λ a. (text : Text) × IsReplyOn SolveJob plain (Some bare) ([], []) a text

@@ -1,5 +1,6 @@
 -- Worked values: what a status says of words and input, the line on the error output, and valid inputs.
-use Rattle.std.proofs.Common.{◌≡◌, ◌∙◌, ◌<◌, ◌≤◌, ◌-◌, ◌^◌, ℕ, zero, suc, take, Bool, true, false, [], ◌∷◌, codes, Option, Some, None, inl, inr, refl, sym, subst, arith}
+use Rattle.std.proofs.Common.{◌≡◌, ◌≢◌, ◌∙◌, ◌<◌, ◌≤◌, ◌-◌, ◌^◌, ℕ, zero, suc, take, Bool, true, false, [], ◌∷◌, codes, Option, Some, None, inl, inr, refl, sym, subst, arith}
+use Rattle.std.specs.Prelude.{string_bytes}
 use Rattle.std.specs.List.{AllByRecursion}
 use Rattle.std.specs.Fmt.{digits}
 use Rattle.std.specs.declared.io.ErrorKind.{ErrorKind}
@@ -295,6 +296,13 @@ true_says_refused line h =
     not_refused is.0 is.1 (either_of_solve (holds bare) (λ format terms text. Says format text (refused is.0 is.1))
     (λ terms text. EndsIn text (script_refused is.0 is.1)) is.3)
 
+pub script_says_refused : (line : Text) → IsErrorLine script_words (holds header) 2 line → ⊥
+script_says_refused line h =
+    let is = h.refused refl in
+    let ends = either_of_script (holds header) (λ format terms text. Says format text (refused is.0 is.1))
+    (λ terms text. EndsIn text (script_refused is.0 is.1)) is.3 in
+    absurd (let no : script_refused is.0 is.1 ≡ done = ends_well (script_refused is.0 is.1) ends in cc)
+
 pub no_refusal : IsErrorLine solve_words (holds bad_text) 2 [] → ⊥
 no_refusal h =
     let is = h.refused refl in absurd (let no : [] ≡ refused_line is.0 is.1 = is.2 in cc)
@@ -414,6 +422,18 @@ wants_memory kind = tt
 
 pub no_usage : (text : _) → IsRefusal OutOfMemory (Usage text) → ⊥
 no_usage text h = h.0 refl
+
+pub wrong_word : (kind : ErrorKind) (text : _) → kind ≢ OutOfMemory
+    → string_bytes text ≡ codes "error: a word isn't UTF-8\n" → IsRefusal kind (Usage text)
+wrong_word kind text other says = (other, says)
+
+pub says_why : (kind : ErrorKind) (text : _) → IsRefusal kind (Usage text)
+    → string_bytes text ≡ codes "error: a word isn't UTF-8\n"
+says_why kind text h = h.1
+
+pub no_other_ending : (kind : ErrorKind) → AllByRecursion (λ e. IsRefusal kind (Worked e) → ⊥)
+    (Refused 11 1 ∷ ReadFault ∷ WriteFault ∷ Limit Bytes 1 ∷ CheckLimit Variables ∷ [])
+no_other_ending kind = (λ h. h, (λ h. h, (λ h. h, (λ h. h, (λ h. h, tt)))))
 
 pub no_answer_for_words : (kind : ErrorKind) → IsRefusal kind (Worked (Done 0)) → ⊥
 no_answer_for_words kind h = h
