@@ -1,4 +1,4 @@
-/* A small formula and its truth, by all values: what the sessions of checks/deep/library.sh are compared with. And the
+/* A small formula and its truth, by all values: what the sessions of checks/gate/library.sh are compared with. And the
  * numbers that they are drawn by. */
 #ifndef BRUTE_H
 #define BRUTE_H

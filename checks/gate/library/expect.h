@@ -1,4 +1,4 @@
-/* What the C programs of checks/deep/library.sh share: calls with the codes that are wanted of them. */
+/* What the C programs of checks/gate/library.sh share: calls with the codes that are wanted of them. */
 #ifndef EXPECT_H
 #define EXPECT_H
 

@@ -1,11 +1,10 @@
 #!/usr/bin/env bash
 # Builds the libraries for C and tries them from C, C++ and Python: each call with each code, drawn sessions against
 # brute force, each request for memory refused in turn, handles that move between threads, the examples, DepQBF's names,
-# an installation with pkg-config, and the package in an empty virtual environment. checks/gate/header.py compares the
-# header with the exports. Usage: checks/deep/library.sh PROGRAM [FOLDER]. PROGRAM is bin/qbf. With FOLDER the libraries
-# there are tried, and none is built. Prints a line a case, and ends with status 1 if one failed. This needs a C
-# compiler and Python 3. What needs valgrind, pkg-config, DepQBF's library, another compiler or Python's venv is left
-# out without it, and a line says so.
+# an installation with pkg-config, and the package in an empty virtual environment. Usage: checks/gate/library.sh PROGRAM
+# [FOLDER]. PROGRAM is bin/qbf. With FOLDER the libraries there are tried, and none is built. Prints a line a case, and
+# ends with status 1 if one failed. This needs a C compiler and Python 3. What needs valgrind, pkg-config, DepQBF's
+# library, another compiler or Python's venv is left out without it, and a line says so.
 set -u
 
 if [ $# -lt 1 ] || [ $# -gt 2 ]; then
@@ -14,7 +13,7 @@ if [ $# -lt 1 ] || [ $# -gt 2 ]; then
 fi
 program=$(realpath "$1") || exit 2
 root=$(cd "$(dirname "$0")/../.." && pwd) || exit 2
-tests=$root/checks/deep/library
+tests=$root/checks/gate/library
 folder=$(mktemp -d) || exit 2
 trap 'rm -rf "$folder"' EXIT
 failures=0
@@ -68,8 +67,7 @@ if [ ! -e "$archive" ] || [ ! -e "$libraries/libqbf.so" ] || [ ! -e "$layer" ]; 
 fi
 export LD_LIBRARY_PATH=$libraries QBF_LIBRARY=$libraries/libqbf.so.1
 
-# The header: its exports, and what the library has and wants beside them.
-python3 "$root/checks/gate/header.py" || failures=1
+# The header's exports, and what the library has and wants beside them.
 declared=$(sed -n 's/^[a-z0-9_]* \(qbf_[a-z_]*\)(.*/\1/p' "$root/include/qbf.h" | sort)
 exported=$(nm -D --defined-only "$libraries/libqbf.so" | sed -n 's/^.* T //p' | sed 's/@.*//' | sort)
 equal library_exports "$exported" "$declared"
