@@ -6,13 +6,13 @@ usage: limits.py PROGRAM [--heavy]
 Scopes, frames, variables and sets at their number and one beyond it; words of 16 MiB; 400,000 clauses of a formula and
 of a script, which are taken within 20 seconds of the processor; two million clauses, a circuit of 100,000 gates, and a
 certificate of a million. An input in messages of 4,096 bytes, each taken by one read. Rounds of a frame over clauses
-that stay, a long trail, and decisions in all scopes, where more of them take more time in proportion, and not with the
-square: what is compared is times of the processor, one right behind the other. Budgets that a core and a check formula
-spend, where the verdict doesn't. And 300 drawn formulas of one to four variables, each in a scope of its own, with no
-step, with one, with as many as always suffice and with one less, and with as many where a search may begin anew twice:
-each verdict is that of the whole table, and none is left open with enough steps. With --heavy also all variables,
-clauses, literals and bytes that a text may have, and one more, which takes a minute of the processor and is no part of
-the gate. Prints a line a case and ends with status 1 if one failed.
+that stay, a long trail, decisions in all scopes, and a core among many groups, where more of them take more time in
+proportion, and not with the square: what is compared is times of the processor, one right behind the other. Budgets
+that a core and a check formula spend, where the verdict doesn't. And 300 drawn formulas of one to four variables, each
+in a scope of its own, with no step, with one, with as many as always suffice and with one less, and with as many where
+a search may begin anew twice: each verdict is that of the whole table, and none is left open with enough steps. With
+--heavy also all variables, clauses, literals and bytes that a text may have, and one more, which takes a minute of the
+processor and is no part of the gate. Prints a line a case and ends with status 1 if one failed.
 """
 
 import itertools
@@ -349,12 +349,24 @@ def in_all_scopes(count):
     return ["solve"], (TRUE, "SAT\n"), [lines(f"p cnf {count} {count // 2}"), sets(count, "e"), rows]
 
 
+def core_among(count):
+    """The core of so many groups of a clause: eight of them contradict each other, and the others are true together."""
+    chain = {count // 8 * place: place for place in range(1, 9)}
+    links = ["1", *(f"-{n} {n + 1}" for n in range(1, 7)), "-7"]
+    rows = (links[chain[g] - 1] if g in chain else f"{g + 7} -{g + 8}" for g in range(1, count + 1))
+    groups = (lines(f"open {g}", f"clause {row} 0", "close") for g, row in enumerate(rows, 1))
+    declared = lines("p qscript 3", "scope e", *(f"var {v} 1" for v in range(1, count + 9)))
+    replies = f"UNSAT\ncore {' '.join(map(str, sorted(chain)))} 0\n"
+    return ["script"], (0, replies), [declared, *groups, lines("solve", "core")]
+
+
 def costs():
     one = "push", "var NEW 1", "clause 1 NEW 0", "clause -NEW 0", "clause -1 0", "solve", "pop"
     yield "cost_of_frames_that_are_solved", check_rounds, one
     yield "cost_of_frames_without_clauses", check_rounds, ("push", "pop")
     yield "cost_of_a_long_trail", check_cost, (falling(100_000), falling(25_000))
     yield "cost_of_decisions_in_all_scopes", check_cost, (in_all_scopes(SCOPES), in_all_scopes(SCOPES // 4))
+    yield "cost_of_a_core_among_many_groups", check_cost, (core_among(16_000), core_among(4_000))
 
 
 # Memory.

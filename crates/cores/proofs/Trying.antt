@@ -1,20 +1,19 @@
 -- A search with groups under tags of their own.
-use Rattle.std.proofs.Common.{◌≡◌, ℕ, zero, suc, ◌+◌, ◌<◌, ◌≤◌, ◌⊎◌, Bool, true, false, not, List, [], ◌∷◌, ◌++◌, length, map, take, drop, filter, get_or, Contains, refl, sym, ap, ◌∙◌, subst, inl, inr, ⊎_elim, arith}
-use Rattle.std.specs.Prelude.{◌==◌, OnOk, Result, Ok, Err}
+use Rattle.std.proofs.Common.{◌≡◌, ℕ, zero, suc, ◌+◌, ◌-◌, ◌<◌, ◌≤◌, ◌⊎◌, Bool, true, false, not, List, [], ◌∷◌, ◌++◌, length, map, drop, filter, get_or, Contains, refl, sym, ap, ◌∙◌, subst, inl, inr, ⊎_elim, arith}
+use Rattle.std.specs.Prelude.{◌==◌, IfSome, OnOk, Option, None, Some, Result, Ok, Err, is_none, is_some}
 use Rattle.std.specs.List.{AllByRecursion}
 use Rattle.std.proofs.lemmas.Bool.{eq-eqb, ne_eqb, true≢false}
-use Rattle.std.proofs.lemmas.List.{drop_more, take_more}
-use Rattle.std.proofs.lemmas.List.Elements.{Contains-push, Contains-push_cases, Contains-append_left}
+use Rattle.std.proofs.lemmas.List.{drop_more, length-drop}
 use Rattle.prefix.specs.Scopes.{IsPrefix, Scope, all_variables}
 use Rattle.calculus.specs.Derivations.{Extends}
 use Rattle.calculus.specs.Rows.{Row}
 use Rattle.calculus.proofs.Lists.{contains_cons, contains_head, contains_nil, contains_tail, filter_at, filter_from}
 use Rattle.derive.specs.State.{OpenClause, clauses_of, open_clauses}
-use Rattle.search.specs.Changing.{AddsClause, IsRoomy, RestingGrows}
+use Rattle.search.specs.Changing.{AddsClauses, IsRoomy, RestingGrows}
 use Rattle.search.specs.Moves.{IsMatrix}
 use Rattle.search.specs.State.{IsResting, SearchState}
 use Rattle.cores.specs.Cores.{Group, grouped_in}
-use Rattle.cores.specs.Trials.{GainsClauses, IsOfGroup, IsTrying, StandsAs, tag_of}
+use Rattle.cores.specs.Trials.{IsOfGroup, IsTrying, StandsAs}
 use Rattle.cores.proofs.Minimal.{contains_either, contains_left, contains_right}
 
 -- lists
@@ -22,10 +21,6 @@ use Rattle.cores.proofs.Minimal.{contains_either, contains_left, contains_right}
 pub dropped : {X : Type 0} (xs : List X) (i : ℕ) (x : X) → i < length xs → x ≡ get_or xs i x
     → drop i xs ≡ x ∷ drop (i + 1) xs
 dropped xs i x low is = drop_more xs i x low ∙ ap (λ y. y ∷ drop (i + 1) xs) (sym is)
-
-pub taken : {X : Type 0} (xs : List X) (i : ℕ) (x : X) → i < length xs → x ≡ get_or xs i x
-    → take (i + 1) xs ≡ take i xs ++ x ∷ []
-taken xs i x low is = take_more xs i x low ∙ ap (λ y. take i xs ++ y ∷ []) (sym is)
 
 all_first : (P : Row → Type 0) (xs ys : List Row) → AllByRecursion P (xs ++ ys) → AllByRecursion P xs
 all_first P [] ys h = tt
@@ -53,6 +48,28 @@ here_at (g ∷ gs) i low = (get_or (g ∷ gs) i g, drop_more (g ∷ gs) i g low)
 pub on_ok : {T E : Type 0} (r : Result T E) (P Q : Type 0) → OnOk r P → (P → Q) → OnOk r Q
 on_ok (Ok x) P Q p f = f p
 on_ok (Err e) P Q p f = tt
+
+pub on_ok_always : {T E : Type 0} (r : Result T E) {P : Type 0} → P → OnOk r P
+on_ok_always (Ok x) p = p
+on_ok_always (Err e) p = tt
+
+-- what is there, or not
+
+pub none_of : (o : Option ℕ) → is_some o ≡ true → is_none o ≡ false
+none_of None h = absurd (true≢false (sym h))
+none_of (Some n) h = refl
+
+pub none_there : (o : Option ℕ) → is_some o ≡ false → is_none o ≡ true
+none_there None h = refl
+none_there (Some n) h = absurd (true≢false h)
+
+pub if_none : (o : Option ℕ) (P : ℕ → Type 0) → is_some o ≡ false → IfSome o P
+if_none None P h = tt
+if_none (Some n) P h = absurd (true≢false h)
+
+pub if_some : (o : Option ℕ) (P Q : ℕ → Type 0) → IfSome o P → ((n : ℕ) → P n → Q n) → IfSome o Q
+if_some None P Q p f = tt
+if_some (Some n) P Q p f = f n p
 
 -- room for a prefix
 
@@ -95,82 +112,65 @@ rests_empty grows scopes s none resting =
 
 -- clauses come in
 
-pub none_come : (tag : ℕ) (cs : List OpenClause) → GainsClauses tag [] cs cs
-none_come tag cs = record {
-  stay = λ c i. i;
-  come = λ row i. absurd (contains_nil row i);
-  none_else = λ c i. inl i;
-}
+-- these clauses come in under a tag
+pub record GainsClauses (tag : ℕ) (rows : List Row) (old new : List OpenClause) : Type 0 where
+  pub stay : (c : OpenClause) → Contains old c → Contains new c
+  pub come : (row : Row) → Contains rows row → StandsAs new tag row
+  pub none_else : (c : OpenClause) → Contains new c → Contains old c ⊎ ((c.frame ≡ tag) × Contains rows c.row)
 
-pub one_comes : (tag : ℕ) (rows : List Row) (row : Row) (old now new : List OpenClause) → GainsClauses tag rows old now
-    → AddsClause tag row now new → GainsClauses tag (rows ++ row ∷ []) old new
-one_comes tag rows row old now new so one =
-    let last : OpenClause = record { id = one.id; frame = tag; row = row } in
-    let kept : (c : OpenClause) → Contains now c → Contains new c =
-    λ c i. subst (λ cs. Contains cs c) (sym one.clauses) (Contains-append_left now (last ∷ []) c i) in
+-- those with a row that is listed
+with_row : (cs : List OpenClause) (row : Row) → Contains (map (λ (c : OpenClause). c.row) cs) row
+    → (c : OpenClause) × Contains cs c × (c.row ≡ row)
+with_row [] row i = absurd (contains_nil row i)
+with_row (c ∷ cs) row i =
+    ⊎_elim (λ e. (c, contains_head c cs, e))
+    (λ j. let r = with_row cs row j in (r.0, contains_tail c cs r.0 r.1, r.2))
+    (contains_cons c.row (map (λ (c : OpenClause). c.row) cs) row i)
+
+row_of_one : (cs : List OpenClause) (c : OpenClause) → Contains cs c
+    → Contains (map (λ (c : OpenClause). c.row) cs) c.row
+row_of_one [] c i = absurd (contains_nil c i)
+row_of_one (d ∷ cs) c i =
+    ⊎_elim
+    (λ (e : d ≡ c). subst (λ r. Contains (d.row ∷ map (λ (c : OpenClause). c.row) cs) r)
+    (ap (λ (x : OpenClause). x.row) e) (contains_head d.row (map (λ (c : OpenClause). c.row) cs)))
+    (λ j. contains_tail d.row (map (λ (c : OpenClause). c.row) cs) c.row (row_of_one cs c j))
+    (contains_cons d cs c i)
+
+pub gains : (tag : ℕ) (rows : List Row) (old new : List OpenClause) → AddsClauses tag rows old new
+    → GainsClauses tag rows old new
+gains tag rows old new adds =
+    let behind : (c : OpenClause) → Contains adds.added c → Contains new c =
+    λ c i. subst (λ cs. Contains cs c) (sym adds.clauses) (contains_right old adds.added c i) in
     record {
-      stay = λ c i. kept c (so.stay c i);
-      come =
-          λ r i. ⊎_elim
-          (λ j. let s = so.come r j in (s.0, kept s.0 s.1, s.2, s.3))
-          (λ e. (last, subst (λ cs. Contains cs last) (sym one.clauses) (Contains-push now last), refl, e))
-          (Contains-push_cases rows row r i);
+      stay = λ c i. subst (λ cs. Contains cs c) (sym adds.clauses) (contains_left old adds.added c i);
+      come = λ row i. let w = with_row adds.added row (subst (λ rs. Contains rs row) (sym adds.has_rows) i) in
+          (w.0, behind w.0 w.1, adds.of_frame w.0 w.1, w.2);
       none_else =
-          λ c i. ⊎_elim
-          (λ j. ⊎_elim inl (λ h. inr (h.0, Contains-append_left rows (row ∷ []) c.row h.1)) (so.none_else c j))
-          (λ (e : last ≡ c). inr (
-            sym (ap (λ (x : OpenClause). x.frame) e),
-            subst (λ r. Contains (rows ++ row ∷ []) r)
-                (ap (λ (x : OpenClause). x.row) e) (Contains-push rows row),
-          ))
-          (Contains-push_cases now last c (subst (λ cs. Contains cs c) one.clauses i));
+          λ c i. ⊎_elim inl
+          (λ j. inr (adds.of_frame c j, subst (λ rs. Contains rs c.row) adds.has_rows (row_of_one adds.added c j)))
+          (contains_either old adds.added c (subst (λ cs. Contains cs c) adds.clauses i));
     }
 
 -- groups and their tags
 
-of_group_from : (n : ℕ) (gs : List Group) (tag : ℕ) (row : Row) → IsOfGroup n gs tag row → n ≤ tag
-of_group_from n [] tag row h = absurd h
-of_group_from n (g ∷ gs) tag row h =
-    ⊎_elim (λ e. (let same : tag ≡ n = e.0 in omega (arith, same)))
-    (λ r. (let low : n + 1 ≤ tag = of_group_from (n + 1) gs tag row r in omega (arith, low))) h
+of_group_within : (gs : List Group) (tag : ℕ) (row : Row) → IsOfGroup gs tag row → (1 ≤ tag) × (tag ≤ length gs)
+of_group_within [] tag row h = absurd h
+of_group_within (g ∷ gs) tag row h =
+    ⊎_elim (λ e. (let same : tag ≡ length (g ∷ gs) = e.0 in (omega (arith, same), omega (arith, same))))
+    (λ r. (let within : (1 ≤ tag) × (tag ≤ length gs) = of_group_within gs tag row r in
+    (within.0, omega (arith, within)))) h
 
-of_more : (n : ℕ) (gs : List Group) (g : Group) (tag : ℕ) (row : Row) → IsOfGroup n gs tag row
-    → IsOfGroup n (gs ++ g ∷ []) tag row
-of_more n [] g tag row h = absurd h
-of_more n (f ∷ gs) g tag row h = ⊎_elim inl (λ r. inr (of_more (n + 1) gs g tag row r)) h
-
-of_last : (n : ℕ) (gs : List Group) (g : Group) (tag : ℕ) (row : Row) → tag ≡ n + length gs → Contains g.clauses row
-    → IsOfGroup n (gs ++ g ∷ []) tag row
-of_last n [] g tag row e i = let same : tag ≡ n = omega (arith, e) in inl (same, i)
-of_last n (f ∷ gs) g tag row e i =
-    let same : tag ≡ (n + 1) + length gs = omega (arith, e) in inr (of_last (n + 1) gs g tag row same i)
-
-of_cases : (n : ℕ) (gs : List Group) (g : Group) (tag : ℕ) (row : Row) → IsOfGroup n (gs ++ g ∷ []) tag row
-    → IsOfGroup n gs tag row ⊎ ((tag ≡ n + length gs) × Contains g.clauses row)
-of_cases n [] g tag row h =
-    ⊎_elim
-    (λ e. (let same : tag ≡ n = e.0 in
-    let is : tag ≡ n + length {A = Group} [] = omega (arith, same) in
-    inr (is, e.1)))
-    (λ r. absurd r) h
-of_cases n (f ∷ gs) g tag row h =
-    ⊎_elim (λ e. inl (inl e))
-    (λ r. ⊎_elim (λ j. inl (inr j))
-    (λ e. (let same : tag ≡ (n + 1) + length gs = e.0 in
-    let is : tag ≡ n + length (f ∷ gs) = omega (arith, same) in
-    inr (is, e.1)))
-    (of_cases (n + 1) gs g tag row r)) h
-
-in_group : (n : ℕ) (gs : List Group) (tag : ℕ) (row : Row) → IsOfGroup n gs tag row → Contains (grouped_in gs) row
-in_group n [] tag row h = absurd h
-in_group n (g ∷ gs) tag row h =
+in_group : (gs : List Group) (tag : ℕ) (row : Row) → IsOfGroup gs tag row → Contains (grouped_in gs) row
+in_group [] tag row h = absurd h
+in_group (g ∷ gs) tag row h =
     ⊎_elim (λ e. contains_left g.clauses (grouped_in gs) row e.1)
-    (λ r. contains_right g.clauses (grouped_in gs) row (in_group (n + 1) gs tag row r)) h
+    (λ r. contains_right g.clauses (grouped_in gs) row (in_group gs tag row r)) h
 
-of_some : (n : ℕ) (gs : List Group) (row : Row) → Contains (grouped_in gs) row → (tag : ℕ) × IsOfGroup n gs tag row
-of_some n [] row i = absurd (contains_nil row i)
-of_some n (g ∷ gs) row i =
-    ⊎_elim (λ l. (n, inl (refl, l))) (λ r. let s = of_some (n + 1) gs row r in (s.0, inr s.1))
+of_some : (gs : List Group) (row : Row) → Contains (grouped_in gs) row → (tag : ℕ) × IsOfGroup gs tag row
+of_some [] row i = absurd (contains_nil row i)
+of_some (g ∷ gs) row i =
+    ⊎_elim (λ l. (length (g ∷ gs), inl (refl, l))) (λ r. let s = of_some gs row r in (s.0, inr s.1))
     (contains_either g.clauses (grouped_in gs) row i)
 
 -- whether an open clause is under another tag
@@ -180,9 +180,8 @@ is_other n c = not (c.frame == n)
 -- a search that tries groups
 
 module _ (scopes : List Scope) where
-  pub nothing_in : (s : SearchState) (n : ℕ) → IsResting scopes s → clauses_of s.derivation ≡ []
-      → IsTrying scopes s [] n []
-  nothing_in s n resting none = record {
+  pub nothing_in : (s : SearchState) → IsResting scopes s → clauses_of s.derivation ≡ [] → IsTrying scopes s [] []
+  nothing_in s resting none = record {
     resting = resting;
     none_else = λ c i. absurd (contains_nil c (subst (λ cs. Contains cs c) none i));
     kept_there = λ row i. absurd (contains_nil row i);
@@ -190,13 +189,13 @@ module _ (scopes : List Scope) where
   }
 
   -- the same clauses
-  pub still_trying : (old new : SearchState) (kept : List Row) (n : ℕ) (gs : List Group) → IsResting scopes new
-      → clauses_of new.derivation ≡ clauses_of old.derivation → IsTrying scopes old kept n gs
-      → IsTrying scopes new kept n gs
-  still_trying old new kept n gs resting same h = record {
+  pub still_trying : (old new : SearchState) (kept : List Row) (gs : List Group) → IsResting scopes new
+      → clauses_of new.derivation ≡ clauses_of old.derivation → IsTrying scopes old kept gs
+      → IsTrying scopes new kept gs
+  still_trying old new kept gs resting same h = record {
     resting = resting;
     none_else = λ c i. h.none_else c (subst (λ cs. Contains cs c) same i);
-    kept_there = λ row i. let s = h.kept_there row i in (s.0, s.1, stands s.0 row s.2);
+    kept_there = λ row i. stands 0 row (h.kept_there row i);
     rest_there = λ tag row of. stands tag row (h.rest_there tag row of);
   }
     where
@@ -204,142 +203,132 @@ module _ (scopes : List Scope) where
           → StandsAs (clauses_of new.derivation) tag row
       stands tag row s = subst (λ cs. StandsAs cs tag row) (sym same) s
 
-  -- clauses are kept
-  pub kept_in : (old new : SearchState) (kept rows : List Row) (tag n : ℕ) (gs : List Group) → IsResting scopes new
-      → GainsClauses tag rows (clauses_of old.derivation) (clauses_of new.derivation) → tag < n
-      → IsTrying scopes old kept n gs → IsTrying scopes new (kept ++ rows) n gs
-  kept_in old new kept rows tag n gs resting adds low h = record {
-    resting = resting;
-    none_else =
-        λ c i. ⊎_elim
-        (λ j. ⊎_elim (λ k. inl (k.0, contains_left kept rows c.row k.1)) inr (h.none_else c j))
-        (λ e. inl (subst (λ t. t < n) (sym e.0) low, contains_right kept rows c.row e.1))
-        (adds.none_else c i);
-    kept_there =
-        λ row i. ⊎_elim
-        (λ j. let s = h.kept_there row j in (s.0, s.1, stands s.0 row s.2))
-        (λ j. (tag, low, adds.come row j))
-        (contains_either kept rows row i);
-    rest_there = λ t row of. stands t row (h.rest_there t row of);
-  }
-    where
-      stands : (t : ℕ) (row : Row) → StandsAs (clauses_of old.derivation) t row
-          → StandsAs (clauses_of new.derivation) t row
-      stands t row s = (s.0, adds.stay s.0 s.1, s.2, s.3)
+  module _ (old new : SearchState) (kept : List Row) (gs : List Group) (resting : IsResting scopes new)
+      (h : IsTrying scopes old kept gs) where
+    stands : {tag : ℕ} {rows : List Row} (adds : GainsClauses tag rows (clauses_of old.derivation)
+        (clauses_of new.derivation)) (t : ℕ) (row : Row) → StandsAs (clauses_of old.derivation) t row
+        → StandsAs (clauses_of new.derivation) t row
+    stands adds t row s = (s.0, adds.stay s.0 s.1, s.2, s.3)
 
-  -- a group comes behind the others
-  pub group_in : (old new : SearchState) (kept : List Row) (tag n : ℕ) (gs : List Group) (g : Group)
-      → IsResting scopes new
-      → GainsClauses tag g.clauses (clauses_of old.derivation) (clauses_of new.derivation) → tag ≡ n + length gs
-      → IsTrying scopes old kept n gs → IsTrying scopes new kept n (gs ++ g ∷ [])
-  group_in old new kept tag n gs g resting adds is h = record {
-    resting = resting;
-    none_else =
-        λ c i. ⊎_elim
-        (λ j. ⊎_elim inl (λ of. inr (of_more n gs g c.frame c.row of)) (h.none_else c j))
-        (λ e. inr (of_last n gs g c.frame c.row (e.0 ∙ is) e.1))
-        (adds.none_else c i);
-    kept_there = λ row i. let s = h.kept_there row i in (s.0, s.1, stands s.0 row s.2);
-    rest_there =
-        λ t row of. ⊎_elim
-        (λ j. stands t row (h.rest_there t row j))
-        (λ e. subst (λ x. StandsAs (clauses_of new.derivation) x row) (is ∙ sym e.0) (adds.come row e.1))
-        (of_cases n gs g t row of);
-  }
-    where
-      stands : (t : ℕ) (row : Row) → StandsAs (clauses_of old.derivation) t row
-          → StandsAs (clauses_of new.derivation) t row
-      stands t row s = (s.0, adds.stay s.0 s.1, s.2, s.3)
+    -- clauses are kept
+    pub kept_in : (rows : List Row) → GainsClauses 0 rows (clauses_of old.derivation) (clauses_of new.derivation)
+        → IsTrying scopes new (kept ++ rows) gs
+    kept_in rows adds = record {
+      resting = resting;
+      none_else =
+          λ c i. ⊎_elim
+          (λ j. ⊎_elim (λ k. inl (k.0, contains_left kept rows c.row k.1)) inr (h.none_else c j))
+          (λ e. inl (e.0, contains_right kept rows c.row e.1))
+          (adds.none_else c i);
+      kept_there =
+          λ row i. ⊎_elim
+          (λ j. stands adds 0 row (h.kept_there row j))
+          (adds.come row)
+          (contains_either kept rows row i);
+      rest_there = λ t row of. stands adds t row (h.rest_there t row of);
+    }
+
+    -- a group comes before the others
+    pub group_in : (g : Group)
+        → GainsClauses (length (g ∷ gs)) g.clauses (clauses_of old.derivation) (clauses_of new.derivation)
+        → IsTrying scopes new kept (g ∷ gs)
+    group_in g adds = record {
+      resting = resting;
+      none_else =
+          λ c i. ⊎_elim (λ j. ⊎_elim inl (λ of. inr (inr of)) (h.none_else c j)) (λ e. inr (inl e))
+          (adds.none_else c i);
+      kept_there = λ row i. stands adds 0 row (h.kept_there row i);
+      rest_there =
+          λ t row of. ⊎_elim
+          (λ e. subst (λ x. StandsAs (clauses_of new.derivation) x row) (sym e.0) (adds.come row e.1))
+          (λ r. stands adds t row (h.rest_there t row r))
+          of;
+    }
 
   -- the first group goes
-  pub taken_out : (old new : SearchState) (kept : List Row) (n : ℕ) (g : Group) (gs : List Group)
-      → IsResting scopes new
-      → clauses_of new.derivation ≡ filter (λ (c : OpenClause). not (c.frame == n)) (clauses_of old.derivation)
-      → IsTrying scopes old kept n (g ∷ gs) → IsTrying scopes new kept (n + 1) gs
-  taken_out old new kept n g gs resting left h = record {
+  pub taken_out : (old new : SearchState) (kept : List Row) (g : Group) (gs : List Group) → IsResting scopes new
+      → clauses_of new.derivation
+      ≡ filter (λ (c : OpenClause). not (c.frame == length (g ∷ gs))) (clauses_of old.derivation)
+      → IsTrying scopes old kept (g ∷ gs) → IsTrying scopes new kept gs
+  taken_out old new kept g gs resting left h = record {
     resting = resting;
-    none_else = λ c i. let was = here c i in ⊎_elim
-        (λ k. (let low : c.frame < n = k.0 in let below : c.frame < n + 1 = omega (arith, low) in inl (below, k.1)))
-        (λ of. ⊎_elim (λ e. absurd (was.1 e.0)) inr of)
-        (h.none_else c was.0);
-    kept_there = λ row i. let s = h.kept_there row i in
-        let low : s.0 < n = s.1 in
-        let below : s.0 < n + 1 = omega (arith, low) in
-        (s.0, below, stands s.0 row (λ e. omega (arith, low, e)) s.2);
-    rest_there = λ tag row of. let high : n + 1 ≤ tag = of_group_from (n + 1) gs tag row of in
-        stands tag row (λ e. omega (arith, high, e)) (h.rest_there tag row (inr of));
+    none_else = λ c i. let was = here c i in
+        ⊎_elim inl (λ of. ⊎_elim (λ e. absurd (was.1 e.0)) inr of) (h.none_else c was.0);
+    kept_there = λ row i. stands 0 row (λ e. omega (arith, e)) (h.kept_there row i);
+    rest_there = λ tag row of. let within : (1 ≤ tag) × (tag ≤ length gs) = of_group_within gs tag row of in
+        stands tag row (λ e. omega (arith, within, e)) (h.rest_there tag row (inr of));
   }
     where
       here : (c : OpenClause) → Contains (clauses_of new.derivation) c
-          → Contains (clauses_of old.derivation) c × (c.frame ≡ n → ⊥)
+          → Contains (clauses_of old.derivation) c × (c.frame ≡ length (g ∷ gs) → ⊥)
       here c i =
-          let at = filter_at (is_other n) (clauses_of old.derivation) c (subst (λ cs. Contains cs c) left i) in
-          (at.0, λ e. true≢false (sym at.1 ∙ ap not (eq-eqb c.frame n e)))
+          let at = filter_at (is_other (length (g ∷ gs))) (clauses_of old.derivation) c
+          (subst (λ cs. Contains cs c) left i) in
+          (at.0, λ e. true≢false (sym at.1 ∙ ap not (eq-eqb c.frame (length (g ∷ gs)) e)))
 
-      stands : (tag : ℕ) (row : Row) → (tag ≡ n → ⊥) → StandsAs (clauses_of old.derivation) tag row
+      stands : (tag : ℕ) (row : Row) → (tag ≡ length (g ∷ gs) → ⊥) → StandsAs (clauses_of old.derivation) tag row
           → StandsAs (clauses_of new.derivation) tag row
       stands tag row other s = (
         s.0,
         subst (λ cs. Contains cs s.0) (sym left)
-            (filter_from (is_other n) (clauses_of old.derivation) s.0 s.1
-            (ap not (ne_eqb s.0.frame n (λ e. other (sym s.2 ∙ e))))),
+            (filter_from (is_other (length (g ∷ gs))) (clauses_of old.derivation) s.0 s.1
+            (ap not (ne_eqb s.0.frame (length (g ∷ gs)) (λ e. other (sym s.2 ∙ e))))),
         s.2,
         s.3,
       )
 
-  module _ (old new : SearchState) (kept : List Row) (place : ℕ) (groups : List Group) (low : place < length groups)
-      (resting : IsResting scopes new)
-      (left : clauses_of new.derivation
-      ≡ filter (λ (c : OpenClause). not (c.frame == tag_of place)) (clauses_of old.derivation))
-      (h : IsTrying scopes old kept (tag_of place) (drop place groups)) where
-    -- the group at a place goes
-    pub gone_at : IsTrying scopes new kept (tag_of (place + 1)) (drop (place + 1) groups)
-    gone_at =
-        let at = here_at groups place low in
-        taken_out old new kept (tag_of place) at.0 (drop (place + 1) groups) resting left
-        (subst (λ (gs : List Group). IsTrying scopes old kept (tag_of place) gs) at.1 h)
+  -- the group at a place goes
+  pub gone_at : (old new : SearchState) (kept : List Row) (place : ℕ) (groups : List Group) → place < length groups
+      → IsResting scopes new
+      → clauses_of new.derivation
+      ≡ filter (λ (c : OpenClause). not (c.frame == length groups - place)) (clauses_of old.derivation)
+      → IsTrying scopes old kept (drop place groups) → IsTrying scopes new kept (drop (place + 1) groups)
+  gone_at old new kept place groups low resting left h =
+      let at = here_at groups place low in
+      taken_out old new kept at.0 (drop (place + 1) groups) resting
+      (subst (λ (n : ℕ). clauses_of new.derivation
+      ≡ filter (λ (c : OpenClause). not (c.frame == n)) (clauses_of old.derivation))
+      (sym (length-drop place groups) ∙ ap length at.1) left)
+      (subst (λ (gs : List Group). IsTrying scopes old kept gs) at.1 h)
 
-    -- and a search leaves the others
-    pub gone_behind : (newer : SearchState) → IsResting scopes newer
-        → clauses_of newer.derivation ≡ clauses_of new.derivation
-        → IsTrying scopes newer kept (tag_of (place + 1)) (drop (place + 1) groups)
-    gone_behind newer rests same =
-        still_trying new newer kept (tag_of (place + 1)) (drop (place + 1) groups) rests same gone_at
+  -- the group comes before which so many are in
+  pub group_at : (old new : SearchState) (kept : List Row) (groups : List Group) (left : ℕ) (p : Group)
+      → left < length groups → p ≡ get_or groups (length groups - 1 - left) p → IsResting scopes new
+      → AddsClauses (left + 1) p.clauses (clauses_of old.derivation) (clauses_of new.derivation)
+      → IsTrying scopes old kept (drop (length groups - left) groups)
+      → IsTrying scopes new kept (drop (length groups - (left + 1)) groups)
+  group_at old new kept groups left p low is resting adds h =
+      let i = length groups - 1 - left in
+      let within : i < length groups = omega (arith, low) in
+      let next : i + 1 ≡ length groups - left = omega (arith, low) in
+      let place : i ≡ length groups - (left + 1) = omega (arith, low) in
+      let here : drop i groups ≡ p ∷ drop (i + 1) groups = dropped groups i p within is in
+      let many : length groups - i ≡ left + 1 = omega (arith, low) in
+      let tag : left + 1 ≡ length (p ∷ drop (i + 1) groups) =
+      sym (sym (ap length here) ∙ length-drop i groups ∙ many) in
+      subst (λ n. IsTrying scopes new kept (drop n groups)) place
+      (subst (λ (gs : List Group). IsTrying scopes new kept gs) (sym here)
+      (group_in old new kept (drop (i + 1) groups) resting
+      (subst (λ n. IsTrying scopes old kept (drop n groups)) (sym next) h) p
+      (subst (λ n. GainsClauses n p.clauses (clauses_of old.derivation) (clauses_of new.derivation)) tag
+      (gains (left + 1) p.clauses (clauses_of old.derivation) (clauses_of new.derivation) adds))))
 
   -- the clauses that are in
-  pub matrix_of : (s : SearchState) (kept : List Row) (n : ℕ) (gs : List Group) → IsTrying scopes s kept n gs
+  pub matrix_of : (s : SearchState) (kept : List Row) (gs : List Group) → IsTrying scopes s kept gs
       → IsMatrix s.derivation (kept ++ grouped_in gs)
-  matrix_of s kept n gs h = record {
-    there = λ row i. let c = from_map (clauses_of s.derivation) row i in
+  matrix_of s kept gs h = record {
+    there = λ row i. let c = with_row (clauses_of s.derivation) row i in
         subst (λ r. Contains (kept ++ grouped_in gs) r) c.2
         (⊎_elim (λ k. contains_left kept (grouped_in gs) c.0.row k.1)
-        (λ of. contains_right kept (grouped_in gs) c.0.row (in_group n gs c.0.frame c.0.row of))
+        (λ of. contains_right kept (grouped_in gs) c.0.row (in_group gs c.0.frame c.0.row of))
         (h.none_else c.0 c.1));
     none_else = λ row i. ⊎_elim
-        (λ k. let f = h.kept_there row k in opened f.0 row f.2)
-        (λ r. let o = of_some n gs row r in opened o.0 row (h.rest_there o.0 row o.1))
+        (λ k. opened 0 row (h.kept_there row k))
+        (λ r. let o = of_some gs row r in opened o.0 row (h.rest_there o.0 row o.1))
         (contains_either kept (grouped_in gs) row i);
   }
     where
-      from_map : (cs : List OpenClause) (row : Row) → Contains (map (λ (c : OpenClause). c.row) cs) row
-          → (c : OpenClause) × Contains cs c × (c.row ≡ row)
-      from_map [] row i = absurd (contains_nil row i)
-      from_map (c ∷ cs) row i =
-          ⊎_elim (λ e. (c, contains_head c cs, e))
-          (λ j. let r = from_map cs row j in (r.0, contains_tail c cs r.0 r.1, r.2))
-          (contains_cons c.row (map (λ (c : OpenClause). c.row) cs) row i)
-
-      in_map : (cs : List OpenClause) (c : OpenClause) → Contains cs c
-          → Contains (map (λ (c : OpenClause). c.row) cs) c.row
-      in_map [] c i = absurd (contains_nil c i)
-      in_map (d ∷ cs) c i =
-          ⊎_elim
-          (λ (e : d ≡ c). subst (λ r. Contains (d.row ∷ map (λ (c : OpenClause). c.row) cs) r)
-          (ap (λ (x : OpenClause). x.row) e) (contains_head d.row (map (λ (c : OpenClause). c.row) cs)))
-          (λ j. contains_tail d.row (map (λ (c : OpenClause). c.row) cs) c.row (in_map cs c j))
-          (contains_cons d cs c i)
-
       opened : (tag : ℕ) (row : Row) → StandsAs (clauses_of s.derivation) tag row
           → Contains (open_clauses s.derivation) row
       opened tag row st =
-          subst (λ r. Contains (open_clauses s.derivation) r) st.3 (in_map (clauses_of s.derivation) st.0 st.1)
+          subst (λ r. Contains (open_clauses s.derivation) r) st.3 (row_of_one (clauses_of s.derivation) st.0 st.1)

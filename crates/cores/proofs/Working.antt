@@ -1,5 +1,5 @@
 -- The worked values.
-use Rattle.std.proofs.Common.{◌≡◌, true, false, [], ◌∷◌, Contains, refl, sym, ap, ⊎_elim, arith}
+use Rattle.std.proofs.Common.{◌≡◌, [], ◌∷◌, Contains, refl, sym, ap, ⊎_elim, arith}
 use Rattle.std.proofs.lemmas.Bool.{true≢false}
 use Rattle.calculus.proofs.Lists.{contains_cons, contains_head, contains_nil}
 use Rattle.cores.specs.Cores.{Group, IsCore}

@@ -1,14 +1,16 @@
 -- A search that tries groups one after the other, and how a trial may stop.
-use Rattle.std.specs.Prelude.{◌≡◌, ℕ, ◌+◌, ◌<◌, ◌⊎◌, ⊤, List, [], ◌∷◌, ◌++◌, Contains}
+use Rattle.std.specs.Prelude.{◌≡◌, ℕ, ◌⊎◌, ⊤, IfSome, List, [], ◌∷◌, ◌++◌, Contains, Option, is_none, length}
+use Rattle.prefix.specs.declared.quant.Quant.TheVariants.{Exists}
 use Rattle.prefix.specs.Literal.{Literal}
 use Rattle.prefix.specs.Scopes.{Scope}
 use Rattle.steps.specs.Counter.{Counter}
+use Rattle.truth.specs.Truth.{truth_under}
 use Rattle.calculus.specs.Rows.{Row}
 use Rattle.trail.specs.State.{Account}
 use Rattle.derive.specs.State.{OpenClause, State, clauses_of}
 use Rattle.search.specs.Moves.{IsMatrix}
 use Rattle.search.specs.State.{IsResting, SearchState}
-use Rattle.search.specs.Stops.{IsSpent}
+use Rattle.search.specs.Stops.{IsOutcome, IsSpent}
 use Rattle.search.specs.declared.outcome.SolveStop.{SolveStop}
 use Rattle.search.specs.declared.outcome.SolveStop.TheVariants.{Spent, NoMemory}
 use Rattle.cores.specs.Cores.{Group, grouped_in}
@@ -17,31 +19,30 @@ use Rattle.cores.specs.Cores.{Group, grouped_in}
 abbrev pub StandsAs : List OpenClause → ℕ → Row → Type 0
 StandsAs clauses tag row = (c : OpenClause) × Contains clauses c × (c.frame ≡ tag) × (c.row ≡ row)
 
--- these clauses come in under a tag
-pub record GainsClauses (tag : ℕ) (rows : List Row) (old new : List OpenClause) : Type 0 where
-  pub stay : (c : OpenClause) → Contains old c → Contains new c
-  pub come : (row : Row) → Contains rows row → StandsAs new tag row
-  pub none_else : (c : OpenClause) → Contains new c → Contains old c ⊎ ((c.frame ≡ tag) × Contains rows c.row)
+-- the clause is of the group with that tag, which is the number of groups from that group on
+abbrev pub IsOfGroup : List Group → ℕ → Row → Type 0
+IsOfGroup [] tag row = ⊥
+IsOfGroup (g ∷ rest) tag row = ((tag ≡ length (g ∷ rest)) × Contains g.clauses row) ⊎ IsOfGroup rest tag row
 
--- the clause is of the group with that tag, where these have a number and those behind it as tags
-abbrev pub IsOfGroup : ℕ → List Group → ℕ → Row → Type 0
-IsOfGroup next [] tag row = ⊥
-IsOfGroup next (g ∷ rest) tag row = ((tag ≡ next) × Contains g.clauses row) ⊎ IsOfGroup (next + 1) rest tag row
-
--- the tag of the group at a place
-abbrev pub tag_of : ℕ → ℕ
-tag_of place = place + 1
-
--- A search is at rest. Its open clauses are those that are kept, under tags below a number, and those of the groups
--- that are still to be tried, each under a tag of its own from that number on.
-pub record IsTrying (scopes : List Scope) (s : SearchState) (kept : List Row) (next : ℕ)
-    (rest : List Group) : Type 0 where
+-- A search is at rest. Its open clauses are those that are kept, under the tag 0, and those of the groups that are
+-- still to be tried.
+pub record IsTrying (scopes : List Scope) (s : SearchState) (kept : List Row) (rest : List Group) : Type 0 where
   pub resting : IsResting scopes s
   pub none_else : (c : OpenClause) → Contains (clauses_of s.derivation) c
-      → ((c.frame < next) × Contains kept c.row) ⊎ IsOfGroup next rest c.frame c.row
-  pub kept_there : (row : Row) → Contains kept row
-      → (tag : ℕ) × (tag < next) × StandsAs (clauses_of s.derivation) tag row
-  pub rest_there : (tag : ℕ) (row : Row) → IsOfGroup next rest tag row → StandsAs (clauses_of s.derivation) tag row
+      → ((c.frame ≡ 0) × Contains kept c.row) ⊎ IsOfGroup rest c.frame c.row
+  pub kept_there : (row : Row) → Contains kept row → StandsAs (clauses_of s.derivation) 0 row
+  pub rest_there : (tag : ℕ) (row : Row) → IsOfGroup rest tag row → StandsAs (clauses_of s.derivation) tag row
+
+-- the step under an id is the finish of a refutation of the clauses
+abbrev pub IsRefutation : List Scope → List Row → List Literal → State → ℕ → Type 0
+IsRefutation scopes clauses assumptions d end =
+    IsOutcome scopes clauses assumptions d (record { loser = Exists; end = end })
+
+-- what is found of clauses: a refutation, exactly where they are false under the assumptions
+pub record Decides (scopes : List Scope) (clauses : List Row) (assumptions : List Literal) (d : State)
+    (found : Option ℕ) : Type 0 where
+  pub refuted : IfSome found (IsRefutation scopes clauses assumptions d)
+  pub truth : truth_under assumptions scopes clauses ≡ is_none found
 
 -- a counter of no steps yet
 abbrev pub new_counter : ℕ → Counter

@@ -1,29 +1,32 @@
 //! Groups are tried one after the other.
-ghost use Rattle.std.specs.Prelude.{◌≡◌, ◌≤◌, ◌<◌, ◌+◌, ◌∷◌, ◌++◌, [], ℕ, List, Ok, true, false, Contains, IfOk, IfErr, OnOk, drop, length};
+ghost use Rattle.std.specs.Prelude.{◌≡◌, ◌≤◌, ◌<◌, ◌+◌, ◌∷◌, ◌++◌, [], ℕ, List, Contains, IfOk, IfErr, IfSome, IsTrue, OnOk, drop, is_some, length};
 ghost use Rattle.std.specs.List.{AllByRecursion};
 ghost use Rattle.prefix.specs.Scopes.{IsAscending, all_variables};
-ghost use Rattle.truth.specs.Truth.{truth_under};
 ghost use Rattle.calculus.specs.Rows.{IsRow, Row, variables_in};
 ghost use Rattle.calculus.specs.Verdicts.{AreOuter};
-ghost use Rattle.derive.specs.State.{clauses_of};
+ghost use Rattle.derive.specs.Dropping.{Falls, has_tag};
+ghost use Rattle.derive.specs.State.{clauses_of, is_live};
 ghost use Rattle.search.specs.State.{IsResting};
-ghost use Rattle.cores.specs.Cores.{Group, core_numbers, grouped_in};
-ghost use Rattle.cores.specs.Trials.{IsStopOn, IsTrialStop, IsTrying, tag_of};
+ghost use Rattle.cores.specs.Cores.{core_numbers, grouped_in};
+ghost use Rattle.cores.specs.Trials.{Decides, IsRefutation, IsStopOn, IsTrialStop, IsTrying};
 
 use crate::part::Part;
-use crate::trial::{Question, is_true_with, put_all};
+use crate::trial::{Question, refuted_with};
+use calculus::{end_rows_give_proofs, proofs_decide};
+use derive::{StepId, same_clauses_serve, steps_are_listed};
 use matrix::Matrix;
 use memory::NoMemory;
 use prefix::{LitList, Prefix, Var};
 use search::{Search, SolveStop, resting_grows};
 use std::alloc::Global;
 
-/// The numbers of the groups of the core: one group after the other is tried, and kept where the other clauses, with
+/// The numbers of the groups of the core: one group after the other is taken out, and kept if the other clauses, with
 /// those of the groups that are kept and of the ones still to be tried, are true under the assumptions. Where the
 /// formula of all clauses is false under them, it is so with the groups of the core, and true without any one of these.
 ///
-/// One search decides all trials, each with a counter of its own of the question's budget, and what it learned from
-/// clauses that stay is kept between them. `room` is no less than the number of any variable of the prefix.
+/// A group on which the last refutation doesn't rest needs no trial. One search decides all trials, each with a counter
+/// of its own of the question's budget, and what it learned from clauses that stay is kept between them. `room` is no
+/// less than the number of any variable of the prefix.
 ///
 /// Spent comes only where a step is due in a trial and its budget is spent, which is never so where the budget suffices
 /// for the variables and the restarts.
@@ -88,19 +91,22 @@ fn try_all<'a>(
     requires outer { AreOuter question.now.prefix.now question.now.assumptions.now }
     requires ascending { IsAscending (variables_in question.now.assumptions.now) }
     requires parts { AllByRecursion (IsRow question.now.prefix.now) (grouped_in parts.now) }
-    requires trying { IsTrying question.now.prefix.now search.old kept.old (tag_of 0) parts.now }
+    requires trying { IsTrying question.now.prefix.now search.old kept.old parts.now }
     requires none { core.old.items ≡ [] }
     ensures ok { OnOk result (core.new.items
         ≡ core_numbers question.now.assumptions.now question.now.prefix.now kept.old parts.now) }
     ensures stop { IfErr result (IsTrialStop question.now.restarts question.now.budget question.now.prefix.now
         kept.old parts.now question.now.assumptions.now) }
 {
+    let mut refutation = None;
     for place in 0..parts.len() {
-        let stays = is_needed(alloc, search, question, kept, parts, place)?;
-        if !stays {
+        refutation = refuted_without(alloc, search, question, kept, parts, place, refutation)?;
+        if refutation.is_some() {
             continue;
         }
-        keep(kept, core, &parts[place])?;
+        let part = &parts[place];
+        search.add_clauses(question.prefix, part.clauses(), 0)?;
+        keep(kept, core, part)?;
     }
     Ok(())
 }
@@ -118,10 +124,10 @@ fn fill(
     requires parts { AllByRecursion (IsRow prefix.now) (grouped_in parts.now) }
     requires resting { IsResting [] search.old }
     requires none { clauses_of search.old.derivation ≡ [] }
-    ensures { OnOk result (IsTrying prefix.now search.new others.now (tag_of 0) parts.now) }
+    ensures { OnOk result (IsTrying prefix.now search.new others.now parts.now) }
 {
     make_room(search, prefix, room)?;
-    put_all(search, prefix, others, 0)?;
+    search.add_clauses(prefix, others, 0)?;
     put_groups(search, prefix, parts)
 }
 
@@ -141,50 +147,72 @@ fn make_room(search: &mut Search, prefix: &Prefix, room: usize) -> Result<(), No
     }
 }
 
-// Puts the clauses of groups in, each under a tag of its own.
+// Puts the clauses of groups in, the last group first, each under the number of groups from it on as its tag.
 fn put_groups(search: &mut Search, prefix: &Prefix, parts: &[Part<'_>]) -> Result<(), NoMemory>
     requires resting { IsResting prefix.now search.old }
     requires parts { AllByRecursion (IsRow prefix.now) (grouped_in parts.now) }
-    ensures { (others : List Row) → IsTrying prefix.now search.old others 1 [] →
-        OnOk result (IsTrying prefix.now search.new others 1 parts.now) }
+    ensures { (others : List Row) → IsTrying prefix.now search.old others [] →
+        OnOk result (IsTrying prefix.now search.new others parts.now) }
 {
-    for place in 0..parts.len() {
-        put_all(search, prefix, parts[place].clauses(), place + 1)?;
+    for left in 0..parts.len() {
+        let part = &parts[parts.len() - 1 - left];
+        search.add_clauses(prefix, part.clauses(), left + 1)?;
     }
     Ok(())
 }
 
-// Takes a group out, and puts it in again where the formula is true without it.
-fn is_needed(
+// Takes a group out, and answers the finish of a refutation of what is left, if that is false. A refutation that rests
+// on none of the group's clauses stays; else what is left is tried.
+fn refuted_without(
     alloc: Global,
     search: &mut Search,
     question: &Question<'_>,
     kept: &Matrix<'_>,
     parts: &[Part<'_>],
     place: usize,
-) -> Result<bool, SolveStop>
+    refutation: Option<StepId>,
+) -> Result<Option<StepId>, SolveStop>
     requires outer { AreOuter question.now.prefix.now question.now.assumptions.now }
     requires ascending { IsAscending (variables_in question.now.assumptions.now) }
-    requires parts { AllByRecursion (IsRow question.now.prefix.now) (grouped_in parts.now) }
     requires place { place < length parts.now }
-    requires trying { IsTrying question.now.prefix.now search.old kept.now (tag_of place) (drop place parts.now) }
-    ensures truth { IfOk result (λ t. truth_under question.now.assumptions.now question.now.prefix.now
-        (kept.now ++ grouped_in (drop (place + 1) parts.now)) ≡ t) }
-    ensures out { result ≡ Ok false → IsTrying question.now.prefix.now search.new kept.now (tag_of (place + 1))
-        (drop (place + 1) parts.now) }
-    ensures back { result ≡ Ok true → (g : Group) → drop place parts.now ≡ g ∷ drop (place + 1) parts.now →
-        IsTrying question.now.prefix.now search.new (kept.now ++ g.clauses) (tag_of (place + 1))
-        (drop (place + 1) parts.now) }
+    requires trying { IsTrying question.now.prefix.now search.old kept.now (drop place parts.now) }
+    requires refuted { IfSome refutation (IsRefutation question.now.prefix.now
+        (kept.now ++ grouped_in (drop place parts.now)) question.now.assumptions.now search.old.derivation) }
+    ensures trying { OnOk result (IsTrying question.now.prefix.now search.new kept.now (drop (place + 1) parts.now)) }
+    ensures decides { IfOk result (Decides question.now.prefix.now
+        (kept.now ++ grouped_in (drop (place + 1) parts.now)) question.now.assumptions.now search.new.derivation) }
     ensures stop { IfErr result (IsStopOn question.now.restarts question.now.budget question.now.prefix.now
         (kept.now ++ grouped_in (drop (place + 1) parts.now)) question.now.assumptions.now) }
 {
-    search.drop_frame(place + 1);
-    let is_true = is_true_with(alloc, search, question, kept, parts, place + 1)?;
-    if !is_true {
-        return Ok(false);
+    // For the proof: the prefix is a valid one, and a finish of a legal derivation decides.
+    let _valid = question.prefix.scopes();
+    end_rows_give_proofs();
+    proofs_decide();
+    same_clauses_serve();
+    steps_are_listed();
+    let frame = parts.len() - place;
+    let stays = is_beside(search, refutation, frame);
+    search.drop_frame(frame);
+    if stays {
+        return Ok(refutation);
     }
-    put_all(search, question.prefix, parts[place].clauses(), place + 1)?;
-    Ok(true)
+    refuted_with(alloc, search, question, kept, parts, place + 1)
+}
+
+// Whether there is a refutation, and it stays where a frame is dropped.
+fn is_beside(search: &Search, refutation: Option<StepId>, frame: usize) -> bool
+    requires { IfSome refutation (λ end. IsTrue (is_live search.now.derivation end)) }
+    ensures some { IsTrue result → IsTrue (is_some refutation) }
+    ensures stays { IsTrue result → IfSome refutation (λ end.
+        Falls (has_tag frame) search.now.derivation.notes end → ⊥) }
+{
+    let derivation = search.derivation();
+    // What falls with a frame has it or a later one as its tag.
+    let _from = derivation.frame_from(frame);
+    match refutation {
+        Some(end) => derivation.tag(end) < frame,
+        None => false,
+    }
 }
 
 // Keeps a group: its clauses come behind those that are kept, and its number behind the others of the core.

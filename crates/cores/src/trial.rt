@@ -1,22 +1,22 @@
 //! A trial: clauses that a search decides with a counter of its own.
-ghost use Rattle.std.specs.Prelude.{◌≡◌, ◌++◌, IfOk, IfErr, OnOk, drop};
-ghost use Rattle.std.specs.List.{AllByRecursion};
-ghost use Rattle.prefix.specs.Scopes.{IsAscending};
-ghost use Rattle.prefix.specs.Sides.{bad_of};
-ghost use Rattle.truth.specs.Truth.{truth_under};
-ghost use Rattle.calculus.specs.Rows.{IsRow, variables_in};
+ghost use Rattle.std.specs.Prelude.{◌≡◌, ◌++◌, List, IfOk, IfErr, drop};
+ghost use Rattle.prefix.specs.Literal.{Literal};
+ghost use Rattle.prefix.specs.Scopes.{IsAscending, Scope};
+ghost use Rattle.calculus.specs.Rows.{Row, variables_in};
 ghost use Rattle.calculus.specs.Verdicts.{AreOuter};
-ghost use Rattle.derive.specs.State.{clauses_of};
+ghost use Rattle.derive.specs.State.{State, clauses_of};
 ghost use Rattle.search.specs.Moves.{IsMatrix};
 ghost use Rattle.search.specs.State.{IsResting};
+ghost use Rattle.search.specs.Stops.{IsOutcome};
 ghost use Rattle.cores.specs.Cores.{grouped_in};
-ghost use Rattle.cores.specs.Trials.{GainsClauses, IsStopOn};
+ghost use Rattle.cores.specs.Trials.{Decides, IsStopOn};
 
 use crate::part::Part;
+use derive::StepId;
 use matrix::Matrix;
 use memory::NoMemory;
 use prefix::{Lit, LitList, Prefix, Quant};
-use search::{Search, SolveStop};
+use search::{Outcome, Search, SolveStop};
 use std::alloc::Global;
 use steps::Steps;
 
@@ -36,47 +36,28 @@ pub struct Question<'a> {
     pub kept: u32,
 }
 
-// Puts clauses in under a tag. With no memory some of them may be in.
-pub(crate) fn put_all(
-    search: &mut Search,
-    prefix: &Prefix,
-    rows: &[LitList],
-    tag: usize,
-) -> Result<(), NoMemory>
-    requires resting { IsResting prefix.now search.old }
-    requires rows { AllByRecursion (IsRow prefix.now) rows.now }
-    ensures resting { IsResting prefix.now search.new }
-    ensures adds { OnOk result (GainsClauses tag rows.now (clauses_of search.old.derivation)
-        (clauses_of search.new.derivation)) }
-{
-    for row in rows {
-        search.add_clause(prefix, row.lits(), tag)?;
-    }
-    Ok(())
-}
-
-// Whether the clauses that are kept are true with those of the groups from a place on.
-pub(crate) fn is_true_with(
+// The finish of a refutation of the clauses that are kept with those of the groups from a place on, if they are false.
+pub(crate) fn refuted_with(
     alloc: Global,
     search: &mut Search,
     question: &Question<'_>,
     kept: &Matrix<'_>,
     parts: &[Part<'_>],
     from: usize,
-) -> Result<bool, SolveStop>
+) -> Result<Option<StepId>, SolveStop>
     requires outer { AreOuter question.now.prefix.now question.now.assumptions.now }
     requires ascending { IsAscending (variables_in question.now.assumptions.now) }
     requires resting { IsResting question.now.prefix.now search.old }
     requires matrix { IsMatrix search.old.derivation (kept.now ++ grouped_in (drop from parts.now)) }
-    ensures truth { IfOk result (λ t. truth_under question.now.assumptions.now question.now.prefix.now
-        (kept.now ++ grouped_in (drop from parts.now)) ≡ t) }
+    ensures decides { IfOk result (Decides question.now.prefix.now
+        (kept.now ++ grouped_in (drop from parts.now)) question.now.assumptions.now search.new.derivation) }
     ensures stop { IfErr result (IsStopOn question.now.restarts question.now.budget question.now.prefix.now
         (kept.now ++ grouped_in (drop from parts.now)) question.now.assumptions.now) }
     ensures resting { IsResting question.now.prefix.now search.new }
     ensures clauses { clauses_of search.new.derivation ≡ clauses_of search.old.derivation }
 {
     let matrix = matrix_with(alloc, kept, parts, from)?;
-    decide(search, question, &matrix)
+    refuted(search, question, &matrix)
 }
 
 // The matrix of the clauses that are kept and of those of the groups from a place on.
@@ -107,17 +88,18 @@ fn same_parts<'a>(alloc: Global, kept: &'a Matrix<'_>) -> Result<Matrix<'a>, NoM
     Ok(matrix)
 }
 
-// Whether the clauses of a matrix are true.
-fn decide(
+// The finish of a refutation of the clauses of a matrix, if they are false.
+fn refuted(
     search: &mut Search,
     question: &Question<'_>,
     matrix: &Matrix<'_>,
-) -> Result<bool, SolveStop>
+) -> Result<Option<StepId>, SolveStop>
     requires outer { AreOuter question.now.prefix.now question.now.assumptions.now }
     requires ascending { IsAscending (variables_in question.now.assumptions.now) }
     requires resting { IsResting question.now.prefix.now search.old }
     requires matrix { IsMatrix search.old.derivation matrix.now }
-    ensures truth { IfOk result (λ t. truth_under question.now.assumptions.now question.now.prefix.now matrix.now ≡ t) }
+    ensures decides { IfOk result (Decides question.now.prefix.now matrix.now question.now.assumptions.now
+        search.new.derivation) }
     ensures stop { IfErr result (IsStopOn question.now.restarts question.now.budget question.now.prefix.now matrix.now
         question.now.assumptions.now) }
     ensures resting { IsResting question.now.prefix.now search.new }
@@ -132,15 +114,16 @@ fn decide(
         question.kept,
         &mut steps,
     )?;
-    Ok(truth_against(outcome.loser))
+    Ok(refutation_of(&outcome))
 }
 
-// The truth where this side loses.
-fn truth_against(loser: Quant) -> bool
-    ensures { result ≡ bad_of loser }
+// The finish by which clauses are false, if they are.
+fn refutation_of(outcome: &Outcome) -> Option<StepId>
+    ensures { (scopes : List Scope) (clauses : List Row) (assumptions : List Literal) (d : State)
+        → IsOutcome scopes clauses assumptions d outcome.now → Decides scopes clauses assumptions d result }
 {
-    match loser {
-        Quant::Exists => false,
-        Quant::Forall => true,
+    match outcome.loser {
+        Quant::Exists => Some(outcome.end),
+        Quant::Forall => None,
     }
 }
