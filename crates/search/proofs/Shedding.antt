@@ -1,10 +1,13 @@
 -- Rows that are detached between solves.
-use Rattle.std.proofs.Common.{◌≡◌, ℕ, ◌+◌, ◌<◌, ◌≤◌, Bool, true, IsTrue, List, refl, sym, ap, subst, ◌∙◌, inl, inr, ⊎_elim, arith}
-use Rattle.std.proofs.lemmas.Bool.{cases_lt}
+use Rattle.std.proofs.Common.{◌≡◌, ℕ, ◌+◌, ◌<◌, ◌≤◌, ◌⊎◌, Bool, true, IsTrue, List, refl, sym, ap, subst, ◌∙◌, inl, inr, ⊎_elim, arith}
+use Rattle.std.specs.Prelude.{◌==◌}
+use Rattle.std.proofs.lemmas.Bool.{cases_lt, eq-eqb, eqb-true, le-leb, or_left, or_right}
 use Rattle.prefix.specs.Scopes.{Scope}
 use Rattle.prefix.specs.declared.quant.Quant.{Quant}
 use Rattle.prefix.specs.declared.quant.Quant.TheVariants.{Exists, Forall}
-use Rattle.derive.specs.State.{Note, Notes, State, arena_of, has_rows, next_id, note_at, note_in, side_at, side_in, tag_in}
+use Rattle.derive.specs.State.{Note, Notes, State, arena_of, has_rows, next_id, note_at, note_in, side_at, side_in, tag_in, why_in}
+use Rattle.calculus.specs.Derivations.{RestsOn, Why}
+use Rattle.calculus.specs.Derivations.Why.{Given, ReducedFrom, ResolvedFrom, FinishedFrom}
 use Rattle.calculus.specs.Rows.{Row}
 use Rattle.derive.specs.Cubes.{misses, misses_one}
 use Rattle.derive.specs.Dropping.{Falls, NoneOutsideBelow, StepTest, has_tag, is_outside, mentions, names}
@@ -12,7 +15,7 @@ use Rattle.derive.specs.Dropping.Falls.{rests, root}
 use Rattle.derive.proofs.Leaving.{names_same}
 use Rattle.derive.proofs.Missed.{misses_one_same, misses_same}
 use Rattle.derive.proofs.Additions.{live_below}
-use Rattle.search.specs.Leaving.{Goes, Reaches}
+use Rattle.search.specs.Leaving.{Goes, Reaches, may_fall, may_fall_by, may_fall_over}
 use Rattle.search.specs.declared.leaving.Leaving.{Leaving}
 use Rattle.search.specs.declared.leaving.Leaving.TheVariants.{Frame, Cubes, Outside}
 use Rattle.search.specs.Moves.{SameSteps}
@@ -140,7 +143,8 @@ shed_all goes reached start s from to has known all id above is =
 -- what is reached, and what goes, is the same with the same steps
 pub reaches_same : (leaving : Leaving) (old new : State) → SameSteps old new → (id : ℕ) → Reaches leaving old id
     → Reaches leaving new id
-reaches_same (Frame frame) old new same id is = subst (λ o. frame ≤ tag_in o) (sym (note_same old new same id)) is
+reaches_same (Frame frame) old new same id is =
+    subst (λ (notes : Notes). may_fall frame notes id ≡ true) (sym same.notes) is
 reaches_same Cubes old new same id is = ap side_in (note_same old new same id) ∙ is
 reaches_same (Outside side prefix) old new same id is = ap side_in (note_same old new same id) ∙ is
 
@@ -150,6 +154,48 @@ goes_before (Frame frame) old new same id is = ap tag_in (sym (note_same old new
 goes_before Cubes old new same id is = is
 goes_before (Outside side prefix) old new same id is =
     subst (λ (row : Row). mentions (is_outside prefix.now) row ≡ true) (same.literals id) is
+
+-- what falls with a frame may
+
+-- an input falls only where the frame is its tag
+given_falls : (frame : ℕ) (notes : Notes) (id : ℕ) → why_in (note_in notes id) ≡ Given
+    → Falls (has_tag frame) notes id → tag_in (note_in notes id) ≡ frame
+given_falls frame notes id given (root i note there test) = ap tag_in there ∙ eqb-true note.tag frame test
+given_falls frame notes id given (rests i on note there r falls) =
+    absurd (subst (λ w. RestsOn w on) (sym (ap why_in there) ∙ given) r)
+
+-- a reduction falls so, or with the step that it rests on
+reduced_falls : (frame : ℕ) (notes : Notes) (id a : ℕ) → why_in (note_in notes id) ≡ ReducedFrom a
+    → Falls (has_tag frame) notes id → (tag_in (note_in notes id) ≡ frame) ⊎ Falls (has_tag frame) notes a
+reduced_falls frame notes id a why (root i note there test) = inl (ap tag_in there ∙ eqb-true note.tag frame test)
+reduced_falls frame notes id a why (rests i on note there r falls) =
+    let same : a ≡ on = subst (λ w. RestsOn w on) (sym (ap why_in there) ∙ why) r in
+    inr (subst (Falls (has_tag frame) notes) (sym same) falls)
+
+module _ (frame : ℕ) (notes : Notes)
+    (high : (id : ℕ) → Falls (has_tag frame) notes id → frame ≤ tag_in (note_in notes id)) where
+  over : (id a : ℕ) → why_in (note_in notes id) ≡ ReducedFrom a → Falls (has_tag frame) notes id → (w : Why)
+      → why_in (note_in notes a) ≡ w
+      → may_fall_over frame (tag_in (note_in notes id)) (tag_in (note_in notes a)) w ≡ true
+  over id a why falls Given under =
+      let tag = tag_in (note_in notes id) in
+      let tag_under = tag_in (note_in notes a) in
+      ⊎_elim (λ e. or_left (tag == frame) (tag_under == frame) (eq-eqb tag frame e))
+      (λ f. or_right (tag == frame) (tag_under == frame) (eq-eqb tag_under frame (given_falls frame notes a under f)))
+      (reduced_falls frame notes id a why falls)
+  over id a why falls (ReducedFrom b) under = le-leb frame (tag_in (note_in notes id)) (high id falls)
+  over id a why falls (ResolvedFrom b c x) under = le-leb frame (tag_in (note_in notes id)) (high id falls)
+  over id a why falls (FinishedFrom b) under = le-leb frame (tag_in (note_in notes id)) (high id falls)
+
+  by_why : (id : ℕ) → Falls (has_tag frame) notes id → (w : Why) → why_in (note_in notes id) ≡ w
+      → may_fall_by frame notes (tag_in (note_in notes id)) w ≡ true
+  by_why id falls Given why = eq-eqb (tag_in (note_in notes id)) frame (given_falls frame notes id why falls)
+  by_why id falls (ReducedFrom a) why = over id a why falls (why_in (note_in notes a)) refl
+  by_why id falls (ResolvedFrom a b x) why = le-leb frame (tag_in (note_in notes id)) (high id falls)
+  by_why id falls (FinishedFrom a) why = le-leb frame (tag_in (note_in notes id)) (high id falls)
+
+  pub falls_reached : (id : ℕ) → Falls (has_tag frame) notes id → may_fall frame notes id ≡ true
+  falls_reached id falls = by_why id falls (why_in (note_in notes id)) refl
 
 -- by tests that agree the same fall
 pub falls_alike : (p q : StepTest) (a b : Notes) → b ≡ a → ((id : ℕ) (note : Note) → p id note ≡ q id note) → (id : ℕ)

@@ -138,12 +138,6 @@ not_ten h = absurd (omega arith)
 not_one : ◌≡◌ {A = ℕ} 0 1 → ⊥
 not_one e = absurd (omega arith)
 
-less : 0 ≤ 1
-less = omega arith
-
-not_less : 1 ≤ 0 → ⊥
-not_less h = absurd (omega arith)
-
 given : 1 < 9
 given = omega arith
 
@@ -180,10 +174,15 @@ leaving = record {
   comes_back = λ k. none_some None (tagged Exists Given 1) refl (sym (k.note 1 given refl));
   new = record { longer = fewer; note = λ id low live. note_older id low; row = λ id low live. row_older id low };
   taken_back = λ k. not_ten k.longer;
-  reached = less;
+  reached = refl;
   not_gone = λ e. not_one (sym e);
   own = refl;
-  earlier = not_less;
+  own_reached = refl;
+  own_reduction = refl;
+  other_clause = λ e. false≢true e;
+  other_reduction = λ e. false≢true e;
+  earlier = λ e. false≢true e;
+  earlier_resolvent = λ e. false≢true e;
   cube = refl;
   clause = other_side;
   no_cube = λ none. none;

@@ -76,11 +76,17 @@ pub record WorkedLeaving : Type 0 where
   pub comes_back : KeepsOlder (with_frame false false false false true) all_live → ⊥
   pub new : KeepsOlder all_live (with_step all_live (tagged Forall (ReducedFrom 6) 0) (plus 1 ∷ []))
   pub taken_back : KeepsOlder (with_step all_live (tagged Forall (ReducedFrom 6) 0) (plus 1 ∷ [])) all_live → ⊥
-  -- of frame 0 and later ones rows are detached, of which those of frame 0 go; not rows of earlier ones
-  pub reached : Reaches (Frame 0) all_live 1
-  pub not_gone : Goes (Frame 0) all_live 1 → ⊥
+  -- with frame 0 what may rest on it is detached, of which its own rows go: the resolvent of frame 1, and the reduction
+  -- of its clause; not a clause of frame 1; with frame 1 not that reduction; and nothing of earlier frames
+  pub reached : Reaches (Frame 0) all_live 2
+  pub not_gone : Goes (Frame 0) all_live 2 → ⊥
   pub own : Goes (Frame 1) all_live 1
+  pub own_reached : Reaches (Frame 1) all_live 1
+  pub own_reduction : Reaches (Frame 0) all_live 8
+  pub other_clause : Reaches (Frame 0) all_live 1 → ⊥
+  pub other_reduction : Reaches (Frame 1) all_live 8 → ⊥
   pub earlier : Reaches (Frame 1) all_live 0 → ⊥
+  pub earlier_resolvent : Reaches (Frame 2) all_live 2 → ⊥
   -- cubes are detached, and no clauses, and none goes for sure
   pub cube : Reaches Cubes all_live 3
   pub clause : Reaches Cubes all_live 1 → ⊥

@@ -1,23 +1,23 @@
-//! Rows that leave: they are detached before their steps are dropped. A row with a later tag may rest on a step that
-//! falls or not, which its tag doesn't tell; so may a cube behind the first that falls. To tell them apart would take
-//! marks, and so memory: they are detached, and the next solve attaches those that are left.
+//! Rows that leave: they are detached before their steps are dropped. A learned row with a later tag may rest on a step
+//! that falls or not, which its tag doesn't tell; so may a cube behind the first that falls. To tell them apart would
+//! take marks, and so memory: they are detached, and the next solve attaches those that are left.
 ghost use Rattle.std.specs.Prelude.{◌≡◌, ◌≤◌, ◌↔◌, ℕ, IsTrue, List};
 ghost use Rattle.prefix.specs.Scopes.{Scope};
 ghost use Rattle.calculus.specs.Derivations.{Extends};
 ghost use Rattle.derive.specs.Dropping.{NoneOutsideBelow, is_outside, mentions, names};
-ghost use Rattle.derive.specs.State.{has_rows, is_live, row_of};
-ghost use Rattle.search.specs.Leaving.{Goes, Reaches};
+ghost use Rattle.derive.specs.State.{has_rows, is_live, row_of, tag_at, why_at};
+ghost use Rattle.search.specs.Leaving.{Goes, Reaches, may_fall, may_fall_over};
 ghost use Rattle.search.specs.State.{IsIntact, IsTallied, rows_of};
 ghost use Rattle.search.specs.Watching.{IsFree, NoneFalls, Sheds};
 
 use crate::search::Search;
-use derive::{Derivation, StepId};
+use derive::{Derivation, Step, StepId};
 use prefix::{Prefix, Quant};
 
 // Rows that are detached before steps go.
 #[derive(Drop)]
 pub(crate) enum Leaving<'a> {
-    // Those of a frame, which go, and those of later ones.
+    // Those of a frame, which go, and learned ones of later frames.
     Frame(usize),
     // Cubes.
     Cubes,
@@ -32,7 +32,7 @@ impl Leaving<'_> {
         ensures { IsTrue result ↔ Reaches self.now derivation.now id }
     {
         match self {
-            Self::Frame(frame) => *frame <= derivation.tag(id),
+            Self::Frame(frame) => may_fall(derivation, id, *frame),
             Self::Cubes => derivation.side(id) == Quant::Forall,
             Self::Outside(side, _) => derivation.side(id) == *side,
         }
@@ -112,5 +112,30 @@ impl Search {
         self.detach_from(clauses, &Leaving::Outside(Quant::Exists, prefix));
         let cubes = self.derivation.outside_from(Quant::Forall, from, prefix);
         self.detach_from(cubes, &Leaving::Outside(Quant::Forall, prefix));
+    }
+}
+
+// Whether a live step may fall with a frame: its own tag tells it of an input, and of the reduction of one. Any other
+// may rest on the frame, unless it has an earlier one as its tag.
+fn may_fall(derivation: &Derivation, id: StepId, frame: usize) -> bool
+    requires { IsTrue (is_live derivation.now id) }
+    ensures { result ≡ may_fall frame derivation.now.notes id }
+{
+    let tag = derivation.tag(id);
+    match derivation.step(id) {
+        Step::InputClause | Step::InputCube => tag == frame,
+        Step::Reduced(a) => may_fall_over(derivation, a, tag, frame),
+        _ => frame <= tag,
+    }
+}
+
+// Whether a reduction with this tag may fall with a frame, by the live step that it rests on.
+fn may_fall_over(derivation: &Derivation, a: StepId, tag: usize, frame: usize) -> bool
+    requires { IsTrue (is_live derivation.now a) }
+    ensures { result ≡ may_fall_over frame tag (tag_at derivation.now a) (why_at derivation.now a) }
+{
+    match derivation.step(a) {
+        Step::InputClause | Step::InputCube => tag == frame || derivation.tag(a) == frame,
+        _ => frame <= tag,
     }
 }

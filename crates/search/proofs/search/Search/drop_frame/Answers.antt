@@ -1,8 +1,8 @@
-use Rattle.std.proofs.Common.{◌≡◌, ◌≤◌, ℕ, refl, ap, sym, subst, ◌∙◌, arith}
+use Rattle.std.proofs.Common.{◌≡◌, ◌≤◌, ℕ, true, refl, ap, sym, subst, ◌∙◌, arith}
 use Rattle.derive.specs.Dropping.{Falls, has_tag}
 use Rattle.derive.specs.State.{tag_at, tag_in}
 use Rattle.clean.specs.Turns.{reductions_in}
-use Rattle.search.specs.Leaving.{Loses}
+use Rattle.search.specs.Leaving.{Loses, may_fall}
 use Rattle.search.specs.State.{IsAtRest, SearchState}
 use Rattle.search.specs.Watching.{NoneFalls, Sheds}
 use Rattle.search.specs.contracts.search.Search.{the_view}
@@ -10,7 +10,7 @@ use Rattle.search.proofs.Dropping.{clauses_left, frame_falls, no_frame_root, res
 use Rattle.search.proofs.Marks.{note_same}
 use Rattle.search.proofs.Popping.{loses_shed, older_lost}
 use Rattle.search.proofs.Reducing.{reductions_left, reductions_same}
-use Rattle.search.proofs.Shedding.{frame_falls_before, none_reached}
+use Rattle.search.proofs.Shedding.{falls_reached, frame_falls_before, none_reached}
 use Rattle.search.proofs.Laws.{agreeing_laws, clauses_are_listed, holding_laws}
 use Rattle.search.proofs.search.Search.drop_frame.Goals as goal
 
@@ -28,10 +28,11 @@ none c =
     → (c.frame_from-from.result ≤ id) × (c.args.frame ≤ tag_at s.derivation id)) c.self.view_is
     c.frame_from-from.ensures.falls in
     subst (NoneFalls (has_tag c.args.frame)) (sym c.self-2.view_is)
-    (none_reached (has_tag c.args.frame) (λ id. c.args.frame ≤ tag_at old id) new c.frame_from-from.result
-    c.detach_from.ensures.free
-    (λ id fell. falls id (frame_falls_before old new.derivation c.detach_from.ensures.sheds.steps c.args.frame id
-    fell)))
+    (none_reached (has_tag c.args.frame) (λ id. may_fall c.args.frame old.notes id ≡ true) new
+    c.frame_from-from.result c.detach_from.ensures.free
+    (λ id fell.
+    let was = frame_falls_before old new.derivation c.detach_from.ensures.sheds.steps c.args.frame id fell in
+    ((falls id was).0, falls_reached c.args.frame old.notes (λ i f. (falls i f).1) id was)))
 
 loses : (c : goal.After-drop_frame) → Loses (has_tag c.args.frame) c.args.self.now.derivation c.drop_frame.new.self
 loses c =
