@@ -366,7 +366,7 @@ def costs():
     yield "cost_of_frames_without_clauses", check_rounds, ("push", "pop")
     yield "cost_of_a_long_trail", check_cost, (falling(100_000), falling(25_000))
     yield "cost_of_decisions_in_all_scopes", check_cost, (in_all_scopes(SCOPES), in_all_scopes(SCOPES // 4))
-    yield "cost_of_a_core_among_many_groups", check_cost, (core_among(16_000), core_among(4_000))
+    yield "cost_of_a_core_among_many_groups", check_cost, (core_among(8_000), core_among(2_000))
 
 
 # Memory.
