@@ -93,7 +93,7 @@ enum qbf_code {
     QBF_TEXT_TOO_MANY = 117,  /* there are more clauses than declared */
     QBF_TEXT_WORD = 118,      /* a word doesn't belong there */
 
-    /* a text that is read, or a check formula, goes beyond a limit */
+    /* a text that is read, or a check formula, goes beyond a limit; so does the number of clauses of qbf_write */
     QBF_MANY_VARS = 120,     /* 1,048,576 variables */
     QBF_MANY_SCOPES = 121,   /* 65,536 scopes */
     QBF_MANY_CLAUSES = 122,  /* 2^24 clauses */
@@ -171,7 +171,8 @@ uint32_t qbf_activate(qbf *q, uint64_t group);
 uint32_t qbf_deactivate(qbf *q, uint64_t group);
 
 /* The formula that is open, as a text of QDIMACS 1.1, into a buffer: its header declares the greatest variable and as
- * many clauses as stand. Assumptions aren't in it. Refused with 60, 62. */
+ * many clauses as stand. Assumptions aren't in it. Refused with 60; with 122 where more than 2^32 - 1 clauses stand;
+ * and then with 62. */
 uint32_t qbf_write(qbf *q, uint8_t *bytes, size_t length, size_t *count);
 
 /* ---- Solving ---- */

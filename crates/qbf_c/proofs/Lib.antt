@@ -1,7 +1,12 @@
 pub mod Checking
 pub mod Filling
 pub mod Levels
+pub mod Numbers
 pub mod Parts
 pub mod Reading
 pub mod Shapes
 pub mod Solving
+pub mod Telling
+pub mod ToldValues
+pub mod Values
+pub mod Writing

@@ -1,5 +1,5 @@
 -- Lists that are gone over, element by element or part by part.
-use Rattle.std.proofs.Common.{◌≡◌, ℕ, zero, suc, ◌+◌, ◌≤◌, List, [], ◌∷◌, ◌++◌, length, take, get_or, min, refl, ap, sym, ◌∙◌, arith, length-append}
+use Rattle.std.proofs.Common.{◌≡◌, ℕ, zero, suc, ◌+◌, ◌≤◌, List, [], ◌∷◌, ◌++◌, length, take, get_or, min, ap, sym, ◌∙◌, arith, length-append}
 use Rattle.std.specs.List.{flat_map}
 use Rattle.std.proofs.lemmas.List.{append-nil, append_assoc}
 
@@ -41,7 +41,8 @@ count_next f xs i d first now new most below is before step =
 pub element_next : {X : Type 0} (before left later new all : List X) (v n : X) → left ≡ v ∷ later
     → before ++ left ≡ all → n ≡ v → new ≡ before ++ n ∷ [] → new ++ later ≡ all
 element_next before left later new all v n is whole same more =
-    ap (λ xs. xs ++ later) (more ∙ ap (λ x. before ++ x ∷ []) same) ∙ append_assoc before (v ∷ []) later ∙ ap (λ xs. before ++ xs) (sym is) ∙ whole
+    ap (λ xs. xs ++ later) (more ∙ ap (λ x. before ++ x ∷ []) same) ∙ append_assoc before (v ∷ []) later
+    ∙ ap (λ xs. before ++ xs) (sym is) ∙ whole
 
 pub element_last : {X : Type 0} (before left all : List X) → left ≡ [] → before ++ left ≡ all → before ≡ all
 element_last before left all none whole = sym (append-nil before) ∙ ap (λ xs. before ++ xs) (sym none) ∙ whole

@@ -1,5 +1,5 @@
 -- What is told of a text that was read.
-use Rattle.std.proofs.Common.{◌≡◌, ◌≢◌, ℕ, zero, suc, ◌+◌, Bool, true, List, Result, Err, refl, sym, subst, ◌∙◌, arith}
+use Rattle.std.proofs.Common.{◌≡◌, ◌≢◌, ℕ, zero, suc, ◌+◌, Bool, List, Err, refl, sym, subst, arith}
 use Rattle.std.specs.Prelude.{IsErrOf}
 use Rattle.reading.specs.declared.refusal.Quantity.{Quantity}
 use Rattle.reading.specs.declared.refusal.Quantity.TheVariants.{Variables, Scopes, Clauses, Literals, Bytes}

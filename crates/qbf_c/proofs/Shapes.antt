@@ -35,7 +35,11 @@ abbrev pub Z : RattleType
 Z = heap.the_row
 
 abbrev pub E : Bx
-E = record { row = R; laws = held_laws.the_row_laws; al = record { row = Z; laws = heap_laws.the_row_laws; g = ghosts; d = dict; drops = impl [] tnil dnil } }
+E = record {
+  row = R;
+  laws = held_laws.the_row_laws;
+  al = record { row = Z; laws = heap_laws.the_row_laws; g = ghosts; d = dict; drops = impl [] tnil dnil };
+}
 
 abbrev pub Piece : RattleType
 Piece = Parts.the_row R Z ghosts
@@ -57,25 +61,34 @@ three_tt false y z r s t = absurd r
 
 pub handle_good : (p : Ptr) (h : Val) (t : Bool) → Good (layout Z) h → Good (layout H) (word p h t)
 handle_good p h t fits =
-    let g = Ptr-Good p in
-    (three_tt (has_ty mir.Syntax.ty_ptr (ptr_val p)) (has_ty (layout Z) h) true g.0 fits.0 tt, (g.1, (fits.1, (tt, tt))))
+    let g = Ptr-Good p in (
+      three_tt (has_ty mir.Syntax.ty_ptr (ptr_val p)) (has_ty (layout Z) h) true g.0 fits.0 tt,
+      (g.1, (fits.1, (tt, tt))),
+    )
 
 module _ {M : Type 1} {𝓤 : Ura M} {𝓛 : Logic 𝓤} {K : Type 0} {Γ : List (Item 𝓤)} {G : Goal 𝓤 𝓛.H} where
   pub handle_out : K → (d : H.Denot) (vs : List Val)
-      → ((h : Val) → vs ≡ word d.at h d.live ∷ [] → Good (layout Z) h → Seq K 𝓛 (‵ (handle_owns d.alloc d.live d.at d.engine) ∷ ‵ (Z.own_val d.alloc (h ∷ [])) ∷ Γ) G)
+      → ((h : Val) → vs ≡ word d.at h d.live ∷ [] → Good (layout Z) h → Seq K 𝓛
+      (‵ (handle_owns d.alloc d.live d.at d.engine) ∷ ‵ (Z.own_val d.alloc (h ∷ [])) ∷ Γ) G)
       → Seq K 𝓛 (‵ (H.own_val d vs) ∷ Γ) G
   handle_out t d vs k =
-      fsplit t $ fpick t (λ vss. fsplit t $ feq_l t (λ ev. fsplit t $ feq_l t (λ ep. fsplit t $ handle_tells E.al t d.alloc vss.1.0 (λ h ea fits. move t (1 ∷ []) $ fsplit t $ feq_l t (λ eb. drop t $ move t (1 ∷ 0 ∷ []) $
+      fsplit t $ fpick t (λ vss. fsplit t $ feq_l t (λ ev. fsplit t $ feq_l t (λ ep. fsplit t $
+      handle_tells E.al t d.alloc vss.1.0 (λ h ea fits. move t (1 ∷ []) $ fsplit t $
+      feq_l t (λ eb. drop t $ move t (1 ∷ 0 ∷ []) $
       k h (subst (λ (ps : List Val). vs ≡ vstruct (of_list (ps ++ (h ∷ vbool d.live ∷ []))) ∷ []) ep
       (subst (λ (ws : List Val). vs ≡ vstruct (of_list (vss.0 ++ (ws ++ (vbool d.live ∷ [])))) ∷ []) ea
       (subst (λ (bs : List Val). vs ≡ vstruct (of_list (vss.0 ++ (vss.1.0 ++ (bs ++ [])))) ∷ []) eb ev))) fits)))))
 
   pub handle_in : K → (p : Ptr) (h : Val) (a : Z.Denot) (t : Bool) (x : R.Denot)
-      → Step K 𝓛 (‵ (H.own_val (record { at = p; alloc = a; live = t; engine = x }) (word p h t ∷ [])) ∷ Γ) G (‵ (handle_owns a t p x) ∷ ‵ (Z.own_val a (h ∷ [])) ∷ Γ) G
+      → Step K 𝓛 (‵ (H.own_val (record { at = p; alloc = a; live = t; engine = x }) (word p h t ∷ [])) ∷ Γ) G
+      (‵ (handle_owns a t p x) ∷ ‵ (Z.own_val a (h ∷ [])) ∷ Γ) G
   handle_in k p h a t x = step (λ s. let v : Val = word p h t in
-      nothing k $ feq_i k (List Val) (vbool t ∷ []) (vbool t ∷ []) refl $ fjoin k $ move k (2 ∷ 0 ∷ []) $ fjoin k $ feq_i k (List Val) (ptr_val p ∷ []) (ptr_val p ∷ []) refl $ fjoin k $
+      nothing k $ feq_i k (List Val) (vbool t ∷ []) (vbool t ∷ []) refl $ fjoin k $ move k (2 ∷ 0 ∷ []) $ fjoin k $
+      feq_i k (List Val) (ptr_val p ∷ []) (ptr_val p ∷ []) refl $ fjoin k $
       feq_i k (List Val) (v ∷ []) (v ∷ []) refl $ fjoin k $
-      fpack k (Valss (RawPtr ∷ Z ∷ bool ∷ [])) (within (shape Handle.the_type) (to Handle.the_type (record { at = p; alloc = a; live = t; engine = x })) (v ∷ [])) (ptr_val p ∷ [], (h ∷ [], (vbool t ∷ [], tt))) $ fjoin k $ s)
+      fpack k (Valss (RawPtr ∷ Z ∷ bool ∷ []))
+      (within (shape Handle.the_type) (to Handle.the_type (record { at = p; alloc = a; live = t; engine = x }))
+      (v ∷ [])) (ptr_val p ∷ [], (h ∷ [], (vbool t ∷ [], tt))) $ fjoin k $ s)
 
 pub is_true : (t : Bool) → T t → t ≡ true
 is_true true y = refl

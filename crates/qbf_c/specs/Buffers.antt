@@ -22,6 +22,12 @@ pub record Fills {A : Type 0} (refusal : Option ℕ) (Are : List A → Type 0) (
   pub memory : code ≡ no_memory → AreLeft old new before now
   pub put : refusal ≡ None → code ≢ no_memory → (values : List A) × Are values × IsPut values old new now code
 
+-- the same of a call that takes no memory
+pub record FillsInPlace {A : Type 0} (refusal : Option ℕ) (Are : List A → Type 0) (old new : List A)
+    (before now code : ℕ) : Type 0 where
+  pub refused : IfSome refusal (λ c. (code ≡ c) × AreLeft old new before now)
+  pub put : refusal ≡ None → (values : List A) × Are values × IsPut values old new now code
+
 -- a call on a handle without an engine
 abbrev pub AreLeftOut : {A : Type 0} → List A → List A → ℕ → ℕ → ℕ → Type 0
 AreLeftOut old new before now code = (code ≡ no_engine) × AreLeft old new before now

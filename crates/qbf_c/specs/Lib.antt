@@ -7,3 +7,4 @@ pub mod Read
 pub mod Solved
 pub mod Told
 pub mod Worked
+pub mod WorkedTold

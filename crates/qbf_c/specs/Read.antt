@@ -51,7 +51,8 @@ IsToldAs (refused number at) live now before line code = (code ≡ 100 + number)
 IsToldAs (limit quantity at) live now before line code = (code ≡ limit_code quantity) × (line ≡ at)
 
 -- The code tells what the text is, unless there is no memory. Where it is no formula the handle is as it was.
-pub record ReadSays (text : List ℕ) (Same : Type 0) (live : Bool) (now : EngineState) (before line code : ℕ) : Type 0 where
+pub record ReadSays (text : List ℕ) (Same : Type 0) (live : Bool) (now : EngineState) (before line code : ℕ)
+    : Type 0 where
   pub told : code ≢ no_memory → (o : Outcome) × Reads text o × IsToldAs o live now before line code
   pub same : code ≢ accepted → Same
   pub left : code ≡ no_memory → line ≡ before

@@ -6,7 +6,7 @@ use Rattle.calculus.specs.Limits.{propagation_limit}
 use Rattle.calculus.specs.Search.{IsRefuted}
 use Rattle.calculus.specs.Verdicts.{IsProof}
 use Rattle.trail.specs.State.{Account}
-use Rattle.frames.specs.State.{OpenFormula, open_clauses}
+use Rattle.frames.specs.State.{open_clauses}
 use Rattle.search.specs.Counting.{size_of}
 use Rattle.search.specs.declared.outcome.SolveStop.TheVariants.{Spent}
 use Rattle.engine.specs.Counting.{with_solve}

@@ -1,16 +1,19 @@
 -- What is told of a verdict.
-use Rattle.std.specs.Prelude.{◌≡◌, ◌≢◌, ◌⊎◌, ℕ, ℤ, Bool, true, false, List, map, Option, Some, None, IfSome}
+use Rattle.std.specs.Prelude.{◌≡◌, ◌≢◌, ℕ, ℤ, ◌≤◌, Bool, true, false, List, length, map, None, IfSome}
 use Rattle.prefix.specs.Literal.{signed_number}
 use Rattle.trail.specs.State.{Account}
+use Rattle.calculus.specs.Derivations.{core_order}
+use Rattle.calculus.specs.Limits.{removal_bound, removals_of, weight_bound}
 use Rattle.calculus.specs.Verdicts.{relevant_of}
 use Rattle.frames.specs.State.{OpenFormula}
-use Rattle.step_core.specs.Cores.{Trace, inferences_of}
+use Rattle.step_core.specs.Cores.{IsNumbered, Trace, inferences_of}
 use Rattle.aig.specs.declared.strategy.Strategy.{Strategy}
-use Rattle.aig.specs.Strategies.{values_of as circuit_values}
+use Rattle.aig.specs.Strategies.{IsStrategy, values_of as circuit_values}
 use Rattle.aiger_out.specs.Aag.{IsAagText}
 use Rattle.aiger_out.specs.Binary.{IsAigBytes}
 use Rattle.trim.specs.Trimmed.{IsTrimmed, KeepsReached}
 use Rattle.qrp_trace.specs.Texts.{qrp_text}
+use Rattle.engine.specs.declared.counts.Counts.{Counts}
 use Rattle.engine.specs.declared.group_core.CoreRefusal.TheVariants.{Spent}
 use Rattle.engine.specs.Asks.{Decides, IsCertificateOf}
 use Rattle.engine.specs.Cores.{HasCore, IsCoreStop, core_of, core_refusal}
@@ -34,26 +37,43 @@ abbrev pub IsShownAs : Bool → Strategy → Strategy → Type 0
 IsShownAs false whole s = s ≡ whole
 IsShownAs true whole s = IsCut whole s
 
--- a circuit that certifies the verdict, as it is or trimmed
-pub record IsToldCircuit (trimmed : Bool) (formula : OpenFormula) (v : VerdictState) (s : Strategy) : Type 0 where
+-- as many steps of a proof may remove literals, and as many gates may a circuit have, by what an engine has counted
+abbrev pub most_removals : Counts → ℕ
+most_removals c = removal_bound c.clauses c.solves c.budget c.restarts c.vars
+
+abbrev pub most_gates : Counts → ℕ
+most_gates c = weight_bound c.clauses c.solves c.budget c.restarts c.vars
+
+-- A circuit that certifies the verdict, as it is or trimmed. It has a variable for each input, its outputs are edges of
+-- it, and it has no more gates than the engine's counts allow.
+pub record IsToldCircuit (trimmed : Bool) (e : EngineState) (v : VerdictState) (s : Strategy) : Type 0 where
   pub whole : Strategy
-  pub certifies : IsCertificateOf formula v whole
+  pub certifies : IsCertificateOf e.formula v whole
   pub shown : IsShownAs trimmed whole s
+  pub strategy : IsStrategy s
+  pub few : length s.aig.gates ≤ most_gates e.counts
 
 -- a text of it: the binary form, or ASCII
 abbrev pub IsTextOf : Bool → Strategy → List ℕ → Type 0
 IsTextOf false s text = IsAagText text s
 IsTextOf true s text = IsAigBytes text s
 
-abbrev pub IsCircuitText : Bool → Bool → OpenFormula → VerdictState → List ℕ → Type 0
-IsCircuitText binary trimmed formula v text = (s : Strategy) × IsToldCircuit trimmed formula v s × IsTextOf binary s text
+-- a text of a circuit that is told
+pub record IsCircuitText (binary trimmed : Bool) (e : EngineState) (v : VerdictState) (text : List ℕ) : Type 0 where
+  pub circuit : Strategy
+  pub told : IsToldCircuit trimmed e v circuit
+  pub written : IsTextOf binary circuit text
 
--- the text of the trace of the verdict's proof
-pub record IsTraceText (formula : OpenFormula) (v : VerdictState) (text : List ℕ) : Type 0 where
+-- The text of the trace of the verdict's proof, whose steps are numbered, the inputs first. Each rests on earlier ones,
+-- and a later one on each but the last. No more of them remove literals than the engine's counts allow.
+pub record IsTraceText (e : EngineState) (v : VerdictState) (text : List ℕ) : Type 0 where
   pub core : Trace
   pub proof : inferences_of core.lines ≡ v.proof
   pub winner : core.winner ≡ winner_of v.truth
-  pub written : text ≡ qrp_text formula.scopes core
+  pub numbered : IsNumbered core.lines
+  pub inputs_first : core_order v.proof ≡ v.proof
+  pub few : removals_of (inferences_of core.lines) ≤ most_removals e.counts
+  pub written : text ≡ qrp_text e.formula.scopes core
 
 -- The numbers of the core's groups are put into the buffer, unless it is refused, a trial's budget is spent, or there
 -- is no memory.
@@ -61,6 +81,7 @@ pub record CoreSays (budget : ℕ) (e : EngineState) (old new : List ℕ) (befor
   pub refused : IfSome (core_refusal e) (λ r. (code ≡ core_code r) × AreLeft old new before now)
   pub memory : code ≡ no_memory → AreLeft old new before now
   pub spent : code ≡ trial_spent → AreLeft old new before now
-      × IfSome e.verdict (λ v. (account : Account) × IsCoreStop e.restarts budget e.formula v.assumptions (Spent account))
+      × IfSome e.verdict (λ v. (account : Account)
+      × IsCoreStop e.restarts budget e.formula v.assumptions (Spent account))
   pub put : core_refusal e ≡ None → code ≢ no_memory → code ≢ trial_spent → IfSome e.verdict
       (λ v. HasCore e.formula v.assumptions × IsPut (core_of e.formula v.assumptions) old new now code)

@@ -7,7 +7,7 @@ use Rattle.frames.specs.declared.refusal.FrameRefusal.TheVariants.{NoFrame, Grou
 use Rattle.engine.specs.declared.refusal.AskRefusal.TheVariants.{NoVerdict, NotWinner}
 use Rattle.engine.specs.declared.group_core.CoreRefusal.TheVariants.{NotUnsat, Spent}
 use Rattle.engine.specs.State.{EngineState, new_engine}
-use Rattle.qbf_c.specs.Buffers.{AreLeftOut, Fills, IsPut}
+use Rattle.qbf_c.specs.Buffers.{AreLeftOut, Fills, FillsInPlace, IsPut}
 use Rattle.qbf_c.specs.Codes.{Did, DidInPlace, ask_code, ask_refusal_code, core_code, forall_number, place_for, quantifier_for, refusal_at, refusal_code, truth_code, verdict_code, version_for}
 use Rattle.qbf_c.specs.Made.{Makes}
 use Rattle.qbf_c.specs.Solved.{RanOut}
@@ -58,6 +58,15 @@ pub record WorkedBuffers : Type 0 where
   pub other_code : Fills (Some 50) (λ (xs : List ℕ). xs ≡ []) (7 ∷ []) (7 ∷ []) 4 4 51 → ⊥
   pub unrefused : Fills None (λ (xs : List ℕ). xs ≡ []) (7 ∷ []) (7 ∷ []) 4 4 50 → ⊥
   pub empty : AreLeftOut {A = ℕ} (7 ∷ []) (7 ∷ []) 4 4 61
+  -- memory is wanting where it may
+  pub wanting : Fills None (λ (xs : List ℕ). xs ≡ 1 ∷ []) (7 ∷ []) (7 ∷ []) 4 4 60
+  pub in_place : FillsInPlace None (λ (xs : List ℕ). xs ≡ 1 ∷ []) (7 ∷ []) (1 ∷ []) 4 1 0
+  pub in_place_short : FillsInPlace None (λ (xs : List ℕ). xs ≡ 1 ∷ []) [] [] 4 1 62
+  pub in_place_refused : FillsInPlace (Some 50) (λ (xs : List ℕ). xs ≡ 1 ∷ []) (7 ∷ []) (7 ∷ []) 4 4 50
+  pub never_wanting : FillsInPlace None (λ (xs : List ℕ). xs ≡ 1 ∷ []) (7 ∷ []) (7 ∷ []) 4 4 60 → ⊥
+  pub other_values : FillsInPlace None (λ (xs : List ℕ). xs ≡ 1 ∷ []) (7 ∷ []) (2 ∷ []) 4 1 0 → ⊥
+  pub in_place_wrote : FillsInPlace (Some 50) (λ (xs : List ℕ). xs ≡ 1 ∷ []) (7 ∷ []) (1 ∷ []) 4 4 50 → ⊥
+  pub in_place_other_code : FillsInPlace (Some 50) (λ (xs : List ℕ). xs ≡ 1 ∷ []) (7 ∷ []) (7 ∷ []) 4 4 60 → ⊥
 
 pub record WorkedCommands : Type 0 where
   -- done, refused, and wanting memory, where it may

@@ -1,9 +1,10 @@
 //! A formula decided, and its verdict asked.
-ghost use Rattle.std.specs.Prelude.{◌≡◌, ◌≢◌, IfSome, MatchOption};
+ghost use Rattle.std.specs.Prelude.{◌≡◌, ◌≢◌, Bool, Some, IfSome, MatchOption};
 ghost use Rattle.prefix.specs.Literal.{signed_number};
-ghost use Rattle.engine.specs.Asks.{Decides, IsVerdictOf, first_values, values_of};
+ghost use Rattle.truth.specs.Truth.{assumed_value};
+ghost use Rattle.engine.specs.Asks.{Decides, IsVerdictOf, PlaysFirst, first_values, values_of};
 ghost use Rattle.engine.specs.Refusals.{value_refusal};
-ghost use Rattle.qbf_c.specs.Buffers.{Fills};
+ghost use Rattle.qbf_c.specs.Buffers.{FillsInPlace};
 ghost use Rattle.qbf_c.specs.Codes.{accepted, ask_code, ask_refusal_code, verdict_code};
 ghost use Rattle.qbf_c.specs.Solved.{SolveSays};
 ghost use Rattle.qbf_c.specs.Told.{AreRelevant, CoreSays};
@@ -29,6 +30,7 @@ pub(crate) fn solve(engine: &mut Engine, budget: u64, spent: &mut u64) -> u32
 pub(crate) fn verdict(engine: &Engine) -> u32
     ensures value { result ≡ verdict_code engine.now.verdict }
     ensures facts { IfSome engine.now.verdict (IsVerdictOf engine.now.formula) }
+    ensures first { IfSome engine.now.verdict (PlaysFirst engine.now.formula) }
 {
     match engine.verdict() {
         Some(verdict) => decided(verdict.truth),
@@ -40,8 +42,12 @@ pub(crate) fn value(engine: &Engine, var: u64, lit: &mut i32) -> u32
     ensures refused { MatchOption (value_refusal engine.now var) (result ≡ accepted) (λ e. result ≡ ask_code e) }
     ensures value { result ≡ accepted → IfSome engine.now.verdict (λ v. lit.new
         ≡ signed_number (record { variable = var; positive = values_of engine.now.formula v var })) }
+    ensures assumed { result ≡ accepted → IfSome engine.now.verdict
+        (λ v. (b : Bool) → assumed_value v.assumptions var ≡ Some b
+        → lit.new ≡ signed_number (record { variable = var; positive = b })) }
     ensures decides { result ≡ accepted → IfSome engine.now.verdict
         (λ v. Decides engine.now.formula v (first_values engine.now.formula v)) }
+    ensures facts { IfSome engine.now.verdict (IsVerdictOf engine.now.formula) }
     ensures kept { result ≢ accepted → lit.new ≡ lit.old }
 {
     match engine.value(var) {
@@ -54,9 +60,10 @@ pub(crate) fn value(engine: &Engine, var: u64, lit: &mut i32) -> u32
 }
 
 pub(crate) fn relevant(engine: &Engine, lits: &mut [i32], count: &mut usize) -> u32
-    ensures { Fills (ask_refusal_code engine.now)
+    ensures says { FillsInPlace (ask_refusal_code engine.now)
         (λ numbers. IfSome engine.now.verdict (λ v. AreRelevant engine.now.formula v numbers))
         lits.old lits.new count.old count.new result }
+    ensures facts { IfSome engine.now.verdict (IsVerdictOf engine.now.formula) }
 {
     match engine.relevant() {
         Ok(relevant) => fill_numbers(relevant, lits, count),
@@ -65,7 +72,8 @@ pub(crate) fn relevant(engine: &Engine, lits: &mut [i32], count: &mut usize) -> 
 }
 
 pub(crate) fn group_core(engine: &Engine, budget: u64, groups: &mut [u32], count: &mut usize) -> u32
-    ensures { CoreSays budget engine.now groups.old groups.new count.old count.new result }
+    ensures says { CoreSays budget engine.now groups.old groups.new count.old count.new result }
+    ensures facts { IfSome engine.now.verdict (IsVerdictOf engine.now.formula) }
 {
     match engine.group_core(budget) {
         Ok(core) => fill(&core, groups, count),

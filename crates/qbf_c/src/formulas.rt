@@ -1,13 +1,16 @@
 //! Formulas as texts: the open one, and the one that checks a circuit.
-ghost use Rattle.std.specs.Prelude.{◌≡◌, ◌≢◌, ◌+◌, ◌-◌, ◌^◌, length, min, None, Err, IfErr, IfOk, IfSome};
-ghost use Rattle.std.specs.List.{flat_map};
-ghost use Rattle.prefix.specs.Scopes.{all_variables};
+ghost use Rattle.std.specs.Prelude.{◌≡◌, ◌≢◌, ◌+◌, ◌-◌, ◌^◌, ◌<◌, ◌≤◌, length, min, Err, IfErr, IfOk, IfNone, IfSome, OnOk, OnSome};
+ghost use Rattle.std.specs.List.{AllByRecursion, flat_map};
+ghost use Rattle.prefix.specs.Scopes.{IsPrefix, all_variables};
+ghost use Rattle.truth.specs.declared.formula.Formula.{Formula as AnyFormula};
+ghost use Rattle.calculus.specs.Rows.{IsRow};
+ghost use Rattle.frames.specs.State.{open_clauses as clauses_of};
 ghost use Rattle.qdimacs_out.specs.Texts.{formula_text as text_of};
 ghost use Rattle.qrp_trace.specs.Texts.{greatest};
-ghost use Rattle.qbf_c.specs.Buffers.{Fills};
+ghost use Rattle.engine.specs.Asks.{IsVerdictOf};
 ghost use Rattle.qbf_c.specs.Codes.{ask_refusal_code, no_memory};
-ghost use Rattle.truth.specs.declared.formula.Formula.{Formula as AnyFormula};
-ghost use Rattle.qbf_c.specs.Formulas.{CheckSays, IsChecked, IsOpenText, IsUnchecked, fault_code};
+ghost use Rattle.qbf_c.specs.Formulas.{CheckSays, IsChecked, IsUnchecked, WriteSays, fault_code, most_declared, open_text as text_of_open};
+ghost use Rattle.qbf_c.specs.Read.{limit_code};
 
 use crate::code::{NO_MEMORY, asked};
 use crate::copied::copied;
@@ -21,11 +24,14 @@ use matrix::Matrix;
 use prefix::{LitList, Prefix};
 use qdimacs_out::{Header, write_formula, write_lent};
 use qrp_trace::greatest_variable;
+use reading::Quantity;
 use std::alloc::Global;
 use truth::Formula;
 
 pub(crate) fn write(alloc: Global, engine: &Engine, bytes: &mut [u8], count: &mut usize) -> u32
-    ensures { Fills None (IsOpenText engine.now.formula) bytes.old bytes.new count.old count.new result }
+    ensures says { WriteSays engine.now.formula bytes.old bytes.new count.old count.new result }
+    ensures valid { IsPrefix engine.now.formula.scopes }
+    ensures rows { AllByRecursion (IsRow engine.now.formula.scopes) (clauses_of engine.now.formula) }
 {
     match open_text(alloc, engine) {
         Ok(draft) => fill(draft.bytes(), bytes, count),
@@ -33,33 +39,40 @@ pub(crate) fn write(alloc: Global, engine: &Engine, bytes: &mut [u8], count: &mu
     }
 }
 
-// The text of the open formula.
+// The text of the open formula, where a header can declare its clauses.
 fn open_text(alloc: Global, engine: &Engine) -> Result<Draft, u32>
-    ensures text { IfOk result (λ draft. IsOpenText engine.now.formula draft.bytes) }
-    ensures memory { IfErr result (λ c. c ≡ no_memory) }
+    ensures text { IfOk result (λ draft. draft.bytes ≡ text_of_open engine.now.formula) }
+    ensures few { OnOk result (length (clauses_of engine.now.formula) ≤ most_declared) }
+    ensures many { IfErr result (λ c. c ≢ no_memory → (c ≡ limit_code Quantity.Clauses)
+        × (most_declared < length (clauses_of engine.now.formula))) }
+    ensures valid { IsPrefix engine.now.formula.scopes }
+    ensures rows { AllByRecursion (IsRow engine.now.formula.scopes) (clauses_of engine.now.formula) }
 {
+    let prefix = engine.prefix();
     let Ok(matrix) = engine.open_clauses(alloc) else {
         return Err(NO_MEMORY);
     };
-    // No engine holds so many clauses that there is none.
-    let Some(header) = header_of(engine.prefix(), &matrix) else {
-        return Err(NO_MEMORY);
+    let Some(header) = header_of(prefix, &matrix) else {
+        return Err(beyond(Quantity::Clauses));
     };
     let mut draft = Draft::new(alloc);
-    match write_lent(header, engine.prefix(), &matrix, &mut draft) {
+    match write_lent(header, prefix, &matrix, &mut draft) {
         Ok(()) => Ok(draft),
         Err(_) => Err(NO_MEMORY),
     }
 }
 
-// The numbers of the header, where they fit it.
+// The numbers of the header, unless there are more clauses than one declares.
 fn header_of(prefix: &Prefix, matrix: &Matrix<'_>) -> Option<Header>
-    ensures { IfSome result (λ header. (header.vars ≡ greatest (all_variables prefix.now))
+    ensures numbers { IfSome result (λ header. (header.vars ≡ greatest (all_variables prefix.now))
         × (header.clauses ≡ length matrix.now)) }
+    ensures few { OnSome result (length matrix.now ≤ most_declared) }
+    ensures many { IfNone result (most_declared < length matrix.now) }
 {
+    let _valid = prefix.scopes();
     let vars = greatest_variable(prefix);
     let clauses = count_of(matrix);
-    if vars > u32::MAX as usize || clauses > u64::from(u32::MAX) {
+    if clauses > u64::from(u32::MAX) {
         return None;
     }
     Some(Header {
@@ -94,8 +107,11 @@ pub(crate) fn check_formula(
     bytes: &mut [u8],
     count: &mut usize,
 ) -> u32
-    ensures { CheckSays trimmed engine.now bytes.old bytes.new count.old count.new result }
+    ensures says { CheckSays trimmed engine.now bytes.old bytes.new count.old count.new result }
+    ensures facts { IfSome engine.now.verdict (IsVerdictOf engine.now.formula) }
 {
+    // For the proof: a verdict that stands is right.
+    let _facts = engine.verdict();
     match check_text(alloc, engine, trimmed) {
         Ok(draft) => fill(draft.bytes(), bytes, count),
         Err(code) => code,
@@ -106,9 +122,9 @@ pub(crate) fn check_formula(
 fn check_text(alloc: Global, engine: &Engine, trimmed: bool) -> Result<Draft, u32>
     ensures refused { IfSome (ask_refusal_code engine.now) (λ c. result ≡ Err c) }
     ensures text { IfSome engine.now.verdict (λ v. IfOk result (λ draft. (f : AnyFormula)
-        × IsChecked trimmed engine.now.formula v f × (draft.bytes ≡ text_of f))) }
+        × IsChecked trimmed engine.now v f × (draft.bytes ≡ text_of f))) }
     ensures unchecked { IfSome engine.now.verdict (λ v. IfErr result (λ c. c ≢ no_memory
-        → IsUnchecked trimmed engine.now.formula v c)) }
+        → IsUnchecked trimmed engine.now v c)) }
 {
     let f = checked(alloc, engine, trimmed)?;
     let mut draft = Draft::new(alloc);
@@ -121,9 +137,9 @@ fn check_text(alloc: Global, engine: &Engine, trimmed: bool) -> Result<Draft, u3
 // The check formula of the circuit of the verdict's proof.
 fn checked(alloc: Global, engine: &Engine, trimmed: bool) -> Result<Formula, u32>
     ensures refused { IfSome (ask_refusal_code engine.now) (λ c. result ≡ Err c) }
-    ensures formula { IfSome engine.now.verdict (λ v. IfOk result (IsChecked trimmed engine.now.formula v)) }
+    ensures formula { IfSome engine.now.verdict (λ v. IfOk result (IsChecked trimmed engine.now v)) }
     ensures unchecked { IfSome engine.now.verdict (λ v. IfErr result (λ c. c ≢ no_memory
-        → IsUnchecked trimmed engine.now.formula v c)) }
+        → IsUnchecked trimmed engine.now v c)) }
 {
     let circuit = circuit(alloc, engine, trimmed)?;
     let assumed = match engine.assumed() {

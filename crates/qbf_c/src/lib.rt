@@ -1,8 +1,9 @@
 //! The engine for C: a handle, and a call for each call of the engine. `include/qbf.h` has them for C.
 //!
 //! An export takes the engine out of its handle, calls it, and puts it back. `specs/Codes` says what the codes mean,
-//! `specs/Buffers` what a buffer holds behind a call, `specs/Made`, `specs/Solved` and `specs/Told` what is made, solved
-//! and told, and `specs/Owned` what a handle owns.
+//! `specs/Buffers` what a buffer holds behind a call, `specs/Made` and `specs/Solved` what is made and solved,
+//! `specs/Told` what is told of a verdict, `specs/Formulas` what is written of a formula, and `specs/Owned` what a
+//! handle owns.
 #![tactic(auto)]
 
 mod asks;
@@ -19,4 +20,4 @@ mod texts;
 mod worked;
 
 pub use handle::Handle;
-pub use worked::{worked_buffers, worked_codes, worked_commands};
+pub use worked::{worked_buffers, worked_codes, worked_commands, worked_told, worked_writes};

@@ -1,10 +1,10 @@
 //! What is written of a verdict.
-ghost use Rattle.std.specs.Prelude.{◌≡◌, [], IfErr, IfOk, IfSome, MatchOption, OnOk};
+ghost use Rattle.std.specs.Prelude.{◌≡◌, ◌≤◌, [], length, IfErr, IfOk, IfSome, MatchOption, OnOk};
 ghost use Rattle.aig.specs.Strategies.{IsStrategy};
-ghost use Rattle.engine.specs.Asks.{IsCertificateOf};
+ghost use Rattle.engine.specs.Asks.{IsCertificateOf, IsVerdictOf};
 ghost use Rattle.qbf_c.specs.Buffers.{Fills};
 ghost use Rattle.qbf_c.specs.Codes.{ask_refusal_code, no_memory};
-ghost use Rattle.qbf_c.specs.Told.{IsCircuitText, IsTextOf, IsToldCircuit, IsTraceText};
+ghost use Rattle.qbf_c.specs.Told.{IsCircuitText, IsTextOf, IsToldCircuit, IsTraceText, most_gates};
 
 use crate::code::{NO_MEMORY, asked};
 use crate::fill::fill;
@@ -33,10 +33,13 @@ pub(crate) fn certificate(
     bytes: &mut [u8],
     count: &mut usize,
 ) -> u32
-    ensures { Fills (ask_refusal_code engine.now)
-        (λ text. IfSome engine.now.verdict (λ v. IsCircuitText form.binary form.trimmed engine.now.formula v text))
+    ensures says { Fills (ask_refusal_code engine.now)
+        (λ text. IfSome engine.now.verdict (λ v. IsCircuitText form.binary form.trimmed engine.now v text))
         bytes.old bytes.new count.old count.new result }
+    ensures facts { IfSome engine.now.verdict (IsVerdictOf engine.now.formula) }
 {
+    // For the proof: a verdict that stands is right.
+    let _facts = engine.verdict();
     match circuit_text(alloc, engine, form) {
         Ok(draft) => fill(draft.bytes(), bytes, count),
         Err(code) => code,
@@ -44,10 +47,13 @@ pub(crate) fn certificate(
 }
 
 pub(crate) fn trace(alloc: Global, engine: &Engine, bytes: &mut [u8], count: &mut usize) -> u32
-    ensures { Fills (ask_refusal_code engine.now)
-        (λ text. IfSome engine.now.verdict (λ v. IsTraceText engine.now.formula v text))
+    ensures says { Fills (ask_refusal_code engine.now)
+        (λ text. IfSome engine.now.verdict (λ v. IsTraceText engine.now v text))
         bytes.old bytes.new count.old count.new result }
+    ensures facts { IfSome engine.now.verdict (IsVerdictOf engine.now.formula) }
 {
+    // For the proof: a verdict that stands is right.
+    let _facts = engine.verdict();
     match trace_text(alloc, engine) {
         Ok(draft) => fill(draft.bytes(), bytes, count),
         Err(code) => code,
@@ -59,7 +65,7 @@ fn circuit_text(alloc: Global, engine: &Engine, form: Form) -> Result<Draft, u32
     ensures refused { MatchOption (ask_refusal_code engine.now) (IfErr result (λ c. c ≡ no_memory))
         (λ c. result ≡ Err c) }
     ensures text { IfSome engine.now.verdict (λ v. IfOk result
-        (λ draft. IsCircuitText form.binary form.trimmed engine.now.formula v draft.bytes)) }
+        (λ draft. IsCircuitText form.binary form.trimmed engine.now v draft.bytes)) }
 {
     let strategy = circuit(alloc, engine, form.trimmed)?;
     written(alloc, &strategy, form.binary)
@@ -70,7 +76,7 @@ pub(crate) fn circuit(alloc: Global, engine: &Engine, trimmed: bool) -> Result<S
     ensures refused { MatchOption (ask_refusal_code engine.now) (IfErr result (λ c. c ≡ no_memory))
         (λ c. result ≡ Err c) }
     ensures strategy { IfOk result IsStrategy }
-    ensures told { IfSome engine.now.verdict (λ v. IfOk result (IsToldCircuit trimmed engine.now.formula v)) }
+    ensures told { IfSome engine.now.verdict (λ v. IfOk result (IsToldCircuit trimmed engine.now v)) }
 {
     let whole = whole_circuit(engine)?;
     if !trimmed {
@@ -88,6 +94,7 @@ fn whole_circuit(engine: &Engine) -> Result<Strategy, u32>
         (λ c. result ≡ Err c) }
     ensures strategy { IfOk result IsStrategy }
     ensures certifies { IfSome engine.now.verdict (λ v. IfOk result (IsCertificateOf engine.now.formula v)) }
+    ensures few { IfOk result (λ s. length s.aig.gates ≤ most_gates engine.now.counts) }
 {
     match engine.certificate() {
         Ok(strategy) => Ok(strategy),
@@ -126,8 +133,10 @@ fn trace_text(alloc: Global, engine: &Engine) -> Result<Draft, u32>
     ensures refused { MatchOption (ask_refusal_code engine.now) (IfErr result (λ c. c ≡ no_memory))
         (λ c. result ≡ Err c) }
     ensures text { IfSome engine.now.verdict (λ v. IfOk result
-        (λ draft. IsTraceText engine.now.formula v draft.bytes)) }
+        (λ draft. IsTraceText engine.now v draft.bytes)) }
 {
+    // For the proof: the proof of a verdict is made of steps of the derivation.
+    let _proof = engine.derivation();
     let core = match engine.trace_core() {
         Ok(core) => core,
         Err(refusal) => return Err(asked(refusal)),

@@ -1,7 +1,12 @@
 //! Formulas as texts.
-ghost use Rattle.std.specs.Prelude.{◌≡◌, None, true, false};
-ghost use Rattle.qbf_c.specs.Buffers.{AreLeftOut, Fills};
-ghost use Rattle.qbf_c.specs.Formulas.{CheckSays, IsOpenText};
+ghost use Rattle.std.specs.Prelude.{◌≡◌, true, false, IfSome};
+ghost use Rattle.std.specs.List.{AllByRecursion};
+ghost use Rattle.prefix.specs.Scopes.{IsPrefix};
+ghost use Rattle.calculus.specs.Rows.{IsRow};
+ghost use Rattle.frames.specs.State.{open_clauses};
+ghost use Rattle.engine.specs.Asks.{IsVerdictOf};
+ghost use Rattle.qbf_c.specs.Buffers.{AreLeftOut};
+ghost use Rattle.qbf_c.specs.Formulas.{CheckSays, WriteSays};
 ghost use Rattle.qbf_c.specs.Read.{ReadSays};
 
 use crate::code::NO_ENGINE;
@@ -23,7 +28,8 @@ pub extern "C" fn qbf_read(alloc: Global, qbf: &mut Handle, text: &[u8], line: &
     }
 }
 
-/// The open formula as a QDIMACS 1.1 text, into the buffer; `count` tells how many bytes it has.
+/// The open formula as a QDIMACS 1.1 text, into the buffer; `count` tells how many bytes it has. A header declares at
+/// most 2^32 - 1 clauses: beyond these there is no text.
 #[unsafe(no_mangle)]
 pub extern "C" fn qbf_write(
     alloc: Global,
@@ -34,8 +40,11 @@ pub extern "C" fn qbf_write(
     ensures live { qbf.new.live ≡ qbf.old.live }
     ensures none { qbf.old.live ≡ false → AreLeftOut bytes.old bytes.new count.old count.new result }
     ensures same { qbf.old.live ≡ true → qbf.new.engine ≡ qbf.old.engine }
-    ensures says { qbf.old.live ≡ true → Fills None (IsOpenText qbf.old.engine.formula)
+    ensures says { qbf.old.live ≡ true → WriteSays qbf.old.engine.formula
         bytes.old bytes.new count.old count.new result }
+    ensures valid { qbf.old.live ≡ true → IsPrefix qbf.old.engine.formula.scopes }
+    ensures rows { qbf.old.live ≡ true → AllByRecursion (IsRow qbf.old.engine.formula.scopes)
+        (open_clauses qbf.old.engine.formula) }
 {
     let Some(engine) = taken(alloc, qbf) else {
         return NO_ENGINE;
@@ -60,6 +69,7 @@ pub extern "C" fn qbf_check_formula(
     ensures same { qbf.old.live ≡ true → qbf.new.engine ≡ qbf.old.engine }
     ensures says { qbf.old.live ≡ true → CheckSays trimmed qbf.old.engine
         bytes.old bytes.new count.old count.new result }
+    ensures facts { qbf.old.live ≡ true → IfSome qbf.old.engine.verdict (IsVerdictOf qbf.old.engine.formula) }
 {
     let Some(engine) = taken(alloc, qbf) else {
         return NO_ENGINE;

@@ -1,6 +1,6 @@
 //! The prefix: what is put into it, and what is asked of it.
 ghost use Rattle.std.specs.Prelude.{◌≡◌, true, false, length, MatchOption};
-ghost use Rattle.prefix.specs.Scopes.{all_variables, level_of, quantifier_at, variables_at};
+ghost use Rattle.prefix.specs.Scopes.{IsPrefix, all_variables, level_of, quantifier_at, variables_at};
 ghost use Rattle.frames.specs.Commands.{AddScope, AddVariable, refusal_of};
 ghost use Rattle.engine.specs.State.{changed};
 ghost use Rattle.qbf_c.specs.Buffers.{AreLeftOut, Fills};
@@ -16,7 +16,8 @@ use std::alloc::Global;
 pub extern "C" fn qbf_scope(alloc: Global, qbf: &mut Handle, forall: bool, at: u64) -> u32
     ensures live { qbf.new.live ≡ qbf.old.live }
     ensures none { qbf.old.live ≡ false → result ≡ no_engine }
-    ensures did { qbf.old.live ≡ true → Did (refusal_of qbf.old.engine.formula (AddScope (quantifier_for forall) (place_for at)))
+    ensures did { qbf.old.live ≡ true
+        → Did (refusal_of qbf.old.engine.formula (AddScope (quantifier_for forall) (place_for at)))
         (qbf.new.engine ≡ changed qbf.old.engine (AddScope (quantifier_for forall) (place_for at)))
         (qbf.new.engine ≡ qbf.old.engine) result }
 {
@@ -53,6 +54,7 @@ pub extern "C" fn qbf_scopes(alloc: Global, qbf: &mut Handle, scopes: &mut u64) 
     ensures same { qbf.old.live ≡ true → qbf.new.engine ≡ qbf.old.engine }
     ensures told { qbf.old.live ≡ true → (result ≡ accepted)
         × (scopes.new ≡ length qbf.old.engine.formula.scopes) }
+    ensures valid { qbf.old.live ≡ true → IsPrefix qbf.old.engine.formula.scopes }
 {
     let Some(engine) = taken(alloc, qbf) else {
         return NO_ENGINE;
@@ -70,6 +72,7 @@ pub extern "C" fn qbf_vars(alloc: Global, qbf: &mut Handle, vars: &mut u64) -> u
     ensures same { qbf.old.live ≡ true → qbf.new.engine ≡ qbf.old.engine }
     ensures told { qbf.old.live ≡ true → (result ≡ accepted)
         × (vars.new ≡ length (all_variables qbf.old.engine.formula.scopes)) }
+    ensures valid { qbf.old.live ≡ true → IsPrefix qbf.old.engine.formula.scopes }
 {
     let Some(engine) = taken(alloc, qbf) else {
         return NO_ENGINE;
@@ -93,6 +96,7 @@ pub extern "C" fn qbf_is_forall(
     ensures told { qbf.old.live ≡ true → MatchOption (quantifier_at qbf.old.engine.formula.scopes scope)
         ((result ≡ scope_range) × (forall.new ≡ forall.old))
         (λ q. (result ≡ accepted) × (forall.new ≡ forall_number q)) }
+    ensures valid { qbf.old.live ≡ true → IsPrefix qbf.old.engine.formula.scopes }
 {
     let Some(engine) = taken(alloc, qbf) else {
         return NO_ENGINE;
@@ -110,6 +114,7 @@ pub extern "C" fn qbf_scope_of(alloc: Global, qbf: &mut Handle, var: u64, scope:
     ensures same { qbf.old.live ≡ true → qbf.new.engine ≡ qbf.old.engine }
     ensures told { qbf.old.live ≡ true → MatchOption (level_of qbf.old.engine.formula.scopes var)
         ((result ≡ unknown_var) × (scope.new ≡ scope.old)) (λ n. (result ≡ accepted) × (scope.new ≡ n)) }
+    ensures valid { qbf.old.live ≡ true → IsPrefix qbf.old.engine.formula.scopes }
 {
     let Some(engine) = taken(alloc, qbf) else {
         return NO_ENGINE;
@@ -134,6 +139,7 @@ pub extern "C" fn qbf_scope_vars(
     ensures told { qbf.old.live ≡ true → Fills (refusal_at qbf.old.engine.formula.scopes scope)
         (λ numbers. numbers ≡ variables_at qbf.old.engine.formula.scopes scope)
         vars.old vars.new count.old count.new result }
+    ensures valid { qbf.old.live ≡ true → IsPrefix qbf.old.engine.formula.scopes }
 {
     let Some(engine) = taken(alloc, qbf) else {
         return NO_ENGINE;

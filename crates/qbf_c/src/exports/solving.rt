@@ -1,6 +1,7 @@
 //! Assumptions, solves, and what is set for them.
-ghost use Rattle.std.specs.Prelude.{◌≡◌, true, false};
+ghost use Rattle.std.specs.Prelude.{◌≡◌, ◌+◌, ◌≤◌, true, false, IfSome};
 ghost use Rattle.frames.specs.Commands.{Assume, refusal_of};
+ghost use Rattle.search.specs.Counting.{size_of};
 ghost use Rattle.engine.specs.Keeping.{MayBeKept};
 ghost use Rattle.engine.specs.State.{changed, forgotten};
 ghost use Rattle.qbf_c.specs.Codes.{Did, accepted, bad_kept, no_engine};
@@ -82,7 +83,8 @@ pub extern "C" fn qbf_set_kept_rows(alloc: Global, qbf: &mut Handle, rows: u32) 
     ensures none { qbf.old.live ≡ false → result ≡ no_engine }
     ensures set { qbf.old.live ≡ true → MayBeKept rows → (result ≡ accepted)
         × (qbf.new.engine ≡ record qbf.old.engine { kept_rows = rows }) }
-    ensures refused { qbf.old.live ≡ true → ¬ MayBeKept rows → (result ≡ bad_kept) × (qbf.new.engine ≡ qbf.old.engine) }
+    ensures refused { qbf.old.live ≡ true → ¬ MayBeKept rows → (result ≡ bad_kept)
+        × (qbf.new.engine ≡ qbf.old.engine) }
 {
     let Some(mut engine) = taken(alloc, qbf) else {
         return NO_ENGINE;
@@ -92,13 +94,16 @@ pub extern "C" fn qbf_set_kept_rows(alloc: Global, qbf: &mut Handle, rows: u32) 
     code
 }
 
-/// How many long learned rows are attached.
+/// How many long learned rows are attached: with a verdict at most as many as its solve might keep, one more, and one
+/// for each variable.
 #[unsafe(no_mangle)]
 pub extern "C" fn qbf_kept_long(alloc: Global, qbf: &mut Handle, rows: &mut u64) -> u32
     ensures live { qbf.new.live ≡ qbf.old.live }
     ensures none { qbf.old.live ≡ false → (result ≡ no_engine) × (rows.new ≡ rows.old) }
     ensures same { qbf.old.live ≡ true → qbf.new.engine ≡ qbf.old.engine }
     ensures told { qbf.old.live ≡ true → (result ≡ accepted) × (rows.new ≡ qbf.old.engine.kept_long) }
+    ensures few { qbf.old.live ≡ true → IfSome qbf.old.engine.verdict
+        (λ v. rows.new ≤ v.kept + 1 + size_of qbf.old.engine.formula.scopes) }
 {
     let Some(engine) = taken(alloc, qbf) else {
         return NO_ENGINE;

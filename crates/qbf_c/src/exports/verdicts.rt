@@ -1,9 +1,10 @@
 //! What the last verdict is asked.
-ghost use Rattle.std.specs.Prelude.{◌≡◌, ◌≢◌, true, false, IfSome, MatchOption};
+ghost use Rattle.std.specs.Prelude.{◌≡◌, ◌≢◌, Bool, true, false, Some, IfSome, MatchOption};
 ghost use Rattle.prefix.specs.Literal.{signed_number};
-ghost use Rattle.engine.specs.Asks.{Decides, IsVerdictOf, first_values, values_of};
+ghost use Rattle.truth.specs.Truth.{assumed_value};
+ghost use Rattle.engine.specs.Asks.{Decides, IsVerdictOf, PlaysFirst, first_values, values_of};
 ghost use Rattle.engine.specs.Refusals.{value_refusal};
-ghost use Rattle.qbf_c.specs.Buffers.{AreLeftOut, Fills};
+ghost use Rattle.qbf_c.specs.Buffers.{AreLeftOut, Fills, FillsInPlace};
 ghost use Rattle.qbf_c.specs.Codes.{accepted, ask_code, ask_refusal_code, no_engine, verdict_code};
 ghost use Rattle.qbf_c.specs.Told.{AreRelevant, CoreSays, IsCircuitText, IsTraceText};
 
@@ -21,6 +22,7 @@ pub extern "C" fn qbf_verdict(alloc: Global, qbf: &mut Handle) -> u32
     ensures same { qbf.old.live ≡ true → qbf.new.engine ≡ qbf.old.engine }
     ensures told { qbf.old.live ≡ true → result ≡ verdict_code qbf.old.engine.verdict }
     ensures facts { qbf.old.live ≡ true → IfSome qbf.old.engine.verdict (IsVerdictOf qbf.old.engine.formula) }
+    ensures first { qbf.old.live ≡ true → IfSome qbf.old.engine.verdict (PlaysFirst qbf.old.engine.formula) }
 {
     let Some(engine) = taken(alloc, qbf) else {
         return NO_ENGINE;
@@ -40,8 +42,12 @@ pub extern "C" fn qbf_value(alloc: Global, qbf: &mut Handle, var: u64, lit: &mut
         (λ e. result ≡ ask_code e) }
     ensures value { qbf.old.live ≡ true → result ≡ accepted → IfSome qbf.old.engine.verdict (λ v. lit.new
         ≡ signed_number (record { variable = var; positive = values_of qbf.old.engine.formula v var })) }
+    ensures assumed { qbf.old.live ≡ true → result ≡ accepted → IfSome qbf.old.engine.verdict
+        (λ v. (b : Bool) → assumed_value v.assumptions var ≡ Some b
+        → lit.new ≡ signed_number (record { variable = var; positive = b })) }
     ensures decides { qbf.old.live ≡ true → result ≡ accepted → IfSome qbf.old.engine.verdict
         (λ v. Decides qbf.old.engine.formula v (first_values qbf.old.engine.formula v)) }
+    ensures facts { qbf.old.live ≡ true → IfSome qbf.old.engine.verdict (IsVerdictOf qbf.old.engine.formula) }
     ensures kept { result ≢ accepted → lit.new ≡ lit.old }
 {
     let Some(engine) = taken(alloc, qbf) else {
@@ -53,6 +59,7 @@ pub extern "C" fn qbf_value(alloc: Global, qbf: &mut Handle, var: u64, lit: &mut
 }
 
 /// The assumptions of the last verdict that matter, as signed numbers into the buffer; `count` tells how many they are.
+/// It takes no memory.
 #[unsafe(no_mangle)]
 pub extern "C" fn qbf_relevant(
     alloc: Global,
@@ -63,9 +70,10 @@ pub extern "C" fn qbf_relevant(
     ensures live { qbf.new.live ≡ qbf.old.live }
     ensures none { qbf.old.live ≡ false → AreLeftOut lits.old lits.new count.old count.new result }
     ensures same { qbf.old.live ≡ true → qbf.new.engine ≡ qbf.old.engine }
-    ensures says { qbf.old.live ≡ true → Fills (ask_refusal_code qbf.old.engine)
+    ensures says { qbf.old.live ≡ true → FillsInPlace (ask_refusal_code qbf.old.engine)
         (λ list. IfSome qbf.old.engine.verdict (λ v. AreRelevant qbf.old.engine.formula v list))
         lits.old lits.new count.old count.new result }
+    ensures facts { qbf.old.live ≡ true → IfSome qbf.old.engine.verdict (IsVerdictOf qbf.old.engine.formula) }
 {
     let Some(engine) = taken(alloc, qbf) else {
         return NO_ENGINE;
@@ -87,7 +95,9 @@ pub extern "C" fn qbf_group_core(
     ensures live { qbf.new.live ≡ qbf.old.live }
     ensures none { qbf.old.live ≡ false → AreLeftOut groups.old groups.new count.old count.new result }
     ensures same { qbf.old.live ≡ true → qbf.new.engine ≡ qbf.old.engine }
-    ensures says { qbf.old.live ≡ true → CoreSays budget qbf.old.engine groups.old groups.new count.old count.new result }
+    ensures says { qbf.old.live ≡ true → CoreSays budget qbf.old.engine groups.old groups.new
+        count.old count.new result }
+    ensures facts { qbf.old.live ≡ true → IfSome qbf.old.engine.verdict (IsVerdictOf qbf.old.engine.formula) }
 {
     let Some(engine) = taken(alloc, qbf) else {
         return NO_ENGINE;
@@ -111,8 +121,9 @@ pub extern "C" fn qbf_certificate(
     ensures none { qbf.old.live ≡ false → AreLeftOut bytes.old bytes.new count.old count.new result }
     ensures same { qbf.old.live ≡ true → qbf.new.engine ≡ qbf.old.engine }
     ensures says { qbf.old.live ≡ true → Fills (ask_refusal_code qbf.old.engine)
-        (λ list. IfSome qbf.old.engine.verdict (λ v. IsCircuitText binary trimmed qbf.old.engine.formula v list))
+        (λ list. IfSome qbf.old.engine.verdict (λ v. IsCircuitText binary trimmed qbf.old.engine v list))
         bytes.old bytes.new count.old count.new result }
+    ensures facts { qbf.old.live ≡ true → IfSome qbf.old.engine.verdict (IsVerdictOf qbf.old.engine.formula) }
 {
     let Some(engine) = taken(alloc, qbf) else {
         return NO_ENGINE;
@@ -135,8 +146,9 @@ pub extern "C" fn qbf_trace(
     ensures none { qbf.old.live ≡ false → AreLeftOut bytes.old bytes.new count.old count.new result }
     ensures same { qbf.old.live ≡ true → qbf.new.engine ≡ qbf.old.engine }
     ensures says { qbf.old.live ≡ true → Fills (ask_refusal_code qbf.old.engine)
-        (λ list. IfSome qbf.old.engine.verdict (λ v. IsTraceText qbf.old.engine.formula v list))
+        (λ list. IfSome qbf.old.engine.verdict (λ v. IsTraceText qbf.old.engine v list))
         bytes.old bytes.new count.old count.new result }
+    ensures facts { qbf.old.live ≡ true → IfSome qbf.old.engine.verdict (IsVerdictOf qbf.old.engine.formula) }
 {
     let Some(engine) = taken(alloc, qbf) else {
         return NO_ENGINE;

@@ -1,4 +1,4 @@
-use Rattle.std.proofs.Common.{◌≡◌, length, get_or, ap, ◌∙◌, w32}
+use Rattle.std.proofs.Common.{ap, ◌∙◌, w32}
 use Rattle.std.proofs.Math.Facts.{to_z-of_z}
 use Rattle.prefix.specs.Literal.{signed_number}
 use Rattle.qbf_c.proofs.Filling.{put_next}
