@@ -93,10 +93,10 @@ enum qbf_code {
     QBF_TEXT_TOO_MANY = 117,  /* there are more clauses than declared */
     QBF_TEXT_WORD = 118,      /* a word doesn't belong there */
 
-    /* a text that is read, or a check formula, goes beyond a limit; so does the number of clauses of qbf_write */
+    /* a text that is read, or a check formula, goes beyond a limit */
     QBF_MANY_VARS = 120,     /* 1,048,576 variables */
     QBF_MANY_SCOPES = 121,   /* 65,536 scopes */
-    QBF_MANY_CLAUSES = 122,  /* 2^24 clauses */
+    QBF_MANY_CLAUSES = 122,  /* 2^24 clauses; 2^32 - 1 for qbf_write */
     QBF_MANY_LITERALS = 123, /* 2^28 literals */
     QBF_MANY_BYTES = 124     /* 2^30 bytes */
 };
