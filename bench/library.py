@@ -7,6 +7,7 @@ Prints a table, in seconds of the processor. Status 1 if 100,000 clause calls ta
 Python, a refused call more than 20 ns, or 16 million steps a tenth more than in the program.
 """
 
+import os
 import resource
 import subprocess
 import sys
@@ -45,7 +46,8 @@ def pigeons(count):
 def output(words, text=""):
     """What a command writes, and how many seconds of the processor it takes."""
     before = resource.getrusage(resource.RUSAGE_CHILDREN)
-    done = subprocess.run(list(map(str, words)), input=text, capture_output=True, text=True)
+    found = {**os.environ, "QBF_LIBRARY": str(ROOT / "lib" / "libqbf.so.1")}
+    done = subprocess.run(list(map(str, words)), input=text, capture_output=True, text=True, env=found)
     after = resource.getrusage(resource.RUSAGE_CHILDREN)
     seconds = after.ru_utime + after.ru_stime - before.ru_utime - before.ru_stime
     return done.stdout.split(), seconds
