@@ -14,7 +14,7 @@ use Rattle.calculus.specs.Derivations.Why.{Given, ReducedFrom, ResolvedFrom, Fin
 use Rattle.derive.specs.State.{Note, Notes, State, SameStep, note_in, note_at, is_live, is_step, is_finish, may_be_antecedent, next_id, has_rows, row_of, side_at, side_in, tag_at, why_in, tag_in, step_from, clause_from, with_step}
 use Rattle.derive.specs.Antecedents.{AreSupported, IsAntecedentIn, IsSupportedAt, HasTag, Fits}
 use Rattle.derive.specs.Kept.{AreFrom, AreFromFrames, BelongTogether}
-use Rattle.derive.specs.Dropping.{StepTest, is_cube}
+use Rattle.derive.specs.Dropping.{finishes, is_cube}
 use Rattle.derive.specs.Cubes.{AreListed, is_cube_in}
 use Rattle.derive.specs.Adding.{Adds, AddsBoth, IsOver, Removes, clause_note, note_over}
 use Rattle.derive.proofs.Ids.{listed_push}
@@ -180,18 +180,23 @@ module _ (notes : Notes) (arena : Arena) (note : Note) (row : Row) (fits : Fits 
             ];
       }
 
-  from_more : (sort : StepTest) (from : ℕ) → AreFrom sort notes from → AreFrom sort (notes ++ Some note ∷ []) from
-  from_more sort from are =
-      record {
-        above =
-            λ id n there is.
-            let within = are.within in
-            elim (ends id (length notes)) [
-              | inl h ↦ are.above id n (sym (pushed_old notes (Some note) None id h) ∙ there) is
-              | inr e ↦ elim e [ inl s ↦ omega arith | inr h ↦ omega arith ]
-            ];
-        within = let within = are.within in let e = pushed_length notes (Some note) in omega arith;
-      }
+  -- a finish is told of before it comes in
+  finishes_more : (from : ℕ) → AreFrom finishes notes from → (is_finish note.why ≡ true → from ≤ length notes)
+      → AreFrom finishes (notes ++ Some note ∷ []) from
+  finishes_more from are new id n there is =
+      elim (ends id (length notes)) [
+        | inl h ↦ are id n (sym (pushed_old notes (Some note) None id h) ∙ there) is
+        | inr e ↦ elim e [
+          | inl s ↦
+              let g : Some note ≡ Some n = sym (pushed_new notes (Some note) None id s) ∙ there in
+              let same : note ≡ n = cc in
+              let low = new (ap (λ (m : Note). is_finish m.why) same ∙ is) in
+              omega arith
+          | inr past ↦
+              absurd
+              (none_some (note_in (notes ++ Some note ∷ []) id) n (pushed_past notes (Some note) None id past) there)
+        ]
+      ]
 
   -- steps of a frame stand where they stood, and the new one at the end
   frames_more : (frames : List ℕ) → note.tag < length frames → get_or frames note.tag (length notes) ≤ length notes
@@ -230,24 +235,25 @@ module _ (notes : Notes) (arena : Arena) (note : Note) (row : Row) (fits : Fits 
 
   pub kept_more : (frames cubes : List ℕ) (finishes : ℕ) → note.tag < length frames → get_or frames note.tag
       (length notes) ≤ length notes → (is_cube note.side note.why ≡ true → Contains cubes (length notes))
+      → (is_finish note.why ≡ true → finishes ≤ length notes)
       → BelongTogether notes (Some arena) frames cubes finishes → BelongTogether (notes ++ Some note ∷ [])
       (Some (with_row arena row)) frames cubes finishes
-  kept_more frames cubes finishes within early new kept =
+  kept_more frames cubes finishes within early new told kept =
       record {
         supported = all_supported kept.supported;
         fits = λ a e. let f : Some (with_row arena row) ≡ Some a = e in let is : with_row arena row ≡ a = cc in
             rw (← is) fits_more;
         frames = frames_more frames within early kept.frames;
         listed = cubes_more cubes kept.listed new;
-        finishing = from_more _ finishes kept.finishing;
+        finishing = finishes_more finishes kept.finishing told;
       }
 
--- the same with places for frames that tell no later ids
-pub kept_widened : (notes : Notes) (rows : Option Arena) (frames wider cubes more : List ℕ) (finishes : ℕ)
+-- the same with places for frames, and one for finishes, that tell no later ids
+pub kept_widened : (notes : Notes) (rows : Option Arena) (frames wider cubes more : List ℕ) (finishes sooner : ℕ)
     → ((frame : ℕ) → min (get_or wider frame (length notes)) (length notes) ≤ get_or frames frame (length notes))
-    → ((id : ℕ) → Contains cubes id → Contains more id) → BelongTogether notes rows frames cubes finishes
-    → BelongTogether notes rows wider more finishes
-kept_widened notes rows frames wider cubes more finishes same still kept =
+    → ((id : ℕ) → Contains cubes id → Contains more id) → sooner ≤ finishes
+    → BelongTogether notes rows frames cubes finishes → BelongTogether notes rows wider more sooner
+kept_widened notes rows frames wider cubes more finishes sooner same still low kept =
     record {
       supported = kept.supported;
       fits = kept.fits;
@@ -257,19 +263,19 @@ kept_widened notes rows frames wider cubes more finishes same still kept =
           let told = same note.tag in
           omega arith;
       listed = λ id is. still id (kept.listed id is);
-      finishing = kept.finishing;
+      finishing = λ id note there is. let first = kept.finishing id note there is in omega arith;
     }
 
 -- the same where room was made before
-pub kept_room : (notes room : Notes) (rows left : Option Arena) (frames wider cubes more : List ℕ) (finishes len : ℕ)
-    → len ≡ length notes → room ≡ notes → left ≡ rows
+pub kept_room : (notes room : Notes) (rows left : Option Arena) (frames wider cubes more : List ℕ)
+    (finishes sooner len : ℕ) → len ≡ length notes → room ≡ notes → left ≡ rows
     → ((frame : ℕ) → min (get_or wider frame len) len ≤ get_or frames frame len)
-    → ((id : ℕ) → Contains cubes id → Contains more id) → BelongTogether notes rows frames cubes finishes
-    → BelongTogether room left wider more finishes
-kept_room notes room rows left frames wider cubes more finishes len is same here told still kept =
+    → ((id : ℕ) → Contains cubes id → Contains more id) → sooner ≤ finishes
+    → BelongTogether notes rows frames cubes finishes → BelongTogether room left wider more sooner
+kept_room notes room rows left frames wider cubes more finishes sooner len is same here told still low kept =
     rw (same, here)
-    (kept_widened notes rows frames wider cubes more finishes
-    (subst (λ n. (frame : ℕ) → min (get_or wider frame n) n ≤ get_or frames frame n) is told) still kept)
+    (kept_widened notes rows frames wider cubes more finishes sooner
+    (subst (λ n. (frame : ℕ) → min (get_or wider frame n) n ≤ get_or frames frame n) is told) still low kept)
 
 -- the same where the parts are told by equations
 
@@ -278,13 +284,14 @@ some_same a b e = cc
 
 pub kept_add : (notes after : Notes) (rows : Option Arena) (arena new_arena : Arena) (note : Note) (row : Row)
     (frames cubes : List ℕ) (finishes : ℕ) → note.tag < length frames → get_or frames note.tag (length notes) ≤ length
-    notes → (is_cube note.side note.why ≡ true → Contains cubes (length notes)) → rows ≡ Some arena
+    notes → (is_cube note.side note.why ≡ true → Contains cubes (length notes))
+    → (is_finish note.why ≡ true → finishes ≤ length notes) → rows ≡ Some arena
     → after ≡ notes ++ Some note ∷ [] → new_arena ≡ with_row arena row → IsSupportedAt notes (length notes) note
     → BelongTogether notes rows frames cubes finishes → BelongTogether after (Some new_arena) frames cubes finishes
-kept_add notes after rows arena new_arena note row frames cubes finishes within early new has is_after is_arena support
-    kept =
+kept_add notes after rows arena new_arena note row frames cubes finishes within early new told has is_after is_arena
+    support kept =
     rw (is_after, is_arena) (kept_more notes arena note row (kept.fits arena has) support frames cubes finishes within
-    early new (rw has at kept))
+    early new told (rw has at kept))
 
 pub adds_of : (d : State) (notes after : Notes) (rows : Option Arena) (arena new_arena : Arena) (note : Note)
     (row : Row) (id : ℕ) (frames cubes : List ℕ) (finishes : ℕ) → record { notes = notes; rows = rows } ≡ d
@@ -339,11 +346,12 @@ kept_both notes after rows arena new_arena frame row reduced frames cubes finish
     kept =
     kept_add (notes ++ Some (clause_note frame) ∷ []) after (Some (with_row arena row)) (with_row arena row) new_arena
     (record { side = Exists; why = ReducedFrom (length notes); tag = frame }) reduced frames cubes finishes within
-    (still_early notes (clause_note frame) frames within early) (λ e. absurd (false≢true e)) refl is_after is_arena
+    (still_early notes (clause_note frame) frames within early) (λ e. absurd (false≢true e))
+    (λ e. absurd (false≢true e)) refl is_after is_arena
     (over_clause notes frame)
     (kept_add notes (notes ++ Some (clause_note frame) ∷ []) rows arena (with_row arena row) (clause_note frame) row
-    frames cubes finishes within early (λ e. absurd (false≢true e)) has refl refl (clause_supported notes frame)
-    kept)
+    frames cubes finishes within early (λ e. absurd (false≢true e)) (λ e. absurd (false≢true e)) has refl refl
+    (clause_supported notes frame) kept)
 
 pub adds_both : (d : State) (notes after : Notes) (rows : Option Arena) (arena new_arena : Arena) (frame : ℕ)
     (row reduced : Row) (first second : ℕ) (frames cubes : List ℕ) (finishes : ℕ) → frame < length frames
@@ -361,8 +369,8 @@ adds_both d notes after rows arena new_arena frame row reduced first second fram
     None (length notes) refl in
     let first_is : first ≡ length notes = is_first ∙ same in
     let kept_first = kept_add notes (notes ++ Some (clause_note frame) ∷ []) rows arena (with_row arena row)
-    (clause_note frame) row frames cubes finishes within early (λ e. absurd (false≢true e)) has refl refl
-    (clause_supported notes frame) kept in
+    (clause_note frame) row frames cubes finishes within early (λ e. absurd (false≢true e))
+    (λ e. absurd (false≢true e)) has refl refl (clause_supported notes frame) kept in
     let note_is : record { side = Exists; why = ReducedFrom (length notes); tag = frame } ≡ note_over middle first
     (ReducedFrom first) = rw (first_is, there) refl in
     record {

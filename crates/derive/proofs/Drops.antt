@@ -47,19 +47,14 @@ module _ (is_root : StepTest) (old new : Notes) (old_rows new_rows : Arena)
       (λ on r. stays_live on (λ f. p.0 (rests id on note p.1 r f)))
 
   from_left : (sort : StepTest) (from : ℕ) → AreFrom sort old from → AreFrom sort new from
-  from_left sort from are = record {
-    above = λ id note there is. are.above id note (live_before id note there).1 is;
-    within = let h = are.within in let e = drops.same_next in omega arith;
-  }
+  from_left sort from are id note there is = are id note (live_before id note there).1 is
 
   -- where all of a sort are roots none is left
   pub from_none : (sort : StepTest) → ((id : ℕ) (note : Note) → sort id note ≡ true → is_root id note ≡ true)
-      → AreFrom sort new (length new)
-  from_none sort all = record {
-    above = λ id note there is. let p = live_before id note there in
-        absurd (p.0 (root id note p.1 (all id note is)));
-    within = omega arith;
-  }
+      → (from : ℕ) → AreFrom sort new from
+  from_none sort all from id note there is =
+      let p = live_before id note there in
+      absurd (p.0 (root id note p.1 (all id note is)))
 
   fits_left : Fits old old_rows → Fits new new_rows
   fits_left fits =
@@ -345,11 +340,11 @@ clauses_same is_root old new drops none = open_all is_root old new drops.has_row
 -- the marks after a drop
 
 left_none : (is_root : StepTest) (old new : State) → Drops is_root old new → (notes : Notes) (rows : Option Arena)
-    (len : ℕ) → record { notes = notes; rows = rows } ≡ new → len ≡ length notes → AreFrom is_root notes len
-left_none is_root old new drops notes rows len view is =
+    (from : ℕ) → record { notes = notes; rows = rows } ≡ new → AreFrom is_root notes from
+left_none is_root old new drops notes rows from view =
     let same : notes ≡ new.notes = ap (λ (d : State). d.notes) view in
-    rw (is, same) (from_none is_root old.notes new.notes (arena_of old) (arena_of new) drops.exactly is_root
-    (λ id note r. r))
+    rw same (from_none is_root old.notes new.notes (arena_of old) (arena_of new) drops.exactly is_root
+    (λ id note r. r) from)
 
 pub kept_listed : (notes : Notes) (rows : Option Arena) (frames cubes left : List ℕ) (finishing : ℕ)
     → AreListed notes left → BelongTogether notes rows frames cubes finishing → BelongTogether notes rows frames left
@@ -364,17 +359,17 @@ kept_listed notes rows frames cubes left finishing listed kept =
           kept.finishing;
     }
 
-pub kept_finishes : (old new : State) (notes : Notes) (rows : Option Arena) (frames cubes : List ℕ) (finishing len : ℕ)
-    → Drops finishes old new → record { notes = notes; rows = rows } ≡ new → len ≡ length notes
-    → BelongTogether notes rows frames cubes finishing → BelongTogether notes rows frames cubes len
-kept_finishes old new notes rows frames cubes finishing len drops view is kept =
+pub kept_finishes : (old new : State) (notes : Notes) (rows : Option Arena) (frames cubes : List ℕ)
+    (finishing from : ℕ) → Drops finishes old new → record { notes = notes; rows = rows } ≡ new
+    → BelongTogether notes rows frames cubes finishing → BelongTogether notes rows frames cubes from
+kept_finishes old new notes rows frames cubes finishing from drops view kept =
     record {
       supported = kept.supported;
       fits = kept.fits;
       frames = kept.frames;
       listed = kept.listed;
       finishing =
-          left_none finishes old new drops notes rows len view is;
+          left_none finishes old new drops notes rows from view;
     }
 
 pub kept_frame : (old new : State) (notes : Notes) (rows : Option Arena) (frames : List ℕ) (frame : ℕ) (cubes : List ℕ)
@@ -387,7 +382,7 @@ kept_frame old new notes rows frames frame cubes finishing place drops view kept
       fits = kept.fits;
       frames = λ id note there. ⊎_elim
           (λ (same : note.tag ≡ frame).
-          let none = (left_none (has_tag frame) old new drops notes rows (length notes) view refl).above id note there
+          let none = left_none (has_tag frame) old new drops notes rows (length notes) view id note there
           (eq-eqb note.tag frame same) in
           let below = live_below notes id (ap is_some there) in
           absurd (omega arith))

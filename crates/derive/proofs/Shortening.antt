@@ -9,11 +9,11 @@ use Rattle.rows.proofs.Shortening.{NoneFrom, front_same}
 use Rattle.derive.specs.State.{Note, Notes, State, arena_of, has_rows, is_live, next_id, note_at, note_in}
 use Rattle.derive.specs.Antecedents.{AreSupported, Fits}
 use Rattle.derive.specs.Cubes.{is_cube_in}
-use Rattle.derive.specs.Dropping.{Drops, Falls, StepTest, finishes, is_from}
+use Rattle.derive.specs.Dropping.{Drops, Falls, StepTest, is_from}
 use Rattle.derive.specs.Dropping.Falls.{root, rests}
 use Rattle.derive.specs.Growing.{Grows}
 use Rattle.derive.specs.Inputs.{IsWhole, shortened}
-use Rattle.derive.specs.Kept.{AreFrom, AreFromFrames, BelongTogether}
+use Rattle.derive.specs.Kept.{AreFromFrames, BelongTogether}
 use Rattle.derive.proofs.Additions.{from_frames, supported_same}
 use Rattle.derive.proofs.Falling.{some_is}
 
@@ -42,30 +42,20 @@ module _ (notes : Notes) (first : ℕ) (none : NoneFrom notes first) where
             ∙ (fits.same_live id ∙ ap is_some (sym (same id)));
       }
 
-  front_from : (sort : StepTest) (from lower : ℕ) → lower ≤ from → lower ≤ length (take first notes)
-      → AreFrom sort notes from → AreFrom sort (take first notes) lower
-  front_from sort from lower less fits are = record {
-    above = λ id note there is. let above = are.above id note (sym (same id) ∙ there) is in omega arith;
-    within = fits;
-  }
-
   front_frames : (frames : List ℕ) → AreFromFrames notes frames → AreFromFrames (take first notes) frames
   front_frames frames are id note there =
       from_frames notes frames (length (take first notes)) are id note (sym (same id) ∙ there)
 
   pub front_kept : (arena : Arena) (frames cubes : List ℕ) (finishing : ℕ)
       → BelongTogether notes (Some arena) frames cubes finishing
-      → BelongTogether (take first notes) (Some (take first arena)) frames cubes (min finishing first)
+      → BelongTogether (take first notes) (Some (take first arena)) frames cubes finishing
   front_kept arena frames cubes finishing kept = record {
     supported = front_supported kept.supported;
     fits = λ a e. let f : Some (take first arena) ≡ Some a = e in let is : take first arena ≡ a = cc in rw (← is)
         (front_fits arena (kept.fits arena refl));
     frames = front_frames frames kept.frames;
     listed = λ id is. kept.listed id (ap is_cube_in (sym (same id)) ∙ is);
-    finishing =
-        let limit = kept.finishing.within in
-        let long = length-take first notes in
-        front_from finishes finishing (min finishing first) (omega arith) (omega arith) kept.finishing;
+    finishing = λ id note there is. kept.finishing id note (sym (same id) ∙ there) is;
   }
 
 -- what came in is taken back

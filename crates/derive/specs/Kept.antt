@@ -7,9 +7,8 @@ use Rattle.derive.specs.Dropping.{StepTest, finishes}
 use Rattle.derive.specs.Cubes.{AreListed}
 
 -- steps of a sort are live under this id and later ones alone
-pub record AreFrom (sort : StepTest) (notes : Notes) (from : ℕ) : Type 0 where
-  pub above : (id : ℕ) (note : Note) → note_in notes id ≡ Some note → sort id note ≡ true → from ≤ id
-  pub within : from ≤ length notes
+abbrev pub AreFrom : StepTest → Notes → ℕ → Type 0
+AreFrom sort notes from = (id : ℕ) (note : Note) → note_in notes id ≡ Some note → sort id note ≡ true → from ≤ id
 
 -- no step with a tag is live under an id before that at the place of its tag, nor with a tag that has no place
 abbrev pub AreFromFrames : Notes → List ℕ → Type 0

@@ -1,5 +1,5 @@
 //! Derivations.
-ghost use Rattle.std.specs.Prelude.{◌≡◌, ◌≢◌, ◌↔◌, ◌<◌, ◌≤◌, ◌⊎◌, ℕ, false, IsTrue, IsFalse, Some, None, IfOk, OnOk, OnErr, Err, List, [], ◌∷◌, ◌++◌, filter, max, min, not, nat_lt, ◌==◌, if◌then◌else◌, count_by, is_some, length, slice_index_or, slice_set, Contains};
+ghost use Rattle.std.specs.Prelude.{◌≡◌, ◌≢◌, ◌↔◌, ◌<◌, ◌≤◌, ◌⊎◌, ℕ, true, false, IsTrue, IsFalse, Some, None, IfOk, OnOk, OnErr, Err, List, [], ◌∷◌, ◌++◌, filter, max, min, not, nat_lt, ◌==◌, if◌then◌else◌, count_by, is_some, length, slice_index_or, slice_set, Contains};
 ghost use Rattle.prefix.specs.Scopes.{Scope, IsAscending};
 ghost use Rattle.prefix.specs.declared.quant.Quant.TheVariants.{Exists as exists, Forall as forall};
 ghost use Rattle.rows.specs.Arena.{Arena, literals_at};
@@ -9,7 +9,7 @@ ghost use Rattle.calculus.specs.Rows.{IsRow, variables_in, reduce as reduction, 
 ghost use Rattle.calculus.specs.Derivations.{Hits, RestsOn};
 ghost use Rattle.calculus.specs.Derivations.Why.{ReducedFrom, ResolvedFrom, FinishedFrom};
 ghost use Rattle.calculus.specs.Verdicts.{finished, IsEndRow, IsFinish};
-ghost use Rattle.derive.specs.State.{State, arena_of, IsStepOf, SameStep, OpenClause, next_id, is_live, is_step, has_rows, row_of, side_at, why_at, tag_at, note_at, steps_of, clauses_of, open_clauses, IsLegalFor, Note as Kept};
+ghost use Rattle.derive.specs.State.{State, arena_of, IsStepOf, SameStep, OpenClause, next_id, is_finish as finish, is_live, is_step, has_rows, row_of, side_at, why_at, tag_at, note_at, steps_of, clauses_of, open_clauses, IsLegalFor, Note as Kept};
 ghost use Rattle.derive.specs.Antecedents.{Fits, IsAntecedentIn, AreSupported, IsSupportedAt, IsGreatestFrame};
 ghost use Rattle.derive.specs.Adding.{clause_note, Adds, AddsBoth, AddsClause, AreResolvable, CountsRemoval, InputsClause, IsOver, IsReductionOf, Removes, cube_note, finish_at, reduction_at, resolvent_at, resolvent_note};
 ghost use Rattle.derive.specs.Growing.{AreUnlinked, GainsSteps};
@@ -59,7 +59,7 @@ pub struct Derivation {
     frames_from: Vec<StepId>,
     // The ids of the live initial cubes, and maybe some of steps that aren't live any more.
     cubes: Vec<StepId>,
-    // No finish is live under an id before this one.
+    // No finish is live under an id before this one. The greatest number stands where none came in since the last drop.
     finishes_from: StepId,
     // Places for a mark of each id.
     marks: Bits,
@@ -90,7 +90,7 @@ impl Derivation {
             rows: Some(Rows::new(alloc)),
             frames_from: Vec::new(alloc),
             cubes: Vec::new(alloc),
-            finishes_from: 0,
+            finishes_from: usize::MAX,
             marks: Bits::new(alloc),
         }
     }
@@ -260,6 +260,7 @@ impl Derivation {
     /// Puts in the reduction of a step as `reduce` does, and counts a step where something goes, before it comes in.
     /// Spent comes only there, where no step is left, and changes nothing. With no memory the derivation stays as it
     /// was; the step may have been counted.
+    #[inline(always)]
     pub fn reduce_counted(
         &mut self,
         prefix: &Prefix,
@@ -393,7 +394,7 @@ impl Derivation {
         ensures legal { (scopes : List Scope) → IsLegalFor scopes self.old → IsLegalFor scopes self.new }
     {
         self.drop_all(self.finishes_from, Roots::Finishes);
-        self.finishes_from = self.notes.len();
+        self.finishes_from = usize::MAX;
     }
 
     /// Drops every step with this id or a later one. This takes no memory.
@@ -504,6 +505,7 @@ impl Derivation {
     }
 
     // Whether the reduction of a step is the step itself.
+    #[inline(always)]
     fn is_reduced(&self, prefix: &Prefix, a: StepId) -> bool
         requires rows { IsTrue (has_rows self.now) }
         requires step { IsTrue (is_step self.now a) }
@@ -535,6 +537,7 @@ impl Derivation {
         widen_marks(&mut self.marks, next, 1)?;
         widen(&mut self.frames_from, note.tag(), next)?;
         list_cube(&mut self.cubes, &note, next)?;
+        note_finish(&mut self.finishes_from, &note, next);
         let id = enter(&mut self.notes, self.rows.as_mut().unwrap(), note, lits)?;
         Ok(id)
     }
@@ -608,7 +611,6 @@ impl Derivation {
     {
         self.notes.truncate(first);
         self.rows.as_mut().unwrap().take_back(first);
-        self.finishes_from = self.finishes_from.min(first);
     }
 
     // The least id of some initial cubes, and else the id that comes next.
@@ -664,6 +666,17 @@ fn forget_frame(frames_from: &mut Vec<StepId>, frame: usize)
 {
     if frame < frames_from.len() {
         frames_from[frame] = usize::MAX;
+    }
+}
+
+// Notes the id that comes next, where its step is to be a finish.
+#[inline(always)]
+fn note_finish(finishes_from: &mut StepId, note: &Note, next: StepId)
+    ensures sooner { finishes_from.new ≤ finishes_from.old }
+    ensures there { finish note.now.why ≡ true → finishes_from.new ≤ next }
+{
+    if note.is_finish() {
+        *finishes_from = (*finishes_from).min(next);
     }
 }
 

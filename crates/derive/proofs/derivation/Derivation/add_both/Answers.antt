@@ -19,9 +19,9 @@ here c = sym c.as_mut.ensures.value ∙ ap option_copied_mut c.unwrap-rows.ensur
 wide : (c : In_ok-ids) → BelongTogether c.self.inside.notes c.self.inside.rows c.widen.new.frames_from.items
     c.self.inside.cubes.items c.self.inside.finishes_from
 wide c =
-    kept_widened _ _ _ _ _ _ _
+    kept_widened _ _ _ _ _ _ _ _
     (λ f. subst (λ n. min (get_or c.widen.new.frames_from.items f n) n ≤ get_or c.self.inside.frames_from.items f n)
-    c.len-next.ensures (c.widen.ensures.told f)) (λ id at. at) c.self.invariant.0
+    c.len-next.ensures (c.widen.ensures.told f)) (λ id at. at) (omega arith) c.self.invariant.0
 
 -- the frame has a place, with no later id
 placed : (c : In_ok-ids) → (c.args.frame < length c.widen.new.frames_from.items)
@@ -79,7 +79,8 @@ invariant_of-self-in_err-ids c =
     let h = c.in_ok-widen_marks.ensures.grown in
     let e = ap length c.in_err-ids.ensures.no_note in
     let room = c.self.invariant.1 in (
-      kept_room _ _ _ _ _ _ _ _ _ _ c.len-next.ensures c.in_err-ids.ensures.no_note
-          (ap Some c.in_err-ids.ensures.no_row ∙ sym here) c.widen.ensures.told (λ id at. at) c.self.invariant.0,
+      kept_room _ _ _ _ _ _ _ _ _ _ _ c.len-next.ensures c.in_err-ids.ensures.no_note
+          (ap Some c.in_err-ids.ensures.no_row ∙ sym here) c.widen.ensures.told (λ id at. at) (omega arith)
+          c.self.invariant.0,
       omega arith,
     )

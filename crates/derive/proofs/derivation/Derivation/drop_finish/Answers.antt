@@ -17,8 +17,7 @@ returns-clause-steps c = ap steps_of c.self.view_is ∙ steps_same _ _ c.drop_al
 
 pub invariant_of-self : goal.invariant_of-self
 invariant_of-self c = (
-  kept_finishes _ _ _ _ _ _ _ _ c.drop_all-2.ensures.drops c.self.view_is c.len-self-inside.ensures
-      c.self.invariant.0,
+  kept_finishes _ _ _ _ _ _ _ _ c.drop_all-2.ensures.drops c.self.view_is c.self.invariant.0,
   c.self.invariant.1,
 )
 
