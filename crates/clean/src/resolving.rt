@@ -85,6 +85,7 @@ pub fn try_resolving<S: Side>(
 }
 
 // Whether a variable other than that of the literal stands with opposite signs in a row and a reason of the literal.
+#[inline(always)]
 fn has_clash(row: &[Lit], reason: &[Lit], lit: Lit) -> bool
     requires row_ascends { IsAscending (variables_in row.now) }
     requires reason_ascends { IsAscending (variables_in reason.now) }

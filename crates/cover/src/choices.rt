@@ -64,6 +64,7 @@ pub(crate) fn innermost<S: Side>(
 }
 
 // Chooses a literal.
+#[inline(always)]
 pub(crate) fn choose(table: &mut Vec<Option<Lit>>, lit: Lit) -> Result<(), NoMemory>
     ensures { OnOk result (Chooses table.old.items table.new.items lit) }
 {

@@ -261,6 +261,7 @@ impl Decider {
     }
 
     // Lets a variable of a scope wait.
+    #[inline(always)]
     fn put(&mut self, v: Var, scope: usize)
         ensures { self.new ≡ self.old }
     {

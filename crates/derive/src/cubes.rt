@@ -21,6 +21,7 @@ use prefix::{Lit, LitList};
 use rows::Rows;
 
 // Lists the id that comes next, where its step is to be an initial cube.
+#[inline(always)]
 pub(crate) fn list_cube(cubes: &mut Vec<StepId>, note: &Note, next: StepId) -> Result<(), NoMemory>
     ensures kept { (id : ℕ) → Contains cubes.old.items id → Contains cubes.new.items id }
     ensures listed { OnOk result (is_cube note.now.side note.now.why ≡ true → Contains cubes.new.items next) }

@@ -10,6 +10,7 @@ use prefix::{Clauses, Cubes, Lit, Prefix, Quant, Var};
 use reduce::{Row, is_reduced, reduce};
 
 // Whether the reduction of a row of that side is the row itself.
+#[inline(always)]
 pub(crate) fn is_reduced_of(side: Quant, prefix: &Prefix, lits: &[Lit]) -> bool
     ensures { IsTrue result ↔ (reduction side prefix.now lits.now ≡ lits.now) }
 {

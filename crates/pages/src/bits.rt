@@ -71,6 +71,7 @@ impl Bits {
     }
 
     /// Makes the list at least so long, with bits that aren't set. With no memory nothing changes.
+    #[inline(always)]
     pub fn grow(&mut self, count: usize) -> Result<(), AllocError>
         ensures ok { OnOk result (self.new ≡ self.old ++ replicate (count - length self.old) false) }
         ensures err { OnErr result (self.new ≡ self.old) }

@@ -144,6 +144,7 @@ impl<T: Blank> Pages<T> {
 
 // Puts a place in behind those of all pages, into the last page or a new one, which has this number. With no memory
 // nothing changes.
+#[inline(always)]
 fn push_place<T: Blank>(pages: &mut Vec<Page<T>>, at: usize, value: T) -> Result<(), AllocError>
     requires full { AreFull 64 pages.old.items }
     requires last { EndsIn pages.old.items at }

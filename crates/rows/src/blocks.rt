@@ -165,6 +165,7 @@ impl Blocks {
     }
 
     // Makes room for more blocks. With no memory the blocks stay as they were.
+    #[inline(always)]
     pub(crate) fn reserve(&mut self, more: usize) -> Result<(), AllocError>
         requires { more ≤ most_blocks }
         ensures items { self.new.items ≡ self.old.items }

@@ -180,6 +180,7 @@ impl Rows {
     /// Puts in a row with a copy of these literals and no links, under the id that comes next. With no memory the
     /// arena stays as it was; there is none for a row of 2^24 - 1 literals or more, nor where 2^40 literals stand in
     /// the arena, nor for more than 2^32 - 2 live rows.
+    #[inline(always)]
     pub fn add(&mut self, lits: &[Lit]) -> Result<RowId, NoMemory>
         ensures arena { IfOk result (λ id. (id ≡ next_id self.old) × (self.new ≡ with_row self.old lits.now)) }
         ensures rest { IfOk result (λ id. ChangesAt self.old self.new id (Some (new_row lits.now))) }

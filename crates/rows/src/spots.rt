@@ -105,6 +105,7 @@ impl Places {
 
     // Puts the slot of the next id in, of a row without a block. With no memory nothing changes. Before, no more than
     // `live` rows are live: room for a spot of each is taken.
+    #[inline(always)]
     pub(crate) fn push(&mut self, live: usize, slot: Slot) -> Result<(), NoMemory>
         requires live { count_by is_some (blocks_of self.old) ≤ live }
         requires few { live < 4294967296 }

@@ -108,6 +108,7 @@ impl Table {
     }
 
     // Puts the slot of the next id in. With no memory nothing changes.
+    #[inline(always)]
     pub(crate) fn push(&mut self, slot: Slot) -> Result<(), NoMemory>
         ensures ok { OnOk result (self.new ≡ self.old ++ slot ∷ []) }
         ensures err { OnErr result (self.new ≡ self.old) }

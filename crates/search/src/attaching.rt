@@ -195,6 +195,7 @@ impl Search {
     }
 
     // Whether a live row is attached to the watch of its side.
+    #[inline(always)]
     pub(crate) fn has(&mut self, row: StepId) -> bool
         requires live { IsTrue (is_live self.old.derivation row) }
         requires rows { IsTrue (has_rows self.old.derivation) }

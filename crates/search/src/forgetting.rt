@@ -169,7 +169,7 @@ impl Search {
     }
 
     // Drops the steps that are no input clauses and that neither a row to watch nor one of these steps rests on. This
-    // is due again once half as many ids were given as steps are live then, and a few more the more ids there are.
+    // is due again once as many ids were given as steps are live then, and a few more the more ids there are.
     fn sweep(&mut self, prefix: &Prefix, keep: &mut Vec<StepId>)
         requires searching { IsSearching prefix.now self.old }
         requires watched { AreLive self.old.derivation self.old.watched }
@@ -182,7 +182,7 @@ impl Search {
         let _ = keep.extend_from_slice(&self.watched);
         self.derivation.sweep(keep);
         let live = self.derivation.live_steps();
-        self.sweep_at = next.saturating_add(live / 2).saturating_add(next / 64);
+        self.sweep_at = next.saturating_add(live).saturating_add(next / 64);
     }
 }
 
@@ -245,6 +245,7 @@ fn propagated_from(trail: &Trail, v: Var) -> Option<StepId>
 }
 
 // Whether a live row is a long learned one.
+#[inline(always)]
 pub(crate) fn is_long(derivation: &Derivation, id: StepId) -> bool
     requires live { IsTrue (is_live derivation.now id) }
     requires rows { IsTrue (has_rows derivation.now) }

@@ -43,8 +43,8 @@ impl Search {
     ///
     /// Where more than `kept` long learned rows are no reasons, which it looks for at its start and after each lesson,
     /// the oldest of these are forgotten until half of `kept` are left. Steps that nothing kept rests on are dropped
-    /// then, or at a later such time, once half as many ids were given as steps were live the last time, and one for 64
-    /// of all ids. With an outcome at most `kept` long learned rows, one more, and one for each variable are kept.
+    /// then, or at a later such time, once as many ids were given as steps were live the last time, and one for 64 of
+    /// all ids. With an outcome at most `kept` long learned rows, one more, and one for each variable are kept.
     ///
     /// Spent comes only where a step is due and the budget is spent, which with as many steps left as suffice for the
     /// variables and the restarts is never so. After it and after want of memory the search is at rest, with the same

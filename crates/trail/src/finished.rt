@@ -120,6 +120,7 @@ impl Finished {
 
     // A place from `from` on, up to which all from there on are in the set: the next one that isn't, in up to 2^18
     // places.
+    #[inline(always)]
     pub(crate) fn next_outside(&self, from: usize) -> usize
         requires { from < 2 ^ 32 }
         ensures least { from ≤ result }

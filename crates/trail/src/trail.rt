@@ -422,6 +422,7 @@ impl Trail {
     }
 
     // Whether every variable of a scope is assigned.
+    #[inline(always)]
     fn is_full(&self, prefix: &Prefix, scope: usize) -> bool
         requires prefix { IsTrailFor prefix.now self.now }
         requires first { 1 ≤ scope }
@@ -433,6 +434,7 @@ impl Trail {
 
     // How many variables of a scope are assigned. This takes constant time, but for a scope without a place in the
     // table.
+    #[inline(always)]
     fn assigned_in(&self, prefix: &Prefix, scope: usize) -> usize
         requires prefix { IsTrailFor prefix.now self.now }
         requires valid { IsPrefix prefix.now }

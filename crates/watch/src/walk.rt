@@ -276,6 +276,7 @@ fn walk_list<S: Side>(
 }
 
 // The row from which a list of a family is walked: the one that was reached, or the first one.
+#[inline(always)]
 fn begin(
     first: &Lists,
     second: &Lists,
