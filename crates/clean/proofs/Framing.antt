@@ -177,8 +177,10 @@ module _ (pivot : Quant) (scopes : List Scope) (d : State) (t : TrailState) (f :
     frame_resolvable = record {
       row_step = is.step.step;
       row_side = is.step.of_side;
+      row_reduced = is.step.reduced;
       reason_step = reason.step.step;
       reason_side = reason.step.of_side;
+      reason_reduced = reason.step.reduced;
       stands = last.blocks.blocker_stands;
       opposes = reason.unit.stands;
       pivot_type = last.blocks.pivot_type;

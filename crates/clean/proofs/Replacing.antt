@@ -133,8 +133,10 @@ module _ (pivot : Quant) (scopes : List Scope) (old middle : State) (t now : Tra
       record {
         row_step = step.step;
         row_side = step.of_side;
+        row_reduced = step.reduced;
         reason_step = reason.step.step;
         reason_side = reason.step.of_side;
+        reason_reduced = reason.step.reduced;
         stands = subst (λ (r : Row). Contains r f) (sym row_same) may.stands;
         opposes = reason.unit.stands;
         pivot_type = may.pivot_type;

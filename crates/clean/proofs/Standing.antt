@@ -57,8 +57,10 @@ module _ (pivot : Quant) (scopes : List Scope) (d : State) (t : TrailState) (row
       standing_resolvable apart = record {
         row_step = may.step.step;
         row_side = may.step.of_side;
+        row_reduced = may.step.reduced;
         reason_step = standing.step.step;
         reason_side = standing.step.of_side;
+        reason_reduced = standing.step.reduced;
         stands = may.stands;
         opposes = standing.unit.stands;
         pivot_type = may.pivot_type;

@@ -116,8 +116,10 @@ module _ (pivot : Quant) (scopes : List Scope) (d : State) (t : TrailState) (row
   stands_resolvable apart = record {
     row_step = step.step;
     row_side = step.of_side;
+    row_reduced = step.reduced;
     reason_step = reason_stands.step.step;
     reason_side = reason_stands.step.of_side;
+    reason_reduced = reason_stands.step.reduced;
     stands = may.stands;
     opposes = reason_stands.unit.stands;
     pivot_type = may.pivot_type;

@@ -12,6 +12,7 @@ use Rattle.calculus.specs.Worked.{plus}
 use Rattle.calculus.specs.WorkedSearch.{alternating, three}
 use Rattle.calculus.proofs.WorkingSearch.{clean_rows, units}
 use Rattle.calculus.specs.Derivations.Why.{ReducedFrom}
+use Rattle.clean.specs.Staying.{has_as_deep}
 use Rattle.clean.specs.Turns.{AreInferred}
 use Rattle.clean.specs.Worked.{WorkedCleaning, WorkedReasons, WorkedSteps, stored, with_two}
 
@@ -79,6 +80,23 @@ both_came q (suc (suc (suc zero))) dead live = refl
 both_came q (suc (suc (suc (suc zero)))) dead live = refl
 both_came q (suc (suc (suc (suc (suc id))))) dead live = absurd (false≢true live)
 
+deeper_there : (pivot : Quant) → has_as_deep pivot (alternating pivot) 1 three ≡ true
+deeper_there Exists = refl
+deeper_there Forall = refl
+
+none_deeper : (pivot : Quant) → has_as_deep pivot (alternating pivot) 3 three ≡ false
+none_deeper Exists = refl
+none_deeper Forall = refl
+
+other_typed : (pivot : Quant) → has_as_deep pivot (alternating pivot) 1 (plus 1 ∷ plus 2 ∷ []) ≡ false
+other_typed Exists = refl
+other_typed Forall = refl
+
+one_scope : (pivot : Quant) → has_as_deep pivot (record { quantifier = pivot; variables = 1 ∷ 2 ∷ [] } ∷ []) 1
+    (plus 1 ∷ plus 2 ∷ []) ≡ true
+one_scope Exists = refl
+one_scope Forall = refl
+
 pub steps : (pivot : Quant) → WorkedSteps pivot
 steps pivot = record {
   inferred = both_came pivot;
@@ -86,6 +104,10 @@ steps pivot = record {
   one_reduction = refl;
   finish = λ resolves. false≢true (resolves.inferred 4 refl refl);
   input = λ resolves. false≢true (resolves.inferred 4 refl refl);
+  deeper = deeper_there pivot;
+  shallower = none_deeper pivot;
+  other_type = other_typed pivot;
+  same_scope = one_scope pivot;
 }
 
 pub cleaning : (pivot : Quant) → WorkedCleaning pivot

@@ -52,13 +52,16 @@ pub record Resolves (scopes : List Scope) (old new : State) (count reduced : ℕ
   pub fewer : reduced ≤ count
   pub legal : IsLegalFor scopes old → IsLegalFor scopes new
 
--- a row may be resolved on one of its literals with another row of its side, which holds the opposite literal
+-- a row may be resolved on one of its literals with another row of its side, which holds the opposite literal; both are
+-- reduced
 pub record IsResolvable (pivot : Quant) (scopes : List Scope) (d : State) (row : ℕ) (literal : Literal)
     (reason : ℕ) : Type 0 where
   pub row_step : IsTrue (is_step d row)
   pub row_side : side_at d row ≡ pivot
+  pub row_reduced : reduce pivot scopes (row_of d row) ≡ row_of d row
   pub reason_step : IsTrue (is_step d reason)
   pub reason_side : side_at d reason ≡ pivot
+  pub reason_reduced : reduce pivot scopes (row_of d reason) ≡ row_of d reason
   pub stands : Contains (row_of d row) literal
   pub opposes : Contains (row_of d reason) (negation literal)
   pub pivot_type : IsTrue (is_pivot pivot scopes literal)

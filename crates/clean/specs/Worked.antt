@@ -1,5 +1,5 @@
 -- Worked values: the row 1 2 3 of either side, as a reason and as a row to be cleaned.
-use Rattle.std.specs.Prelude.{◌≡◌, ℕ, [], ◌∷◌, Some, None}
+use Rattle.std.specs.Prelude.{◌≡◌, ℕ, true, false, [], ◌∷◌, Some, None}
 use Rattle.prefix.specs.declared.quant.Quant.{Quant}
 use Rattle.prefix.specs.Sides.{opposite}
 use Rattle.calculus.specs.Derivations.{Why}
@@ -17,6 +17,7 @@ use Rattle.clean.specs.Blockers.{IsBlocked}
 use Rattle.clean.specs.Cleaning.{IsCleaned, IsUntouched, MayBeCleaned}
 use Rattle.clean.specs.Marks.{IsReasonBlocked}
 use Rattle.clean.specs.Reasons.{IsReason, IsReducedStep}
+use Rattle.clean.specs.Staying.{has_as_deep}
 use Rattle.clean.specs.Turns.{AreInferred, Resolves, reductions_in, resolvents_in}
 
 -- rows of a side, the step 0 and the step 1; the step 2 was dropped
@@ -71,6 +72,13 @@ pub record WorkedSteps (pivot : Quant) : Type 0 where
   -- neither a finish nor an input may come in after it, which no count tells
   pub finish : Resolves (alternating pivot) (stored pivot) (with_two pivot (FinishedFrom 3)) 1 0 → ⊥
   pub input : Resolves (alternating pivot) (stored pivot) (with_two pivot Given) 1 0 → ⊥
+  -- 3 keeps a resolvent of 1 2 3 on 1 reduced; nothing does so on 3, nor in 1 2 on 1, where 2 is of the other type; a
+  -- literal of the same scope does
+  pub deeper : has_as_deep pivot (alternating pivot) 1 three ≡ true
+  pub shallower : has_as_deep pivot (alternating pivot) 3 three ≡ false
+  pub other_type : has_as_deep pivot (alternating pivot) 1 (plus 1 ∷ plus 2 ∷ []) ≡ false
+  pub same_scope : has_as_deep pivot (record { quantifier = pivot; variables = 1 ∷ 2 ∷ [] } ∷ []) 1
+      (plus 1 ∷ plus 2 ∷ []) ≡ true
 
 pub record WorkedCleaning (pivot : Quant) : Type 0 where
   -- 3 keeps 2 from reduction where 2 is open; nothing does where all are bad

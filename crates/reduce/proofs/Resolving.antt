@@ -1,7 +1,8 @@
--- The end of the walk that makes a resolvent, and that a resolvent ascends.
-use Rattle.std.proofs.Common.{◌≡◌, ℕ, ◌≤◌, ◌⊎◌, Bool, [], ◌∷◌, ◌++◌, length, drop, filter, sym, refl, ap, ◌∙◌, ⊎_elim}
+-- The end of the walk that makes a resolvent, the room for it, and that a resolvent ascends.
+use Rattle.std.proofs.Common.{◌≡◌, ℕ, ◌+◌, ◌-◌, ◌≤◌, ◌⊎◌, Bool, [], ◌∷◌, ◌++◌, length, drop, take, filter, sym, refl, ap, ◌∙◌, ⊎_elim, arith}
 use Rattle.std.proofs.lemmas.Bool.{cond_both}
-use Rattle.std.proofs.lemmas.List.{drop_all, append-nil}
+use Rattle.std.proofs.lemmas.List.{drop_all, append-nil, length-append, length-drop, take_rest}
+use Rattle.std.proofs.lemmas.List.Filters.{length-filter_both}
 use Rattle.std.proofs.lemmas.List.Kept.{AllPairs-filter}
 use Rattle.prefix.specs.Literal.{Literal}
 use Rattle.prefix.specs.Scopes.{Scope, IsAscending}
@@ -27,6 +28,31 @@ turn_end out a b i j x ends =
     (λ e. rw (drop_all j b e) (append-nil (out ++ without x (drop i a)) ∙ ap (λ r. out ++ r)
     (sym (merge_nil (without x (drop i a))))))
     ends
+
+-- a row without a variable is no longer
+without_shorter : (x : ℕ) (row : Row) → length (without x row) ≤ length row
+without_shorter x row =
+    let both : length (filter (λ l. not (nat_eq l.variable x)) row) + length (filter
+    (λ l. not (not (nat_eq l.variable x))) row) ≡ length row =
+    length-filter_both (λ (l : Literal). not (nat_eq l.variable x)) (λ l. not (not (nat_eq l.variable x)))
+    (λ l. refl) row in
+    omega (arith, both)
+
+-- behind the rest of one row there is room for that of the other
+pub room_rest : (new out a b : Row) (i j x capacity : ℕ)
+    → length out + ((length a - i) + (length b - j)) ≤ capacity
+    → new ≡ out ++ without x (take (length a - i) (drop i a))
+    → length new + length (take (length b - j) (drop j b)) ≤ capacity
+room_rest new out a b i j x capacity room pushed =
+    let rest : length (take (length a - i) (drop i a)) ≡ length a - i =
+    ap length (take_rest a i) ∙ length-drop i a in
+    let other : length (take (length b - j) (drop j b)) ≡ length b - j =
+    ap length (take_rest b j) ∙ length-drop j b in
+    let long : length new ≡ length out + length (without x (take (length a - i) (drop i a))) =
+    ap length pushed ∙ length-append out (without x (take (length a - i) (drop i a))) in
+    let less : length (without x (take (length a - i) (drop i a))) ≤ length (take (length a - i) (drop i a)) =
+    without_shorter x (take (length a - i) (drop i a)) in
+    omega arith
 
 pub filter_ascending : (p : Literal → Bool) (row : Row) → IsAscending (variables_in row)
     → IsAscending (variables_in (filter p row))

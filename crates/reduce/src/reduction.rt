@@ -1,8 +1,9 @@
 //! Universal reduction of clauses and existential reduction of cubes.
-ghost use Rattle.std.specs.Prelude.{◌≡◌, ◌↔◌, [], ◌++◌, filter, IsTrue, OnOk, OnErr};
+ghost use Rattle.std.specs.Prelude.{◌≡◌, ◌↔◌, [], ◌++◌, filter, length, IsTrue, OnOk, OnErr};
 ghost use Rattle.prefix.specs.Scopes.{IsAscending};
 ghost use Rattle.calculus.specs.Rows.{reduce as reduction, variables_in};
 ghost use Rattle.reduce.specs.Deepest.{IsDeepest, IsDeepestOther, is_before as before, keeps_all as keeps, stays_before};
+ghost use Rattle.smallvec.specs.SmallVec.{HasRoomFor};
 
 use super::Row;
 use memory::NoMemory;
@@ -78,7 +79,10 @@ fn push_reduction<S: Side>(prefix: &Prefix, lits: &[Lit], out: &mut Row) -> Resu
 {
     let deepest = deepest_pivot::<S>(prefix, lits);
     if deepest.is_some() {
-        push_staying::<S>(prefix, lits, deepest, out)
+        // Room for the whole row, so that no push asks for memory.
+        out.reserve(lits.len())?;
+        push_staying::<S>(prefix, lits, deepest, out);
+        Ok(())
     } else {
         push_all(lits, out)
     }
@@ -115,21 +119,16 @@ fn stays<S: Side>(prefix: &Prefix, deepest: Option<usize>, lit: Lit) -> bool
     prefix.is_pivot::<S>(lit) || is_before(deepest, prefix.depth(lit.var()))
 }
 
-// Appends the literals that are pivot-type or of a smaller depth.
-fn push_staying<S: Side>(
-    prefix: &Prefix,
-    lits: &[Lit],
-    deepest: Option<usize>,
-    out: &mut Row,
-) -> Result<(), NoMemory>
-    ensures { OnOk result (out.new.items ≡ out.old.items ++ filter (stays_before S.PIVOT prefix.now deepest) lits.now) }
+// Appends the literals that are pivot-type or of a smaller depth, where there is room for all.
+fn push_staying<S: Side>(prefix: &Prefix, lits: &[Lit], deepest: Option<usize>, out: &mut Row)
+    requires room { HasRoomFor out.old (length lits.now) }
+    ensures { out.new.items ≡ out.old.items ++ filter (stays_before S.PIVOT prefix.now deepest) lits.now }
 {
     for lit in lits {
         if stays::<S>(prefix, deepest, *lit) {
-            out.push(*lit)?;
+            out.push_reserved(*lit);
         }
     }
-    Ok(())
 }
 
 // Appends all literals.

@@ -1,7 +1,8 @@
 //! Resolution and clash.
-ghost use Rattle.std.specs.Prelude.{◌≡◌, [], ◌++◌, OnOk, OnErr, IsFalse};
+ghost use Rattle.std.specs.Prelude.{◌≡◌, ◌+◌, [], ◌++◌, length, OnOk, OnErr, IsFalse};
 ghost use Rattle.prefix.specs.Scopes.{IsAscending};
 ghost use Rattle.calculus.specs.Rows.{variables_in, without, clashes as clash, resolve as resolvent};
+ghost use Rattle.smallvec.specs.SmallVec.{HasRoomFor};
 
 use super::Row;
 use memory::NoMemory;
@@ -44,16 +45,16 @@ pub fn resolve(a: &[Lit], b: &[Lit], pivot: Var, out: &mut Row) -> Result<(), No
     ensures err { OnErr result (out.new.items ≡ []) }
 {
     out.clear();
-    let done = push_resolvent(a, b, pivot, out);
-    if done.is_err() {
-        out.clear();
-    }
-    done
+    // Room for both rows, so that no push asks for memory.
+    out.reserve(a.len().saturating_add(b.len()))?;
+    push_resolvent(a, b, pivot, out);
+    Ok(())
 }
 
-// Appends the resolvent of two rows.
-fn push_resolvent(a: &[Lit], b: &[Lit], pivot: Var, out: &mut Row) -> Result<(), NoMemory>
-    ensures { OnOk result (out.new.items ≡ out.old.items ++ resolvent a.now b.now pivot) }
+// Appends the resolvent of two rows, where there is room for both.
+fn push_resolvent(a: &[Lit], b: &[Lit], pivot: Var, out: &mut Row)
+    requires room { HasRoomFor out.old (length a.now + length b.now) }
+    ensures { out.new.items ≡ out.old.items ++ resolvent a.now b.now pivot }
 {
     let mut i = 0;
     let mut j = 0;
@@ -69,31 +70,32 @@ fn push_resolvent(a: &[Lit], b: &[Lit], pivot: Var, out: &mut Row) -> Result<(),
             continue;
         }
         if l.var() < m.var() {
-            out.push(l)?;
+            out.push_reserved(l);
             i += 1;
             continue;
         }
         if l.var() == m.var() && l.is_positive() == m.is_positive() {
-            out.push(l)?;
+            out.push_reserved(l);
             i += 1;
             j += 1;
             continue;
         }
-        out.push(m)?;
+        out.push_reserved(m);
         j += 1;
     }
-    push_without(&a[i..], pivot, out)?;
-    push_without(&b[j..], pivot, out)
+    push_without(&a[i..], pivot, out);
+    push_without(&b[j..], pivot, out);
 }
 
-// Appends the literals over other variables.
-fn push_without(lits: &[Lit], pivot: Var, out: &mut Row) -> Result<(), NoMemory>
-    ensures { OnOk result (out.new.items ≡ out.old.items ++ without pivot lits.now) }
+// Appends the literals over other variables, where there is room for all.
+fn push_without(lits: &[Lit], pivot: Var, out: &mut Row)
+    requires room { HasRoomFor out.old (length lits.now) }
+    ensures items { out.new.items ≡ out.old.items ++ without pivot lits.now }
+    ensures capacity { out.new.capacity ≡ out.old.capacity }
 {
     for lit in lits {
         if lit.var() != pivot {
-            out.push(*lit)?;
+            out.push_reserved(*lit);
         }
     }
-    Ok(())
 }

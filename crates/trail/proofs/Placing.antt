@@ -1,6 +1,6 @@
 -- Values and places on a trail with one more literal, and on one without its last.
 use Rattle.std.proofs.Common.{◌≡◌, ℕ, zero, suc, ◌<◌, ◌≤◌, ◌⊎◌, Bool, true, List, [], ◌∷◌, ◌++◌, length, Option, Some, None, is_some, refl, sym, ap, ◌∙◌, inl, inr, ⊎_elim, arith, nat_eq, append-nil}
-use Rattle.std.specs.Prelude.{slice_get}
+use Rattle.std.specs.Prelude.{IfSome, slice_get}
 use Rattle.std.specs.Option.{option_map}
 use Rattle.std.proofs.lemmas.Bool.{cases_Bool, cases_lt, eq-eqb, ne_eqb}
 use Rattle.std.proofs.lemmas.Option.{slice_get_within}
@@ -9,6 +9,7 @@ use Rattle.calculus.specs.Search.{Placed, Trail, place_on, value_on}
 use Rattle.calculus.proofs.Trails.{place_here, place_past, value_here, value_past}
 use Rattle.calculus.proofs.TrailMoves.{place_front, front_has, value_new}
 use Rattle.trail.specs.declared.entry.Spot.{Spot}
+use Rattle.trail.specs.Spots.{place_of}
 use Rattle.trail.specs.Table.{spot_on}
 
 -- reading a list with one more element
@@ -148,3 +149,22 @@ value_at (q ∷ trail) (suc i) p at place =
     let past = place_past q trail p.literal.variable f in
     value_past q trail p.literal.variable f ∙ value_at trail i p at (omega arith))
     (cases_Bool (nat_eq q.literal.variable p.literal.variable))
+
+-- the place that a variable has, if it is assigned
+pub place_told : (trail : Trail) (x : ℕ) → option_map place_of (spot_on trail x)
+    ≡ option_map (λ b. place_on trail x) (value_on trail x)
+place_told trail x =
+    elim (value_on trail x) as (λ (n : Option Bool). option_map place_of
+    (option_map {U = Spot} (λ b. record { value = b; place = place_on trail x }) n)
+    ≡ option_map (λ b. place_on trail x) n) [
+      | None ↦ refl
+      | Some b ↦ refl
+    ]
+
+pub place_within : (trail : Trail) (x : ℕ) → IfSome (option_map place_of (spot_on trail x)) (λ n. n < length trail)
+place_within trail x = within (spot_on trail x) (λ s e. spot_place trail x s (sym e))
+  where
+    within : (o : Option Spot) → ((s : Spot) → o ≡ Some s → s.place < length trail)
+        → IfSome (option_map place_of o) (λ n. n < length trail)
+    within None h = tt
+    within (Some s) h = h s refl

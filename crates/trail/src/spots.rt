@@ -1,18 +1,21 @@
 //! Where the variables stand, with their values apart from their places.
-ghost use Rattle.std.specs.Prelude.{◌≡◌, ◌++◌, ◌-◌, ◌<◌, ◌≤◌, ◌^◌, [], None, Some, OnErr, OnOk, length, replicate, slice_index_or, slice_set, take};
+ghost use Rattle.std.specs.Prelude.{◌≡◌, ◌++◌, ◌-◌, ◌<◌, ◌≤◌, ◌^◌, ℕ, [], None, Some, OnErr, OnOk, length, replicate, slice_index_or, slice_set, take};
 ghost use Rattle.std.specs.Option.{option_map};
-ghost use Rattle.trail.specs.Spots.{value_of};
+ghost use Rattle.trail.specs.Spots.{place_of, value_of};
 
 use super::entry::Spot;
 use std::alloc::{AllocError, Global};
 use std::marker::Model;
 
+// Stands for no place.
+const NOWHERE: u32 = u32::MAX;
+
 /// Where each variable stands, if it is assigned, by its number less 1. Contracts see it as the list of that. Values
-/// are looked up far more often than places, and stand close together.
+/// are looked up more often than places, and stand close together; each of both is found by one look.
 #[derive(Debug, Drop)]
 pub(crate) struct Spots {
     values: Vec<Option<bool>>,
-    // The places of those that have a value; there may be more behind them.
+    // The places of those that have a value; `NOWHERE` for all others, and there may be more behind them.
     places: Vec<u32>,
 }
 
@@ -22,11 +25,12 @@ impl Model for Spots {
 
     ghost Value = { List (Option Told) };
 
-    ghost use Rattle.trail.specs.Spots.{spots_of};
+    ghost use Rattle.trail.specs.Spots.{ArePlaced, spots_of};
 
     ghost view = { λ s. spots_of s.values.items s.places.items };
 
-    ghost invariant = { λ s. (length s.values.items ≤ length s.places.items) × (length s.values.items ≤ 4294967295) };
+    ghost invariant = { λ s. (length s.values.items ≤ length s.places.items) × (length s.values.items ≤ 4294967295)
+        × ArePlaced s.values.items s.places.items };
 }
 
 impl Spots {
@@ -61,18 +65,19 @@ impl Spots {
         }
     }
 
-    // Where a variable stands, if it is assigned.
-    #[tactic(auto, using(crate::proofs::Spotting::spot_kept))]
-    pub(crate) fn get(&self, index: usize) -> Option<Spot>
-        ensures { result ≡ slice_index_or self.now index None }
+    // The place of a variable, if it is assigned.
+    #[inline]
+    pub(crate) fn place(&self, index: usize) -> Option<usize>
+        ensures { result ≡ option_map place_of (slice_index_or self.now index None) }
     {
-        match (self.values.get(index), self.places.get(index)) {
-            (Some(Some(value)), Some(place)) => Some(Spot {
-                value: *value,
-                place: *place as usize,
-            }),
-            _ => None,
+        if index >= self.places.len() {
+            return None;
         }
+        let place = self.places[index];
+        if place < NOWHERE {
+            return Some(place as usize);
+        }
+        None
     }
 
     // Makes spots for so many variables, the new ones unassigned. With no memory all stays as it was; there is none for
@@ -92,12 +97,12 @@ impl Spots {
     }
 
     // Takes the spots behind the first ones away.
-    #[tactic(auto, using(crate::proofs::Spotting::spots_taken, crate::proofs::Spotting::spots_length))]
     pub(crate) fn truncate(&mut self, count: usize)
         requires { count ≤ length self.old }
         ensures { self.new ≡ take count self.old }
     {
         self.values.truncate(count);
+        self.places.truncate(count);
     }
 
     // Says where a variable stands.
@@ -113,12 +118,13 @@ impl Spots {
     }
 
     // Says that a variable is unassigned.
-    #[tactic(auto, using(crate::proofs::Spotting::spot_cleared, crate::proofs::Spotting::spots_length))]
+    #[tactic(auto, using(crate::proofs::Spotting::spots_length))]
     pub(crate) fn clear(&mut self, index: usize)
         requires { index < length self.old }
         ensures { self.new ≡ slice_set self.old index None }
     {
         self.values[index] = None;
+        self.places[index] = NOWHERE;
     }
 }
 
@@ -126,9 +132,11 @@ impl Spots {
 fn widen_places(places: &mut Vec<u32>, count: usize) -> Result<(), AllocError>
     ensures long { OnOk result (count ≤ length places.new.items) }
     ensures front { take (length places.old.items) places.new.items ≡ places.old.items }
+    ensures same { (k : ℕ) → slice_index_or places.new.items k 4294967295
+        ≡ slice_index_or places.old.items k 4294967295 }
 {
     if places.len() < count {
-        places.resize(count, 0)?;
+        places.resize(count, NOWHERE)?;
     }
     Ok(())
 }

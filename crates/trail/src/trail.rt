@@ -123,7 +123,7 @@ impl Trail {
         ensures value { result ≡ option_map (λ b. place_on self.now.placed v) (value_on self.now.placed v) }
         ensures within { IfSome result (λ n. n < length self.now.placed) }
     {
-        Some(self.spot(v)?.place)
+        self.spots.place(v.index())
     }
 
     /// The decision level of a variable; none exactly where it is unassigned.
@@ -463,13 +463,6 @@ impl Trail {
             AreAssignedBefore scopes self.now.placed result }
     {
         last_floor(&self.entries)
-    }
-
-    // Where a variable stands, if it is assigned.
-    fn spot(&self, v: Var) -> Option<Spot>
-        ensures { result ≡ spot_on self.now.placed v }
-    {
-        self.spots.get(v.index())
     }
 
     // Puts a literal on the trail, with the number less 1 of its scope.

@@ -1,7 +1,7 @@
 use Rattle.std.proofs.Common.{◌≡◌, ◌≤◌, ◌⊎◌, ◌++◌, ◌-◌, length, drop, take, inl, inr, arith, ◌∙◌, ap, ap₂}
 use Rattle.std.proofs.lemmas.List.{take_rest}
 use Rattle.calculus.specs.Rows.{Row, without, resolve}
-use Rattle.reduce.proofs.Resolving.{turn_end}
+use Rattle.reduce.proofs.Resolving.{room_rest, turn_end}
 use Rattle.reduce.proofs.resolution.push_resolvent.Goals as goal
 use Rattle.reduce.proofs.resolution.push_resolvent.Goals.{then-loop-i-test+else-j-b, else-loop-i-test}
 
@@ -14,7 +14,7 @@ returns c =
           w ↦ inl (omega (arith, w.loop-i-test.false))
     ] in
     let first : c.push_without.new.out.items ≡ c.loop-i.out.items ++ without c.args.pivot
-    (take (length c.args.a.now - c.loop-i.i) (drop c.loop-i.i c.args.a.now)) = c.in_ok-push_without.ensures in
+    (take (length c.args.a.now - c.loop-i.i) (drop c.loop-i.i c.args.a.now)) = c.push_without.ensures.items in
     let all : c.push_without.new.out.items ++ without c.args.pivot
     (take (length c.args.b.now - c.loop-i.j) (drop c.loop-i.j c.args.b.now)) ≡ c.args.out.now.items ++ resolve
     c.args.a.now c.args.b.now c.args.pivot =
@@ -23,4 +23,11 @@ returns c =
     (take_rest c.args.b.now c.loop-i.j)
     ∙ (turn_end c.loop-i.out.items c.args.a.now c.args.b.now c.loop-i.i c.loop-i.j c.args.pivot ends
     ∙ c.loop-i.invariant.told) in
-    rw all at c.push_without-2.ensures
+    c.push_without-2.ensures.items ∙ all
+
+pub push_without-requires-2 : goal.push_without-requires-2
+push_without-requires-2 c = record {
+  room = room_rest c.push_without.new.out.items c.loop-i.out.items c.args.a.now c.args.b.now c.loop-i.i c.loop-i.j
+      c.args.pivot c.push_without.new.out.capacity
+      (rw c.push_without.ensures.capacity c.loop-i.invariant.room) c.push_without.ensures.items;
+}

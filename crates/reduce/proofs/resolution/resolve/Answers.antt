@@ -1,10 +1,8 @@
-use Rattle.std.proofs.lemmas.Result.{on_ok_weaker}
 use Rattle.reduce.proofs.Resolving.{resolve_ascending}
 use Rattle.reduce.proofs.resolution.resolve.Goals as goal
 
-pub returns-else-is_err-clause-ascending : goal.returns-else-is_err-clause-ascending
-returns-else-is_err-clause-ascending c =
-    on_ok_weaker c.push_resolvent-done.result
-    (λ e up_a up_b none. rw e
+pub returns-clause-ascending : goal.returns-clause-ascending
+returns-clause-ascending c = λ up_a up_b none.
+    rw c.push_resolvent.ensures
+    (rw c.in_ok-reserve.ensures.items
     (rw c.clear.ensures.items (resolve_ascending c.args.a.now c.args.b.now c.args.pivot up_a up_b none)))
-    c.push_resolvent-done.ensures
