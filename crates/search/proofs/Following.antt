@@ -17,7 +17,7 @@ use Rattle.decide.specs.Memory.{Memory}
 use Rattle.search.specs.State.{IsPaused, IsSearching, SearchState}
 use Rattle.search.specs.Counting.{IsBounded, IsCounted, lesson_cost, size_of}
 use Rattle.search.specs.Forgetting.{Forgets}
-use Rattle.search.specs.Moves.{Advances, Analyses, BeginsAnew, Covers, Ends, Halts, IsMatrix, KeepsOlder, Proceeds, SameSteps, Undoes, WasDue}
+use Rattle.search.specs.Moves.{Advances, Analyses, BeginsAnew, Continues, Ends, Halts, IsMatrix, KeepsAssumptions, KeepsOlder, Proceeds, Remains, SameSteps, Undoes, WasDue}
 use Rattle.search.specs.Moves.IsDue.{decision, unit}
 use Rattle.search.specs.Stops.{WasSpentWhenDue}
 use Rattle.search.specs.Stops.WasSpentWhenDue.{searching as in_search}
@@ -173,150 +173,159 @@ ends_kept scopes s between new before now side row ends keeps = record {
       (ends.end assumptions a);
 }
 
--- with less slack before
-pub advances_sooner : (scopes : List Scope) (s new : SearchState) (before now : Counter)
-    → Advances scopes 1 s new before now → Advances scopes 0 s new before now
-advances_sooner scopes s new before now h = record {
+-- after what goes on
+module _ {scopes : List Scope} {owed owes : ℕ} {s between new : SearchState} {before now end : Counter}
+    (goes : Continues scopes owed owes s between before now) where
+  pub advances_then : Advances scopes owes between new now end → Advances scopes owed s new before end
+  advances_then h =
+      let more = h.rises in
+      let rises = goes.rises in
+      record {
+        searching = h.searching;
+        clauses = h.clauses ∙ goes.clauses;
+        older = older_then s.derivation between.derivation new.derivation goes.older h.older;
+        assumed = λ assumptions a. h.assumed assumptions (goes.assumed assumptions a);
+        allowed = h.allowed;
+        budget = h.budget ∙ goes.budget;
+        rises = omega arith;
+        counted = λ start is. let p = goes.counted start is in let r = h.counted start p.0 in
+            let remains = p.1 in let proceeds = r.1 in (r.0, omega (arith, remains, proceeds));
+      }
+
+  pub continues_then : {then : ℕ} → Continues scopes owes then between new now end
+      → Continues scopes owed then s new before end
+  continues_then h =
+      let more = h.rises in
+      let rises = goes.rises in
+      record {
+        searching = h.searching;
+        clauses = h.clauses ∙ goes.clauses;
+        older = older_then s.derivation between.derivation new.derivation goes.older h.older;
+        assumed = λ assumptions a. h.assumed assumptions (goes.assumed assumptions a);
+        budget = h.budget ∙ goes.budget;
+        rises = omega arith;
+        counted = λ start is. let p = goes.counted start is in let r = h.counted start p.0 in
+            let first = p.1 in let second = r.1 in (r.0, omega (arith, first, second));
+      }
+
+  pub halts_then : Halts scopes owes between new now end → Halts scopes owed s new before end
+  halts_then h =
+      let more = h.rises in
+      let rises = goes.rises in
+      record {
+        paused = h.paused;
+        clauses = h.clauses ∙ goes.clauses;
+        older = older_then s.derivation between.derivation new.derivation goes.older h.older;
+        budget = h.budget ∙ goes.budget;
+        rises = omega arith;
+        bounded = λ start is. h.bounded start (goes.counted start is).0;
+      }
+
+  pub ends_then : (side : Quant) (id : ℕ) → Ends scopes owes between new now end side id
+      → Ends scopes owed s new before end side id
+  ends_then side id h =
+      let more = h.rises in
+      let rises = goes.rises in
+      record {
+        paused = h.paused;
+        clauses = h.clauses ∙ goes.clauses;
+        older = older_then s.derivation between.derivation new.derivation goes.older h.older;
+        budget = h.budget ∙ goes.budget;
+        rises = omega arith;
+        bounded = λ start is. h.bounded start (goes.counted start is).0;
+        row = h.row;
+        end = λ assumptions a. h.end assumptions (goes.assumed assumptions a);
+      }
+
+pub due_then : {scopes : List Scope} {owed owes : ℕ} {s between new : SearchState} {before now : Counter}
+    → Continues scopes owed owes s between before now → WasDue scopes between new → WasDue scopes s new
+due_then goes h = record {
+  at = h.at;
+  searching = h.searching;
+  clauses = h.clauses ∙ goes.clauses;
+  assumed = λ assumptions a. h.assumed assumptions (goes.assumed assumptions a);
+  assigned = h.assigned;
+  due = h.due;
+}
+
+-- the search is as it was, but for what the watches looked at
+pub continues_looked : {scopes : List Scope} {s new : SearchState} (c : Counter) → Looks scopes s new
+    → Continues scopes 0 0 s new c c
+continues_looked {scopes} {s} {new} c looks = record {
+  searching = looks.searching;
+  clauses = looks.steps.clauses;
+  older = older_same s.derivation new.derivation looks.steps;
+  assumed = λ assumptions a. subst (λ (t : TrailState). AreTheAssumptions t.placed assumptions) (sym looks.trail) a;
+  budget = refl;
+  rises = omega arith;
+  counted = λ start is. subst (λ (t : TrailState). IsCounted (size_of scopes) 0 start t c × Remains s.trail t)
+      (sym looks.trail) (is, (let e : Remains s.trail s.trail = omega arith in e));
+}
+
+-- it advanced
+pub continues_advanced : {scopes : List Scope} {s new : SearchState} {before now : Counter}
+    → Advances scopes 0 s new before now → Continues scopes 0 0 s new before now
+continues_advanced {scopes} {s} {new} h = record {
   searching = h.searching;
   clauses = h.clauses;
   older = h.older;
   assumed = h.assumed;
-  allowed = h.allowed;
   budget = h.budget;
   rises = h.rises;
-  counted = λ start is. h.counted start (counted_weaker (size_of scopes) 0 1 start s.trail before (omega arith) is);
+  counted = λ start is. let r = h.counted start is in
+      let more = r.1 in let e : Remains s.trail new.trail = omega (arith, more) in (r.0, e);
 }
 
--- after a look
-pub halts_looked : (scopes : List Scope) (slack : ℕ) (s between new : SearchState) (before end : Counter)
-    → Looks scopes s between → Halts scopes slack between new before end → Halts scopes slack s new before end
-halts_looked scopes slack s between new before end looks h = record {
-  paused = h.paused;
-  clauses = h.clauses ∙ looks.steps.clauses;
-  older = older_then s.derivation between.derivation new.derivation
-      (older_same s.derivation between.derivation looks.steps) h.older;
-  budget = h.budget;
-  rises = h.rises;
-  bounded = λ start is. h.bounded start
-      (subst (λ (t : TrailState). IsCounted (size_of scopes) slack start t before) (sym looks.trail) is);
-}
-
--- after an initial cube
-module _ (scopes : List Scope) (s between new : SearchState) (before now end : Counter)
-    (covers : Covers scopes s between before now) where
-  counted_then : (start : ℕ) → IsCounted (size_of scopes) 0 start s.trail before
-      → IsCounted (size_of scopes) 1 start between.trail now
-  counted_then = covers.counted
-
-  pub advances_covered : Advances scopes 1 between new now end → Advances scopes 0 s new before end
-  advances_covered h =
-      let more = h.rises in
-      let rises = covers.rises in
-      record {
-        searching = h.searching;
-        clauses = h.clauses ∙ covers.clauses;
-        older = older_then s.derivation between.derivation new.derivation covers.older h.older;
-        assumed = λ assumptions a. h.assumed assumptions
-            (subst (λ (t : TrailState). AreTheAssumptions t.placed assumptions) (sym covers.same_trail) a);
-        allowed = h.allowed;
-        budget = h.budget ∙ covers.budget;
-        rises = omega arith;
-        counted = λ start is. let r = h.counted start (counted_then start is) in
-            (r.0, subst (λ (t : TrailState). Proceeds t new.trail) covers.same_trail r.1);
-      }
-
-  pub halts_covered : Halts scopes 1 between new now end → Halts scopes 0 s new before end
-  halts_covered h =
-      let more = h.rises in
-      let rises = covers.rises in
-      record {
-        paused = h.paused;
-        clauses = h.clauses ∙ covers.clauses;
-        older = older_then s.derivation between.derivation new.derivation covers.older h.older;
-        budget = h.budget ∙ covers.budget;
-        rises = omega arith;
-        bounded = λ start is. h.bounded start (counted_then start is);
-      }
-
-  pub ends_covered : (side : Quant) (id : ℕ) → Ends scopes 1 between new now end side id
-      → Ends scopes 0 s new before end side id
-  ends_covered side id h =
-      let more = h.rises in
-      let rises = covers.rises in
-      record {
-        paused = h.paused;
-        clauses = h.clauses ∙ covers.clauses;
-        older = older_then s.derivation between.derivation new.derivation covers.older h.older;
-        budget = h.budget ∙ covers.budget;
-        rises = omega arith;
-        bounded = λ start is. h.bounded start (counted_then start is);
-        row = h.row;
-        end = λ assumptions a. h.end assumptions
-            (subst (λ (t : TrailState). AreTheAssumptions t.placed assumptions) (sym covers.same_trail) a);
-      }
-
--- with less slack before a stop or an end
-pub halts_sooner : (scopes : List Scope) (s new : SearchState) (before now : Counter) → Halts scopes 1 s new before now
-    → Halts scopes 0 s new before now
-halts_sooner scopes s new before now h = record {
-  paused = h.paused;
+-- more may be owed
+pub continues_owing : {scopes : List Scope} {s new : SearchState} {before now : Counter}
+    → Continues scopes 0 0 s new before now → Continues scopes 0 1 s new before now
+continues_owing {scopes} {s} {new} {before} {now} h = record {
+  searching = h.searching;
   clauses = h.clauses;
   older = h.older;
+  assumed = h.assumed;
   budget = h.budget;
   rises = h.rises;
-  bounded = λ start is. h.bounded start (counted_weaker (size_of scopes) 0 1 start s.trail before (omega arith) is);
+  counted = λ start is. let r = h.counted start is in
+      (counted_weaker (size_of scopes) 0 1 start new.trail now (omega arith) r.0, r.1);
 }
 
-pub ends_sooner : (scopes : List Scope) (s new : SearchState) (before now : Counter) (side : Quant) (id : ℕ)
-    → Ends scopes 1 s new before now side id → Ends scopes 0 s new before now side id
-ends_sooner scopes s new before now side id h = record {
-  paused = h.paused;
-  clauses = h.clauses;
-  older = h.older;
-  budget = h.budget;
-  rises = h.rises;
-  bounded = λ start is. h.bounded start (counted_weaker (size_of scopes) 0 1 start s.trail before (omega arith) is);
-  row = h.row;
-  end = h.end;
+-- it stops there
+pub halts_now : {scopes : List Scope} {owed : ℕ} {s new : SearchState} {before now : Counter}
+    → Continues scopes owed 0 s new before now → Halts scopes owed s new before now
+halts_now {scopes} {owed} {s} {new} {before} {now} goes = record {
+  paused = goes.searching.paused;
+  clauses = goes.clauses;
+  older = goes.older;
+  budget = goes.budget;
+  rises = goes.rises;
+  bounded = λ start is. bounded_now (size_of scopes) 0 start new.trail new.trail now (omega arith) refl
+      (goes.counted start is).0;
 }
 
--- from a search with the same clauses and the same trail
-pub covers_moved : (scopes : List Scope) (v s new : SearchState) (before now : Counter)
-    → v.derivation ≡ s.derivation → v.trail ≡ s.trail → Covers scopes v new before now
-    → Covers scopes s new before now
-covers_moved scopes v s new before now same trail covers = record {
-  searching = covers.searching;
-  clauses = covers.clauses ∙ ap clauses_of same;
-  older = subst (λ (d : State). KeepsOlder d new.derivation) same covers.older;
-  same_trail = covers.same_trail ∙ trail;
-  budget = covers.budget;
-  rises = covers.rises;
-  counted = λ start is. covers.counted start (subst (λ (t : TrailState). IsCounted (size_of scopes) 0 start t before)
-      (sym trail) is);
-}
-
--- the watches were asked
-pub covers_looked : (scopes : List Scope) (s new : SearchState) (c : Counter) → Looks scopes s new
-    → Covers scopes s new c c
-covers_looked scopes s new c looks = record {
-  searching = looks.searching;
-  clauses = looks.steps.clauses;
-  older = older_same s.derivation new.derivation looks.steps;
-  same_trail = looks.trail;
-  budget = refl;
-  rises = omega arith;
-  counted = λ start is. subst (λ (t : TrailState). IsCounted (size_of scopes) 1 start t c) (sym looks.trail)
-      (counted_weaker (size_of scopes) 0 1 start s.trail c (omega arith) is);
+-- from a search with the same steps and the same trail
+pub continues_moved : {scopes : List Scope} {owed owes : ℕ} {v s new : SearchState} {before now : Counter}
+    → v.derivation ≡ s.derivation → v.trail ≡ s.trail → Continues scopes owed owes v new before now
+    → Continues scopes owed owes s new before now
+continues_moved {scopes} {owed} {owes} {v} {s} {new} {before} {now} same trail goes = record {
+  searching = goes.searching;
+  clauses = goes.clauses ∙ ap clauses_of same;
+  older = subst (λ (d : State). KeepsOlder d new.derivation) same goes.older;
+  assumed = subst (λ (t : TrailState). KeepsAssumptions t new.trail) trail goes.assumed;
+  budget = goes.budget;
+  rises = goes.rises;
+  counted = subst (λ (t : TrailState). (start : ℕ) → IsCounted (size_of scopes) owed start t before
+      → IsCounted (size_of scopes) owes start new.trail now × Remains t new.trail) trail goes.counted;
 }
 
 -- an initial cube came in, with its reduction
 module _ (scopes : List Scope) (s middle new : SearchState) (before now : Counter) (within : now.spent ≤ now.budget)
     (clauses : clauses_of middle.derivation ≡ clauses_of s.derivation)
     (older : KeepsOlder s.derivation middle.derivation) (same : new.trail ≡ s.trail) where
-  pub covers_counted : (id a : ℕ) (row : Row) → IsSearching scopes new
+  pub continues_reduced : (id a : ℕ) (row : Row) → IsSearching scopes new
       → Removes middle.derivation new.derivation id a (ReducedFrom a) row
-      → CountsRemoval (row_of middle.derivation a) row before now → Covers scopes s new before now
-  covers_counted id a row searching removes counts =
+      → CountsRemoval (row_of middle.derivation a) row before now → Continues scopes 0 1 s new before now
+  continues_reduced id a row searching removes counts =
       let r = reduces scopes middle.derivation new.derivation before now id a row removes counts in
       let spent : now.spent ≡ before.spent + r.reduced = ap (λ (c : Counter). c.spent) r.counted in
       record {
@@ -324,11 +333,14 @@ module _ (scopes : List Scope) (s middle new : SearchState) (before now : Counte
         clauses = r.clauses ∙ clauses;
         older = older_then s.derivation middle.derivation new.derivation older
             (older_removed middle.derivation new.derivation id a (ReducedFrom a) row removes);
-        same_trail = same;
+        assumed = λ assumptions h. subst (λ (t : TrailState). AreTheAssumptions t.placed assumptions) (sym same) h;
         budget = ap (λ (c : Counter). c.budget) r.counted;
         rises = omega arith;
-        counted = λ start is. subst (λ (t : TrailState). IsCounted (size_of scopes) 1 start t now) (sym same)
-            (counted_step (size_of scopes) start r.reduced s.trail before now r.once r.counted within is);
+        counted = λ start is. subst (λ (t : TrailState). IsCounted (size_of scopes) 1 start t now × Remains s.trail t)
+            (sym same) (
+              counted_step (size_of scopes) start r.reduced s.trail before now r.once r.counted within is,
+              (let e : Remains s.trail s.trail = omega arith in e),
+            );
       }
 
   pub halts_reduction : IsPaused scopes new → new.derivation ≡ middle.derivation
@@ -348,20 +360,6 @@ module _ (scopes : List Scope) (s middle new : SearchState) (before now : Counte
             bounded = λ start. bounded_step (size_of scopes) start k s.trail new.trail before now once
                 (ap (λ (t : TrailState). t.assigned) same) is;
           }
-
--- after what leaves the clauses and the trail
-pub due_between : (scopes : List Scope) (s between new : SearchState)
-    → clauses_of between.derivation ≡ clauses_of s.derivation → between.trail ≡ s.trail → WasDue scopes between new
-    → WasDue scopes s new
-due_between scopes s between new clauses trail h = record {
-  at = h.at;
-  searching = h.searching;
-  clauses = h.clauses ∙ clauses;
-  assumed = λ assumptions a. h.assumed assumptions
-      (subst (λ (t : TrailState). AreTheAssumptions t.placed assumptions) (sym trail) a);
-  assigned = h.assigned;
-  due = h.due;
-}
 
 -- a decision was due
 pub due_decision : (scopes : List Scope) (s new : SearchState) (x : ℕ) → IsSearching scopes s

@@ -1,4 +1,5 @@
 pub mod Aging
+pub mod Assigning
 pub mod Clearing
 pub mod Counting
 pub mod Covering

@@ -4,8 +4,6 @@ use Rattle.prefix.specs.declared.quant.Quant.{Quant}
 use Rattle.prefix.specs.Scopes.{Scope}
 use Rattle.rows.specs.Arena.{Arena, literals_at}
 use Rattle.derive.specs.State.{State, IsLegalFor, arena_of, clauses_of, has_rows, row_of, steps_of}
-use Rattle.watch.specs.State.{KeepsRows}
-use Rattle.watch.specs.Laws.{AgreeingLaws}
 use Rattle.search.specs.Moves.{SameSteps}
 use Rattle.search.specs.Watching.{AgreesElsewhere, Touches}
 
@@ -59,8 +57,3 @@ module _ (old taken new : State) (rows left : Arena) (takes : TakesBack old take
     agrees = subst (λ a. AgreesElsewhere pivot (arena_of old) a) (sym is)
         (subst (λ a. AgreesElsewhere pivot a left) (sym was) agrees);
   }
-
--- rows of the watch of another side than that which is asked
-pub next_elsewhere : AgreeingLaws → (pivot : Quant) (old new : Arena) → KeepsRows pivot old new
-    → AgreesElsewhere pivot old new
-next_elsewhere laws pivot old new keeps other apart = laws.next_of_other other pivot old new (λ e. apart (sym e)) keeps

@@ -1,5 +1,5 @@
 -- What a search does in a turn.
-use Rattle.std.specs.Prelude.{◌≡◌, ◌≢◌, ℕ, ◌+◌, ◌<◌, ◌≤◌, IsTrue, List, Contains}
+use Rattle.std.specs.Prelude.{◌≡◌, ◌≢◌, ℕ, ◌+◌, ◌<◌, ◌≤◌, IsTrue, List, Contains, None, Option, Some}
 use Rattle.prefix.specs.declared.quant.Quant.{Quant}
 use Rattle.prefix.specs.declared.quant.Quant.TheVariants.{Forall}
 use Rattle.prefix.specs.Literal.{Literal}
@@ -20,6 +20,8 @@ use Rattle.clean.specs.Reasons.{IsReducedStep}
 use Rattle.analyse.specs.Lessons.{NeedsResolution}
 use Rattle.search.specs.State.{IsAttached, IsPaused, IsSearching, SearchState, rows_of}
 use Rattle.search.specs.Counting.{IsBounded, IsCounted, lesson_cost, size_of}
+use Rattle.search.specs.Forcing.{IsRefuting}
+use Rattle.search.specs.declared.outcome.BadRow.{BadRow}
 use Rattle.search.specs.declared.outcome.Found.{Found}
 use Rattle.search.specs.declared.outcome.Found.TheVariants.{Unit as IsUnit, Bad, Quiet}
 
@@ -77,16 +79,31 @@ pub record Analyses (scopes : List Scope) (old new : SearchState) (before now : 
   pub owed : (start : ℕ) → IsCounted (size_of scopes) 1 start old.trail before
       → IsCounted (size_of scopes) (lesson_cost (size_of scopes)) start new.trail now
 
--- an initial cube came in with its reduction, which counts a step where something goes
-pub record Covers (scopes : List Scope) (old new : SearchState) (before now : Counter) : Type 0 where
+-- no less was assigned, and the search began anew no less often
+abbrev pub Remains : TrailState → TrailState → Type 0
+Remains old new = old.assigned + old.restarts ≤ new.assigned + new.restarts
+
+-- the search goes on with the same clauses and assumptions; where so much was owed before, that much is owed then
+pub record Continues (scopes : List Scope) (owed owes : ℕ) (old new : SearchState) (before now : Counter) : Type 0 where
   pub searching : IsSearching scopes new
   pub clauses : clauses_of new.derivation ≡ clauses_of old.derivation
   pub older : KeepsOlder old.derivation new.derivation
-  pub same_trail : new.trail ≡ old.trail
+  pub assumed : KeepsAssumptions old.trail new.trail
   pub budget : now.budget ≡ before.budget
   pub rises : before.spent ≤ now.spent
-  pub counted : (start : ℕ) → IsCounted (size_of scopes) 0 start old.trail before
-      → IsCounted (size_of scopes) 1 start new.trail now
+  pub counted : (start : ℕ) → IsCounted (size_of scopes) owed start old.trail before
+      → IsCounted (size_of scopes) owes start new.trail now × Remains old.trail new.trail
+
+-- What unit rows asked for was assigned. The steps are the same, and where propagation was to refute the clauses, it
+-- still is.
+pub record Propagates (scopes : List Scope) (old new : SearchState) (before now : Counter) : Type 0 where
+  pub goes : Continues scopes 0 0 old new before now
+  pub steps : SameSteps old.derivation new.derivation
+  pub allowed : new.trail.allowed ≡ Anything
+  pub restarts : new.trail.restarts ≡ old.trail.restarts
+  pub long : new.long ≡ old.long
+  pub refuting : (matrix : List Row) (start : ℕ) → IsRefuting scopes matrix start old before
+      → IsRefuting scopes matrix start new now
 
 -- a literal was assigned from this cause, in one step, and nothing else changed
 pub record Pushes (old new : SearchState) (literal : Literal) (cause : Cause) (before now : Counter) : Type 0 where
@@ -151,6 +168,11 @@ IsFound scopes s (IsUnit side id literal) = IsAttached s side id
 IsFound scopes s (Bad side id) = IsAttached s side id
     × IsBadRow side scopes (value_on s.trail.placed) (row_of s.derivation id)
 IsFound scopes s Quiet = (side : Quant) → AreQuiet side scopes (value_on s.trail.placed) (rows_of s)
+
+-- a bad row of a side is found that is attached, or no row is unit or bad
+abbrev pub IsFoundBad : List Scope → SearchState → Option BadRow → Type 0
+IsFoundBad scopes s (Some found) = IsFound scopes s (Bad found.side found.row)
+IsFoundBad scopes s None = IsFound scopes s Quiet
 
 -- each variable is assigned, and the live step under an id is an initial cube, of literals that may cover the open
 -- clauses

@@ -1,7 +1,8 @@
 -- What calls of a watch leave.
-use Rattle.std.specs.Prelude.{◌≡◌, ◌≢◌, ◌≤◌, ℕ, ◌⊎◌, ◌++◌, ◌∷◌, [], true, IsFalse, IsTrue, List, None, Contains}
+use Rattle.std.specs.Prelude.{◌≡◌, ◌≢◌, ◌≤◌, ℕ, ◌⊎◌, ◌++◌, ◌∷◌, [], true, IsFalse, IsTrue, List, None, Some, Contains}
 use Rattle.prefix.specs.declared.quant.Quant.{Quant}
 use Rattle.prefix.specs.Scopes.{Scope}
+use Rattle.trail.specs.State.{TrailState}
 use Rattle.rows.specs.Arena.{Arena, is_live as is_stored, link_at, literals_at, next_id}
 use Rattle.derive.specs.State.{State, IsLegalFor, arena_of, is_live}
 use Rattle.derive.specs.Dropping.{Falls, StepTest}
@@ -146,3 +147,12 @@ pub record JoinsAll (scopes : List Scope) (old new : SearchState) (ids : List �
   pub joined : new.joined ≡ old.joined
   pub here : (id : ℕ) → Contains ids id → (side : Quant) × IsAttached new side id
   pub stays : (side : Quant) (i : ℕ) → IsAttached old side i → IsAttached new side i
+
+-- a search with these watches, this trail and these rows
+abbrev pub holding : SearchState → Watches → TrailState → Arena → SearchState
+holding s w t rows = record s {
+  derivation = record { notes = s.derivation.notes; rows = Some rows };
+  trail = t;
+  clauses = w.clauses;
+  cubes = w.cubes;
+}

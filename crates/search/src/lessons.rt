@@ -22,6 +22,7 @@ ghost use Rattle.search.specs.Parts.{GoesOn, StopsWhenDue};
 ghost use Rattle.search.specs.Moves.{Advances, Analyses, BeginsAnew, Halts, Pushes, Undoes, WasDue};
 
 use crate::outcome::EndRow;
+use crate::propagating::propagate;
 use crate::search::{RESTART_INTERVAL, Search};
 use analyse::{Lesson, analyse};
 use decide::Decider;
@@ -200,7 +201,7 @@ impl Search {
     }
 
     // Assigns the literal that a unit row of a side asks for; the row is its reason.
-    pub(crate) fn propagate(
+    fn propagate(
         &mut self,
         prefix: &Prefix,
         side: Quant,
@@ -221,9 +222,7 @@ impl Search {
         ensures uncounted { OnErr result (steps.new ≡ steps.old) }
         ensures spent { OnErr result (steps.new.spent ≡ steps.new.budget) }
     {
-        let value = good(side, lit);
-        self.trail
-            .assign(prefix, value, Why::Propagated(row), steps)?;
+        propagate(&mut self.trail, prefix, side, row, lit, steps)?;
         Ok(())
     }
 
@@ -333,15 +332,5 @@ fn bump(decider: &mut Decider, row: &[Lit])
 {
     for lit in row {
         decider.bump(lit.var());
-    }
-}
-
-// The literal that a unit row of a side makes good: its own for a clause, its opposite for a cube.
-fn good(side: Quant, lit: Lit) -> Lit
-    ensures { result ≡ good_literal side lit }
-{
-    match side {
-        Quant::Exists => lit,
-        Quant::Forall => lit.negate(),
     }
 }

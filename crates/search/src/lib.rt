@@ -7,6 +7,7 @@ mod forgetting;
 mod leaving;
 mod lessons;
 mod outcome;
+mod propagating;
 mod search;
 mod solving;
 mod turns;

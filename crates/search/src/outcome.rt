@@ -17,6 +17,13 @@ pub(crate) enum Found {
     Quiet,
 }
 
+// A bad row of a side.
+#[derive(Clone, Copy, Debug)]
+pub(crate) struct BadRow {
+    pub side: Quant,
+    pub row: StepId,
+}
+
 // An end row of a side.
 #[derive(Clone, Copy, Debug)]
 pub(crate) struct EndRow {

@@ -9,26 +9,24 @@ ghost use Rattle.calculus.specs.Search.{IsBadRow, value_on};
 ghost use Rattle.trail.specs.Open.{AreAssigned};
 ghost use Rattle.trail.specs.declared.allowed.Allowed.TheVariants.{Anything};
 ghost use Rattle.derive.specs.State.{clauses_of, row_of};
-ghost use Rattle.watch.specs.Events.{AreQuiet, IsEvent};
+ghost use Rattle.watch.specs.Events.{AreQuiet};
 ghost use Rattle.clean.specs.Reasons.{IsReducedStep};
 ghost use Rattle.search.specs.State.{IsSearching, rows_of};
 ghost use Rattle.search.specs.Counting.{size_of};
 ghost use Rattle.search.specs.Forcing.{IsRefuting};
 ghost use Rattle.search.specs.Parts.{GoesOn, StopsWhenDue};
-ghost use Rattle.search.specs.Moves.{Covers, IsFound, IsMatrix, SameSteps};
-ghost use Rattle.search.specs.Watching.{Looks};
+ghost use Rattle.search.specs.Moves.{Continues, IsMatrix};
 
-use crate::outcome::{EndRow, Found};
+use crate::outcome::EndRow;
 use crate::search::Search;
 use cover::cover;
 use derive::StepId;
 use matrix::Matrix;
 use prefix::{Prefix, Quant};
 use steps::{Steps, Stop};
-use watch::Event;
 
 impl Search {
-    // One turn: a literal is propagated, a bad row teaches, a variable is decided, or a solution teaches.
+    // One turn: unit rows propagate; then a bad row teaches, a variable is decided, or a solution teaches.
     pub(crate) fn turn(
         &mut self,
         prefix: &Prefix,
@@ -47,41 +45,10 @@ impl Search {
         ensures refuted { (start : ℕ) → IsRefuting prefix.now matrix.now start self.old steps.old →
             result ≡ Err spent → steps.new.budget - start < propagation_limit (size_of prefix.now) }
     {
-        match self.next_found(prefix) {
-            Found::Unit(side, row, lit) => {
-                self.propagate(prefix, side, row, lit, steps)?;
-                Ok(None)
-            }
-            Found::Bad(side, row) => self.learn(prefix, side, row, restarts, kept, steps),
-            Found::Quiet => self.quiet(prefix, matrix, restarts, kept, steps),
+        match self.propagate_all(prefix, steps)? {
+            Some(bad) => self.learn(prefix, bad.side, bad.row, restarts, kept, steps),
+            None => self.quiet(prefix, matrix, restarts, kept, steps),
         }
-    }
-
-    // What the watches find, that of clauses first.
-    fn next_found(&mut self, prefix: &Prefix) -> Found
-        requires searching { IsSearching prefix.now self.old }
-        ensures looks { Looks prefix.now self.old self.new }
-        ensures found { IsFound prefix.now self.new result }
-    {
-        match self.next_at(prefix, Quant::Exists) {
-            Event::Unit(id, lit) => Found::Unit(Quant::Exists, id, lit),
-            Event::Bad(id) => Found::Bad(Quant::Exists, id),
-            Event::Quiet => match self.next_at(prefix, Quant::Forall) {
-                Event::Unit(id, lit) => Found::Unit(Quant::Forall, id, lit),
-                Event::Bad(id) => Found::Bad(Quant::Forall, id),
-                Event::Quiet => Found::Quiet,
-            },
-        }
-    }
-
-    // What the watch of a side finds.
-    fn next_at(&mut self, prefix: &Prefix, side: Quant) -> Event
-        requires searching { IsSearching prefix.now self.old }
-        ensures looks { Looks prefix.now self.old self.new }
-        ensures event { IsEvent side prefix.now (value_on self.new.trail.placed) (rows_of self.new) result }
-    {
-        self.watches
-            .next(side, &mut self.derivation, &self.trail, prefix)
     }
 
     // A turn where the watches are quiet: a variable is decided, or a solution teaches.
@@ -120,7 +87,7 @@ impl Search {
         requires quiet { AreQuiet exists prefix.now (value_on self.old.trail.placed) (rows_of self.old) }
         requires assigned { AreAssigned prefix.now self.old.trail.placed }
         requires matrix { IsMatrix self.old.derivation matrix.now }
-        ensures ok { OnOk result (Covers prefix.now self.old self.new steps.old steps.new) }
+        ensures ok { OnOk result (Continues prefix.now 0 1 self.old self.new steps.old steps.new) }
         ensures stops { StopsWhenDue prefix.now 0 self.old self.new steps.old steps.new result }
         ensures trail { self.new.trail ≡ self.old.trail }
         ensures long { self.new.long ≡ self.old.long }

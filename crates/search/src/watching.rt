@@ -50,29 +50,30 @@ impl Watches {
         self.cubes.undone(len);
     }
 
-    // What that of a side tells of the rows of a derivation.
+    // What that of a side tells of its rows.
+    #[inline(always)]
     pub(crate) fn next(
         &mut self,
         side: Quant,
-        derivation: &mut Derivation,
+        rows: &mut Rows,
         trail: &Trail,
         prefix: &Prefix,
     ) -> Event
-        requires rows { IsTrue (has_rows derivation.old) }
-        requires holds { Holds side prefix.now (watch_at side self.old) (arena_of derivation.old) }
+        requires holds { Holds side prefix.now (watch_at side self.old) rows.old }
         requires front { IsFront (looked (watch_at side self.old)) (literals_on trail.now.placed) }
         requires room { trail.now.room ≤ (watch_at side self.old).room }
-        ensures event { IsEvent side prefix.now (value_on trail.now.placed) (arena_of derivation.new) result }
-        ensures touches { Touches side derivation.old derivation.new }
-        ensures holds { Holds side prefix.now (watch_at side self.new) (arena_of derivation.new) }
+        ensures event { IsEvent side prefix.now (value_on trail.now.placed) rows.new result }
+        ensures same { KeepsRows rows.old rows.new }
+        ensures agrees { AgreesElsewhere side rows.old rows.new }
+        ensures holds { Holds side prefix.now (watch_at side self.new) rows.new }
         ensures looked { looked (watch_at side self.new) ≡ literals_on trail.now.placed }
         ensures room { (watch_at side self.new).room ≡ (watch_at side self.old).room }
-        ensures marks { KeepsMarks (arena_of derivation.old) (arena_of derivation.new) }
+        ensures marks { KeepsMarks rows.old rows.new }
         ensures others { SameElsewhere side self.old self.new }
     {
         match side {
-            Quant::Exists => next_of(&mut self.clauses, derivation, trail, prefix),
-            Quant::Forall => next_of(&mut self.cubes, derivation, trail, prefix),
+            Quant::Exists => next_of(&mut self.clauses, rows, trail, prefix),
+            Quant::Forall => next_of(&mut self.cubes, rows, trail, prefix),
         }
     }
 
@@ -136,33 +137,26 @@ impl Watches {
     }
 }
 
-// What a watch tells of the rows of a derivation.
-fn next_of<S: Side>(
-    watch: &mut Watch<S>,
-    derivation: &mut Derivation,
-    trail: &Trail,
-    prefix: &Prefix,
-) -> Event
-    requires rows { IsTrue (has_rows derivation.old) }
-    requires holds { Holds S.PIVOT prefix.now watch.old (arena_of derivation.old) }
+// What a watch tells of its rows.
+#[inline(always)]
+fn next_of<S: Side>(watch: &mut Watch<S>, rows: &mut Rows, trail: &Trail, prefix: &Prefix) -> Event
+    requires holds { Holds S.PIVOT prefix.now watch.old rows.old }
     requires front { IsFront (looked watch.old) (literals_on trail.now.placed) }
     requires room { trail.now.room ≤ watch.old.room }
-    ensures event { IsEvent S.PIVOT prefix.now (value_on trail.now.placed) (arena_of derivation.new) result }
-    ensures touches { Touches S.PIVOT derivation.old derivation.new }
-    ensures holds { Holds S.PIVOT prefix.now watch.new (arena_of derivation.new) }
+    ensures event { IsEvent S.PIVOT prefix.now (value_on trail.now.placed) rows.new result }
+    ensures same { KeepsRows rows.old rows.new }
+    ensures agrees { AgreesElsewhere S.PIVOT rows.old rows.new }
+    ensures holds { Holds S.PIVOT prefix.now watch.new rows.new }
     ensures looked { looked watch.new ≡ literals_on trail.now.placed }
     ensures room { watch.new.room ≡ watch.old.room }
-    ensures marks { KeepsMarks (arena_of derivation.old) (arena_of derivation.new) }
+    ensures marks { KeepsMarks rows.old rows.new }
 {
     // The room tells that it is enough for the trail, a law that the watch's, which is no smaller, is so too; another
     // one that the rows of the other watch are as they were.
     let _room = trail.room();
     looking_laws();
     agreeing_laws();
-    let mut rows = derivation.take_rows();
-    let event = watch.next(&mut rows, trail, prefix);
-    derivation.put_rows(rows);
-    event
+    watch.next(rows, trail, prefix)
 }
 
 // Attaches a row that is attached to no watch of the other side, unless it is attached to this one.

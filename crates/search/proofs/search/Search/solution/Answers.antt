@@ -11,10 +11,10 @@ use Rattle.search.proofs.Covering.{bad_reduced, quiet_true}
 use Rattle.derive.specs.Adding.{cube_note}
 use Rattle.clean.specs.Turns.{reductions_in}
 use Rattle.search.specs.Counting.{ReducesFew}
-use Rattle.search.specs.Moves.{Covers, Halts, WasDue}
+use Rattle.search.specs.Moves.{Continues, Halts, WasDue}
 use Rattle.search.specs.Moves.IsDue.{cube}
 use Rattle.search.proofs.Reducing.{few_reduced, reductions_added}
-use Rattle.search.proofs.Following.{covers_counted, halts_reduction}
+use Rattle.search.proofs.Following.{continues_reduced, halts_reduction}
 use Rattle.search.proofs.Aging.{older_grown}
 use Rattle.search.proofs.Learning.{either_way, if_ok, on_err_both, on_ok_by, on_ok_with, searching_gained}
 use Rattle.search.proofs.Laws.{agreeing_laws, holding_laws, reductions_keep_unit, row_laws, value_laws}
@@ -63,11 +63,11 @@ after_it c =
 
 pub returns-clause-ok : goal.returns-clause-ok
 returns-clause-ok c =
-    subst (λ (s : SearchState). OnOk c.reduce_counted-reduced.result (Covers c.args.prefix.now s
+    subst (λ (s : SearchState). OnOk c.reduce_counted-reduced.result (Continues c.args.prefix.now 0 1 s
     (with_derivation c c.reduce_counted-reduced.new.self) c.args.steps.now c.reduce_counted-reduced.new.steps))
     c.self.view_is
     (on_ok_by c.reduce_counted-reduced.result _
-    (λ id removes counts. covers_counted c.args.prefix.now (with_derivation c c.self.inside.derivation)
+    (λ id removes counts. continues_reduced c.args.prefix.now (with_derivation c c.self.inside.derivation)
     (with_derivation c c.cover.new.derivation) (with_derivation c c.reduce_counted-reduced.new.self) c.args.steps.now
     c.reduce_counted-reduced.new.steps c.budget-budget.ensures.within c.in_ok-cube.ensures.gains.clauses
     (older_grown _ _ c.in_ok-cube.ensures.gains.grows) refl id

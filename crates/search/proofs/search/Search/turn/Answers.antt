@@ -1,162 +1,120 @@
-use Rattle.std.proofs.Common.{◌≡◌, ap, arith, subst, rules}
+use Rattle.std.proofs.Common.{arith, rules}
+use Rattle.std.proofs.lemmas.Result.{err_from_is_err_and}
 use Rattle.prefix.specs.declared.quant.Quant.TheVariants.{Exists}
-use Rattle.steps.specs.Counter.{Counter}
 use Rattle.steps.specs.declared.stop.Stop.TheVariants.{Spent as spent}
-use Rattle.derive.specs.State.{row_of}
-use Rattle.clean.specs.Turns.{reductions_in}
-use Rattle.clean.proofs.Keeping.{step_row}
-use Rattle.search.specs.State.{SearchState}
 use Rattle.search.proofs.Learning.{on_err, on_err_at}
-use Rattle.search.proofs.Following.{advances_covered, covers_looked, ends_covered, ends_within, halts_covered, halts_looked, due_between, due_now, matrix_moves}
-use Rattle.search.proofs.Forcing.{few_analysis, few_assignment, forced_level, never_quiet, refuting_looked, refuting_push}
+use Rattle.search.proofs.Following.{advances_then, continues_owing, due_then, ends_then, ends_within, halts_now, halts_then, matrix_moves}
+use Rattle.search.proofs.Forcing.{few_analysis, forced_level, never_quiet}
 use Rattle.search.proofs.Reducing.{reductions_same}
 use Rattle.search.proofs.search.Search.turn.Goals as goal
 
-pub returns-in_err-propagate-in-Unit-clause-stops : goal.returns-in_err-propagate-in-Unit-clause-stops
-returns-in_err-propagate-in-Unit-clause-stops c = record {
-  err = search rules;
-  spent = search rules;
-  due =
-      λ is.
-      let e = c.in-Unit.ensures in
-      let between = c.next_found.new.self in
-      due_between c.args.prefix.now c.args.self.now between c.propagate.new.self e.looks.steps.clauses e.looks.trail
-      (due_now c.args.prefix.now between c.propagate.new.self c.in-Unit.side c.in-Unit.row c.in-Unit.lit
-      e.looks.searching (e.looks.searching.paused.intact.watched.sides c.in-Unit.side c.in-Unit.row e.found.0) e.found.1
-      c.in_err-propagate-in-Unit.ensures.same);
-  reductions =
-      let between = c.next_found.new.self in
-      let looked = reductions_same c.args.self.now.derivation between.derivation c.in-Unit.ensures.looks.steps in
-      let same = ap (λ (s : SearchState). reductions_in s.derivation) c.in_err-propagate-in-Unit.ensures.same in
-      omega (arith, looked, same);
-}
-
-pub returns-in_err-propagate-in-Unit-clause-refuted : goal.returns-in_err-propagate-in-Unit-clause-refuted
-returns-in_err-propagate-in-Unit-clause-refuted c = λ start refuting is.
-    let e = c.in-Unit.ensures in
-    let between = c.next_found.new.self in
-    let same = c.in_err-propagate-in-Unit.ensures.uncounted in
-    let now = refuting_looked c.args.prefix.now c.args.matrix.now start c.args.self.now between c.args.steps.now
-    e.looks refuting in
-    let step = e.looks.searching.paused.intact.watched.sides c.in-Unit.side c.in-Unit.row e.found.0 in
-    let row = step_row c.args.prefix.now between.derivation c.in-Unit.row e.looks.searching.paused.intact.legal
-    step.step in
-    rw same (few_assignment c.args.prefix.now start between c.args.steps.now c.in-Unit.side
-    (row_of between.derivation c.in-Unit.row) c.in-Unit.lit e.looks.searching
-    (row.over_prefix c.in-Unit.lit e.found.1.stands) e.found.1 now.forced
-    (subst (λ (n : Counter). n.spent ≡ n.budget) same c.in_err-propagate-in-Unit.ensures.spent))
+pub learn-requires-clause-row : goal.learn-requires-clause-row
+learn-requires-clause-row c =
+    let found = rw c.in-Some.is at c.in_ok-bad.ensures.found in
+    c.propagate_all.ensures.goes.goes.searching.paused.intact.watched.sides c.in-Some.bad.side c.in-Some.bad.row found.0
 
 pub quiet-requires-clause-matrix : goal.quiet-requires-clause-matrix
 quiet-requires-clause-matrix c =
-    matrix_moves c.args.self.now.derivation c.next_found.new.self.derivation c.args.matrix.now
-    c.next_found.ensures.looks.steps.clauses c.requires.matrix
+    matrix_moves c.args.self.now.derivation c.propagate_all.new.self.derivation c.args.matrix.now
+    c.propagate_all.ensures.goes.goes.clauses c.requires.matrix
 
-pub returns-in_ok-propagate-in-Unit-clause-forced : goal.returns-in_ok-propagate-in-Unit-clause-forced
-returns-in_ok-propagate-in-Unit-clause-forced c = λ start refuting is.
-    let e = c.in-Unit.ensures in
-    let between = c.next_found.new.self in
-    let now = refuting_looked c.args.prefix.now c.args.matrix.now start c.args.self.now between c.args.steps.now
-    e.looks refuting in
-    refuting_push c.args.prefix.now c.args.matrix.now start between c.propagate.new.self c.in-Unit.side c.in-Unit.row
-    c.in-Unit.lit c.args.steps.now c.propagate.new.steps now e.found.0 e.found.1
-    c.in_ok-propagate-in-Unit.ensures.ok.assumed c.in_ok-propagate-in-Unit.ensures.pushes
-
-pub returns-in-Bad-clause-stops : goal.returns-in-Bad-clause-stops
-returns-in-Bad-clause-stops c = record {
+pub returns-in_err-bad-clause-stops : goal.returns-in_err-bad-clause-stops
+returns-in_err-bad-clause-stops c = record {
   err =
-      on_err c.learn.result
-      (halts_covered c.args.prefix.now c.args.self.now c.next_found.new.self c.learn.new.self c.args.steps.now
-      c.args.steps.now c.learn.new.steps (covers_looked c.args.prefix.now c.args.self.now c.next_found.new.self
-      c.args.steps.now c.next_found.ensures.looks)) c.learn.ensures.stops.err;
+      let p = err_from_is_err_and c.from_residual.result c.from_residual.ensures.1 in
+      rw p.1 (halts_now c.propagate_all.ensures.goes.goes);
   spent = search rules;
-  due =
-      λ is.
-      due_between c.args.prefix.now c.args.self.now c.next_found.new.self c.learn.new.self
-      c.next_found.ensures.looks.steps.clauses c.next_found.ensures.looks.trail (c.learn.ensures.stops.due is);
+  due = λ is. c.in_err-bad.ensures.due;
   reductions =
-      let same = reductions_same c.args.self.now.derivation c.next_found.new.self.derivation
-      c.next_found.ensures.looks.steps in
-      rw (← same) c.learn.ensures.stops.reductions;
+      let same = reductions_same c.args.self.now.derivation c.propagate_all.new.self.derivation
+      c.propagate_all.ensures.goes.steps in
+      omega (arith, same);
 }
 
-pub returns-in-Bad-clause-forced : goal.returns-in-Bad-clause-forced
-returns-in-Bad-clause-forced c = λ start refuting is.
-    let now = refuting_looked c.args.prefix.now c.args.matrix.now start c.args.self.now c.next_found.new.self
-    c.args.steps.now c.next_found.ensures.looks refuting in
-    absurd (c.learn.ensures.ends (forced_level c.args.prefix.now start c.next_found.new.self c.args.steps.now
-    now.forced) is)
+pub returns-in_err-bad-clause-refuted : goal.returns-in_err-bad-clause-refuted
+returns-in_err-bad-clause-refuted c = λ start refuting is. c.in_err-bad.ensures.few c.args.matrix.now start refuting
 
-pub returns-in-Bad-clause-refuted : goal.returns-in-Bad-clause-refuted
-returns-in-Bad-clause-refuted c = λ start refuting is.
-    let now = refuting_looked c.args.prefix.now c.args.matrix.now start c.args.self.now c.next_found.new.self
-    c.args.steps.now c.next_found.ensures.looks refuting in
-    let few = few_analysis c.args.prefix.now start c.next_found.new.self c.args.steps.now
-    c.next_found.ensures.looks.searching now.forced
-    (c.learn.ensures.few (forced_level c.args.prefix.now start c.next_found.new.self c.args.steps.now now.forced) is) in
+pub returns-in-Some-clause-goes : goal.returns-in-Some-clause-goes
+returns-in-Some-clause-goes c =
+    let p = c.propagate_all.ensures.goes in
+    let goes = continues_owing p.goes in
+    record {
+      go = λ is. advances_then goes (c.learn.ensures.goes.go is);
+      end = ends_within c.learn.result _ _ (λ e. ends_then goes e.side e.row) c.learn.ensures.goes.end;
+      restarts = λ few. c.learn.ensures.goes.restarts (rw p.restarts few);
+      long = search rules;
+    }
+
+pub returns-in-Some-clause-stops : goal.returns-in-Some-clause-stops
+returns-in-Some-clause-stops c =
+    let p = c.propagate_all.ensures.goes in
+    let goes = continues_owing p.goes in
+    record {
+      err = on_err c.learn.result (halts_then goes) c.learn.ensures.stops.err;
+      spent = search rules;
+      due = λ is. due_then goes (c.learn.ensures.stops.due is);
+      reductions =
+          let same = reductions_same c.args.self.now.derivation c.propagate_all.new.self.derivation p.steps in
+          let rises = p.goes.rises in
+          let few = c.learn.ensures.stops.reductions in
+          omega (arith, same, rises, few);
+    }
+
+pub returns-in-Some-clause-forced : goal.returns-in-Some-clause-forced
+returns-in-Some-clause-forced c = λ start refuting is.
+    let now = c.propagate_all.ensures.goes.refuting c.args.matrix.now start refuting in
+    absurd (c.learn.ensures.ends (forced_level c.args.prefix.now start c.propagate_all.new.self
+    c.propagate_all.new.steps now.forced) is)
+
+pub returns-in-Some-clause-refuted : goal.returns-in-Some-clause-refuted
+returns-in-Some-clause-refuted c = λ start refuting is.
+    let p = c.propagate_all.ensures.goes in
+    let between = c.propagate_all.new.self in
+    let steps = c.propagate_all.new.steps in
+    let now = p.refuting c.args.matrix.now start refuting in
+    let few = few_analysis c.args.prefix.now start between steps p.goes.searching now.forced
+    (c.learn.ensures.few (forced_level c.args.prefix.now start between steps now.forced) is) in
     let halts = on_err_at c.learn.result spent is (λ h. h) c.learn.ensures.stops.err in
     rw halts.budget few
 
-pub returns-in-Quiet-clause-stops : goal.returns-in-Quiet-clause-stops
-returns-in-Quiet-clause-stops c = record {
-  err =
-      on_err c.quiet.result
-      (halts_looked c.args.prefix.now 0 c.args.self.now c.next_found.new.self c.quiet.new.self c.args.steps.now
-      c.quiet.new.steps c.next_found.ensures.looks) c.quiet.ensures.stops.err;
-  spent = search rules;
-  due =
-      λ is.
-      due_between c.args.prefix.now c.args.self.now c.next_found.new.self c.quiet.new.self
-      c.next_found.ensures.looks.steps.clauses c.next_found.ensures.looks.trail (c.quiet.ensures.stops.due is);
-  reductions =
-      let same = reductions_same c.args.self.now.derivation c.next_found.new.self.derivation
-      c.next_found.ensures.looks.steps in
-      rw (← same) c.quiet.ensures.stops.reductions;
-}
+pub returns-in-None-clause-goes : goal.returns-in-None-clause-goes
+returns-in-None-clause-goes c =
+    let p = c.propagate_all.ensures.goes in
+    record {
+      go = λ is. advances_then p.goes (c.quiet.ensures.goes.go is);
+      end = ends_within c.quiet.result _ _ (λ e. ends_then p.goes e.side e.row) c.quiet.ensures.goes.end;
+      restarts = λ few. c.quiet.ensures.goes.restarts (rw p.restarts few);
+      long = search rules;
+    }
 
-pub returns-in-Quiet-clause-forced : goal.returns-in-Quiet-clause-forced
-returns-in-Quiet-clause-forced c = λ start refuting is.
-    let e = c.in-Quiet.ensures in
-    let between = c.next_found.new.self in
-    let now = refuting_looked c.args.prefix.now c.args.matrix.now start c.args.self.now between c.args.steps.now
-    e.looks refuting in
-    absurd (never_quiet c.args.prefix.now c.args.matrix.now start between c.args.steps.now e.looks.searching.paused
-    (matrix_moves c.args.self.now.derivation between.derivation c.args.matrix.now e.looks.steps.clauses
-    c.requires.matrix) now (e.found Exists))
+pub returns-in-None-clause-stops : goal.returns-in-None-clause-stops
+returns-in-None-clause-stops c =
+    let p = c.propagate_all.ensures.goes in
+    record {
+      err = on_err c.quiet.result (halts_then p.goes) c.quiet.ensures.stops.err;
+      spent = search rules;
+      due = λ is. due_then p.goes (c.quiet.ensures.stops.due is);
+      reductions =
+          let same = reductions_same c.args.self.now.derivation c.propagate_all.new.self.derivation p.steps in
+          let rises = p.goes.rises in
+          let few = c.quiet.ensures.stops.reductions in
+          omega (arith, same, rises, few);
+    }
 
-pub returns-in-Quiet-clause-refuted : goal.returns-in-Quiet-clause-refuted
-returns-in-Quiet-clause-refuted c = λ start refuting is.
-    let e = c.in-Quiet.ensures in
-    let between = c.next_found.new.self in
-    let now = refuting_looked c.args.prefix.now c.args.matrix.now start c.args.self.now between c.args.steps.now
-    e.looks refuting in
-    absurd (never_quiet c.args.prefix.now c.args.matrix.now start between c.args.steps.now e.looks.searching.paused
-    (matrix_moves c.args.self.now.derivation between.derivation c.args.matrix.now e.looks.steps.clauses
-    c.requires.matrix) now (e.found Exists))
+pub returns-in-None-clause-forced : goal.returns-in-None-clause-forced
+returns-in-None-clause-forced c = λ start refuting is.
+    let p = c.propagate_all.ensures.goes in
+    let found = rw c.in-None.is at c.in_ok-bad.ensures.found in
+    absurd (never_quiet c.args.prefix.now c.args.matrix.now start c.propagate_all.new.self c.propagate_all.new.steps
+    p.goes.searching.paused
+    (matrix_moves c.args.self.now.derivation c.propagate_all.new.self.derivation c.args.matrix.now p.goes.clauses
+    c.requires.matrix) (p.refuting c.args.matrix.now start refuting) (found Exists))
 
-pub returns-in-Bad-clause-goes : goal.returns-in-Bad-clause-goes
-returns-in-Bad-clause-goes c = record {
-  go =
-      λ is.
-      advances_covered c.args.prefix.now c.args.self.now c.next_found.new.self c.learn.new.self c.args.steps.now
-      c.args.steps.now c.learn.new.steps (covers_looked c.args.prefix.now c.args.self.now c.next_found.new.self
-      c.args.steps.now c.next_found.ensures.looks) (c.learn.ensures.goes.go is);
-  end =
-      ends_within c.learn.result _ _
-      (λ e. ends_covered c.args.prefix.now c.args.self.now c.next_found.new.self c.learn.new.self c.args.steps.now
-      c.args.steps.now c.learn.new.steps (covers_looked c.args.prefix.now c.args.self.now c.next_found.new.self
-      c.args.steps.now c.next_found.ensures.looks) e.side e.row) c.learn.ensures.goes.end;
-  restarts = search rules;
-  long = search rules;
-}
-
-pub returns-in_ok-propagate-in-Unit-clause-stops : goal.returns-in_ok-propagate-in-Unit-clause-stops
-returns-in_ok-propagate-in-Unit-clause-stops c = record {
-  err = search rules;
-  spent = search rules;
-  due = search rules;
-  reductions =
-      let between = c.next_found.new.self in
-      let looked = reductions_same c.args.self.now.derivation between.derivation c.in-Unit.ensures.looks.steps in
-      let same = ap reductions_in c.in_ok-propagate-in-Unit.ensures.pushes.derivation in
-      omega (arith, looked, same);
-}
+pub returns-in-None-clause-refuted : goal.returns-in-None-clause-refuted
+returns-in-None-clause-refuted c = λ start refuting is.
+    let p = c.propagate_all.ensures.goes in
+    let found = rw c.in-None.is at c.in_ok-bad.ensures.found in
+    absurd (never_quiet c.args.prefix.now c.args.matrix.now start c.propagate_all.new.self c.propagate_all.new.steps
+    p.goes.searching.paused
+    (matrix_moves c.args.self.now.derivation c.propagate_all.new.self.derivation c.args.matrix.now p.goes.clauses
+    c.requires.matrix) (p.refuting c.args.matrix.now start refuting) (found Exists))
